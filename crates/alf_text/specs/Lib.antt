@@ -1,0 +1,9 @@
+pub mod Tree
+pub mod First
+pub mod Bytes
+pub mod Tokens
+pub mod Cutting
+pub mod Grammar
+pub mod FirstTests
+pub mod FirstText
+pub mod Reading

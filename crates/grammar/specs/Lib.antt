@@ -1,0 +1,4 @@
+pub mod Source
+pub mod Form
+pub mod Exact
+pub mod Rows

@@ -1,0 +1,142 @@
+-- Blocks, cut from the front on, and what they have in all.
+use Rattle.std.proofs.Common.{◌≡◌, ◌≤◌, ◌<◌, ℕ, zero, suc, Bool, true, false, List, [], ◌∷◌, ◌++◌, ◌⊎◌, inl, inr, None, Some, slice_get, map, length, take, drop, refl, ap, sym, ◌∙◌, subst, append_assoc, append-nil, arith}
+use Rattle.std.proofs.lemmas.List.{take-map, drop-map, length-map}
+use Rattle.alf_text.specs.declared.program.Item.{Item}
+use Rattle.alf_text.specs.Tree.{Entry, item_of}
+use Rattle.alf_text.specs.First.{Among}
+use Rattle.sweet_cli.specs.Blocks.{begins_between, joined, blocks_of}
+use Rattle.sweet_cli.specs.Cut.{first_length}
+
+pub by_test : {A : Type 0} (v : Bool) → (v ≡ true → A) → (v ≡ false → A) → A
+by_test true if_true if_false = if_true refl
+by_test false if_true if_false = if_false refl
+
+pub some_is : {A : Type 0} {a b : A} → Some a ≡ Some b → a ≡ b
+some_is h = cc
+
+-- the first block has the items up to its length
+pub first_cut : (items : List Entry) → 0 < length items → blocks_of items ≡ take (first_length items) items ∷ blocks_of (drop (first_length items) items)
+first_cut [] h = absurd (omega arith)
+first_cut (item ∷ []) h = refl
+first_cut (item ∷ next ∷ items) h =
+    by_test (begins_between item next) (λ e. rw e refl)
+    (λ e. rw e (ap (λ (x : List (List Entry)). joined item x) (first_cut (next ∷ items) (omega arith))))
+
+-- behind the blocks that are done stands the first block of the rest
+pub next_block : (done : List (List Entry)) (rest : List Item) (n : ℕ) → 0 < length rest → n ≡ first_length (map item_of rest)
+    → done ++ blocks_of (map item_of rest) ≡ (done ++ map item_of (take n rest) ∷ []) ++ blocks_of (map item_of (drop n rest))
+next_block done rest n some long =
+    let more : 0 < length (map item_of rest) = simp length-map (omega arith) in
+    let whole : blocks_of (map item_of rest) ≡ map item_of (take n rest) ∷ blocks_of (map item_of (drop n rest)) =
+    first_cut (map item_of rest) more ∙ ap (λ (k : ℕ). take k (map item_of rest) ∷ blocks_of (drop k (map item_of rest))) (sym long)
+    ∙ ap (λ (x : List Entry). x ∷ blocks_of (drop n (map item_of rest))) (take-map item_of n rest)
+    ∙ ap (λ (x : List Entry). map item_of (take n rest) ∷ blocks_of x) (drop-map item_of n rest) in
+    ap (λ (x : List (List Entry)). done ++ x) whole ∙ sym (append_assoc done (map item_of (take n rest) ∷ []) (blocks_of (map item_of (drop n rest))))
+
+pub first_length_some : (items : List Entry) → 0 < length items → 0 < first_length items
+first_length_some [] h = absurd (omega arith)
+first_length_some (item ∷ []) h = omega arith
+first_length_some (item ∷ next ∷ items) h = by_test (begins_between item next) (λ e. rw e (omega arith)) (λ e. rw e (omega arith))
+
+pub first_length_within : (items : List Entry) → first_length items ≤ length items
+first_length_within [] = omega arith
+first_length_within (item ∷ []) = omega arith
+first_length_within (item ∷ next ∷ items) =
+    by_test (begins_between item next) (λ e. rw e (omega arith)) (λ e. let more = first_length_within (next ∷ items) in rw e (omega arith))
+
+-- the items of all blocks
+abbrev pub flat : List (List Entry) → List Entry
+flat [] = []
+flat (block ∷ blocks) = block ++ flat blocks
+
+flat_joined : (item : Entry) (blocks : List (List Entry)) → flat (joined item blocks) ≡ item ∷ flat blocks
+flat_joined item [] = refl
+flat_joined item (block ∷ blocks) = refl
+
+pub flat_blocks : (items : List Entry) → flat (blocks_of items) ≡ items
+flat_blocks [] = refl
+flat_blocks (item ∷ []) = refl
+flat_blocks (item ∷ next ∷ items) =
+    let more = ap (λ (x : List Entry). item ∷ x) (flat_blocks (next ∷ items)) in
+    by_test (begins_between item next) (λ e. rw e more) (λ e. rw e (flat_joined item (blocks_of (next ∷ items)) ∙ more))
+
+-- no block is empty
+abbrev pub AllSome : List (List Entry) → Type 0
+AllSome [] = Unit {0}
+AllSome ([] ∷ blocks) = ⊥
+AllSome ((item ∷ block) ∷ blocks) = AllSome blocks
+
+some_joined : (item : Entry) (blocks : List (List Entry)) → AllSome blocks → AllSome (joined item blocks)
+some_joined item [] h = tt
+some_joined item ([] ∷ blocks) h = absurd h
+some_joined item ((other ∷ block) ∷ blocks) h = h
+
+pub all_some : (items : List Entry) → AllSome (blocks_of items)
+all_some [] = tt
+all_some (item ∷ []) = tt
+all_some (item ∷ next ∷ items) =
+    by_test (begins_between item next) (λ e. rw e (all_some (next ∷ items))) (λ e. rw e (some_joined item (blocks_of (next ∷ items)) (all_some (next ∷ items))))
+
+pub blocks_some : (items : List Entry) → 0 < length items → 0 < length (blocks_of items)
+blocks_some items h = rw (first_cut items h) (omega arith)
+
+-- a list that is not empty ends with an item
+pub record Ends (items : List Entry) : Type 0 where
+  pub front : List Entry
+  pub last : Entry
+  pub is : items ≡ front ++ last ∷ []
+
+ends_some : (item : Entry) (items : List Entry) → Ends (item ∷ items)
+ends_some item [] = record { front = []; last = item; is = refl }
+ends_some item (next ∷ items) = let e = ends_some next items in record { front = item ∷ e.front; last = e.last; is = ap (λ (x : List Entry). item ∷ x) e.is }
+
+pub block_ends : (blocks : List (List Entry)) (k : ℕ) (block : List Entry) → AllSome blocks → slice_get blocks k ≡ Some block → Ends block
+block_ends [] k block h is = absurd (let e : None ≡ Some block = is in cc)
+block_ends ([] ∷ blocks) k block h is = absurd h
+block_ends ((item ∷ items) ∷ blocks) zero block h is = subst (λ (x : List Entry). Ends x) (some_is is) (ends_some item items)
+block_ends ((item ∷ items) ∷ blocks) (suc k) block h is = block_ends blocks k block h is
+
+-- items that stand in blocks
+pub among_left : (xs ys : List Entry) (item : Entry) → Among xs item → Among (xs ++ ys) item
+among_left [] ys item h = absurd h
+among_left (x ∷ xs) ys item (inl e) = inl e
+among_left (x ∷ xs) ys item (inr h) = inr (among_left xs ys item h)
+
+pub among_right : (xs ys : List Entry) (item : Entry) → Among ys item → Among (xs ++ ys) item
+among_right [] ys item h = h
+among_right (x ∷ xs) ys item h = inr (among_right xs ys item h)
+
+pub among_either : (xs ys : List Entry) (item : Entry) → Among (xs ++ ys) item → Among xs item ⊎ Among ys item
+among_either [] ys item h = inr h
+among_either (x ∷ xs) ys item (inl e) = inl (inl e)
+among_either (x ∷ xs) ys item (inr h) = elim (among_either xs ys item h) [ inl a ↦ inl (inr a) | inr b ↦ inr b ]
+
+pub among_flat : (blocks : List (List Entry)) (k : ℕ) (block : List Entry) (item : Entry) → slice_get blocks k ≡ Some block → Among block item → Among (flat blocks) item
+among_flat [] k block item is h = absurd (let e : None ≡ Some block = is in cc)
+among_flat (first ∷ blocks) zero block item is h = among_left first (flat blocks) item (subst (λ (x : List Entry). Among x item) (sym (some_is is)) h)
+among_flat (first ∷ blocks) (suc k) block item is h = among_right first (flat blocks) item (among_flat blocks k block item is h)
+
+-- the block in which an item stands
+pub record Found (blocks : List (List Entry)) (item : Entry) : Type 0 where
+  pub k : ℕ
+  pub block : List Entry
+  pub is : slice_get blocks k ≡ Some block
+  pub among : Among block item
+
+pub found_flat : (blocks : List (List Entry)) (item : Entry) → Among (flat blocks) item → Found blocks item
+found_flat [] item h = absurd h
+found_flat (block ∷ blocks) item h =
+    elim (among_either block (flat blocks) item h) [
+      | inl a ↦ record { k = 0; block = block; is = refl; among = a }
+      | inr b ↦ (let f = found_flat blocks item b in record { k = suc f.k; block = f.block; is = f.is; among = f.among })
+    ]
+
+-- what the last block ends with, the items end with
+pub flat_end : (blocks : List (List Entry)) (k : ℕ) (front : List Entry) (last : Entry) → suc k ≡ length blocks → slice_get blocks k ≡ Some (front ++ last ∷ [])
+    → (xs : List Entry) × (flat blocks ≡ xs ++ last ∷ [])
+flat_end [] k front last long is = absurd (omega arith)
+flat_end (block ∷ []) zero front last long is = (front, append-nil block ∙ some_is is)
+flat_end (block ∷ other ∷ blocks) zero front last long is = absurd (omega arith)
+flat_end (block ∷ blocks) (suc k) front last long is =
+    let more = flat_end blocks k front last (omega arith) is in
+    (block ++ more.0, ap (λ (x : List Entry). block ++ x) more.1 ∙ sym (append_assoc block more.0 (last ∷ [])))

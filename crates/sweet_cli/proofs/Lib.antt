@@ -1,0 +1,10 @@
+pub mod Cutting
+pub mod Labels
+pub mod Leading
+pub mod OneRun
+pub mod Walking
+pub mod Counting
+pub mod Reported
+pub mod Numbers
+pub mod Answered
+pub mod OneAnswer

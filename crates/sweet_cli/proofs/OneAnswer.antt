@@ -1,0 +1,85 @@
+-- Told files and words have one answer.
+use Rattle.std.proofs.Common.{◌≡◌, ◌≤◌, ◌<◌, ℕ, List, [], ◌∷◌, ◌++◌, Option, None, Some, IfSome, length, refl, ap, sym, ◌∙◌, subst, arith}
+use Rattle.std.specs.Prelude.{IsSomeAnd}
+use Rattle.flow_base.specs.Outside.{Files}
+use Rattle.alf_text.specs.Tree.{Entry, Function, Whole}
+use Rattle.alf_text.specs.First.{main_alone, IsFirst}
+use Rattle.alf_text.specs.FirstText.{FirstText}
+use Rattle.sweet_cli.specs.Words.{Command, command_of}
+use Rattle.sweet_cli.specs.Blocks.{blocks_of}
+use Rattle.sweet_cli.specs.Nodes.{entry}
+use Rattle.sweet_cli.specs.Runs.{RunsPast}
+use Rattle.sweet_cli.specs.Facts.{Findings, IsReportOf, IsReportWithin}
+use Rattle.sweet_cli.specs.ReportText.{report_text}
+use Rattle.sweet_cli.specs.Answer.{TextAnswers, not_first, left, done, Answers, usage, unread, too_long, read, most_bytes}
+use Rattle.sweet_cli.specs.Laws.{HaveOneAnswer}
+use Rattle.sweet_cli.specs.declared.status.Status.{Status}
+use Rattle.sweet_cli.specs.declared.status.Status.TheVariants.{Done, Usage, Source, Unbounded, No, ReadFailed, WriteFailed, Memory}
+use Rattle.sweet_cli.proofs.OneRun.{report_one, past_apart}
+use Rattle.sweet_cli.proofs.Answered.{some_is}
+
+-- the items of the first function
+items_at : List Function → List Entry
+items_at [] = []
+items_at (function ∷ functions) = function.items
+
+-- one program has one list of items
+main_items : (a b : List Entry) → main_alone a ≡ main_alone b → a ≡ b
+unfolding items_at
+main_items a b h = ap (λ (w : Whole). items_at w.funcs) h
+
+module _ (text_one : (bytes : List ℕ) (a b : Whole) → FirstText bytes a → FirstText bytes b → a ≡ b)
+    (firsts : (bytes : List ℕ) (whole : Whole) → FirstText bytes whole → IsFirst whole) where
+  -- bytes spell the items of one program
+  items_one : (bytes : List ℕ) (a b : List Entry) → FirstText bytes (main_alone a) → FirstText bytes (main_alone b) → b ≡ a
+  items_one bytes a b text text' = main_items b a (text_one bytes (main_alone b) (main_alone a) text' text)
+
+  apart : (bytes : List ℕ) (turns : ℕ) (a b : List Entry) (findings : Findings) → FirstText bytes (main_alone a) → RunsPast (blocks_of a) entry turns
+      → FirstText bytes (main_alone b) → IsReportWithin b turns findings → ⊥
+  apart bytes turns a b findings text past text' within =
+      let same : b ≡ a = items_one bytes a b text text' in
+      past_apart a turns findings (firsts bytes (main_alone a) text) past (subst (λ (x : List Entry). IsReportWithin x turns findings) same within)
+
+  texts_one : (bytes : List ℕ) (turns : ℕ) (s t : Status) (x y : List ℕ) → TextAnswers bytes turns s x → TextAnswers bytes turns t y → (s ≡ t) × (x ≡ y)
+  texts_one bytes turns s t x y (not_first none) (not_first none') = (refl, refl)
+  texts_one bytes turns s t x y (not_first none) (left items text past) = absurd (none (main_alone items) text)
+  texts_one bytes turns s t x y (not_first none) (done items findings text within) = absurd (none (main_alone items) text)
+  texts_one bytes turns s t x y (left items text past) (not_first none) = absurd (none (main_alone items) text)
+  texts_one bytes turns s t x y (left items text past) (left items' text' past') = (refl, refl)
+  texts_one bytes turns s t x y (left items text past) (done items' findings text' within) = absurd (apart bytes turns items items' findings text past text' within)
+  texts_one bytes turns s t x y (done items findings text within) (not_first none) = absurd (none (main_alone items) text)
+  texts_one bytes turns s t x y (done items findings text within) (left items' text' past) = absurd (apart bytes turns items' items findings text' past text within)
+  texts_one bytes turns s t x y (done items findings text within) (done items' findings' text' within') =
+      let same : items' ≡ items = items_one bytes items items' text text' in
+      let exact : IsReportOf items findings' = subst (λ (z : List Entry). IsReportOf z findings') same within'.exact in
+      (refl, ap report_text (report_one items findings findings' (firsts bytes (main_alone items) text) within.exact exact))
+
+  one_command : (words : List (List ℕ)) (a b : Command) → command_of words ≡ Some a → command_of words ≡ Some b → a ≡ b
+  one_command words a b h k = some_is (sym h ∙ k)
+
+  too_long_apart : (words : List (List ℕ)) (files : Files) (a b : Command) (bytes : List ℕ) → command_of words ≡ Some a → command_of words ≡ Some b
+      → IsSomeAnd (files a.file) (λ held. most_bytes < length held) → length bytes ≤ most_bytes → files b.file ≡ Some bytes → ⊥
+  too_long_apart words files a b bytes h k long short file =
+      let same : a ≡ b = one_command words a b h k in
+      let there : files a.file ≡ Some bytes = ap (λ (c : Command). files c.file) same ∙ file in
+      let g : IsSomeAnd (Some bytes) (λ held. most_bytes < length held) = subst (λ (o : Option (List ℕ)). IsSomeAnd o (λ held. most_bytes < length held)) there long in
+      omega arith
+
+  pub answers_one : HaveOneAnswer
+  answers_one words files s t x y (usage none) (usage none') read_s read_t = (refl, refl)
+  answers_one words files s t x y (usage none) (unread c h) read_s read_t = absurd (read_t refl)
+  answers_one words files s t x y (usage none) (too_long c h long) read_s read_t = absurd (let k : None ≡ Some c = sym none ∙ h in cc)
+  answers_one words files s t x y (usage none) (read c bytes h short file a) read_s read_t = absurd (let k : None ≡ Some c = sym none ∙ h in cc)
+  answers_one words files s t x y (unread c h) b read_s read_t = absurd (read_s refl)
+  answers_one words files s t x y (too_long c h long) (usage none) read_s read_t = absurd (let k : None ≡ Some c = sym none ∙ h in cc)
+  answers_one words files s t x y (too_long c h long) (unread c' h') read_s read_t = absurd (read_t refl)
+  answers_one words files s t x y (too_long c h long) (too_long c' h' long') read_s read_t = (refl, refl)
+  answers_one words files s t x y (too_long c h long) (read c' bytes h' short file a) read_s read_t = absurd (too_long_apart words files c c' bytes h h' long short file)
+  answers_one words files s t x y (read c bytes h short file a) (usage none) read_s read_t = absurd (let k : None ≡ Some c = sym none ∙ h in cc)
+  answers_one words files s t x y (read c bytes h short file a) (unread c' h') read_s read_t = absurd (read_t refl)
+  answers_one words files s t x y (read c bytes h short file a) (too_long c' h' long) read_s read_t = absurd (too_long_apart words files c' c bytes h' h long short file)
+  answers_one words files s t x y (read c bytes h short file a) (read c' bytes' h' short' file' a') read_s read_t =
+      let same : c' ≡ c = one_command words c' c h' h in
+      let same_bytes : bytes' ≡ bytes = some_is (sym file' ∙ ap (λ (z : Command). files z.file) same ∙ file) in
+      let b : TextAnswers bytes c.turns t y = subst (λ (z : List ℕ). TextAnswers z c.turns t y) same_bytes (subst (λ (z : Command). TextAnswers bytes' z.turns t y) same a') in
+      texts_one bytes c.turns s t x y a b

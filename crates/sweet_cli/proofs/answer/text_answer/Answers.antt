@@ -1,0 +1,13 @@
+use Rattle.std.proofs.Common.{ap, Err}
+use Rattle.alf_text.specs.Tree.{whole_of}
+use Rattle.sweet_cli.specs.Answer.{TextAnswers, not_first}
+use Rattle.sweet_cli.proofs.Answered.{mapped, put}
+use Rattle.sweet_cli.proofs.answer.text_answer.Goals as goal
+
+pub program_answer-requires : goal.program_answer-requires
+program_answer-requires c = c.first_texts.ensures.first c.args.bytes.now (whole_of c.in-Ok.program) c.in-Ok.ensures.spelled
+
+pub returns-in-Err-NotFirst-clause-answer : goal.returns-in-Err-NotFirst-clause-answer
+returns-in-Err-NotFirst-clause-answer c =
+    mapped c.said.result c.said.ensures
+    (λ a h. put (TextAnswers c.args.bytes.now c.args.turns) _ _ _ _ (not_first (c.in-Err-NotFirst.ensures.not_first (ap (λ x. Err x) c.in-Err-NotFirst.field-0-is))) h)

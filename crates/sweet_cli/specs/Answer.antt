@@ -1,0 +1,71 @@
+-- What answers the words of a command line: a status and a text.
+--   TextAnswers bytes turns status text   they answer the bytes of a program
+--   Answers words told status text        they answer the words, where a shelf that tells its files tells these
+--   IsWritten status                      the text of such an answer was written whole
+--   PrintsSound words files before after  what a sink grew by is a report that is sound for the program that the words name
+use Rattle.std.specs.Prelude.{◌≡◌, ◌≤◌, ◌<◌, ℕ, List, ◌++◌, length, Option, None, Some, IfSome, IsSomeAnd, codes}
+use Rattle.flow_base.specs.Outside.{Files}
+use Rattle.alf_text.specs.Tree.{Entry, Whole}
+use Rattle.alf_text.specs.First.{main_alone}
+use Rattle.alf_text.specs.FirstText.{FirstText}
+use Rattle.sweet_cli.specs.Words.{Command, command_of}
+use Rattle.sweet_cli.specs.Blocks.{blocks_of}
+use Rattle.sweet_cli.specs.Nodes.{entry}
+use Rattle.sweet_cli.specs.Runs.{RunsPast}
+use Rattle.sweet_cli.specs.Facts.{Findings, IsSound, IsReportWithin}
+use Rattle.sweet_cli.specs.ReportText.{line, report_text}
+use Rattle.sweet_cli.specs.declared.status.Status.{Status}
+use Rattle.sweet_cli.specs.declared.status.Status.TheVariants.{Done, Usage, Source, Unbounded, No, ReadFailed, WriteFailed, Memory}
+
+-- the most bytes of a program's file
+abbrev pub most_bytes : ℕ
+most_bytes = 1048576
+
+-- a status and a text answer the bytes of a program
+pub data TextAnswers (bytes : List ℕ) (turns : ℕ) : Status → List ℕ → Type 0 where
+  -- they are no first text
+  not_first : ((whole : Whole) → FirstText bytes whole → ⊥) → TextAnswers bytes turns Source (line (codes "fault 10 syntax 1 1"))
+  -- the run has more nodes than the turns
+  left : (items : List Entry) → FirstText bytes (main_alone items) → RunsPast (blocks_of items) entry turns
+      → TextAnswers bytes turns Unbounded (line (codes "unbounded 0 \"main\":entry"))
+  -- the run ends within the turns
+  done : (items : List Entry) (findings : Findings) → FirstText bytes (main_alone items) → IsReportWithin items turns findings
+      → TextAnswers bytes turns Done (report_text findings)
+
+-- A status and a text answer the words. Where a shelf tells its files, they are the ones that count.
+pub data Answers (words : List (List ℕ)) (told : Option Files) : Status → List ℕ → Type 0 where
+  -- the words are no command
+  usage : command_of words ≡ None → Answers words told Usage (line (codes "fault usage"))
+  -- the read of the program failed
+  unread : (command : Command) → command_of words ≡ Some command → Answers words told ReadFailed (line (codes "fault read program"))
+  -- the file is too long
+  too_long : (command : Command) → command_of words ≡ Some command
+      → IfSome told (λ files. IsSomeAnd (files command.file) (λ bytes. most_bytes < length bytes))
+      → Answers words told Source (line (codes "fault 13 limit bytes 1048577"))
+  -- the program was read
+  read : {status : Status} {text : List ℕ} (command : Command) (bytes : List ℕ) → command_of words ≡ Some command
+      → length bytes ≤ most_bytes → IfSome told (λ files. files command.file ≡ Some bytes)
+      → TextAnswers bytes command.turns status text → Answers words told status text
+
+-- the text of such an answer was written whole
+abbrev pub IsWritten : Status → Type 0
+IsWritten Done = Unit {0}
+IsWritten Usage = Unit {0}
+IsWritten Source = Unit {0}
+IsWritten Unbounded = Unit {0}
+IsWritten No = Unit {0}
+IsWritten ReadFailed = Unit {0}
+IsWritten WriteFailed = ⊥
+IsWritten Memory = ⊥
+
+-- what a sink grew by is a report that is sound for the program that the told bytes of the words' file spell
+pub record PrintsSound (words : List (List ℕ)) (files : Files) (before after : List ℕ) : Type 0 where
+  pub command : Command
+  pub bytes : List ℕ
+  pub items : List Entry
+  pub findings : Findings
+  pub means : command_of words ≡ Some command
+  pub told : files command.file ≡ Some bytes
+  pub spelled : FirstText bytes (main_alone items)
+  pub sound : IsSound items findings
+  pub printed : after ≡ before ++ report_text findings

@@ -1,0 +1,14 @@
+pub mod Code
+pub mod Words
+pub mod Meant
+pub mod Blocks
+pub mod Nodes
+pub mod Runs
+pub mod Facts
+pub mod Cut
+pub mod Edges
+pub mod Walk
+pub mod Totals
+pub mod ReportText
+pub mod Answer
+pub mod Laws

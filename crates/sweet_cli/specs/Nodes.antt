@@ -1,0 +1,59 @@
+-- Nodes of the control flow graph, its edges, and the numbers of the nodes that are kept.
+--   Node                        the entry of the function, or one of its blocks by its number
+--   Leads blocks node next      an edge leads from the node to the next one, or to the end, which is None
+--   Reached blocks node         walks along edges lead from the entry to the node
+--   IsNumbering blocks nodes    the nodes by their numbers: those reached, the entry first, then by block
+use Rattle.std.specs.Prelude.{◌≡◌, ◌<◌, ℕ, suc, false, List, [], ◌∷◌, ◌++◌, ◌⊎◌, Option, None, Some, slice_get}
+use Rattle.alf_text.specs.Tree.{Jumps, Returns, Entry, Labels, Does}
+use Rattle.alf_text.specs.First.{Among}
+use Rattle.sweet_cli.specs.Blocks.{ends_block}
+
+-- the entry of the function, or one of its blocks
+pub data Node : Type 0 where
+  entry : Node
+  at_block : ℕ → Node
+
+-- the block of this number ends with this item
+abbrev pub EndsWith : List (List Entry) → ℕ → Entry → Type 0
+EndsWith blocks k last = (front : List Entry) × (slice_get blocks k ≡ Some (front ++ last ∷ []))
+
+-- the label stands in the block of this number
+abbrev pub StandsIn : List (List Entry) → ℕ → List ℕ → Type 0
+StandsIn blocks k label = (block : List Entry) × (slice_get blocks k ≡ Some block) × Among block (Labels label)
+
+-- an edge leads from a node to the next one, or to the end
+pub data Leads (blocks : List (List Entry)) : Node → Option Node → Type 0 where
+  -- the entry leads to the first block
+  enters : Leads blocks entry (Some (at_block 0))
+  -- a return leads to the end
+  returns : (k : ℕ) → EndsWith blocks k (Does (Returns None)) → Leads blocks (at_block k) None
+  -- a jump leads to the block in which its label stands
+  jumps : (k to : ℕ) (label : List ℕ) → EndsWith blocks k (Does (Jumps label)) → StandsIn blocks to label → Leads blocks (at_block k) (Some (at_block to))
+  -- a block that no statement ends leads to the next one
+  falls : (k : ℕ) (last : Entry) → EndsWith blocks k last → ends_block last ≡ false → Leads blocks (at_block k) (Some (at_block (suc k)))
+
+-- nodes that are reached from the entry
+pub data Reached (blocks : List (List Entry)) : Node → Type 0 where
+  start : Reached blocks entry
+  step : {node to : Node} → Reached blocks node → Leads blocks node (Some to) → Reached blocks to
+
+-- the entry stands before the blocks, and these in their order
+abbrev pub rank_of : Node → ℕ
+rank_of entry = 0
+rank_of (at_block k) = suc k
+
+abbrev pub Ascends : List Node → Type 0
+Ascends [] = Unit {0}
+Ascends (node ∷ []) = Unit {0}
+Ascends (node ∷ other ∷ nodes) = (rank_of node < rank_of other) × Ascends (other ∷ nodes)
+
+-- the node is one of these
+abbrev pub OneOf : List Node → Node → Type 0
+OneOf [] node = ⊥
+OneOf (other ∷ nodes) node = (node ≡ other) ⊎ OneOf nodes node
+
+-- the nodes by their numbers: exactly those that are reached, in ascending order
+pub record IsNumbering (blocks : List (List Entry)) (nodes : List Node) : Type 0 where
+  pub ascends : Ascends nodes
+  pub reached : (node : Node) → OneOf nodes node → Reached blocks node
+  pub all : (node : Node) → Reached blocks node → OneOf nodes node

@@ -1,0 +1,30 @@
+ghost use Rattle.std.specs.Prelude.{map, IfOk, IfNone, IfSome};
+ghost use Rattle.alf_text.specs.Tree.{item_of};
+ghost use Rattle.alf_text.specs.First.{main_alone, IsFirst};
+ghost use Rattle.sweet_cli.specs.Blocks.{blocks_of};
+ghost use Rattle.sweet_cli.specs.Nodes.{entry};
+ghost use Rattle.sweet_cli.specs.Runs.{RunsPast};
+ghost use Rattle.sweet_cli.specs.Facts.{IsReportWithin, findings_of};
+
+use crate::Report;
+use crate::blocks::cut;
+use crate::findings::report;
+use crate::graph::edges;
+use crate::machine::tally;
+use alf_text::Item;
+use std::alloc::{AllocError, Global};
+
+/// The report of the one run of the items. None where the run has more nodes than the turns.
+pub fn report_of(alloc: Global, items: &[Item], turns: u32) -> Result<Option<Report>, AllocError>
+    requires { IsFirst (main_alone (map item_of items.now)) }
+    ensures left { IfOk result (λ report. IfNone report (RunsPast (blocks_of (map item_of items.now)) entry turns)) }
+    ensures done { IfOk result (λ report. IfSome report (λ report. IsReportWithin (map item_of items.now) turns (findings_of report))) }
+{
+    let blocks = cut(alloc, items)?;
+    let edges = edges(alloc, &blocks)?;
+    let Some(counts) = tally(alloc, &edges, turns)? else {
+        return Ok(None);
+    };
+    let report = report(alloc, &counts)?;
+    Ok(Some(report))
+}

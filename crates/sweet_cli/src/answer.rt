@@ -1,0 +1,97 @@
+ghost use Rattle.std.specs.Prelude.{◌≡◌, List, ℕ, map, Some, string_bytes, IfOk};
+ghost use Rattle.flow_base.specs.Outside.{Rose};
+ghost use Rattle.alf_text.specs.Tree.{item_of, whole_of};
+ghost use Rattle.alf_text.specs.First.{main_alone, IsFirst};
+ghost use Rattle.alf_text.specs.FirstText.{FirstText};
+ghost use Rattle.sweet_cli.specs.Words.{Command, command_of};
+ghost use Rattle.sweet_cli.specs.Answer.{TextAnswers, Answers};
+
+use crate::Status;
+use crate::analysis::report_of;
+use crate::command::read_command;
+use crate::report_text::text_of;
+use alf_text::{FirstFault, Item, Program, first_texts, read_first};
+use flow_base::{ReadError, Shelf};
+use std::alloc::{AllocError, Global};
+
+const MOST_BYTES: u64 = 1_048_576;
+
+/// A status and its text.
+#[derive(Drop)]
+pub struct Answer {
+    pub status: Status,
+    pub text: String,
+}
+
+/// The answer to the words.
+pub fn words_answer<F: Shelf>(
+    alloc: Global,
+    words: &[String],
+    shelf: &mut F,
+) -> Result<Answer, AllocError>
+    ensures answer { IfOk result (λ answer. Answers (map string_bytes words.now) (F.files shelf.old) answer.status (string_bytes answer.text)) }
+    ensures read_failed { IfOk result (λ answer. answer.status ≡ Status.ReadFailed → Rose (F.faults shelf.old) (F.faults shelf.new)) }
+    ensures name_kept { IfOk result (λ answer. answer.status ≡ Status.ReadFailed
+        → (command : Command) × (command_of (map string_bytes words.now) ≡ Some command) × (F.failed shelf.new ≡ Some command.file)) }
+    ensures no_other_read { IfOk result (λ answer. (answer.status ≡ Status.ReadFailed → ⊥) → F.failed shelf.new ≡ F.failed shelf.old) }
+    ensures same_files { F.files shelf.new ≡ F.files shelf.old }
+{
+    let Some(command) = read_command(words) else {
+        return said(alloc, Status::Usage, "fault usage\n");
+    };
+    match shelf.read(alloc, command.file, MOST_BYTES) {
+        Ok(bytes) => text_answer(alloc, &bytes, command.turns),
+        Err(ReadError::Failed) => said(alloc, Status::ReadFailed, "fault read program\n"),
+        Err(ReadError::TooLong(_)) => said(alloc, Status::Source, "fault 13 limit bytes 1048577\n"),
+        Err(ReadError::Memory) => Err(AllocError),
+    }
+}
+
+// The answer to the bytes of a program.
+fn text_answer(alloc: Global, bytes: &[u8], turns: u32) -> Result<Answer, AllocError>
+    ensures answer { IfOk result (λ answer. TextAnswers bytes.now turns answer.status (string_bytes answer.text)) }
+    ensures was_read { IfOk result (λ answer. answer.status ≡ Status.ReadFailed → ⊥) }
+{
+    match read_first(alloc, bytes) {
+        Ok(program) => {
+            first_texts();
+            program_answer(alloc, &program, turns)
+        }
+        Err(FirstFault::Memory) => Err(AllocError),
+        Err(FirstFault::NotFirst) => said(alloc, Status::Source, "fault 10 syntax 1 1\n"),
+    }
+}
+
+// The answer to a program, whatever bytes spell it.
+fn program_answer(alloc: Global, program: &Program, turns: u32) -> Result<Answer, AllocError>
+    requires { IsFirst (whole_of program.now) }
+    ensures answer { (bytes : List ℕ) → FirstText bytes (whole_of program.now)
+        → IfOk result (λ answer. TextAnswers bytes turns answer.status (string_bytes answer.text)) }
+    ensures was_read { IfOk result (λ answer. answer.status ≡ Status.ReadFailed → ⊥) }
+{
+    let report = report_of(alloc, items_of_main(program), turns)?;
+    let Some(report) = report else {
+        return said(alloc, Status::Unbounded, "unbounded 0 \"main\":entry\n");
+    };
+    let text = text_of(alloc, &report)?;
+    Ok(Answer {
+        status: Status::Done,
+        text,
+    })
+}
+
+// The items of the program's one function.
+fn items_of_main(program: &Program) -> &[Item]
+    requires { IsFirst (whole_of program.now) }
+    ensures { whole_of program.now ≡ main_alone (map item_of result.now) }
+{
+    &program.funcs[0].items
+}
+
+// A status with a text that is written already.
+fn said(alloc: Global, status: Status, text: &str) -> Result<Answer, AllocError>
+    ensures { IfOk result (λ answer. (answer.status ≡ status) × (string_bytes answer.text ≡ text.now)) }
+{
+    let text = String::from_str(alloc, text)?;
+    Ok(Answer { status, text })
+}

@@ -1,0 +1,8 @@
+/// What is said of each run. Nodes are named by their numbers.
+#[derive(Clone, Copy, Debug, PartialEq, Eq)]
+pub enum Fact {
+    /// The node has no place in a run.
+    Dead(u32),
+    /// The node, and the least and the greatest count of its places in a run.
+    Total(u32, u32, u32),
+}

@@ -1,0 +1,35 @@
+//! The top call of the program: words, files and a sink in, a status out.
+//!
+//! `run` is what the program does: it reads the words and the files that they name, makes one text
+//! and writes it. Its clauses say which text answers which words, for every shelf and every sink,
+//! and that a report that it prints is sound for every run of the program that was read.
+#![tactic(auto)]
+
+// What the words say.
+mod command;
+
+// The graph of a function's items, its run, and what is found of it.
+mod analysis;
+mod blocks;
+mod findings;
+mod graph;
+mod machine;
+
+// Facts, reports and their text.
+mod fact;
+mod report;
+mod report_text;
+
+// The answer, and how the program ends.
+mod answer;
+mod status;
+mod top;
+
+// Laws of answers.
+mod laws;
+
+pub use fact::Fact;
+pub use laws::one_answer;
+pub use report::Report;
+pub use status::Status;
+pub use top::run;

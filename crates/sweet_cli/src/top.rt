@@ -1,0 +1,57 @@
+ghost use Rattle.std.specs.Prelude.{◌≡◌, List, ℕ, map, Some, string_bytes, IfSome};
+ghost use Rattle.flow_base.specs.Outside.{Rose, Appended, AppendedFront};
+ghost use Rattle.sweet_cli.specs.Words.{Command, command_of};
+ghost use Rattle.sweet_cli.specs.Answer.{Answers, IsWritten, PrintsSound};
+ghost use Rattle.sweet_cli.specs.declared.status.Status.{Status};
+
+use crate::Status;
+use crate::answer::words_answer;
+use alf_text::first_texts;
+use flow_base::{Shelf, Sink, WriteError};
+use std::alloc::Global;
+
+/// Answers the words: reads the file that they name once, makes one text and writes it once.
+///
+/// The words are judged first, then the length of the file, then its text, then its run. A file has
+/// at most 1,048,576 bytes, and without `--turns` the turns are 100,000. `Memory` comes where memory
+/// runs out; a read may have failed before.
+pub fn run<F: Shelf, W: Sink>(alloc: Global, words: &[String], shelf: &mut F, out: &mut W) -> Status
+    // The sink grew by the text of the answer.
+    ensures answer { IsWritten result → (text : List ℕ) × Answers (map string_bytes words.now) (F.files shelf.old) result text
+        × Appended (W.taken out.old) (W.taken out.new) text }
+
+    // After `Done` the report that was printed is sound for the program that the told bytes spell.
+    ensures sound { result ≡ Status.Done → IfSome (F.files shelf.old) (λ files. IfSome (W.taken out.old) (λ before. IfSome (W.taken out.new)
+        (λ after. PrintsSound (map string_bytes words.now) files before after))) }
+
+    ensures read_failed { result ≡ Status.ReadFailed → Rose (F.faults shelf.old) (F.faults shelf.new) }
+    ensures name_kept { result ≡ Status.ReadFailed → (command : Command) × (command_of (map string_bytes words.now) ≡ Some command)
+        × (F.failed shelf.new ≡ Some command.file) }
+
+    // No failed read goes untold: another answer that was written whole comes without one.
+    ensures no_other_read { IsWritten result → (result ≡ Status.ReadFailed → ⊥) → F.failed shelf.new ≡ F.failed shelf.old }
+    ensures same_files { F.files shelf.new ≡ F.files shelf.old }
+
+    ensures write_failed { result ≡ Status.WriteFailed → Rose (W.faults out.old) (W.faults out.new) }
+
+    // The answer whose text was cut short is the answer, and tells of a failed read as above.
+    ensures cut_short { result ≡ Status.WriteFailed → (status : Status) × (text : List ℕ)
+        × Answers (map string_bytes words.now) (F.files shelf.old) status text × AppendedFront (W.taken out.old) (W.taken out.new) text
+        × (status ≡ Status.ReadFailed → Rose (F.faults shelf.old) (F.faults shelf.new))
+        × (status ≡ Status.ReadFailed → (command : Command) × (command_of (map string_bytes words.now) ≡ Some command)
+        × (F.failed shelf.new ≡ Some command.file))
+        × ((status ≡ Status.ReadFailed → ⊥) → F.failed shelf.new ≡ F.failed shelf.old) }
+
+    ensures nothing_written { result ≡ Status.Memory → W.taken out.new ≡ W.taken out.old }
+{
+    // Each program that is read is a first one, as `sound` needs it.
+    first_texts();
+    let Ok(answer) = words_answer(alloc, words, shelf) else {
+        return Status::Memory;
+    };
+    match out.write_all(answer.text.as_bytes()) {
+        Ok(()) => answer.status,
+        Err(WriteError::Failed) => Status::WriteFailed,
+        Err(WriteError::Memory) => Status::Memory,
+    }
+}

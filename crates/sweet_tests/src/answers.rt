@@ -1,0 +1,38 @@
+use flow_base::{SureShelf, SureSink};
+use std::alloc::{AllocError, Global};
+use sweet_cli::{Status, run};
+
+/// A program whose function returns at once.
+pub const RETURNS: &str =
+    "{ alf { macro_defs } { least_addr_unit 8 } little_endian { exports { frefs } { lrefs } } { imports { frefs } { lrefs } } { decls } { inits } { funcs { func { label 32 { lref 32 \"main\" } { dec_unsigned 32 0 } } { arg_decls } { scope { decls } { inits } { stmts { return } } } } } }";
+
+/// The report of a run with one block.
+pub const REPORT: &str = "facts 1\ntotal 0 1 1\ntotal 1 1 1\ncount-bound 1\nend\n";
+
+/// The words of a line, parted by single spaces. An empty line has none.
+pub fn words_of(alloc: Global, line: &str) -> Result<Vec<String>, AllocError> {
+    let mut words = Vec::new(alloc);
+    if line.is_empty() {
+        return Ok(words);
+    }
+    for word in line.split(' ') {
+        words.push(String::from_str(alloc, word)?)?;
+    }
+    Ok(words)
+}
+
+/// The file `a.alf` with these bytes, and no other.
+pub fn files_of(alloc: Global, bytes: &[u8]) -> Result<Vec<(String, Vec<u8>)>, AllocError> {
+    let mut files = Vec::new(alloc);
+    files.push((String::from_str(alloc, "a.alf")?, bytes.to_vec(alloc)?))?;
+    Ok(files)
+}
+
+/// The status and the text that answer the line, where `a.alf` has these bytes.
+pub fn answer_of(alloc: Global, line: &str, bytes: &[u8]) -> Result<(Status, Vec<u8>), AllocError> {
+    let words = words_of(alloc, line)?;
+    let mut shelf = SureShelf::new(files_of(alloc, bytes)?);
+    let mut out = SureSink::new(alloc);
+    let status = run(alloc, &words, &mut shelf, &mut out);
+    Ok((status, out.bytes().to_vec(alloc)?))
+}

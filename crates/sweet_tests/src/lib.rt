@@ -1,0 +1,16 @@
+//! Tests of the top call, with files and a sink in memory. Without tests this library is empty.
+#![tactic(auto)]
+
+// What the tests share.
+#[cfg(test)]
+mod answers;
+
+// Words, programs, files and sinks that fail, and the codes of all answers.
+#[cfg(test)]
+mod codes;
+#[cfg(test)]
+mod outside;
+#[cfg(test)]
+mod programs;
+#[cfg(test)]
+mod words;

@@ -1,15 +1,14 @@
 -- A program that a text spells is `main` alone exactly where it passes the tests.
-use Rattle.std.proofs.Common.{◌≡◌, ℕ, Bool, true, false, not, ◌&&◌, ◌||◌, List, [], ◌∷◌, Option, None, Some, ◌⊎◌, inl, inr, refl, sym, ap, ◌∙◌, subst, codes, arith}
+use Rattle.std.proofs.Common.{◌≡◌, ℕ, Bool, true, false, not, ◌&&◌, List, [], ◌∷◌, inl, inr, refl, sym, ap, ◌∙◌, codes}
 use Rattle.std.specs.Str.{bytes_eq}
-use Rattle.std.proofs.lemmas.Bool.Decides.{nat_tests}
 use Rattle.std.proofs.lemmas.Slice.Eq.{bytes_eq-Decides}
 use Rattle.grammar.specs.Form.{InARow}
 use Rattle.alf_text.specs.declared.rules.ItemWord.{ItemWord}
 use Rattle.alf_text.specs.declared.rules.ItemWord.TheVariants as item_words
 use Rattle.alf_text.specs.Tokens.{Lexeme}
 use Rattle.alf_text.specs.Tree.{Nothing, Stores, Jumps, Switches, Calls, Returns, Entry, Labels, Does, Function, Whole}
-use Rattle.alf_text.specs.First.{main_alone, IsFirstItem, Each, Among, LabelsDiffer, IsApart, IsLed, EndsWell, IsFirst}
-use Rattle.alf_text.specs.FirstTests.{is_labelled, stands_among, stands_once, labels_differ, are_apart, is_led, are_led, is_end, ends_well, first_function, is_first}
+use Rattle.alf_text.specs.First.{IsFirstItem, Each, Among, LabelsDiffer, IsApart, IsLed, EndsWell, IsFirst}
+use Rattle.alf_text.specs.FirstTests.{stands_among, labels_differ, are_apart, is_led, are_led, ends_well, first_function, is_first}
 use Rattle.alf_text.specs.Grammar.{alf, label_item, null, jump, returns, item_tail, item, stmts, scope, function, functions, program}
 
 -- ---- tests
@@ -109,7 +108,7 @@ ends_if (Does (Jumps label) ∷ []) h = tt
 ends_if (Does (Switches value targets others) ∷ []) h = tt
 ends_if (Does (Calls label args result) ∷ []) h = absurd cc
 ends_if (Does (Returns value) ∷ []) h = tt
-ends_if (item ∷ other ∷ items) h = ends_if (other ∷ items) h
+ends_if (_ ∷ other ∷ items) h = ends_if (other ∷ items) h
 
 ends_then : (items : List Entry) → EndsWell items → ends_well items ≡ true
 ends_then [] h = absurd h
@@ -120,7 +119,7 @@ ends_then (Does (Jumps label) ∷ []) h = refl
 ends_then (Does (Switches value targets others) ∷ []) h = refl
 ends_then (Does (Calls label args result) ∷ []) h = absurd h
 ends_then (Does (Returns value) ∷ []) h = refl
-ends_then (item ∷ other ∷ items) h = ends_then (other ∷ items) h
+ends_then (_ ∷ other ∷ items) h = ends_then (other ∷ items) h
 
 -- ---- what is spelled
 

@@ -1,8 +1,8 @@
 -- A first text spells one program, which reading its tokens gives.
-use Rattle.std.proofs.Common.{◌≡◌, ℕ, List, Result, Ok, Err, true, false, refl, sym, ap, ◌∙◌, subst, Option, None, Some}
+use Rattle.std.proofs.Common.{◌≡◌, ℕ, List, Ok, Err, true, false, sym, ap, ◌∙◌, subst, Option, None, Some}
 use Rattle.grammar.specs.Exact.{Says, ok_is, ok_no_err}
 use Rattle.grammar.specs.Form.{Fails}
-use Rattle.alf_text.specs.Tokens.{Lexeme, IsTokens}
+use Rattle.alf_text.specs.Tokens.{Lexeme}
 use Rattle.alf_text.specs.Cutting.{tokens_of}
 use Rattle.alf_text.specs.Tree.{Whole}
 use Rattle.alf_text.specs.First.{IsFirst}
@@ -11,7 +11,7 @@ use Rattle.alf_text.specs.FirstText.{FirstText}
 use Rattle.alf_text.specs.Grammar.{Fault, program}
 use Rattle.alf_text.proofs.Pieces.{tokens_hold, tokens_alone}
 use Rattle.alf_text.proofs.Exactness.{program_exact}
-use Rattle.alf_text.proofs.FirstPrograms.{IsNarrow, spelled_narrow, first_if, first_then}
+use Rattle.alf_text.proofs.FirstPrograms.{spelled_narrow, first_if, first_then}
 
 -- what a first text spells is read
 pub text_read : (bytes : List ℕ) (whole : Whole) (text : FirstText bytes whole) → program.reading (tokens_of false bytes) ≡ Ok (whole, text.rest)

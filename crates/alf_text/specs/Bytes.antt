@@ -3,7 +3,7 @@
 --   class_of b                       what a byte begins
 --   front_class bytes                what the first byte begins
 --   to_close bytes                   how many bytes there are up to the end of the first end of a comment
-use Rattle.std.specs.Prelude.{ℕ, ◌+◌, ◌==◌, List, [], ◌∷◌, Bool, true, false, ◌&&◌, ◌||◌, not, Option, Some, None, nat_le, if◌then◌else◌}
+use Rattle.std.specs.Prelude.{ℕ, ◌+◌, ◌==◌, List, [], ◌∷◌, Bool, false, ◌&&◌, ◌||◌, not, Option, Some, None, nat_le, if◌then◌else◌}
 use Rattle.std.specs.Char.{is_ascii_digit, is_ascii_alphabetic}
 use Rattle.alf_text.specs.declared.lexer.Class.{Class}
 use Rattle.alf_text.specs.declared.lexer.Class.TheVariants as classes

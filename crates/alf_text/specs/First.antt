@@ -1,8 +1,8 @@
 -- The programs that the first texts spell.
 --   main_alone items      the program of one function `main` with these items, and of nothing else
 --   IsFirst whole         such a program, whose items fit one another
-use Rattle.std.specs.Prelude.{◌≡◌, ◌≢◌, ℕ, List, [], ◌∷◌, ◌++◌, codes, Option, None, Some, ◌⊎◌}
-use Rattle.alf_text.specs.Tree.{Term, Act, Nothing, Stores, Jumps, Switches, Calls, Returns, Entry, Labels, Does, Function, Whole}
+use Rattle.std.specs.Prelude.{◌≡◌, ◌≢◌, List, [], ◌∷◌, codes, None, Some, ◌⊎◌}
+use Rattle.alf_text.specs.Tree.{Nothing, Stores, Jumps, Switches, Calls, Returns, Entry, Labels, Does, Whole}
 
 -- the program of one function `main` with these items, and of nothing else
 abbrev pub main_alone : List Entry → Whole

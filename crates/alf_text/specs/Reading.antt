@@ -3,7 +3,7 @@
 --   ahead reader       the tokens that are not read yet
 --   room reader        how many pieces are left at most
 --   fault_of error     the fault of an error, or none where memory ran out
-use Rattle.std.specs.Prelude.{ℕ, suc, List, [], length, Option, Some, None, Bool, if◌then◌else◌}
+use Rattle.std.specs.Prelude.{ℕ, suc, List, [], length, Option, Some, None, if◌then◌else◌}
 use Rattle.alf_text.specs.declared.token.Token.{Token}
 use Rattle.alf_text.specs.declared.token.Kind.{Kind}
 use Rattle.alf_text.specs.declared.token.Kind.TheVariants as kinds

@@ -5,7 +5,7 @@
 --   Pieces behind bytes pieces  the pieces of a text, one behind the other
 --   IsTokens bytes tokens       the tokens of a text: its pieces without white space
 -- `behind` says that a number ends right before the bytes. A letter there begins no piece.
-use Rattle.std.specs.Prelude.{◌≡◌, ℕ, ◌+◌, ◌-◌, ◌<◌, ◌≤◌, List, [], ◌∷◌, length, take, drop, filter, Bool, true, false, not, Option, Some, ◌⊎◌, if◌then◌else◌}
+use Rattle.std.specs.Prelude.{◌≡◌, ℕ, ◌+◌, ◌-◌, ◌<◌, ◌≤◌, List, [], ◌∷◌, length, take, drop, filter, Bool, true, false, not, Some, ◌⊎◌, if◌then◌else◌}
 use Rattle.std.specs.List.{prefix_len}
 use Rattle.std.specs.Char.{is_ascii_digit}
 use Rattle.alf_text.specs.declared.token.Kind.{Kind}

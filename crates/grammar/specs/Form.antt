@@ -7,7 +7,7 @@
 --   many s p          as many parts as begin one behind the other
 --   maybe s p         one part where one begins, and otherwise nothing
 --   exactly n p       n parts
-use Rattle.std.specs.Prelude.{◌≡◌, ℕ, zero, suc, List, [], ◌∷◌, Bool, true, false, Result, Ok, Err, Option, Some, None, ◌⊎◌, cond}
+use Rattle.std.specs.Prelude.{◌≡◌, ℕ, zero, suc, List, [], ◌∷◌, true, false, Result, Ok, Err, Option, Some, None, ◌⊎◌, cond}
 use Rattle.grammar.specs.Source.{Source}
 
 -- Reading goes on with a value, or ends at the first departure.

@@ -1,9 +1,8 @@
-use Rattle.std.proofs.Common.{◌≡◌, true, false, sym, ◌∙◌, ap, List}
+use Rattle.std.proofs.Common.{sym, ◌∙◌, ap, List}
 use Rattle.alf_text.specs.Tokens.{Lexeme}
-use Rattle.alf_text.specs.FirstTests.{is_first}
 use Rattle.alf_text.specs.Tree.{whole_of}
 use Rattle.alf_text.specs.Grammar.{Syntax, Number, OutOfProfile, program}
-use Rattle.alf_text.specs.Reading.{fault_of, ahead}
+use Rattle.alf_text.specs.Reading.{fault_of}
 use Rattle.alf_text.proofs.Meaning.{read_text, fails_test, departed}
 use Rattle.alf_text.proofs.first.read_first.Goals as goal
 

@@ -1,6 +1,5 @@
-use Rattle.std.proofs.Common.{◌≡◌, ◌++◌, ◌<◌, suc, List, length, true, false, sym, ap, ◌∙◌, arith}
-use Rattle.alf_text.specs.Tokens.{is_last, is_numeral, shown}
-use Rattle.alf_text.specs.Cutting.{tokens_of}
+use Rattle.std.proofs.Common.{◌≡◌, true, false, sym, ◌∙◌, arith}
+use Rattle.alf_text.specs.Tokens.{is_last}
 use Rattle.alf_text.specs.Reading.{lexeme}
 use Rattle.alf_text.proofs.Pieces.{cut_fits, cut_quotes, cut_smaller, taken_last, taken_more}
 use Rattle.alf_text.proofs.reader.Reader.piece.Goals as goal

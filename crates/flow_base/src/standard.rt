@@ -1,4 +1,5 @@
-ghost use Rattle.std.specs.Prelude.{◌≡◌, None};
+ghost use Rattle.std.specs.Prelude.{◌≡◌, ◌≤◌, List, ℕ, Option, None, OnOk, IsErrOf};
+ghost use Rattle.flow_base.specs.Outside.{Rose, Appended, AppendedFront};
 
 use crate::{Sink, WriteError};
 use std::io;
@@ -29,7 +30,15 @@ impl<P: Print> Sink for StdSink<'_, P> {
         self.faults
     }
 
-    fn write_all(&mut self, bytes: &[u8]) -> Result<(), WriteError> {
+    fn write_all(&mut self, bytes: &[u8]) -> Result<(), WriteError>
+        ensures never_memory { IsErrOf result WriteError.Memory → ⊥ }
+
+        ensures all { OnOk result (Appended None None bytes.now) }
+        ensures front { IsErrOf result WriteError.Failed → AppendedFront None None bytes.now }
+        ensures nothing { IsErrOf result WriteError.Memory → ◌≡◌ {A = Option (List ℕ)} None None }
+        ensures later { self.old.faults ≤ self.new.faults }
+        ensures rose { IsErrOf result WriteError.Failed → Rose self.old.faults self.new.faults }
+    {
         let mut writer = io::writer(self.runtime);
         let mut rest = bytes;
         while !rest.is_empty() {

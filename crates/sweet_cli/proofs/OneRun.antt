@@ -19,7 +19,7 @@ module _ (blocks : List (List Entry)) (one : LabelsAreOne blocks) where
   no_jump k label h g = absurd (let e : Does (Returns None) ≡ Does (Jumps label) = last_one blocks k _ _ h g in cc)
 
   -- one edge leads from each node
-  leads_one : {node : Node} {a b : Option Node} → Leads blocks node a → Leads blocks node b → a ≡ b
+  pub leads_one : {node : Node} {a b : Option Node} → Leads blocks node a → Leads blocks node b → a ≡ b
   leads_one enters enters = refl
   leads_one (returns k h) (returns _ g) = refl
   leads_one (returns k h) (jumps _ to label g there) = no_jump k label h g
@@ -34,7 +34,7 @@ module _ (blocks : List (List Entry)) (one : LabelsAreOne blocks) where
   leads_one (falls k last h open_) (jumps _ to label g there) = no_fall k _ last g h refl open_
   leads_one (falls k last h open_) (falls _ other g open') = refl
 
-  runs_one : {node : Node} {a b : List Node} → Runs blocks node a → Runs blocks node b → a ≡ b
+  pub runs_one : {node : Node} {a b : List Node} → Runs blocks node a → Runs blocks node b → a ≡ b
   runs_one (ends g) (ends h) = refl
   runs_one (ends g) (goes_on {to = to} h more) = absurd (let k : None ≡ Some to = leads_one g h in cc)
   runs_one (goes_on {to = to} g more) (ends h) = absurd (let k : Some to ≡ None = leads_one g h in cc)

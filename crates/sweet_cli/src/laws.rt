@@ -1,10 +1,19 @@
-ghost use Rattle.sweet_cli.specs.Laws.{HaveOneAnswer};
+ghost use Rattle.sweet_cli.specs.Laws.{HaveOneStep, HaveOneRun, HaveOneAnswer};
 
 use alf_text::first_texts;
 
 /// Over told files the words have one answer, where no read fails. Does nothing when it is called.
 pub fn one_answer()
     ensures { HaveOneAnswer }
+{
+    first_texts();
+}
+
+/// A run has one continuation, and so a first text's program has one run at most that ends. Does
+/// nothing when it is called.
+pub fn one_run()
+    ensures step { HaveOneStep }
+    ensures run { HaveOneRun }
 {
     first_texts();
 }

@@ -29,7 +29,7 @@ mod top;
 mod laws;
 
 pub use fact::Fact;
-pub use laws::one_answer;
+pub use laws::{one_answer, one_run};
 pub use report::Report;
 pub use status::Status;
 pub use top::run;

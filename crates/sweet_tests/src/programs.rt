@@ -55,29 +55,100 @@ fn tokens_may_have_any_white_space_between_them(rt: HostRuntime) -> Result<(), F
     Ok(())
 }
 
+// The program with these items, in which `@A` stands for a label and `^A` for a jump to it.
+fn with_items(alloc: Global, items: &str) -> Result<Vec<u8>, AllocError> {
+    let mut program = Vec::new(alloc);
+    for part in RETURNS.split("{ return }") {
+        if !program.is_empty() {
+            for word in items.split(' ') {
+                push_item(&mut program, word)?;
+            }
+        }
+        program.extend_from_slice(part.as_bytes())?;
+    }
+    Ok(program)
+}
+
+// Adds one item.
+fn push_item(program: &mut Vec<u8>, word: &str) -> Result<(), AllocError> {
+    match (word.strip_prefix('@'), word.strip_prefix('^')) {
+        (Some(name), _) => push_label(program, name),
+        (None, Some(name)) => {
+            program.extend_from_slice(b"{ jump ")?;
+            push_label(program, name)?;
+            program.extend_from_slice(b"leaving 0 } ")
+        }
+        (None, None) => {
+            program.extend_from_slice(b"{ ")?;
+            program.extend_from_slice(word.as_bytes())?;
+            program.extend_from_slice(b" } ")
+        }
+    }
+}
+
+fn push_label(program: &mut Vec<u8>, name: &str) -> Result<(), AllocError> {
+    program.extend_from_slice(b"{ label 32 { lref 32 \"")?;
+    program.extend_from_slice(name.as_bytes())?;
+    program.extend_from_slice(b"\" } { dec_unsigned 32 0 } } ")
+}
+
+const UNBOUNDED: &str = "unbounded 0 \"main\":entry\n";
+
+const TWO_BLOCKS: &str = "facts 1\ntotal 0 1 1\ntotal 1 1 1\ntotal 2 1 1\ncount-bound 2\nend\n";
+
+const THREE_BLOCKS: &str =
+    "facts 1\ntotal 0 1 1\ntotal 1 1 1\ntotal 2 1 1\ntotal 3 1 1\ncount-bound 3\nend\n";
+
 #[test]
 fn a_program_is_answered_by_its_items(rt: HostRuntime) -> Result<(), Fail> {
-    let alloc = rt.alloc();
-    let again =
-        "{ label 32 { lref 32 \"A\" } { dec_unsigned 32 0 } } { jump { label 32 { lref 32 \"A\" } { dec_unsigned 32 0 } } leaving 0 }";
-    let onward =
-        "{ jump { label 32 { lref 32 \"A\" } { dec_unsigned 32 0 } } leaving 0 } { label 32 { lref 32 \"A\" } { dec_unsigned 32 0 } } { return }";
-    let two_blocks = "facts 1\ntotal 0 1 1\ntotal 1 1 1\ntotal 2 1 1\ncount-bound 2\nend\n";
+    // The items, the turns and the answer.
     let cases = [
-        ("{ return }", Status::Done, REPORT),
+        ("return", "2", Status::Done, REPORT),
+        ("return", "1", Status::Unbounded, UNBOUNDED),
+        ("null return null return", "2", Status::Done, REPORT),
+        // A jump over blocks that are never reached.
         (
-            "{ null } { return } { null } { return }",
+            "^A null @B null ^B @A return",
+            "3",
             Status::Done,
-            REPORT,
+            TWO_BLOCKS,
         ),
-        (onward, Status::Done, two_blocks),
-        (again, Status::Unbounded, "unbounded 0 \"main\":entry\n"),
+        (
+            "^A null @B null ^B @A return",
+            "2",
+            Status::Unbounded,
+            UNBOUNDED,
+        ),
+        // Labels that stand together name one block, also where none is named by a jump.
+        ("^B @A @B @C return", "3", Status::Done, TWO_BLOCKS),
+        ("@A @B return", "2", Status::Done, REPORT),
+        // A label behind a statement begins a block.
+        ("null @A return", "3", Status::Done, TWO_BLOCKS),
+        // A jump back, and on: the blocks are numbered as they stand.
+        (
+            "^B @A ^C @B ^A @C return",
+            "5",
+            Status::Done,
+            "facts 1\ntotal 0 1 1\ntotal 1 1 1\ntotal 2 1 1\ntotal 3 1 1\ntotal 4 1 1\ncount-bound 4\nend\n",
+        ),
+        (
+            "null ^A @B return @A null ^B",
+            "4",
+            Status::Done,
+            THREE_BLOCKS,
+        ),
+        // Runs without end.
+        ("@A ^A", "1000", Status::Unbounded, UNBOUNDED),
+        ("@A ^A", "1000000", Status::Unbounded, UNBOUNDED),
+        ("@A null @B ^A", "1000", Status::Unbounded, UNBOUNDED),
     ];
-    for (items, wanted, wanted_text) in cases {
-        let program = replaced(alloc, RETURNS, "{ return }", items)?;
-        let (status, text) = answer_of(alloc, "analyse a.alf", &program)?;
-        assert_eq!(rt; status, wanted, "{items}");
-        assert_eq!(rt; text.as_slice(), wanted_text.as_bytes(), "{items}");
+    let alloc = rt.alloc();
+    for (items, turns, wanted, wanted_text) in cases {
+        let program = with_items(alloc, items)?;
+        let line = format!(in alloc; "analyse a.alf --turns {turns}")?;
+        let (status, text) = answer_of(alloc, line.as_str(), &program)?;
+        assert_eq!(rt; status, wanted, "{items} {turns}");
+        assert_eq!(rt; text.as_slice(), wanted_text.as_bytes(), "{items} {turns}");
     }
     Ok(())
 }

@@ -1,8 +1,9 @@
 -- Programs, without where they lie in memory.
---   Term, Act, Item, Frame, Start, Function, Whole   an expression, a statement, an item, a frame, an initial value, a function, a program
---   term_of, act_of, item_of, frame_of, start_of, function_of, whole_of   what the code's values stand for
-use Rattle.std.specs.Prelude.{ℕ, List, map, Option}
+--   Term, Terms, Act, Item, Frame, Start, Function, Whole   an expression, expressions in a row, a statement, an item, a frame, an initial value, a function, a program
+--   term_of, act_of, item_of, frame_of, names_of, start_of, function_of, whole_of   what the code's values stand for
+use Rattle.std.specs.Prelude.{ℕ, List, [], ◌∷◌, map, Option, None, Some}
 use Rattle.std.specs.Option.{option_map}
+use Rattle.alf_ops.specs.declared.operator.Op.{Op}
 use Rattle.alf_text.specs.declared.program.Num.{Num}
 use Rattle.alf_text.specs.declared.program.Expr.{Expr}
 use Rattle.alf_text.specs.declared.program.Expr.TheOpen.{Expr-F}
@@ -17,11 +18,18 @@ use Rattle.alf_text.specs.declared.program.Init.{Init}
 use Rattle.alf_text.specs.declared.program.Func.{Func}
 use Rattle.alf_text.specs.declared.program.Program.{Program}
 
--- an expression: a number, an address, or a load of so many bits
-pub data Term : Type 0 where
-  Number : Num → Term
-  Address : List ℕ → ℕ → Term
-  Loads : ℕ → Term → Term
+mutual
+  -- an expression: a number, an address, a load of so many bits, or an operator with its sizes and operands
+  pub data Term : Type 0 where
+    Number : Num → Term
+    Address : List ℕ → ℕ → Term
+    Loads : ℕ → Term → Term
+    Applies : Op → List ℕ → Terms → Term
+
+  -- expressions in a row
+  pub data Terms : Type 0 where
+    Last : Terms
+    With : Term → Terms → Terms
 
 -- a statement
 pub data Act : Type 0 where
@@ -60,10 +68,15 @@ pub record Whole : Type 0 where
   pub inits : List Start
   pub funcs : List Function
 
+abbrev pub terms_of : List Term → Terms
+terms_of [] = Last
+terms_of (t ∷ ts) = With t (terms_of ts)
+
 abbrev pub term_step : Expr-F Term → Term
 term_step (exprs.Num n) = Number n
 term_step (exprs.Addr name offset) = Address name offset
 term_step (exprs.Load size at) = Loads size at.value
+term_step (exprs.Apply op sizes operands) = Applies op sizes.items (terms_of operands.items)
 
 abbrev pub term_of : Expr → Term
 term_of = fold-Expr Term term_step
@@ -82,6 +95,10 @@ item_of (items.Stmt stmt) = Does (act_of stmt)
 
 abbrev pub frame_of : Alloc → Frame
 frame_of alloc = record { name = alloc.name; bits = alloc.bits }
+
+-- the names of frames
+abbrev pub names_of : List Alloc → List (List ℕ)
+names_of allocs = map (λ alloc. alloc.name) allocs
 
 abbrev pub start_of : Init → Start
 start_of init = record { name = init.name; offset = init.offset; num = init.num }

@@ -1,3 +1,4 @@
+use alf_ops::Op;
 use flow_base::Name;
 
 /// A number as it is written: whether with a sign, its size in bits, and its word.
@@ -18,6 +19,8 @@ pub enum Expr {
     Addr(Name, u32),
     /// A load of so many bits from an address.
     Load(u32, Box<Expr>),
+    /// An operator, the sizes that are written behind it, and its operands in order.
+    Apply(Op, Vec<u32>, Vec<Expr>),
 }
 
 /// A statement.

@@ -2,7 +2,8 @@ ghost use Rattle.std.specs.Prelude.{◌≡◌, ◌<◌, ◌≤◌, ◌++◌, fal
 ghost use Rattle.alf_text.specs.declared.token.Kind.TheVariants as kinds;
 ghost use Rattle.alf_text.specs.Tokens.{Lexeme, shown, text_of};
 ghost use Rattle.alf_text.specs.Cutting.{tokens_of};
-ghost use Rattle.alf_text.specs.Grammar.{first, after, opens, the_number};
+ghost use Rattle.flow_base.specs.Digits.{front_digits};
+ghost use Rattle.alf_text.specs.Grammar.{first, after, opens, number_within, the_number};
 ghost use Rattle.alf_text.specs.Reading.{lexeme, ahead, room, misfits_of};
 
 use crate::fault::Departure;
@@ -49,6 +50,14 @@ pub fn misfit(token: Token<'_>) -> Departure<'_>
         Kind::Long => Departure::Number(token.left),
         _ => Departure::Syntax(token.left),
     }
+}
+
+/// The number that the digits write, where it is at most so much.
+pub fn number_within(text: &[u8], most: u64) -> Option<u64>
+    ensures { result ≡ number_within most (front_digits text.now) }
+{
+    let (number, _) = digits(text, 0, u128::from(most))?;
+    Some(number as u64)
 }
 
 /// Whether the digits write this number.

@@ -1,21 +1,56 @@
-ghost use Rattle.std.specs.Prelude.{◌≡◌, ◌<◌, map, length, OnOk};
+ghost use Rattle.std.specs.Prelude.{◌≡◌, ◌<◌, [], ◌∷◌, map, length, OnOk, IfOk};
+ghost use Rattle.alf_ops.specs.declared.operator.Op.TheVariants.{Add};
 ghost use Rattle.grammar.specs.Form.{Form, Gives, one, many};
 ghost use Rattle.alf_text.specs.Tokens.{Lexeme};
-ghost use Rattle.alf_text.specs.Tree.{Entry, item_of, function_of, whole_of};
-ghost use Rattle.alf_text.specs.Grammar.{Fault, Rule, alf, opening, closing, end, word, fixed, name, empty, lref, zero_offset, label_tail, label, item_word, fits_word, label_item, null, leaving, jump, returns, item_tail, item, stmts, scope, function, no_names, macro_defs, addr_unit, little_endian, heading, arg_decls, functions, program};
+ghost use Rattle.alf_text.specs.Tree.{Number, Applies, Last, With, Entry, Frame, term_of, item_of, frame_of, function_of, whole_of};
+ghost use Rattle.alf_text.specs.Grammar.{Fault, Rule, alf, opening, closing, end, word, fixed, at_most, name, empty, lref, fref, zero_offset, label_tail, label, alloc, decls, address, number_tail, dec_unsigned, number, load_tail, load, carry, no_carry, add_tail, number_term, expr_word, expr_tail, expr, opens_target, targets_ahead, target, default_arm, switch, with_word, store, item_word, fits_word, label_item, null, leaving, jump, returns, item_tail, item, stmts, scope, function, no_names, macro_defs, addr_unit, little_endian, heading, arg_decls, functions, program};
 ghost use Rattle.alf_text.specs.Reading.{ahead, fault_of};
 
 use crate::fault::Departure;
-use crate::reader::{Reader, is_the_number, misfit};
-use crate::{Func, Item, Program, Stmt};
+use crate::reader::{Reader, is_the_number, misfit, number_within};
+use crate::{Alloc, Expr, Func, Item, Num, Program, Stmt};
+use alf_ops::Op;
 use flow_base::Name;
+use std::alloc::{AllocError, Global};
+
+const MOST_WORD: u64 = 0xffff_ffff;
+
+const NO_CARRY: Num = Num {
+    signed: false,
+    size: 1,
+    bits: 0,
+};
+
+/// Which expression a word begins.
+#[derive(Clone, Copy, Debug, PartialEq, Eq)]
+enum ExprWord {
+    Number,
+    Load,
+    Add,
+}
+
+fn expr_word(text: &[u8]) -> Option<ExprWord>
+    ensures { result ≡ expr_word text.now }
+{
+    if text == b"dec_unsigned".as_slice() {
+        Some(ExprWord::Number)
+    } else if text == b"load".as_slice() {
+        Some(ExprWord::Load)
+    } else if text == b"add".as_slice() {
+        Some(ExprWord::Add)
+    } else {
+        None
+    }
+}
 
 /// Which item a word begins.
 #[derive(Clone, Copy, Debug, PartialEq, Eq)]
 enum ItemWord {
     Label,
     Null,
+    Store,
     Jump,
+    Switch,
     Return,
 }
 
@@ -26,8 +61,12 @@ fn item_word(text: &[u8]) -> Option<ItemWord>
         Some(ItemWord::Label)
     } else if text == b"null".as_slice() {
         Some(ItemWord::Null)
+    } else if text == b"store".as_slice() {
+        Some(ItemWord::Store)
     } else if text == b"jump".as_slice() {
         Some(ItemWord::Jump)
+    } else if text == b"switch".as_slice() {
+        Some(ItemWord::Switch)
     } else if text == b"return".as_slice() {
         Some(ItemWord::Return)
     } else {
@@ -100,6 +139,20 @@ impl<'a> Reader<'a> {
             Ok(())
         } else {
             Err(Departure::OutOfProfile(token))
+        }
+    }
+
+    #[tactic(auto, unfolding(crate::specs::Grammar::at_most))]
+    fn at_most(&mut self, most: u64) -> Result<u64, Departure<'a>>
+        ensures { Gives fault_of (λ x. (x, ahead self.new)) result ((at_most most).reading (ahead self.old)) }
+    {
+        let token = self.next();
+        if !token.kind.is_number() {
+            return Err(misfit(token));
+        }
+        match number_within(token.text, most) {
+            Some(number) => Ok(number),
+            None => Err(Departure::Number(token.left)),
         }
     }
 
@@ -185,6 +238,246 @@ impl<'a> Reader<'a> {
         Ok(name)
     }
 
+    #[tactic(auto, unfolding(crate::specs::Grammar::fref))]
+    fn fref(&mut self) -> Result<Name, Departure<'a>>
+        ensures { Gives fault_of (λ x. (x, ahead self.new)) result (fref.reading (ahead self.old)) }
+    {
+        self.opening()?;
+        self.word(b"fref")?;
+        self.fixed(32)?;
+        let name = self.name()?;
+        self.closing()?;
+        Ok(name)
+    }
+
+    #[tactic(auto, unfolding(crate::specs::Grammar::alloc))]
+    fn alloc(&mut self) -> Result<Alloc, Departure<'a>>
+        ensures { Gives fault_of (λ x. (frame_of x, ahead self.new)) result (alloc.reading (ahead self.old)) }
+    {
+        self.opening()?;
+        self.word(b"alloc")?;
+        self.fixed(32)?;
+        let name = self.name()?;
+        self.fixed(32)?;
+        self.closing()?;
+        Ok(Alloc { name, bits: 32 })
+    }
+
+    #[tactic(auto, unfolding(crate::specs::Grammar::decls))]
+    fn decls(&mut self) -> Result<Vec<Alloc>, Departure<'a>>
+        ensures { Gives fault_of (λ x. (map frame_of x.items, ahead self.new)) result (decls.reading (ahead self.old)) }
+    {
+        self.opening()?;
+        self.word(b"decls")?;
+        let allocs = many(self)?;
+        self.closing()?;
+        Ok(allocs)
+    }
+
+    #[tactic(auto, unfolding(crate::specs::Grammar::address))]
+    fn address(&mut self) -> Result<Expr, Departure<'a>>
+        ensures { Gives fault_of (λ x. (term_of x, ahead self.new)) result (address.reading (ahead self.old)) }
+    {
+        self.opening()?;
+        self.word(b"addr")?;
+        self.fixed(32)?;
+        let name = self.fref()?;
+        self.zero_offset()?;
+        self.closing()?;
+        Ok(Expr::Addr(name, 0))
+    }
+
+    #[tactic(auto, unfolding(crate::specs::Grammar::number_tail))]
+    fn number_tail(&mut self) -> Result<Num, Departure<'a>>
+        ensures { Gives fault_of (λ x. (x, ahead self.new)) result (number_tail.reading (ahead self.old)) }
+    {
+        self.fixed(32)?;
+        let bits = self.at_most(MOST_WORD)?;
+        self.closing()?;
+        Ok(Num {
+            signed: false,
+            size: 32,
+            bits,
+        })
+    }
+
+    #[tactic(auto, unfolding(crate::specs::Grammar::dec_unsigned))]
+    fn dec_unsigned(&mut self) -> Result<(), Departure<'a>>
+        ensures { Gives fault_of (λ x. (x, ahead self.new)) result (dec_unsigned.reading (ahead self.old)) }
+    {
+        self.word(b"dec_unsigned")?;
+        Ok(())
+    }
+
+    #[tactic(auto, unfolding(crate::specs::Grammar::number))]
+    fn number(&mut self) -> Result<Num, Departure<'a>>
+        ensures { Gives fault_of (λ x. (x, ahead self.new)) result (number.reading (ahead self.old)) }
+    {
+        self.opening()?;
+        self.dec_unsigned()?;
+        let num = self.number_tail()?;
+        Ok(num)
+    }
+
+    #[tactic(auto, unfolding(crate::specs::Grammar::load_tail))]
+    fn load_tail(&mut self) -> Result<Expr, Departure<'a>>
+        ensures { Gives fault_of (λ x. (term_of x, ahead self.new)) result (load_tail.reading (ahead self.old)) }
+    {
+        self.fixed(32)?;
+        let at = self.address()?;
+        self.closing()?;
+        Ok(Expr::Load(32, Box::new(self.alloc, at)?))
+    }
+
+    #[tactic(auto, unfolding(crate::specs::Grammar::load))]
+    fn load(&mut self) -> Result<Expr, Departure<'a>>
+        ensures { Gives fault_of (λ x. (term_of x, ahead self.new)) result (load.reading (ahead self.old)) }
+    {
+        self.opening()?;
+        self.word(b"load")?;
+        let load = self.load_tail()?;
+        Ok(load)
+    }
+
+    #[tactic(auto, unfolding(crate::specs::Grammar::carry))]
+    fn carry(&mut self) -> Result<(), Departure<'a>>
+        ensures { Gives fault_of (λ x. (x, ahead self.new)) result (carry.reading (ahead self.old)) }
+    {
+        self.opening()?;
+        self.dec_unsigned()?;
+        self.fixed(1)?;
+        self.fixed(0)?;
+        self.closing()?;
+        Ok(())
+    }
+
+    #[tactic(auto, unfolding(crate::specs::Grammar::add_tail))]
+    fn add_tail(&mut self) -> Result<Expr, Departure<'a>>
+        ensures { Gives fault_of (λ x. (term_of x, ahead self.new)) result (add_tail.reading (ahead self.old)) }
+    {
+        self.fixed(32)?;
+        let load = self.load()?;
+        let num = self.number()?;
+        self.carry()?;
+        self.closing()?;
+        Ok(sum_of(self.alloc, load, num)?)
+    }
+
+    #[tactic(auto, unfolding(crate::specs::Grammar::number_term))]
+    fn number_term(&mut self) -> Result<Expr, Departure<'a>>
+        ensures { Gives fault_of (λ x. (term_of x, ahead self.new)) result (number_term.reading (ahead self.old)) }
+    {
+        let num = self.number_tail()?;
+        Ok(Expr::Num(num))
+    }
+
+    fn expr_word(&mut self) -> Result<ExprWord, Departure<'a>>
+        ensures { Gives fault_of (λ x. (x, ahead self.new)) result ((one alf (fits_word expr_word)).reading (ahead self.old)) }
+    {
+        let token = self.next();
+        if !token.kind.is_word() {
+            return Err(misfit(token));
+        }
+        match expr_word(token.text) {
+            Some(found) => Ok(found),
+            None => Err(Departure::OutOfProfile(token)),
+        }
+    }
+
+    #[tactic(auto, unfolding(crate::specs::Grammar::expr, crate::specs::Grammar::expr_tail))]
+    fn expr(&mut self) -> Result<Expr, Departure<'a>>
+        ensures { Gives fault_of (λ x. (term_of x, ahead self.new)) result (expr.reading (ahead self.old)) }
+    {
+        self.opening()?;
+        match self.expr_word()? {
+            ExprWord::Number => self.number_term(),
+            ExprWord::Load => self.load_tail(),
+            ExprWord::Add => self.add_tail(),
+        }
+    }
+
+    #[tactic(auto, unfolding(crate::specs::Grammar::target))]
+    fn target(&mut self) -> Result<(Num, Name), Departure<'a>>
+        ensures { Gives fault_of (λ x. (x, ahead self.new)) result (target.reading (ahead self.old)) }
+    {
+        self.opening()?;
+        self.word(b"target")?;
+        let num = self.number()?;
+        let label = self.label()?;
+        self.closing()?;
+        Ok((num, label))
+    }
+
+    // Whether a further target begins. Nothing is taken.
+    fn at_target(&self) -> bool
+        ensures { result ≡ opens_target (ahead self.now) }
+    {
+        let mut ahead = *self;
+        let brace = ahead.next();
+        let word = ahead.next();
+        brace.kind.is_open() && word.kind.is_word() && word.text == b"target".as_slice()
+    }
+
+    fn targets(&mut self) -> Result<Vec<(Num, Name)>, Departure<'a>>
+        ensures { Gives fault_of (λ x. (x.items, ahead self.new)) result ((many targets_ahead target).reading (ahead self.old)) }
+    {
+        let mut targets = Vec::new(self.alloc);
+        while self.at_target() {
+            targets.push(self.one_target()?)?;
+        }
+        Ok(targets)
+    }
+
+    #[tactic(auto, using(crate::proofs::Exactness::target_smaller))]
+    fn one_target(&mut self) -> Result<(Num, Name), Departure<'a>>
+        ensures exact { Gives fault_of (λ x. (x, ahead self.new)) result (target.reading (ahead self.old)) }
+        ensures shorter { OnOk result (length (ahead self.new) < length (ahead self.old)) }
+    {
+        let target = self.target()?;
+        Ok(target)
+    }
+
+    #[tactic(auto, unfolding(crate::specs::Grammar::default_arm))]
+    fn default_arm(&mut self) -> Result<Name, Departure<'a>>
+        ensures { Gives fault_of (λ x. (x, ahead self.new)) result (default_arm.reading (ahead self.old)) }
+    {
+        self.opening()?;
+        self.word(b"default")?;
+        let label = self.label()?;
+        self.closing()?;
+        Ok(label)
+    }
+
+    #[tactic(auto, unfolding(crate::specs::Grammar::switch))]
+    fn switch(&mut self) -> Result<Item, Departure<'a>>
+        ensures { Gives fault_of (λ x. (item_of x, ahead self.new)) result (switch.reading (ahead self.old)) }
+    {
+        let value = self.load()?;
+        let targets = self.targets()?;
+        let others = self.default_arm()?;
+        self.closing()?;
+        Ok(Item::Stmt(Stmt::Switch(value, targets, others)))
+    }
+
+    #[tactic(auto, unfolding(crate::specs::Grammar::with_word))]
+    fn with_word(&mut self) -> Result<(), Departure<'a>>
+        ensures { Gives fault_of (λ x. (x, ahead self.new)) result (with_word.reading (ahead self.old)) }
+    {
+        self.word(b"with")?;
+        Ok(())
+    }
+
+    #[tactic(auto, unfolding(crate::specs::Grammar::store))]
+    fn store(&mut self) -> Result<Item, Departure<'a>>
+        ensures { Gives fault_of (λ x. (item_of x, ahead self.new)) result (store.reading (ahead self.old)) }
+    {
+        let at = self.address()?;
+        self.with_word()?;
+        let value = self.expr()?;
+        self.closing()?;
+        Ok(Item::Stmt(Stmt::Store(at, value)))
+    }
+
     #[tactic(auto, unfolding(crate::specs::Grammar::label_item))]
     fn label_item(&mut self) -> Result<Item, Departure<'a>>
         ensures { Gives fault_of (λ x. (item_of x, ahead self.new)) result (label_item.reading (ahead self.old)) }
@@ -236,7 +529,9 @@ impl<'a> Reader<'a> {
         match self.item_word()? {
             ItemWord::Label => self.label_item(),
             ItemWord::Null => self.null(),
+            ItemWord::Store => self.store(),
             ItemWord::Jump => self.jump(),
+            ItemWord::Switch => self.switch(),
             ItemWord::Return => self.returns(),
         }
     }
@@ -361,7 +656,7 @@ impl<'a> Reader<'a> {
         self.heading()?;
         self.no_names(b"exports")?;
         self.no_names(b"imports")?;
-        self.empty(b"decls")?;
+        let decls = self.decls()?;
         self.empty(b"inits")?;
         let func = self.functions()?;
         self.closing()?;
@@ -371,11 +666,24 @@ impl<'a> Reader<'a> {
         Ok(Program {
             exports: Vec::new(self.alloc),
             labels: Vec::new(self.alloc),
-            decls: Vec::new(self.alloc),
+            decls,
             inits: Vec::new(self.alloc),
             funcs,
         })
     }
+}
+
+// The sum of a load and a number, with carry 0.
+fn sum_of(alloc: Global, load: Expr, num: Num) -> Result<Expr, AllocError>
+    ensures { IfOk result (λ expr. term_of expr ≡ Applies Add (32 ∷ []) (With (term_of load) (With (Number num) (With (Number no_carry) Last)))) }
+{
+    let mut sizes = Vec::new(alloc);
+    sizes.push(32)?;
+    let mut operands = Vec::new(alloc);
+    operands.push(load)?;
+    operands.push(Expr::Num(num))?;
+    operands.push(Expr::Num(NO_CARRY))?;
+    Ok(Expr::Apply(Op::Add, sizes, operands))
 }
 
 /// What stands in lists.
@@ -413,5 +721,19 @@ impl<'a> Part<'a> for Item {
     fn read(reader: &mut Reader<'a>) -> Result<Self, Departure<'a>> {
         let item = reader.item()?;
         Ok(item)
+    }
+}
+
+impl<'a> Part<'a> for Alloc {
+    ghost Seen = { Frame };
+
+    ghost form = { alloc };
+
+    ghost view = { frame_of };
+
+    #[tactic(auto, using(crate::proofs::Exactness::alloc_smaller))]
+    fn read(reader: &mut Reader<'a>) -> Result<Self, Departure<'a>> {
+        let alloc = reader.alloc()?;
+        Ok(alloc)
     }
 }

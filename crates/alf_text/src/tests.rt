@@ -1,9 +1,17 @@
-use crate::{FirstFault, Item, Stmt, read_first};
+use crate::{Expr, FirstFault, Item, Stmt, read_first};
+use alf_ops::Op;
 use std::alloc::{AllocError, Global};
 use std::test::Fail;
 
 const HEAD: &str =
-    "{ alf { macro_defs } { least_addr_unit 8 } little_endian { exports { frefs } { lrefs } } { imports { frefs } { lrefs } } { decls } { inits } { funcs { func ";
+    "{ alf { macro_defs } { least_addr_unit 8 } little_endian { exports { frefs } { lrefs } } { imports { frefs } { lrefs } } { decls ";
+
+const FUNC: &str = "} { inits } { funcs { func ";
+
+// The frames `x` and `y`.
+const FRAMES: &str = "{ alloc 32 \"x\" 32 } { alloc 32 \"y\" 32 } ";
+
+const X: &str = "{ addr 32 { fref 32 \"x\" } { dec_unsigned 32 0 } }";
 
 const MAIN: &str = "{ label 32 { lref 32 \"main\" } { dec_unsigned 32 0 } } ";
 
@@ -18,6 +26,10 @@ fn shown(item: &Item) -> &'static str {
     match item {
         Item::Label(_) => "label",
         Item::Stmt(Stmt::Null) => "null",
+        Item::Stmt(Stmt::Store(Expr::Addr(_, 0), Expr::Num(_))) => "store",
+        Item::Stmt(Stmt::Store(Expr::Addr(_, 0), Expr::Load(32, _))) => "copy",
+        Item::Stmt(Stmt::Store(Expr::Addr(_, 0), Expr::Apply(Op::Add, _, _))) => "add",
+        Item::Stmt(Stmt::Switch(Expr::Load(32, _), _, _)) => "switch",
         Item::Stmt(Stmt::Jump(_)) => "jump",
         Item::Stmt(Stmt::Return(None)) => "return",
         _ => "other",
@@ -58,7 +70,7 @@ fn items_are_read_in_their_order(rt: HostRuntime) -> Result<(), Fail> {
         ),
     ];
     for (items, wanted) in cases {
-        let text = format!(in alloc; "{HEAD}{MAIN}{BODY}{items}{TAIL}")?;
+        let text = format!(in alloc; "{HEAD}{FRAMES}{FUNC}{MAIN}{BODY}{items}{TAIL}")?;
         match kinds_of(alloc, text.as_str())? {
             Some(kinds) => assert_eq!(rt; kinds.as_str(), wanted, "{items}"),
             None => assert!(rt; false, "{items}"),
@@ -115,15 +127,17 @@ fn other_texts_are_no_first_texts(rt: HostRuntime) -> Result<(), Fail> {
         ),
     ];
     for (items, reason) in cases {
-        let text = format!(in alloc; "{HEAD}{MAIN}{BODY}{items}{TAIL}")?;
+        let text = format!(in alloc; "{HEAD}{FRAMES}{FUNC}{MAIN}{BODY}{items}{TAIL}")?;
         assert!(rt; kinds_of(alloc, text.as_str())?.is_none(), "{reason}");
     }
-    let text = format!(in alloc; "{HEAD}{LABEL_A} {BODY}{{ return }}{TAIL}")?;
+    let text = format!(in alloc; "{HEAD}{FUNC}{LABEL_A} {BODY}{{ return }}{TAIL}")?;
     assert!(rt;
         kinds_of(alloc, text.as_str())?.is_none(),
         "another function"
     );
-    let text = format!(in alloc; "{HEAD}{MAIN}{BODY}{LABEL_A} {LABEL_A} {{ return }}{TAIL}")?;
+    let text = format!(in alloc;
+        "{HEAD}{FRAMES}{FUNC}{MAIN}{BODY}{LABEL_A} {LABEL_A} {{ return }}{TAIL}"
+    )?;
     assert!(rt;
         kinds_of(alloc, text.as_str())?.is_none(),
         "a label that stands twice"
@@ -140,12 +154,134 @@ fn names_have_up_to_64_bytes(rt: HostRuntime) -> Result<(), Fail> {
             name.push('~')?;
         }
         let text = format!(in alloc;
-            "{HEAD}{MAIN}{BODY}{{ label 32 {{ lref 32 \"{name}\" }} {{ dec_unsigned 32 0 }} }} {{ return }}{TAIL}"
+            "{HEAD}{FRAMES}{FUNC}{MAIN}{BODY}{{ label 32 {{ lref 32 \"{name}\" }} {{ dec_unsigned 32 0 }} }} {{ return }}{TAIL}"
         )?;
         assert!(rt;
             kinds_of(alloc, text.as_str())?.is_some() == wanted,
             "{length}"
         );
+    }
+    Ok(())
+}
+
+#[test]
+fn stores_and_switches_are_read(rt: HostRuntime) -> Result<(), Fail> {
+    let alloc = rt.alloc();
+    let load = format!(in alloc; "{{ load 32 {X} }}")?;
+    let one = "{ dec_unsigned 32 1 }";
+    let carry = "{ dec_unsigned 1 0 }";
+    // The frames, the items before `{ return }`, and the kinds that are read, if it is a first text.
+    let cases = [
+        (
+            FRAMES,
+            format!(in alloc; "{{ store {X} with {one} }}")?,
+            "store return ",
+        ),
+        (
+            FRAMES,
+            format!(in alloc; "{{ store {X} with {{ dec_unsigned 32 4294967295 }} }}")?,
+            "store return ",
+        ),
+        (
+            FRAMES,
+            format!(in alloc; "{{ store {X} with {load} }}")?,
+            "copy return ",
+        ),
+        (
+            FRAMES,
+            format!(in alloc; "{{ store {X} with {{ add 32 {load} {one} {carry} }} }}")?,
+            "add return ",
+        ),
+        (
+            FRAMES,
+            format!(in alloc; "{{ switch {load} {{ default {LABEL_A} }} }} {LABEL_A}")?,
+            "switch label return ",
+        ),
+        (
+            FRAMES,
+            format!(in alloc;
+                "{{ switch {load} {{ target {one} {LABEL_A} }} {{ target {{ dec_unsigned 32 2 }} {LABEL_A} }} {{ default {LABEL_A} }} }} {LABEL_A}"
+            )?,
+            "switch label return ",
+        ),
+        // No frame of this name, a frame that stands twice, and another size.
+        ("", format!(in alloc; "{{ store {X} with {one} }}")?, ""),
+        (
+            "{ alloc 32 \"x\" 32 } { alloc 32 \"x\" 32 } ",
+            format!(in alloc; "{{ null }}")?,
+            "",
+        ),
+        (
+            "{ alloc 32 \"x\" 64 } ",
+            format!(in alloc; "{{ null }}")?,
+            "",
+        ),
+        // A number that does not fit, another sum, and what no store or switch takes.
+        (
+            FRAMES,
+            format!(in alloc; "{{ store {X} with {{ dec_unsigned 32 4294967296 }} }}")?,
+            "",
+        ),
+        (
+            FRAMES,
+            format!(in alloc; "{{ store {X} with {{ add 32 {one} {load} {carry} }} }}")?,
+            "",
+        ),
+        (
+            FRAMES,
+            format!(in alloc;
+                "{{ store {X} with {{ add 32 {load} {one} {{ dec_unsigned 1 1 }} }} }}"
+            )?,
+            "",
+        ),
+        (
+            FRAMES,
+            format!(in alloc; "{{ store {X} with {{ sub 32 {load} {one} {carry} }} }}")?,
+            "",
+        ),
+        (FRAMES, format!(in alloc; "{{ store {X} with {X} }}")?, ""),
+        (
+            FRAMES,
+            format!(in alloc; "{{ store {load} with {one} }}")?,
+            "",
+        ),
+        (
+            FRAMES,
+            format!(in alloc; "{{ switch {one} {{ default {LABEL_A} }} }} {LABEL_A}")?,
+            "",
+        ),
+        // Targets with one number, no default, a default before a target, and a label that is not there.
+        (
+            FRAMES,
+            format!(in alloc;
+                "{{ switch {load} {{ target {one} {LABEL_A} }} {{ target {{ dec_unsigned 32 01 }} {LABEL_A} }} {{ default {LABEL_A} }} }} {LABEL_A}"
+            )?,
+            "",
+        ),
+        (
+            FRAMES,
+            format!(in alloc; "{{ switch {load} {{ target {one} {LABEL_A} }} }} {LABEL_A}")?,
+            "",
+        ),
+        (
+            FRAMES,
+            format!(in alloc;
+                "{{ switch {load} {{ default {LABEL_A} }} {{ target {one} {LABEL_A} }} }} {LABEL_A}"
+            )?,
+            "",
+        ),
+        (
+            FRAMES,
+            format!(in alloc; "{{ switch {load} {{ default {LABEL_A} }} }}")?,
+            "",
+        ),
+    ];
+    for (frames, items, wanted) in &cases {
+        let text = format!(in alloc; "{HEAD}{frames}{FUNC}{MAIN}{BODY}{items} {{ return }}{TAIL}")?;
+        match kinds_of(alloc, text.as_str())? {
+            Some(kinds) => assert_eq!(rt; kinds.as_str(), *wanted, "{items}"),
+            None => assert!(rt; wanted.is_empty(), "{items}"),
+        }
     }
     Ok(())
 }

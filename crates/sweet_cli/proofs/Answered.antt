@@ -1,5 +1,5 @@
 -- Lemmas on answers.
-use Rattle.std.proofs.Common.{◌≡◌, ◌≤◌, ℕ, List, [], ◌∷◌, ◌++◌, Option, None, Some, Result, Ok, Err, IfOk, IfSome, length, refl, ap, sym, ◌∙◌, subst, arith}
+use Rattle.std.proofs.Common.{◌≡◌, ◌≤◌, ℕ, List, ◌++◌, Option, None, Some, Result, Ok, Err, IfOk, IfSome, length, refl, ap, sym, ◌∙◌, subst, arith}
 use Rattle.std.specs.Prelude.{Vec, vec_len}
 use Rattle.std.specs.declared.alloc.Global.{Global}
 use Rattle.flow_base.specs.Outside.{Files, Appended}
@@ -7,11 +7,11 @@ use Rattle.alf_text.specs.Tree.{Entry, Whole}
 use Rattle.alf_text.specs.First.{main_alone, IsFirst}
 use Rattle.alf_text.specs.FirstText.{FirstText}
 use Rattle.sweet_cli.specs.Words.{Command, command_of}
-use Rattle.sweet_cli.specs.Facts.{Findings, IsSound, IsReportWithin}
+use Rattle.sweet_cli.specs.Facts.{Findings, IsSound}
 use Rattle.sweet_cli.specs.ReportText.{report_text}
 use Rattle.sweet_cli.specs.Answer.{TextAnswers, not_first, left, done, Answers, usage, unread, too_long, read, PrintsSound}
 use Rattle.sweet_cli.specs.declared.status.Status.{Status}
-use Rattle.sweet_cli.specs.declared.status.Status.TheVariants.{Done, Usage, Source, Unbounded, No, ReadFailed, WriteFailed, Memory}
+use Rattle.sweet_cli.specs.declared.status.Status.TheVariants.{Done, Usage, Source, Unbounded, ReadFailed}
 use Rattle.sweet_cli.proofs.OneRun.{sound_of_exact}
 
 -- what follows from what is known of the value
@@ -33,22 +33,23 @@ some_is h = cc
 record DoneBy (words : List (List ℕ)) (told : Option Files) (text : List ℕ) : Type 0 where
   pub command : Command
   pub bytes : List ℕ
+  pub frames : List (List ℕ)
   pub items : List Entry
   pub findings : Findings
   pub means : command_of words ≡ Some command
   pub file_is : IfSome told (λ files. files command.file ≡ Some bytes)
-  pub spelled : FirstText bytes (main_alone items)
+  pub spelled : FirstText bytes (main_alone frames items)
   pub sound : IsSound items findings
   pub printed : text ≡ report_text findings
 
 -- the program of each first text is one whose exact reports are sound
 module _ (firsts : (bytes : List ℕ) (whole : Whole) → FirstText bytes whole → IsFirst whole) where
   done_text : {bytes : List ℕ} {turns : ℕ} {status : Status} {text : List ℕ} → TextAnswers bytes turns status text → status ≡ Done
-      → (items : List Entry) × (findings : Findings) × FirstText bytes (main_alone items) × IsSound items findings × (text ≡ report_text findings)
+      → (frames : List (List ℕ)) × (items : List Entry) × (findings : Findings) × FirstText bytes (main_alone frames items) × IsSound items findings × (text ≡ report_text findings)
   done_text (not_first none) e = absurd (let k : Source ≡ Done = e in cc)
-  done_text (left items text past) e = absurd (let k : Unbounded ≡ Done = e in cc)
-  done_text {bytes = bytes} (done items findings text within) e =
-      (items, findings, text, sound_of_exact items findings (firsts bytes (main_alone items) text) within.exact, refl)
+  done_text (left frames items text past) e = absurd (let k : Unbounded ≡ Done = e in cc)
+  done_text {bytes = bytes} (done frames items findings text within) e =
+      (frames, items, findings, text, sound_of_exact frames items findings (firsts bytes (main_alone frames items) text) within.exact, refl)
 
   done_by : {words : List (List ℕ)} {told : Option Files} {status : Status} {text : List ℕ} → Answers words told status text → status ≡ Done → DoneBy words told text
   done_by (usage none) e = absurd (let k : Usage ≡ Done = e in cc)
@@ -56,7 +57,7 @@ module _ (firsts : (bytes : List ℕ) (whole : Whole) → FirstText bytes whole 
   done_by (too_long command means long) e = absurd (let k : Source ≡ Done = e in cc)
   done_by (read command bytes means short file answers) e =
       let d = done_text answers e in
-      record { command = command; bytes = bytes; items = d.0; findings = d.1; means = means; file_is = file; spelled = d.2; sound = d.3; printed = d.4 }
+      record { command = command; bytes = bytes; frames = d.0; items = d.1; findings = d.2; means = means; file_is = file; spelled = d.3; sound = d.4; printed = d.5 }
 
   pub prints_sound : (words : List (List ℕ)) (told before after : _) (status : Status) (text : List ℕ) → Answers words told status text → Appended before after text
       → status ≡ Done → IfSome told (λ files. IfSome before (λ held. IfSome after (λ now. PrintsSound words files held now)))
@@ -68,6 +69,7 @@ module _ (firsts : (bytes : List ℕ) (whole : Whole) → FirstText bytes whole 
       record {
         command = d.command;
         bytes = d.bytes;
+        frames = d.frames;
         items = d.items;
         findings = d.findings;
         means = d.means;

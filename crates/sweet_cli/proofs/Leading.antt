@@ -1,75 +1,215 @@
--- In a first program each block leads on, and where it leads is read off its last item.
-use Rattle.std.proofs.Common.{◌≡◌, ◌≢◌, ◌<◌, ◌+◌, ℕ, zero, suc, true, false, List, [], ◌∷◌, ◌++◌, ◌⊎◌, inl, inr, Option, None, Some, IfSome, IfNone, slice_get, get_or, map, option_map, ◌-◌, length, length-append, refl, ap, sym, ◌∙◌, subst, arith}
-use Rattle.std.proofs.lemmas.List.{same_from_push, length-map}
+-- Where the blocks of a first program lead, read off their last items.
+use Rattle.std.proofs.Common.{◌≡◌, ◌<◌, ◌≤◌, ◌+◌, ◌-◌, ◌↔◌, ℕ, zero, suc, Bool, true, false, List, [], ◌∷◌, ◌++◌, ◌⊎◌, inl, inr, Option, None, Some, IfSome, IfNone, slice_get, get_or, map, option_map, drop, drop-cons, Vec, Global, length, length-append, refl, ap, sym, ◌∙◌, subst, arith}
+use Rattle.std.proofs.lemmas.List.{same_from_push, length-map, map-append}
 use Rattle.std.proofs.lemmas.Option.{slice_get-get_or, slice_get_within, slice_get-map}
+use Rattle.alf_text.specs.declared.program.Num.{Num}
 use Rattle.alf_text.specs.declared.program.Item.{Item}
-use Rattle.alf_text.specs.Tree.{Nothing, Stores, Jumps, Switches, Calls, Returns, Entry, Labels, Does, item_of}
+use Rattle.alf_text.specs.Tree.{Term, Nothing, Stores, Jumps, Switches, Calls, Returns, Entry, Labels, Does, item_of}
 use Rattle.alf_text.specs.First.{Among, Each, IsFirstItem, IsLed, EndsWell, main_alone, IsFirst}
 use Rattle.sweet_cli.specs.Blocks.{ends_block, blocks_of}
-use Rattle.sweet_cli.specs.Nodes.{Node, at_block, EndsWith, StandsIn, Leads, enters, returns, jumps, falls}
+use Rattle.sweet_cli.specs.Nodes.{Node, entry, at_block, node_at, rank_of, EndsWith, StandsIn, IsLabelOf, Leads, enters, returns, jumps, switches, falls}
 use Rattle.sweet_cli.specs.declared.blocks.Block.{Block}
 use Rattle.sweet_cli.specs.Cut.{block_meant}
-use Rattle.sweet_cli.specs.Edges.{LeadsOn, LeadsTo}
-use Rattle.sweet_cli.proofs.Cutting.{blocks_some, some_is, flat, flat_blocks, all_some, block_ends, among_right, among_flat, found_flat, flat_end}
-use Rattle.sweet_cli.proofs.Labels.{fit}
-
-each_holds : (P : Entry → Type 0) (items : List Entry) (item : Entry) → Each P items → Among items item → P item
-each_holds P [] item each among = absurd among
-each_holds P (other ∷ items) item each (inl e) = subst P (sym e) each.0
-each_holds P (other ∷ items) item each (inr h) = each_holds P items item each.1 h
+use Rattle.sweet_cli.specs.Edges.{IsIn, LabelsAreOne, FallsWithin, IsRankOf, IsTarget, IsRow, IsTable, rows_of}
+use Rattle.sweet_cli.proofs.Cutting.{blocks_some, some_is, flat, flat_blocks, flat_end}
+use Rattle.sweet_cli.proofs.Standing.{fit}
+use Rattle.sweet_cli.proofs.Ranks.{in_front, in_last, in_push}
 
 ends_alone : (xs : List Entry) (last : Entry) → EndsWell (xs ++ last ∷ []) → EndsWell (last ∷ [])
 ends_alone [] last h = h
 ends_alone (x ∷ []) last h = h
 ends_alone (x ∷ y ∷ xs) last h = ends_alone (y ∷ xs) last h
 
-module _ (blocks : List (List Entry)) where
-  falls_on : (k : ℕ) (last : Entry) → EndsWith blocks k last → ends_block last ≡ false → k < length blocks → suc k ≢ length blocks → LeadsOn blocks k
-  falls_on k last ends open_ low more = record { next = Some (at_block (suc k)); leads = falls k last ends open_; within = omega arith }
-
-  -- a block leads on whose last item is of the first kinds
-  leads_behind : (k : ℕ) (last : Entry) → EndsWith blocks k last → k < length blocks → (suc k ≡ length blocks → EndsWell (last ∷ []))
-      → IsFirstItem last → IsLed (flat blocks) last → LeadsOn blocks k
-  leads_behind k (Labels name) ends low final kind led = falls_on k (Labels name) ends refl low final
-  leads_behind k (Does Nothing) ends low final kind led = falls_on k (Does Nothing) ends refl low final
-  leads_behind k (Does (Stores at value)) ends low final kind led = absurd kind
-  leads_behind k (Does (Jumps label)) ends low final kind led =
-      let f = found_flat blocks (Labels label) led in
-      record { next = Some (at_block f.k); leads = jumps k f.k label ends (f.block, f.is, f.among); within = slice_get_within blocks f.k f.block f.is }
-  leads_behind k (Does (Switches value targets others)) ends low final kind led = absurd kind
-  leads_behind k (Does (Calls label args result)) ends low final kind led = absurd kind
-  leads_behind k (Does (Returns None)) ends low final kind led = record { next = None; leads = returns k ends; within = tt }
-  leads_behind k (Does (Returns (Some value))) ends low final kind led = absurd kind
-
-  -- one item is the last of a block
-  pub last_one : (k : ℕ) (a b : Entry) → EndsWith blocks k a → EndsWith blocks k b → a ≡ b
-  last_one k a b (front, is) (more, at) = (same_from_push front more a b (some_is (sym is ∙ at))).1
+-- what ends well ends a block
+ends_of_well : (last : Entry) → EndsWell (last ∷ []) → ends_block last ≡ false → ⊥
+ends_of_well (Labels name) h e = h
+ends_of_well (Does Nothing) h e = h
+ends_of_well (Does (Stores at value)) h e = h
+ends_of_well (Does (Jumps label)) h e = let no : true ≡ false = e in cc
+ends_of_well (Does (Switches value targets others)) h e = let no : true ≡ false = e in cc
+ends_of_well (Does (Calls label args result)) h e = h
+ends_of_well (Does (Returns value)) h e = let no : true ≡ false = e in cc
 
 items_some : (items : List Entry) → EndsWell items → 0 < length items
 items_some [] h = absurd h
 items_some (item ∷ items) h = omega arith
 
 -- a first program has blocks
-pub some_blocks : (items : List Entry) → IsFirst (main_alone items) → 0 < length (blocks_of items)
-some_blocks items first = blocks_some items (items_some items (fit items first).ends)
+pub some_blocks : (frames : List (List ℕ)) (items : List Entry) → IsFirst (main_alone frames items) → 0 < length (blocks_of items)
+some_blocks frames items first = blocks_some items (items_some items (fit frames items first).ends)
 
--- each block of a first program leads on
-pub leads_on : (items : List Entry) → IsFirst (main_alone items) → (k : ℕ) → k < length (blocks_of items) → LeadsOn (blocks_of items) k
-leads_on items first k low =
-    let f = fit items first in
+-- and the last of them is ended by a statement
+pub falls_within : (frames : List (List ℕ)) (items : List Entry) → IsFirst (main_alone frames items) → FallsWithin (blocks_of items)
+falls_within frames items first k last (front, is) open_ =
     let blocks = blocks_of items in
-    let is = slice_get-get_or blocks k [] low in
-    let e = block_ends blocks k _ (all_some items) is in
-    let at : slice_get blocks k ≡ Some (e.front ++ e.last ∷ []) = is ∙ ap (λ (x : List Entry). Some x) e.is in
-    let whole = flat_blocks items in
-    let among : Among (flat blocks) e.last = among_flat blocks k (e.front ++ e.last ∷ []) e.last at (among_right e.front (e.last ∷ []) e.last (inl refl)) in
-    let each : Each IsFirstItem (flat blocks) = subst (λ (x : List Entry). Each IsFirstItem x) (sym whole) f.each in
-    let led : Each (IsLed (flat blocks)) (flat blocks) = subst (λ (x : List Entry). Each (IsLed x) x) (sym whole) f.led in
-    let final : suc k ≡ length blocks → EndsWell (e.last ∷ []) =
-    λ long. (let z = flat_end blocks k e.front e.last long at in ends_alone z.0 e.last (subst (λ (x : List Entry). EndsWell x) (sym whole ∙ z.1) f.ends)) in
-    leads_behind blocks k e.last (e.front, at) low final (each_holds IsFirstItem (flat blocks) e.last each among) (each_holds (IsLed (flat blocks)) (flat blocks) e.last led among)
+    let low = slice_get_within blocks k (front ++ last ∷ []) is in
+    let apart : suc k ≡ length blocks → ⊥ =
+    λ long. (let z = flat_end blocks k front last long is in
+    ends_of_well last (ends_alone z.0 last (subst (λ (x : List Entry). EndsWell x) (sym (flat_blocks items) ∙ z.1) (fit frames items first).ends)) open_) in
+    omega arith
 
--- the code's blocks
+-- ---- rows
+
+module _ (blocks : List (List Entry)) where
+  -- one item is the last of a block
+  pub last_one : (k : ℕ) (a b : Entry) → EndsWith blocks k a → EndsWith blocks k b → a ≡ b
+  last_one k a b (front, is) (more, at) = (same_from_push front more a b (some_is (sym is ∙ at))).1
+
+  -- the entry leads to the first block
+  row_entry : 0 < length blocks → IsRow blocks 0 (1 ∷ [])
+  row_entry some = record { leads = leads; all = all; within = within }
+    where
+      leads : (to : ℕ) → IsIn (1 ∷ []) to → Leads blocks entry (Some (node_at to))
+      leads to (inl e) = subst (λ (n : ℕ). Leads blocks entry (Some (node_at n))) (sym e) enters
+      leads to (inr h) = absurd h
+
+      all : (next : Option Node) → Leads blocks entry next → IfSome next (λ node. IsIn (1 ∷ []) (rank_of node))
+      all next enters = inl refl
+
+      within : (to : ℕ) → IsIn (1 ∷ []) to → to ≤ length blocks
+      within to (inl e) = omega arith
+      within to (inr h) = absurd h
+
+  -- a block that no statement ends leads to the next one
+  row_falls : (k : ℕ) (last : Entry) → FallsWithin blocks → EndsWith blocks k last → ends_block last ≡ false → IsRow blocks (suc k) (suc (suc k) ∷ [])
+  row_falls k last low ends open_ = record { leads = leads; all = all; within = within }
+    where
+      leads : (to : ℕ) → IsIn (suc (suc k) ∷ []) to → Leads blocks (at_block k) (Some (node_at to))
+      leads to (inl e) = subst (λ (n : ℕ). Leads blocks (at_block k) (Some (node_at n))) (sym e) (falls k last ends open_)
+      leads to (inr h) = absurd h
+
+      closed : (other : Entry) → EndsWith blocks k other → ends_block other ≡ true → ⊥
+      closed other h e = let no : true ≡ false = sym e ∙ ap ends_block (last_one k other last h ends) ∙ open_ in cc
+
+      all : (next : Option Node) → Leads blocks (at_block k) next → IfSome next (λ node. IsIn (suc (suc k) ∷ []) (rank_of node))
+      all next (returns _ h) = tt
+      all next (jumps _ to label h there) = absurd (closed _ h refl)
+      all next (switches _ to value targets others label h one there) = absurd (closed _ h refl)
+      all next (falls _ other h e) = inl refl
+
+      within : (to : ℕ) → IsIn (suc (suc k) ∷ []) to → to ≤ length blocks
+      within to (inl e) = let more = low k last ends open_ in omega arith
+      within to (inr h) = absurd h
+
+  pub row_next : (k : ℕ) (last : Entry) → FallsWithin blocks → EndsWith blocks k last → ends_block last ≡ false → (row : List ℕ) → row ≡ (k + 2) ∷ [] → IsRow blocks (suc k) row
+  row_next k last low ends open_ row is =
+      let same : suc (suc k) ≡ k + 2 = omega arith in
+      subst (λ (x : List ℕ). IsRow blocks (suc k) x) (ap (λ (n : ℕ). n ∷ []) same ∙ sym is) (row_falls k last low ends open_)
+
+  -- a block without edges leads nowhere
+  row_none : (k : ℕ) → ((next : Node) → Leads blocks (at_block k) (Some next) → ⊥) → IsRow blocks (suc k) []
+  row_none k none = record { leads = λ to h. absurd h; all = all; within = λ to h. absurd h }
+    where
+      all : (next : Option Node) → Leads blocks (at_block k) next → IfSome next (λ node. IsIn [] (rank_of node))
+      all None h = tt
+      all (Some next) h = none next h
+
+  -- what a switch leads to is one of the blocks
+  target_low : (targets : List (Num × List ℕ)) (others : List ℕ) (to : ℕ) → IsTarget blocks targets others to → to ≤ length blocks
+  target_low [] others to (k, is, (block, at, among)) = let low = slice_get_within blocks k block at in omega arith
+  target_low (target ∷ targets) others to (inl (k, is, (block, at, among))) = let low = slice_get_within blocks k block at in omega arith
+  target_low (target ∷ targets) others to (inr h) = target_low targets others to h
+
+  -- a target has a label
+  target_label : (targets : List (Num × List ℕ)) (others : List ℕ) (to : ℕ) → IsTarget blocks targets others to
+      → (label : List ℕ) × IsLabelOf targets others label × IsRankOf blocks label to
+  target_label [] others to h = (others, refl, h)
+  target_label (target ∷ targets) others to (inl h) = (target.1, inl refl, h)
+  target_label (target ∷ targets) others to (inr h) = let more = target_label targets others to h in (more.0, inr more.1, more.2)
+
+  -- and back
+  label_target : (targets : List (Num × List ℕ)) (others label : List ℕ) (k : ℕ) → IsLabelOf targets others label → StandsIn blocks k label → IsTarget blocks targets others (suc k)
+  label_target [] others label k e there = (k, refl, subst (λ (x : List ℕ). StandsIn blocks k x) e there)
+  label_target (target ∷ targets) others label k (inl e) there = inl (k, refl, subst (λ (x : List ℕ). StandsIn blocks k x) e there)
+  label_target (target ∷ targets) others label k (inr h) there = inr (label_target targets others label k h there)
+
+  -- the row of a block whose edges lead to labels
+  row_targets : (k : ℕ) (targets : List (Num × List ℕ)) (others : List ℕ) (row : List ℕ)
+      → ((next : Option Node) → Leads blocks (at_block k) next → IfSome next (λ node. IsTarget blocks targets others (rank_of node)))
+      → ((to : ℕ) → IsTarget blocks targets others to → Leads blocks (at_block k) (Some (node_at to)))
+      → ((to : ℕ) → IsIn row to ↔ IsTarget blocks targets others to) → IsRow blocks (suc k) row
+  row_targets k targets others row from_edge to_edge same =
+      record { leads = λ to h. to_edge to ((same to).0 h); all = all; within = λ to h. target_low targets others to ((same to).0 h) }
+    where
+      all : (next : Option Node) → Leads blocks (at_block k) next → IfSome next (λ node. IsIn row (rank_of node))
+      all None h = tt
+      all (Some next) h = (same (rank_of next)).1 (from_edge (Some next) h)
+
+  -- a block that ends with a jump leads to the block of its label
+  pub row_jump : (k : ℕ) (label : List ℕ) (row : List ℕ) → EndsWith blocks k (Does (Jumps label))
+      → ((to : ℕ) → IsIn row to ↔ IsTarget blocks [] label to) → IsRow blocks (suc k) row
+  row_jump k label row ends same = row_targets k [] label row from_edge to_edge same
+    where
+      from_edge : (next : Option Node) → Leads blocks (at_block k) next → IfSome next (λ node. IsTarget blocks [] label (rank_of node))
+      from_edge next (returns _ h) = tt
+      from_edge next (jumps _ to other h there) =
+          let e : Does (Jumps label) ≡ Does (Jumps other) = last_one k _ _ ends h in
+          let same : other ≡ label = (let d : label ≡ other = cc in sym d) in
+          (to, refl, subst (λ (x : List ℕ). StandsIn blocks to x) same there)
+      from_edge next (switches _ to value targets others other h one there) =
+          absurd (let e : Does (Jumps label) ≡ Does (Switches value targets others) = last_one k _ _ ends h in cc)
+      from_edge next (falls _ last h open_) = absurd (let e : true ≡ false = ap ends_block (last_one k _ _ ends h) ∙ open_ in cc)
+
+      to_edge : (to : ℕ) → IsTarget blocks [] label to → Leads blocks (at_block k) (Some (node_at to))
+      to_edge to (at, is, there) = subst (λ (n : ℕ). Leads blocks (at_block k) (Some (node_at n))) (sym is) (jumps k at label ends there)
+
+  -- a block that ends with a switch leads to the block of each of its labels
+  pub row_switch : (k : ℕ) (value : Term) (targets : List (Num × List ℕ)) (others : List ℕ) (row : List ℕ) → EndsWith blocks k (Does (Switches value targets others))
+      → ((to : ℕ) → IsIn row to ↔ IsTarget blocks targets others to) → IsRow blocks (suc k) row
+  row_switch k value targets others row ends same = row_targets k targets others row from_edge to_edge same
+    where
+      from_edge : (next : Option Node) → Leads blocks (at_block k) next → IfSome next (λ node. IsTarget blocks targets others (rank_of node))
+      from_edge next (returns _ h) = tt
+      from_edge next (jumps _ to label h there) =
+          absurd (let e : Does (Switches value targets others) ≡ Does (Jumps label) = last_one k _ _ ends h in cc)
+      from_edge next (switches _ to term cases rest label h one there) =
+          let e : Does (Switches value targets others) ≡ Does (Switches term cases rest) = last_one k _ _ ends h in
+          let a : cases ≡ targets = (let d : targets ≡ cases = cc in sym d) in
+          let b : rest ≡ others = (let d : others ≡ rest = cc in sym d) in
+          label_target targets others label to (subst (λ (x : List (Num × List ℕ)). IsLabelOf x others label) a (subst (λ (x : List ℕ). IsLabelOf cases x label) b one)) there
+      from_edge next (falls _ last h open_) = absurd (let e : true ≡ false = ap ends_block (last_one k _ _ ends h) ∙ open_ in cc)
+
+      to_edge : (to : ℕ) → IsTarget blocks targets others to → Leads blocks (at_block k) (Some (node_at to))
+      to_edge to h =
+          let t = target_label targets others to h in
+          subst (λ (n : ℕ). Leads blocks (at_block k) (Some (node_at n))) (sym t.2.1) (switches k t.2.0 value targets others t.0 ends t.1 t.2.2)
+
+  -- a label that stands nowhere adds no rank
+  pub rank_none : (label : List ℕ) → ((k : ℕ) → StandsIn blocks k label → ⊥) → (ranks : List ℕ) (to : ℕ) → IsIn ranks to ↔ (IsIn ranks to ⊎ IsRankOf blocks label to)
+  rank_none label none ranks to = (λ h. inl h, λ h. elim h [ inl a ↦ a | inr (k, is, there) ↦ absurd (none k there) ])
+
+  -- and one that stands somewhere adds the rank of that block
+  pub rank_some : (label : List ℕ) (rank : ℕ) → LabelsAreOne blocks → IsRankOf blocks label rank → (ranks : List ℕ) (to : ℕ)
+      → IsIn (ranks ++ rank ∷ []) to ↔ (IsIn ranks to ⊎ IsRankOf blocks label to)
+  rank_some label rank one (k, is, there) ranks to = (from_in, to_in)
+    where
+      from_in : IsIn (ranks ++ rank ∷ []) to → IsIn ranks to ⊎ IsRankOf blocks label to
+      from_in h = elim (in_push ranks rank to h) [ inl a ↦ inl a | inr e ↦ inr (k, e ∙ is, there) ]
+
+      to_in : IsIn ranks to ⊎ IsRankOf blocks label to → IsIn (ranks ++ rank ∷ []) to
+      to_in (inl a) = in_front ranks (rank ∷ []) to a
+      to_in (inr (j, at, stands)) =
+          let same : rank ≡ to = is ∙ ap (λ (n : ℕ). suc n) (one label k j there stands) ∙ sym at in
+          subst (λ (n : ℕ). IsIn (ranks ++ rank ∷ []) n) same (in_last ranks rank)
+
+  -- one more target
+  pub one_target : (targets : List (Num × List ℕ)) (others : List ℕ) (i : ℕ) (target : Num × List ℕ) (ranks more : List ℕ) (to : ℕ)
+      → i < length targets → target ≡ get_or targets i target
+      → IsTarget blocks targets others to ↔ (IsIn ranks to ⊎ IsTarget blocks (drop i targets) others to)
+      → IsIn more to ↔ (IsIn ranks to ⊎ IsRankOf blocks target.1 to)
+      → IsTarget blocks targets others to ↔ (IsIn more to ⊎ IsTarget blocks (drop (i + 1) targets) others to)
+  one_target targets others i target ranks more to low at before added =
+      let next : suc i ≡ i + 1 = omega arith in
+      let is : drop i targets ≡ target ∷ drop (i + 1) targets =
+      drop-cons targets i target low ∙ ap (λ (x : Num × List ℕ). x ∷ drop (suc i) targets) (sym at) ∙ ap (λ (n : ℕ). target ∷ drop n targets) next in
+      let split : IsTarget blocks targets others to ↔ (IsIn ranks to ⊎ (IsRankOf blocks target.1 to ⊎ IsTarget blocks (drop (i + 1) targets) others to)) =
+      subst (λ (x : List (Num × List ℕ)). IsTarget blocks targets others to ↔ (IsIn ranks to ⊎ IsTarget blocks x others to)) is before in (
+        λ h. elim (split.0 h) [ inl a ↦ inl (added.1 (inl a)) | inr (inl b) ↦ inl (added.1 (inr b)) | inr (inr d) ↦ inr d ],
+        λ h. elim h [ inl a ↦ elim (added.0 a) [ inl b ↦ split.1 (inl b) | inr d ↦ split.1 (inr (inl d)) ] | inr d ↦ split.1 (inr (inr d)) ],
+      )
+
+-- ---- the code's blocks
+
 pub block_there : (blocks : List Block) (k : ℕ) (d : Block) → k < length blocks → slice_get (map block_meant blocks) k ≡ Some (block_meant (get_or blocks k d))
 block_there blocks k d low = slice_get-map block_meant blocks k ∙ ap (λ (x : Option Block). option_map block_meant x) (slice_get-get_or blocks k d low)
 
@@ -96,64 +236,68 @@ ends_with blocks k d last low is =
     let e = ends_at items (length items - 1) last (omega arith) is in
     (e.0, block_there blocks k d low ∙ ap (λ (x : List Entry). Some x) e.1)
 
-module _ (blocks : List (List Entry)) where
-  -- a block that leads on has a last item
-  ends_on : (k : ℕ) (next : Option Node) → Leads blocks (at_block k) next → (last : Entry) × EndsWith blocks k last
-  ends_on k next (returns _ h) = (Does (Returns None), h)
-  ends_on k next (jumps _ to label h there) = (Does (Jumps label), h)
-  ends_on k next (falls _ last h open_) = (last, h)
+ends_on : (blocks : List (List Entry)) (k : ℕ) (next : Option Node) → Leads blocks (at_block k) next → (last : Entry) × EndsWith blocks k last
+ends_on blocks k next (returns _ h) = (Does (Returns None), h)
+ends_on blocks k next (jumps _ to label h there) = (Does (Jumps label), h)
+ends_on blocks k next (switches _ to value targets others label h one there) = (Does (Switches value targets others), h)
+ends_on blocks k next (falls _ last h open_) = (last, h)
 
-  jumps_there : (k : ℕ) (next : Option Node) (label : List ℕ) → EndsWith blocks k (Does (Jumps label)) → Leads blocks (at_block k) next → (to : ℕ) × StandsIn blocks to label
-  jumps_there k next label ends (returns _ h) = absurd (let e : Does (Jumps label) ≡ Does (Returns None) = last_one blocks k _ _ ends h in cc)
-  jumps_there k next label ends (jumps _ to other h there) =
-      let e : Does (Jumps label) ≡ Does (Jumps other) = last_one blocks k _ _ ends h in
-      let same : other ≡ label = (let d : label ≡ other = cc in sym d) in
-      (to, subst (λ (x : List ℕ). StandsIn blocks to x) same there)
-  jumps_there k next label ends (falls _ last h open_) = absurd (let e : true ≡ false = ap ends_block (last_one blocks k _ _ ends h) ∙ open_ in cc)
-
-  -- a block that ends with a jump leads to the block of its label
-  pub leads_jump : (k : ℕ) (label : List ℕ) (rank : Option ℕ) → EndsWith blocks k (Does (Jumps label)) → LeadsOn blocks k
-      → IfSome rank (λ rank. (to : ℕ) × (rank ≡ suc to) × StandsIn blocks to label) → IfNone rank ((to : ℕ) → StandsIn blocks to label → ⊥) → LeadsTo blocks (suc k) rank
-  leads_jump k label None ends on found none = absurd (let t = jumps_there k on.next label ends on.leads in none t.0 t.1)
-  leads_jump k label (Some rank) ends on (to, is, stands) none =
-      subst (λ (n : ℕ). LeadsTo blocks (suc k) (Some n)) (sym is) (record { leads = jumps k to label ends stands; within = slice_get_within blocks to stands.0 stands.1 })
-
--- a block that leads on has a last item in the code too
-pub last_some : (blocks : List Block) (k : ℕ) (d : Block) → k < length blocks → LeadsOn (map block_meant blocks) k
-    → slice_get (get_or blocks k d).items.now (length (get_or blocks k d).items.now - 1) ≡ None → ⊥
-last_some blocks k d low on none =
-    let items = (get_or blocks k d).items.now in
-    let e = ends_on (map block_meant blocks) k on.next on.leads in
-    let same : map item_of items ≡ e.1.0 ++ e.0 ∷ [] = some_is (sym (block_there blocks k d low) ∙ e.1.1) in
-    let long : length items ≡ length e.1.0 + 1 = sym (length-map items item_of) ∙ ap length same ∙ length-append e.1.0 (e.0 ∷ []) in
-    no_item items (length items - 1) (omega arith) none
+-- a block without a last item leads nowhere
+pub empty_leads : (blocks : List Block) (k : ℕ) (d : Block) → k < length blocks
+    → slice_get (get_or blocks k d).items.now (length (get_or blocks k d).items.now - 1) ≡ None → IsRow (map block_meant blocks) (suc k) []
+empty_leads blocks k d low none = row_none (map block_meant blocks) k (λ next leads. none_leads (Some next) leads)
   where
     no_item : (items : List Item) (n : ℕ) → n < length items → slice_get items n ≡ None → ⊥
     no_item [] n low none = omega arith
     no_item (item ∷ items) zero low none = let e : Some item ≡ None = none in cc
     no_item (item ∷ items) (suc n) low none = no_item items n (omega arith) none
 
--- what a table has for its ranks
-abbrev pub AllLead : List (List Entry) → List (Option ℕ) → Type 0
-AllLead blocks table = (rank : ℕ) (next : Option ℕ) → slice_get table rank ≡ Some next → LeadsTo blocks rank next
+    none_leads : (next : Option Node) → Leads (map block_meant blocks) (at_block k) next → ⊥
+    none_leads next leads =
+        let items = (get_or blocks k d).items.now in
+        let e = ends_on (map block_meant blocks) k next leads in
+        let same : map item_of items ≡ e.1.0 ++ e.0 ∷ [] = some_is (sym (block_there blocks k d low) ∙ e.1.1) in
+        let long : length items ≡ length e.1.0 + 1 = sym (length-map items item_of) ∙ ap length same ∙ length-append e.1.0 (e.0 ∷ []) in
+        no_item items (length items - 1) (omega arith) none
 
--- the entry leads to the first block
-pub entry_leads : (blocks : List (List Entry)) → 0 < length blocks → AllLead blocks (Some 1 ∷ [])
-entry_leads blocks some zero next is = subst (λ (x : Option ℕ). LeadsTo blocks 0 x) (some_is is) (record { leads = enters; within = omega arith })
-entry_leads blocks some (suc rank) next is = absurd (let e : None ≡ Some next = is in cc)
+-- ---- the table
 
--- one more edge
-pub all_lead_push : (blocks : List (List Entry)) (table : List (Option ℕ)) (edge : Option ℕ) → AllLead blocks table → LeadsTo blocks (length table) edge
-    → AllLead blocks (table ++ edge ∷ [])
-all_lead_push blocks table edge all leads rank next is =
-    elim (pushed table rank is) [
-      | inl before ↦ all rank next before
-      | inr (at, same) ↦ subst (λ (x : Option ℕ). LeadsTo blocks rank x) same (subst (λ (n : ℕ). LeadsTo blocks n edge) (sym at) leads)
-    ]
-  where
-    pushed : (table : List (Option ℕ)) (rank : ℕ) → slice_get (table ++ edge ∷ []) rank ≡ Some next → (slice_get table rank ≡ Some next) ⊎ ((rank ≡ length table) × (edge ≡ next))
-    pushed [] zero is = inr (refl, some_is is)
-    pushed [] (suc rank) is = inl is
-    pushed (other ∷ table) zero is = inl is
-    pushed (other ∷ table) (suc rank) is =
-        elim (pushed table rank is) [ inl before ↦ inl before | inr (at, same) ↦ inr (ap (λ (n : ℕ). suc n) at, same) ]
+-- the table has the rows of the entry and of the first k blocks
+pub record HasRows (blocks : List (List Entry)) (k : ℕ) (table : List (List ℕ)) : Type 0 where
+  pub long : length table ≡ suc k
+  pub rows : (rank : ℕ) → rank < length table → IsRow blocks rank (get_or table rank [])
+
+rows_push : (P : ℕ → List ℕ → Type 0) (table : List (List ℕ)) (row : List ℕ) → ((rank : ℕ) → rank < length table → P rank (get_or table rank []))
+    → P (length table) row → (rank : ℕ) → rank < length (table ++ row ∷ []) → P rank (get_or (table ++ row ∷ []) rank [])
+rows_push P [] row all here zero low = here
+rows_push P [] row all here (suc rank) low = absurd (omega arith)
+rows_push P (other ∷ table) row all here zero low = all 0 (omega arith)
+rows_push P (other ∷ table) row all here (suc rank) low =
+    rows_push (λ n. P (suc n)) table row (λ n h. all (suc n) (omega arith)) here rank (omega arith)
+
+module _ (blocks : List (List Entry)) where
+  pub rows_start : (rows : List (Vec ℕ Global)) (first : Vec ℕ Global) → 0 < length blocks → first.items ≡ 1 ∷ [] → rows ≡ first ∷ [] → HasRows blocks 0 (rows_of rows)
+  rows_start rows first some one is =
+      let same : rows_of rows ≡ (1 ∷ []) ∷ [] = ap (λ (x : List (Vec ℕ Global)). rows_of x) is ∙ ap (λ (x : List ℕ). x ∷ []) one in
+      let first_row : List (List ℕ) = (1 ∷ []) ∷ [] in
+      let row : (rank : ℕ) → rank < 1 → IsRow blocks rank (get_or first_row rank []) =
+      rows_push (λ n x. IsRow blocks n x) [] (1 ∷ []) (λ rank low. absurd (omega arith)) (row_entry blocks some) in
+      let start : HasRows blocks 0 ((1 ∷ []) ∷ []) = record { long = refl; rows = row } in
+      subst (λ (x : List (List ℕ)). HasRows blocks 0 x) (sym same) start
+
+  pub rows_more : (k : ℕ) (rows more : List (Vec ℕ Global)) (row : Vec ℕ Global) → HasRows blocks k (rows_of rows) → IsRow blocks (suc k) row.items → more ≡ rows ++ row ∷ []
+      → HasRows blocks (k + 1) (rows_of more)
+  rows_more k rows more row h here is =
+      let same : rows_of more ≡ rows_of rows ++ row.items ∷ [] =
+      ap (λ (x : List (Vec ℕ Global)). rows_of x) is ∙ map-append (λ (x : Vec ℕ Global). x.items) rows (row ∷ []) in
+      let at : IsRow blocks (length (rows_of rows)) row.items = subst (λ (n : ℕ). IsRow blocks n row.items) (sym h.long) here in
+      let long = h.long in
+      let all : HasRows blocks (k + 1) (rows_of rows ++ row.items ∷ []) = record {
+        long = (let more = length-append (rows_of rows) (row.items ∷ []) in omega arith);
+        rows = rows_push (λ n x. IsRow blocks n x) (rows_of rows) row.items h.rows at;
+      } in
+      subst (λ (x : List (List ℕ)). HasRows blocks (k + 1) x) (sym same) all
+
+-- all rows are the table
+pub rows_done : (blocks : List Block) (k : ℕ) (table : List (List ℕ)) → k ≡ length blocks → HasRows (map block_meant blocks) k table → IsTable (map block_meant blocks) table
+rows_done blocks k table end h = record { long = (let a = h.long in let b = length-map blocks block_meant in omega arith); rows = h.rows }

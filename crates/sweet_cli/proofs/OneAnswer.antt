@@ -1,5 +1,5 @@
 -- Told files and words have one answer.
-use Rattle.std.proofs.Common.{◌≡◌, ◌≤◌, ◌<◌, ℕ, List, [], ◌∷◌, ◌++◌, Option, None, Some, IfSome, length, refl, ap, sym, ◌∙◌, subst, arith}
+use Rattle.std.proofs.Common.{◌≡◌, ◌≤◌, ◌<◌, ℕ, List, [], ◌∷◌, Option, None, Some, length, refl, ap, sym, ◌∙◌, subst, arith}
 use Rattle.std.specs.Prelude.{IsSomeAnd}
 use Rattle.flow_base.specs.Outside.{Files}
 use Rattle.alf_text.specs.Tree.{Entry, Function, Whole}
@@ -11,10 +11,9 @@ use Rattle.sweet_cli.specs.Nodes.{entry}
 use Rattle.sweet_cli.specs.Runs.{RunsPast}
 use Rattle.sweet_cli.specs.Facts.{Findings, IsReportOf, IsReportWithin}
 use Rattle.sweet_cli.specs.ReportText.{report_text}
-use Rattle.sweet_cli.specs.Answer.{TextAnswers, not_first, left, done, Answers, usage, unread, too_long, read, most_bytes}
+use Rattle.sweet_cli.specs.Answer.{TextAnswers, not_first, left, done, usage, unread, too_long, read, most_bytes}
 use Rattle.sweet_cli.specs.Laws.{HaveOneAnswer}
 use Rattle.sweet_cli.specs.declared.status.Status.{Status}
-use Rattle.sweet_cli.specs.declared.status.Status.TheVariants.{Done, Usage, Source, Unbounded, No, ReadFailed, WriteFailed, Memory}
 use Rattle.sweet_cli.proofs.OneRun.{report_one, past_apart}
 use Rattle.sweet_cli.proofs.Answered.{some_is}
 
@@ -24,35 +23,35 @@ items_at [] = []
 items_at (function ∷ functions) = function.items
 
 -- one program has one list of items
-main_items : (a b : List Entry) → main_alone a ≡ main_alone b → a ≡ b
+main_items : (f g : List (List ℕ)) (a b : List Entry) → main_alone f a ≡ main_alone g b → a ≡ b
 unfolding items_at
-main_items a b h = ap (λ (w : Whole). items_at w.funcs) h
+main_items f g a b h = ap (λ (w : Whole). items_at w.funcs) h
 
 module _ (text_one : (bytes : List ℕ) (a b : Whole) → FirstText bytes a → FirstText bytes b → a ≡ b)
     (firsts : (bytes : List ℕ) (whole : Whole) → FirstText bytes whole → IsFirst whole) where
   -- bytes spell the items of one program
-  items_one : (bytes : List ℕ) (a b : List Entry) → FirstText bytes (main_alone a) → FirstText bytes (main_alone b) → b ≡ a
-  items_one bytes a b text text' = main_items b a (text_one bytes (main_alone b) (main_alone a) text' text)
+  items_one : (bytes : List ℕ) (f g : List (List ℕ)) (a b : List Entry) → FirstText bytes (main_alone f a) → FirstText bytes (main_alone g b) → b ≡ a
+  items_one bytes f g a b text text' = main_items g f b a (text_one bytes (main_alone g b) (main_alone f a) text' text)
 
-  apart : (bytes : List ℕ) (turns : ℕ) (a b : List Entry) (findings : Findings) → FirstText bytes (main_alone a) → RunsPast (blocks_of a) entry turns
-      → FirstText bytes (main_alone b) → IsReportWithin b turns findings → ⊥
-  apart bytes turns a b findings text past text' within =
-      let same : b ≡ a = items_one bytes a b text text' in
-      past_apart a turns findings (firsts bytes (main_alone a) text) past (subst (λ (x : List Entry). IsReportWithin x turns findings) same within)
+  apart : (bytes : List ℕ) (turns : ℕ) (f g : List (List ℕ)) (a b : List Entry) (findings : Findings) → FirstText bytes (main_alone f a) → RunsPast (blocks_of a) entry [] turns
+      → FirstText bytes (main_alone g b) → IsReportWithin b turns findings → ⊥
+  apart bytes turns f g a b findings text past text' within =
+      let same : b ≡ a = items_one bytes f g a b text text' in
+      past_apart f a turns findings (firsts bytes (main_alone f a) text) past (subst (λ (x : List Entry). IsReportWithin x turns findings) same within)
 
   texts_one : (bytes : List ℕ) (turns : ℕ) (s t : Status) (x y : List ℕ) → TextAnswers bytes turns s x → TextAnswers bytes turns t y → (s ≡ t) × (x ≡ y)
   texts_one bytes turns s t x y (not_first none) (not_first none') = (refl, refl)
-  texts_one bytes turns s t x y (not_first none) (left items text past) = absurd (none (main_alone items) text)
-  texts_one bytes turns s t x y (not_first none) (done items findings text within) = absurd (none (main_alone items) text)
-  texts_one bytes turns s t x y (left items text past) (not_first none) = absurd (none (main_alone items) text)
-  texts_one bytes turns s t x y (left items text past) (left items' text' past') = (refl, refl)
-  texts_one bytes turns s t x y (left items text past) (done items' findings text' within) = absurd (apart bytes turns items items' findings text past text' within)
-  texts_one bytes turns s t x y (done items findings text within) (not_first none) = absurd (none (main_alone items) text)
-  texts_one bytes turns s t x y (done items findings text within) (left items' text' past) = absurd (apart bytes turns items' items findings text' past text within)
-  texts_one bytes turns s t x y (done items findings text within) (done items' findings' text' within') =
-      let same : items' ≡ items = items_one bytes items items' text text' in
+  texts_one bytes turns s t x y (not_first none) (left frames items text past) = absurd (none (main_alone frames items) text)
+  texts_one bytes turns s t x y (not_first none) (done frames items findings text within) = absurd (none (main_alone frames items) text)
+  texts_one bytes turns s t x y (left frames items text past) (not_first none) = absurd (none (main_alone frames items) text)
+  texts_one bytes turns s t x y (left frames items text past) (left frames' items' text' past') = (refl, refl)
+  texts_one bytes turns s t x y (left frames items text past) (done frames' items' findings text' within) = absurd (apart bytes turns frames frames' items items' findings text past text' within)
+  texts_one bytes turns s t x y (done frames items findings text within) (not_first none) = absurd (none (main_alone frames items) text)
+  texts_one bytes turns s t x y (done frames items findings text within) (left frames' items' text' past) = absurd (apart bytes turns frames' frames items' items findings text' past text within)
+  texts_one bytes turns s t x y (done frames items findings text within) (done frames' items' findings' text' within') =
+      let same : items' ≡ items = items_one bytes frames frames' items items' text text' in
       let exact : IsReportOf items findings' = subst (λ (z : List Entry). IsReportOf z findings') same within'.exact in
-      (refl, ap report_text (report_one items findings findings' (firsts bytes (main_alone items) text) within.exact exact))
+      (refl, ap report_text (report_one frames items findings findings' (firsts bytes (main_alone frames items) text) within.exact exact))
 
   one_command : (words : List (List ℕ)) (a b : Command) → command_of words ≡ Some a → command_of words ≡ Some b → a ≡ b
   one_command words a b h k = some_is (sym h ∙ k)

@@ -1,79 +1,68 @@
 -- The items of a first text have one run and one numbering, so that what is exact for one is sound for all.
-use Rattle.std.proofs.Common.{◌≡◌, ◌<◌, ◌==◌, ℕ, suc, true, false, inl, inr, List, [], ◌∷◌, ◌++◌, Option, None, Some, length, slice_get, length-append, append_assoc, refl, ap, sym, ◌∙◌, subst, arith, rules}
-use Rattle.alf_text.specs.Tree.{Jumps, Returns, Entry, Does}
+use Rattle.std.proofs.Common.{◌≡◌, ◌<◌, ◌+◌, ◌==◌, ◌≢◌, ℕ, suc, false, inl, inr, List, [], ◌∷◌, ◌++◌, Option, None, Some, length, slice_get, length-append, append_assoc, refl, ap, sym, ◌∙◌, subst, arith, rules}
+use Rattle.alf_ops.specs.declared.history.RunFault.{RunFault}
+use Rattle.alf_text.specs.Tree.{Entry}
 use Rattle.alf_text.specs.First.{main_alone, IsFirst}
-use Rattle.sweet_cli.specs.Blocks.{ends_block, blocks_of}
-use Rattle.sweet_cli.specs.Nodes.{Node, entry, at_block, EndsWith, StandsIn, Leads, enters, returns, jumps, falls, Reached, start, step, rank_of, Ascends, OneOf, IsNumbering}
-use Rattle.sweet_cli.specs.Runs.{Runs, ends, goes_on, RunsPast, here, on, places_of, cost_of}
-use Rattle.sweet_cli.specs.Facts.{Findings, IsSound, IsReportOf, IsReportWithin, AllHold, dead_facts, total_facts}
+use Rattle.sweet_cli.specs.Blocks.{blocks_of}
+use Rattle.sweet_cli.specs.Nodes.{Node, entry, at_block, Reached, start, step, rank_of, Ascends, OneOf, IsNumbering}
+use Rattle.sweet_cli.specs.Memory.{History}
+use Rattle.sweet_cli.specs.Runs.{onwards, over, Runs, ends, goes_on, RunsPast, here, on, places_of, cost_of, last_of}
+use Rattle.sweet_cli.specs.Facts.{Findings, IsSound, IsReportOf, IsReportWithin, AllHold, IsFactOf, HasAlarm, dead_facts, total_facts, alarms_at, alarm_facts}
 use Rattle.sweet_cli.specs.declared.fact.Fact.{Fact}
-use Rattle.sweet_cli.proofs.Cutting.{some_is, by_test}
-use Rattle.sweet_cli.proofs.Labels.{LabelsAreOne, labels_one}
-use Rattle.sweet_cli.proofs.Leading.{last_one}
+use Rattle.sweet_cli.specs.declared.fact.Fact.TheVariants.{Alarm}
+use Rattle.sweet_cli.proofs.Cutting.{by_test}
+use Rattle.sweet_cli.proofs.OneStep.{LabelsAreOne, labels_one, steps_one, edge_of}
+
+-- what holds behind a step holds behind the same step
+moved : (P : Node → History → Type 0) (a b : Node) (h g : History) → onwards a h ≡ onwards b g → P a h → P b g
+moved P a b h g e p =
+    let node : a ≡ b = cc in
+    let history : h ≡ g = cc in
+    subst (λ (n : Node). P n g) node (subst (λ (x : History). P a x) history p)
 
 module _ (blocks : List (List Entry)) (one : LabelsAreOne blocks) where
-  no_fall : {A : Type 0} (k : ℕ) (a b : Entry) → EndsWith blocks k a → EndsWith blocks k b → ends_block a ≡ true → ends_block b ≡ false → A
-  no_fall k a b h g closed open_ = absurd (let e : true ≡ false = sym closed ∙ ap ends_block (last_one blocks k a b h g) ∙ open_ in cc)
-
-  no_jump : {A : Type 0} (k : ℕ) (label : List ℕ) → EndsWith blocks k (Does (Returns None)) → EndsWith blocks k (Does (Jumps label)) → A
-  no_jump k label h g = absurd (let e : Does (Returns None) ≡ Does (Jumps label) = last_one blocks k _ _ h g in cc)
-
-  -- one edge leads from each node
-  pub leads_one : {node : Node} {a b : Option Node} → Leads blocks node a → Leads blocks node b → a ≡ b
-  leads_one enters enters = refl
-  leads_one (returns k h) (returns _ g) = refl
-  leads_one (returns k h) (jumps _ to label g there) = no_jump k label h g
-  leads_one (returns k h) (falls _ last g open_) = no_fall k _ last h g refl open_
-  leads_one (jumps k to label h there) (returns _ g) = no_jump k label g h
-  leads_one (jumps k to label h there) (jumps _ to' label' g there') =
-      let e : Does (Jumps label) ≡ Does (Jumps label') = last_one blocks k _ _ h g in
-      let same : label' ≡ label = (let d : label ≡ label' = cc in sym d) in
-      ap (λ (x : ℕ). Some (at_block x)) (one label to to' there (subst (λ (x : List ℕ). StandsIn blocks to' x) same there'))
-  leads_one (jumps k to label h there) (falls _ last g open_) = no_fall k _ last h g refl open_
-  leads_one (falls k last h open_) (returns _ g) = no_fall k _ last g h refl open_
-  leads_one (falls k last h open_) (jumps _ to label g there) = no_fall k _ last g h refl open_
-  leads_one (falls k last h open_) (falls _ other g open') = refl
-
-  pub runs_one : {node : Node} {a b : List Node} → Runs blocks node a → Runs blocks node b → a ≡ b
-  runs_one (ends g) (ends h) = refl
-  runs_one (ends g) (goes_on {to = to} h more) = absurd (let k : None ≡ Some to = leads_one g h in cc)
-  runs_one (goes_on {to = to} g more) (ends h) = absurd (let k : Some to ≡ None = leads_one g h in cc)
-  runs_one (goes_on {node = n} {to = to} {nodes = ns} g more) (goes_on {to = to'} {nodes = ms} h more') =
-      let same : to' ≡ to = some_is (sym (leads_one g h)) in
-      ap (λ (x : List Node). n ∷ x) (runs_one more (subst (λ (x : Node). Runs blocks x ms) same more'))
+  pub runs_one : {node : Node} {before : History} {s t : List Node} {f g : Option RunFault} → Runs blocks node before s f → Runs blocks node before t g → (s ≡ t) × (f ≡ g)
+  runs_one (ends {node = node} {history = before} {fault = f} x) (ends {fault = g} y) =
+      (refl, (let e : over f ≡ over g = steps_one blocks one node before _ _ x y in cc))
+  runs_one (ends {node = node} {history = before} {fault = f} x) (goes_on {to = to} {behind = behind} y more) =
+      absurd (let e : over f ≡ onwards to behind = steps_one blocks one node before _ _ x y in cc)
+  runs_one (goes_on {node = node} {to = to} {before = before} {behind = behind} x more) (ends {fault = g} y) =
+      absurd (let e : onwards to behind ≡ over g = steps_one blocks one node before _ _ x y in cc)
+  runs_one (goes_on {node = node} {to = to} {before = before} {behind = behind} x more) (goes_on {to = to'} {behind = behind'} {nodes = ms} {fault = g} y more') =
+      let e = steps_one blocks one node before _ _ y x in
+      let same = runs_one more (moved (λ n h. Runs blocks n h ms g) to' to behind' behind e more') in
+      (ap (λ (ns : List Node). node ∷ ns) same.0, same.1)
 
   -- a run that is past a count has more nodes
-  past_longer : {node : Node} {count : ℕ} {trace : List Node} → RunsPast blocks node count → Runs blocks node trace → count < length trace
-  past_longer here (ends g) = omega arith
-  past_longer here (goes_on g more) = omega arith
-  past_longer (on {to = to} h past) (ends g) = absurd (let k : None ≡ Some to = leads_one g h in cc)
-  past_longer (on {to = to} {count = count} h past) (goes_on {to = to'} g more) =
-      let same : to ≡ to' = some_is (leads_one h g) in
-      let shorter = past_longer (subst (λ (x : Node). RunsPast blocks x count) same past) more in
+  past_longer : {node : Node} {before : History} {count : ℕ} {trace : List Node} {fault : Option RunFault} → RunsPast blocks node before count → Runs blocks node before trace fault
+      → count < length trace
+  past_longer here (ends x) = omega arith
+  past_longer here (goes_on x more) = omega arith
+  past_longer (on {node = node} {to = to} {before = before} {behind = behind} y past) (ends {fault = f} x) =
+      absurd (let e : over f ≡ onwards to behind = steps_one blocks one node before _ _ x y in cc)
+  past_longer (on {node = node} {to = to'} {before = before} {behind = behind'} {count = count} y past) (goes_on {to = to} {behind = behind} x more) =
+      let e = steps_one blocks one node before _ _ y x in
+      let shorter = past_longer (moved (λ n h. RunsPast blocks n h count) to' to behind' behind e past) more in
       omega arith
 
-  -- in a run that ends the nodes reached are those of the run
-  head_among : {node : Node} {trace : List Node} → Runs blocks node trace → OneOf trace node
-  head_among (ends g) = inl refl
-  head_among (goes_on g more) = inl refl
+module _ (blocks : List (List Entry)) where
+  -- each node of a run is reached
+  pub among_reached : {node : Node} {before : History} {trace : List Node} {fault : Option RunFault} (n : Node) → Runs blocks node before trace fault → Reached blocks node
+      → OneOf trace n → Reached blocks n
+  among_reached n (ends {node = node} x) r (inl e) = subst (λ (m : Node). Reached blocks m) (sym e) r
+  among_reached n (ends {node = node} x) r (inr e) = absurd e
+  among_reached n (goes_on {node = node} x more) r (inl e) = subst (λ (m : Node). Reached blocks m) (sym e) r
+  among_reached n (goes_on {node = node} x more) r (inr e) = among_reached n more (step r (edge_of x)) e
 
-  after_among : {node : Node} {trace : List Node} (n m : Node) → Runs blocks node trace → OneOf trace n → Leads blocks n (Some m) → OneOf trace m
-  after_among n m (ends {node = node} g) (inl e) h = absurd (let k : None ≡ Some m = leads_one g (subst (λ (x : Node). Leads blocks x (Some m)) e h) in cc)
-  after_among n m (ends {node = node} g) (inr e) h = absurd e
-  after_among n m (goes_on {node = node} {to = to} {nodes = nodes} g more) (inl e) h =
-      let same : to ≡ m = some_is (leads_one g (subst (λ (x : Node). Leads blocks x (Some m)) e h)) in
-      inr (subst (λ (x : Node). OneOf nodes x) same (head_among more))
-  after_among n m (goes_on {node = node} {to = to} {nodes = nodes} g more) (inr e) h = inr (after_among n m more e h)
+  last_behind : (first : Node) {node : Node} {before : History} {trace : List Node} {fault : Option RunFault} → Runs blocks node before trace fault → last_of (first ∷ trace) ≡ last_of trace
+  last_behind first (ends x) = refl
+  last_behind first (goes_on x more) = refl
 
-  pub reached_among : {n : Node} (trace : List Node) → Runs blocks entry trace → Reached blocks n → OneOf trace n
-  reached_among trace run start = head_among run
-  reached_among trace run (step {node = from} {to = to} before goes) = after_among from to run (reached_among trace run before) goes
-
-  pub among_reached : {node : Node} {trace : List Node} (n : Node) → Runs blocks node trace → Reached blocks node → OneOf trace n → Reached blocks n
-  among_reached n (ends {node = node} g) r (inl e) = subst (λ (x : Node). Reached blocks x) (sym e) r
-  among_reached n (ends {node = node} g) r (inr e) = absurd e
-  among_reached n (goes_on {node = node} g more) r (inl e) = subst (λ (x : Node). Reached blocks x) (sym e) r
-  among_reached n (goes_on {node = node} g more) r (inr e) = among_reached n more (step r g) e
+  -- a run has a last node
+  last_there : {node : Node} {before : History} {trace : List Node} {fault : Option RunFault} → Runs blocks node before trace fault
+      → (last : Node) × (last_of trace ≡ Some last) × OneOf trace last
+  last_there (ends {node = node} x) = (node, refl, inl refl)
+  last_there (goes_on {node = node} x more) = let found = last_there more in (found.0, last_behind node more ∙ found.1, inr found.2)
 
 -- a node is its rank
 pub rank_one : (a b : Node) → rank_of a ≡ rank_of b → a ≡ b
@@ -151,43 +140,98 @@ totals_hold before (node ∷ nodes) trace =
     (λ e. rw e more)
     (λ e. rw e (rw (get_there before nodes node) (omega arith, omega arith), more))
 
-abbrev facts_of : List Node → List Node → List Fact
-facts_of nodes trace = dead_facts 0 nodes trace ++ total_facts 0 nodes trace
+-- an alarm holds, and it is there
+alarms_hold : (nodes trace : List Node) (n : ℕ) (behind : List Node) (last : Option Node) (cause : RunFault) → AllHold nodes trace (alarms_at n behind last cause)
+alarms_hold nodes trace n [] last cause = tt
+alarms_hold nodes trace n (node ∷ behind) None cause = tt
+alarms_hold nodes trace n (node ∷ behind) (Some last) cause =
+    by_test (rank_of node == rank_of last) (λ e. rw e (tt, tt)) (λ e. rw e (alarms_hold nodes trace (suc n) behind (Some last) cause))
 
-facts_hold : (nodes trace : List Node) → AllHold nodes trace (facts_of nodes trace)
-facts_hold nodes trace = all_behind nodes trace (dead_facts 0 nodes trace) (total_facts 0 nodes trace) (dead_hold [] nodes trace) (totals_hold [] nodes trace)
+fault_holds : (nodes trace : List Node) (fault : Option RunFault) → AllHold nodes trace (alarm_facts nodes trace fault)
+fault_holds nodes trace None = tt
+fault_holds nodes trace (Some cause) = alarms_hold nodes trace 0 nodes (last_of trace) cause
 
-same_facts : (m n s t : List Node) → m ≡ n → s ≡ t → facts_of m s ≡ facts_of n t
-same_facts m n s t e f = ap (λ (x : List Node). facts_of x s) e ∙ ap (λ (x : List Node). facts_of n x) f
+alarm_there : (m : ℕ) (nodes : List Node) (last : Node) (cause : RunFault) → OneOf nodes last
+    → (n : ℕ) × (slice_get nodes n ≡ Some last) × IsFactOf (alarms_at m nodes (Some last) cause) (Alarm (m + n) cause)
+alarm_there m [] last cause among = absurd among
+alarm_there m (node ∷ nodes) last cause among =
+    by_test (rank_of node == rank_of last)
+    (λ e.
+    let same : rank_of node ≡ rank_of last = search rules in
+    let at : m + 0 ≡ m = omega arith in
+    (0, ap (λ (x : Node). Some x) (rank_one node last same), rw e (inl (ap (λ (k : ℕ). Alarm k cause) at))))
+    (λ e.
+    let found = alarm_there (suc m) nodes last cause (behind e among) in
+    let at : suc m + found.0 ≡ m + suc found.0 = omega arith in
+    (suc found.0, found.1, rw e (subst (λ (k : ℕ). IsFactOf (alarms_at (suc m) nodes (Some last) cause) (Alarm k cause)) at found.2)))
+  where
+    behind : (rank_of node == rank_of last) ≡ false → OneOf (node ∷ nodes) last → OneOf nodes last
+    behind e (inl same) = absurd (let other : rank_of node ≢ rank_of last = search rules in other (ap rank_of (sym same)))
+    behind e (inr more) = more
+
+fact_behind : (xs ys : List Fact) (fact : Fact) → IsFactOf ys fact → IsFactOf (xs ++ ys) fact
+fact_behind [] ys fact h = h
+fact_behind (x ∷ xs) ys fact h = inr (fact_behind xs ys fact h)
+
+abbrev facts_of : List Node → List Node → Option RunFault → List Fact
+facts_of nodes trace fault = dead_facts 0 nodes trace ++ (total_facts 0 nodes trace ++ alarm_facts nodes trace fault)
+
+facts_hold : (nodes trace : List Node) (fault : Option RunFault) → AllHold nodes trace (facts_of nodes trace fault)
+facts_hold nodes trace fault =
+    all_behind nodes trace (dead_facts 0 nodes trace) (total_facts 0 nodes trace ++ alarm_facts nodes trace fault) (dead_hold [] nodes trace)
+    (all_behind nodes trace (total_facts 0 nodes trace) (alarm_facts nodes trace fault) (totals_hold [] nodes trace) (fault_holds nodes trace fault))
+
+same_facts : (m n s t : List Node) (f g : Option RunFault) → m ≡ n → s ≡ t → f ≡ g → facts_of m s f ≡ facts_of n t g
+same_facts m n s t f g e h i = ap (λ (x : List Node). facts_of x s f) e ∙ ap (λ (x : List Node). facts_of n x f) h ∙ ap (λ (x : Option RunFault). facts_of n t x) i
+
+-- where a run faults, the alarm of its last node is among the facts
+has_alarm : (blocks : List (List Entry)) (nodes trace : List Node) (fault : Option RunFault) → IsNumbering blocks nodes → Runs blocks entry [] trace fault
+    → HasAlarm nodes trace fault (facts_of nodes trace fault)
+has_alarm blocks nodes trace None numbered run = tt
+has_alarm blocks nodes trace (Some cause) numbered run =
+    let found = last_there blocks run in
+    let last = found.0 in
+    let kept = numbered.all last (among_reached blocks last run start found.2) in
+    let there = alarm_there 0 nodes last cause kept in
+    let at : 0 + there.0 ≡ there.0 = omega arith in
+    let alarm : IsFactOf (alarms_at 0 nodes (last_of trace) cause) (Alarm there.0 cause) =
+    rw found.1 (subst (λ (k : ℕ). IsFactOf (alarms_at 0 nodes (Some last) cause) (Alarm k cause)) at there.2) in
+    (there.0, there.1 ∙ sym found.1, fact_behind (dead_facts 0 nodes trace) _ _ (fact_behind (total_facts 0 nodes trace) _ _ alarm))
+
+-- the exact facts are those of each numbering and run
+exact_facts : (frames : List (List ℕ)) (items : List Entry) (findings : Findings) (nodes trace : List Node) (fault : Option RunFault) → IsFirst (main_alone frames items)
+    → IsReportOf items findings → IsNumbering (blocks_of items) nodes → Runs (blocks_of items) entry [] trace fault → facts_of nodes trace fault ≡ findings.facts
+exact_facts frames items findings nodes trace fault first exact numbered run =
+    let same = runs_one (blocks_of items) (labels_one frames items first) run exact.run in
+    same_facts nodes exact.nodes trace exact.trace fault exact.fault (numbering_one (blocks_of items) nodes exact.nodes numbered exact.numbered) same.0 same.1 ∙ sym exact.facts
 
 -- there is one exact report
-pub report_one : (items : List Entry) (a b : Findings) → IsFirst (main_alone items) → IsReportOf items a → IsReportOf items b → a ≡ b
-report_one items a b first x y =
-    let nodes = numbering_one (blocks_of items) x.nodes y.nodes x.numbered y.numbered in
-    let trace = runs_one (blocks_of items) (labels_one items first) x.run y.run in
-    let facts : a.facts ≡ b.facts = x.facts ∙ same_facts x.nodes y.nodes x.trace y.trace nodes trace ∙ sym y.facts in
+pub report_one : (frames : List (List ℕ)) (items : List Entry) (a b : Findings) → IsFirst (main_alone frames items) → IsReportOf items a → IsReportOf items b → a ≡ b
+report_one frames items a b first x y =
+    let facts : a.facts ≡ b.facts = x.facts ∙ exact_facts frames items b x.nodes x.trace x.fault first y x.numbered x.run in
+    let trace = (runs_one (blocks_of items) (labels_one frames items first) x.run y.run).0 in
     let bound : a.bound ≡ b.bound = x.bound ∙ ap cost_of trace ∙ sym y.bound in
     let made : (f : List Fact) → ℕ → Findings = λ f n. record { facts = f; bound = n } in
     ap (λ (f : List Fact). made f a.bound) facts ∙ ap (λ (n : ℕ). made b.facts n) bound
 
 -- an exact report is sound
-pub sound_of_exact : (items : List Entry) (findings : Findings) → IsFirst (main_alone items) → IsReportOf items findings → IsSound items findings
-sound_of_exact items findings first exact =
-    let one = labels_one items first in
-    record {
-      ends = (exact.trace, exact.run);
-      facts = λ nodes trace numbered run.
-          let same = same_facts nodes exact.nodes trace exact.trace (numbering_one (blocks_of items) nodes exact.nodes numbered exact.numbered)
-          (runs_one (blocks_of items) one run exact.run) in
-          subst (λ (x : List Fact). AllHold nodes trace x) (same ∙ sym exact.facts) (facts_hold nodes trace);
-      bound = λ trace run.
-          let same : cost_of trace ≡ findings.bound = ap cost_of (runs_one (blocks_of items) one run exact.run) ∙ sym exact.bound in
-          omega arith;
-    }
+pub sound_of_exact : (frames : List (List ℕ)) (items : List Entry) (findings : Findings) → IsFirst (main_alone frames items) → IsReportOf items findings → IsSound items findings
+sound_of_exact frames items findings first exact = record {
+  ends = (exact.trace, exact.fault, exact.run);
+  facts = λ nodes trace fault numbered run.
+      subst (λ (x : List Fact). AllHold nodes trace x) (exact_facts frames items findings nodes trace fault first exact numbered run) (facts_hold nodes trace fault);
+  alarms = λ nodes trace fault numbered run.
+      subst (λ (x : List Fact). HasAlarm nodes trace fault x) (exact_facts frames items findings nodes trace fault first exact numbered run)
+      (has_alarm (blocks_of items) nodes trace fault numbered run);
+  bound = λ trace fault run.
+      let same : cost_of trace ≡ findings.bound = ap cost_of (runs_one (blocks_of items) (labels_one frames items first) run exact.run).0 ∙ sym exact.bound in
+      omega arith;
+}
 
 -- a run that is past the turns does not end within them
-pub past_apart : (items : List Entry) (turns : ℕ) (findings : Findings) → IsFirst (main_alone items) → RunsPast (blocks_of items) entry turns → IsReportWithin items turns findings → ⊥
-past_apart items turns findings first past within =
-    let longer = past_longer (blocks_of items) (labels_one items first) past within.exact.run in
+pub past_apart : (frames : List (List ℕ)) (items : List Entry) (turns : ℕ) (findings : Findings) → IsFirst (main_alone frames items) → RunsPast (blocks_of items) entry [] turns
+    → IsReportWithin items turns findings → ⊥
+past_apart frames items turns findings first past within =
+    let longer = past_longer (blocks_of items) (labels_one frames items first) past within.exact.run in
     let short = within.within in
     omega arith

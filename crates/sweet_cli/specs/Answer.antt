@@ -3,7 +3,7 @@
 --   Answers words told status text        they answer the words, where a shelf that tells its files tells these
 --   IsWritten status                      the text of such an answer was written whole
 --   PrintsSound words files before after  what a sink grew by is a report that is sound for the program that the words name
-use Rattle.std.specs.Prelude.{◌≡◌, ◌≤◌, ◌<◌, ℕ, List, ◌++◌, length, Option, None, Some, IfSome, IsSomeAnd, codes}
+use Rattle.std.specs.Prelude.{◌≡◌, ◌≤◌, ◌<◌, ℕ, List, [], ◌++◌, length, Option, None, Some, IfSome, IsSomeAnd, codes}
 use Rattle.flow_base.specs.Outside.{Files}
 use Rattle.alf_text.specs.Tree.{Entry, Whole}
 use Rattle.alf_text.specs.First.{main_alone}
@@ -26,10 +26,10 @@ pub data TextAnswers (bytes : List ℕ) (turns : ℕ) : Status → List ℕ → 
   -- they are no first text
   not_first : ((whole : Whole) → FirstText bytes whole → ⊥) → TextAnswers bytes turns Source (line (codes "fault 10 syntax 1 1"))
   -- the run has more nodes than the turns
-  left : (items : List Entry) → FirstText bytes (main_alone items) → RunsPast (blocks_of items) entry turns
+  left : (frames : List (List ℕ)) (items : List Entry) → FirstText bytes (main_alone frames items) → RunsPast (blocks_of items) entry [] turns
       → TextAnswers bytes turns Unbounded (line (codes "unbounded 0 \"main\":entry"))
   -- the run ends within the turns
-  done : (items : List Entry) (findings : Findings) → FirstText bytes (main_alone items) → IsReportWithin items turns findings
+  done : (frames : List (List ℕ)) (items : List Entry) (findings : Findings) → FirstText bytes (main_alone frames items) → IsReportWithin items turns findings
       → TextAnswers bytes turns Done (report_text findings)
 
 -- A status and a text answer the words. Where a shelf tells its files, they are the ones that count.
@@ -62,10 +62,11 @@ IsWritten Memory = ⊥
 pub record PrintsSound (words : List (List ℕ)) (files : Files) (before after : List ℕ) : Type 0 where
   pub command : Command
   pub bytes : List ℕ
+  pub frames : List (List ℕ)
   pub items : List Entry
   pub findings : Findings
   pub means : command_of words ≡ Some command
   pub told : files command.file ≡ Some bytes
-  pub spelled : FirstText bytes (main_alone items)
+  pub spelled : FirstText bytes (main_alone frames items)
   pub sound : IsSound items findings
   pub printed : after ≡ before ++ report_text findings

@@ -1,26 +1,39 @@
 -- Facts on runs, and reports of them.
 --   Holds nodes trace fact        the fact holds of a run, where the nodes have these numbers
+--   HasAlarm nodes trace fault facts   where the run faults, the facts have an alarm for the fault at its last node
 --   Findings                      what a report says: its facts, and the bound on the cost
---   IsSound items findings        every run of the items ends, each fact holds of it, and it costs no more than the bound
---   IsReportOf items findings     the report of the one run: its exact totals, the nodes without a place, and its cost
+--   IsSound items findings        every run of the items ends, each fact holds of it, its fault has an alarm, and it costs no more than the bound
+--   IsReportOf items findings     the report of the one run: the nodes without a place, the exact totals of the others, its fault, and its cost
 --   IsReportWithin items turns findings   the same, and the run has no more nodes than the turns
-use Rattle.std.specs.Prelude.{◌≡◌, ◌≤◌, ◌==◌, ℕ, suc, List, [], ◌∷◌, ◌++◌, length, if◌then◌else◌, IfSome, slice_get}
+use Rattle.std.specs.Prelude.{◌≡◌, ◌≤◌, ◌==◌, ℕ, suc, List, [], ◌∷◌, ◌++◌, ◌⊎◌, length, if◌then◌else◌, Option, None, Some, IfSome, slice_get}
+use Rattle.alf_ops.specs.declared.history.RunFault.{RunFault}
 use Rattle.alf_text.specs.Tree.{Entry}
 use Rattle.sweet_cli.specs.Blocks.{blocks_of}
-use Rattle.sweet_cli.specs.Nodes.{Node, entry, IsNumbering}
-use Rattle.sweet_cli.specs.Runs.{Runs, places_of, cost_of}
+use Rattle.sweet_cli.specs.Nodes.{Node, entry, rank_of, IsNumbering}
+use Rattle.sweet_cli.specs.Runs.{Runs, places_of, cost_of, last_of}
 use Rattle.sweet_cli.specs.declared.fact.Fact.{Fact}
-use Rattle.sweet_cli.specs.declared.fact.Fact.TheVariants.{Dead, Total}
+use Rattle.sweet_cli.specs.declared.fact.Fact.TheVariants.{Dead, Total, Alarm}
 use Rattle.sweet_cli.specs.declared.report.Report.{Report}
 
--- the fact holds of a run, where the nodes have these numbers
+-- the fact holds of a run, where the nodes have these numbers; an alarm allows a fault and demands nothing
 abbrev pub Holds : List Node → List Node → Fact → Type 0
 Holds nodes trace (Dead n) = IfSome (slice_get nodes n) (λ node. places_of node trace ≡ 0)
 Holds nodes trace (Total n low high) = IfSome (slice_get nodes n) (λ node. (low ≤ places_of node trace) × (places_of node trace ≤ high))
+Holds nodes trace (Alarm n cause) = Unit {0}
 
 abbrev pub AllHold : List Node → List Node → List Fact → Type 0
 AllHold nodes trace [] = Unit {0}
 AllHold nodes trace (fact ∷ facts) = Holds nodes trace fact × AllHold nodes trace facts
+
+-- the fact is one of these
+abbrev pub IsFactOf : List Fact → Fact → Type 0
+IsFactOf [] fact = ⊥
+IsFactOf (other ∷ others) fact = (fact ≡ other) ⊎ IsFactOf others fact
+
+-- where the run faults, the facts have an alarm for the fault at its last node
+abbrev pub HasAlarm : List Node → List Node → Option RunFault → List Fact → Type 0
+HasAlarm nodes trace None facts = Unit {0}
+HasAlarm nodes trace (Some cause) facts = (n : ℕ) × (slice_get nodes n ≡ last_of trace) × IsFactOf facts (Alarm n cause)
 
 -- what a report says
 pub record Findings : Type 0 where
@@ -31,11 +44,12 @@ pub record Findings : Type 0 where
 abbrev pub findings_of : Report → Findings
 findings_of report = record { facts = report.facts.items; bound = report.count_bound }
 
--- every run of the items ends, each fact holds of it, and it costs no more than the bound
+-- every run of the items ends, each fact holds of it, its fault has an alarm, and it costs no more than the bound
 pub record IsSound (items : List Entry) (findings : Findings) : Type 0 where
-  pub ends : (trace : List Node) × Runs (blocks_of items) entry trace
-  pub facts : (nodes trace : List Node) → IsNumbering (blocks_of items) nodes → Runs (blocks_of items) entry trace → AllHold nodes trace findings.facts
-  pub bound : (trace : List Node) → Runs (blocks_of items) entry trace → cost_of trace ≤ findings.bound
+  pub ends : (trace : List Node) × (fault : Option RunFault) × Runs (blocks_of items) entry [] trace fault
+  pub facts : (nodes trace : List Node) (fault : Option RunFault) → IsNumbering (blocks_of items) nodes → Runs (blocks_of items) entry [] trace fault → AllHold nodes trace findings.facts
+  pub alarms : (nodes trace : List Node) (fault : Option RunFault) → IsNumbering (blocks_of items) nodes → Runs (blocks_of items) entry [] trace fault → HasAlarm nodes trace fault findings.facts
+  pub bound : (trace : List Node) (fault : Option RunFault) → Runs (blocks_of items) entry [] trace fault → cost_of trace ≤ findings.bound
 
 -- the nodes without a place in the run, from this number on
 abbrev pub dead_facts : ℕ → List Node → List Node → List Fact
@@ -48,13 +62,25 @@ total_facts n [] trace = []
 total_facts n (node ∷ nodes) trace =
     if places_of node trace == 0 then total_facts (suc n) nodes trace else Total n (places_of node trace) (places_of node trace) ∷ total_facts (suc n) nodes trace
 
+-- an alarm at the last node of a run, from this number on
+abbrev pub alarms_at : ℕ → List Node → Option Node → RunFault → List Fact
+alarms_at n [] last cause = []
+alarms_at n (node ∷ nodes) None cause = []
+alarms_at n (node ∷ nodes) (Some last) cause = if rank_of node == rank_of last then Alarm n cause ∷ [] else alarms_at (suc n) nodes (Some last) cause
+
+-- the alarm of the run's fault
+abbrev pub alarm_facts : List Node → List Node → Option RunFault → List Fact
+alarm_facts nodes trace None = []
+alarm_facts nodes trace (Some cause) = alarms_at 0 nodes (last_of trace) cause
+
 -- the report of the one run
 pub record IsReportOf (items : List Entry) (findings : Findings) : Type 0 where
   pub nodes : List Node
   pub trace : List Node
+  pub fault : Option RunFault
   pub numbered : IsNumbering (blocks_of items) nodes
-  pub run : Runs (blocks_of items) entry trace
-  pub facts : findings.facts ≡ dead_facts 0 nodes trace ++ total_facts 0 nodes trace
+  pub run : Runs (blocks_of items) entry [] trace fault
+  pub facts : findings.facts ≡ dead_facts 0 nodes trace ++ (total_facts 0 nodes trace ++ alarm_facts nodes trace fault)
   pub bound : findings.bound ≡ cost_of trace
 
 -- the report of the one run, which has no more nodes than the turns

@@ -3,8 +3,9 @@
 --   Leads blocks node next      an edge leads from the node to the next one, or to the end, which is None
 --   Reached blocks node         walks along edges lead from the entry to the node
 --   IsNumbering blocks nodes    the nodes by their numbers: those reached, the entry first, then by block
-use Rattle.std.specs.Prelude.{◌≡◌, ◌<◌, ℕ, suc, false, List, [], ◌∷◌, ◌++◌, ◌⊎◌, Option, None, Some, slice_get}
-use Rattle.alf_text.specs.Tree.{Jumps, Returns, Entry, Labels, Does}
+use Rattle.std.specs.Prelude.{◌≡◌, ◌<◌, ℕ, zero, suc, false, List, [], ◌∷◌, ◌++◌, ◌⊎◌, Option, None, Some, slice_get}
+use Rattle.alf_text.specs.declared.program.Num.{Num}
+use Rattle.alf_text.specs.Tree.{Term, Jumps, Switches, Returns, Entry, Labels, Does}
 use Rattle.alf_text.specs.First.{Among}
 use Rattle.sweet_cli.specs.Blocks.{ends_block}
 
@@ -21,6 +22,11 @@ EndsWith blocks k last = (front : List Entry) × (slice_get blocks k ≡ Some (f
 abbrev pub StandsIn : List (List Entry) → ℕ → List ℕ → Type 0
 StandsIn blocks k label = (block : List Entry) × (slice_get blocks k ≡ Some block) × Among block (Labels label)
 
+-- the label is that of a target or of every other value
+abbrev pub IsLabelOf : List (Num × List ℕ) → List ℕ → List ℕ → Type 0
+IsLabelOf [] others label = label ≡ others
+IsLabelOf (target ∷ targets) others label = (label ≡ target.1) ⊎ IsLabelOf targets others label
+
 -- an edge leads from a node to the next one, or to the end
 pub data Leads (blocks : List (List Entry)) : Node → Option Node → Type 0 where
   -- the entry leads to the first block
@@ -29,6 +35,9 @@ pub data Leads (blocks : List (List Entry)) : Node → Option Node → Type 0 wh
   returns : (k : ℕ) → EndsWith blocks k (Does (Returns None)) → Leads blocks (at_block k) None
   -- a jump leads to the block in which its label stands
   jumps : (k to : ℕ) (label : List ℕ) → EndsWith blocks k (Does (Jumps label)) → StandsIn blocks to label → Leads blocks (at_block k) (Some (at_block to))
+  -- a switch leads to the block of each of its labels
+  switches : (k to : ℕ) (value : Term) (targets : List (Num × List ℕ)) (others label : List ℕ) → EndsWith blocks k (Does (Switches value targets others))
+      → IsLabelOf targets others label → StandsIn blocks to label → Leads blocks (at_block k) (Some (at_block to))
   -- a block that no statement ends leads to the next one
   falls : (k : ℕ) (last : Entry) → EndsWith blocks k last → ends_block last ≡ false → Leads blocks (at_block k) (Some (at_block (suc k)))
 
@@ -41,6 +50,11 @@ pub data Reached (blocks : List (List Entry)) : Node → Type 0 where
 abbrev pub rank_of : Node → ℕ
 rank_of entry = 0
 rank_of (at_block k) = suc k
+
+-- the node of this rank
+abbrev pub node_at : ℕ → Node
+node_at zero = entry
+node_at (suc k) = at_block k
 
 abbrev pub Ascends : List Node → Type 0
 Ascends [] = Unit {0}

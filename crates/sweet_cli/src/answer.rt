@@ -1,6 +1,6 @@
 ghost use Rattle.std.specs.Prelude.{◌≡◌, List, ℕ, map, Some, string_bytes, IfOk};
 ghost use Rattle.flow_base.specs.Outside.{Rose};
-ghost use Rattle.alf_text.specs.Tree.{item_of, whole_of};
+ghost use Rattle.alf_text.specs.Tree.{item_of, names_of, whole_of};
 ghost use Rattle.alf_text.specs.First.{main_alone, IsFirst};
 ghost use Rattle.alf_text.specs.FirstText.{FirstText};
 ghost use Rattle.sweet_cli.specs.Words.{Command, command_of};
@@ -69,7 +69,7 @@ fn program_answer(alloc: Global, program: &Program, turns: u32) -> Result<Answer
         → IfOk result (λ answer. TextAnswers bytes turns answer.status (string_bytes answer.text)) }
     ensures was_read { IfOk result (λ answer. answer.status ≡ Status.ReadFailed → ⊥) }
 {
-    let report = report_of(alloc, items_of_main(program), turns)?;
+    let report = report_of(alloc, &program.decls, items_of_main(program), turns)?;
     let Some(report) = report else {
         return said(alloc, Status::Unbounded, "unbounded 0 \"main\":entry\n");
     };
@@ -83,7 +83,7 @@ fn program_answer(alloc: Global, program: &Program, turns: u32) -> Result<Answer
 // The items of the program's one function.
 fn items_of_main(program: &Program) -> &[Item]
     requires { IsFirst (whole_of program.now) }
-    ensures { whole_of program.now ≡ main_alone (map item_of result.now) }
+    ensures { whole_of program.now ≡ main_alone (names_of program.now.decls.items) (map item_of result.now) }
 {
     &program.funcs[0].items
 }

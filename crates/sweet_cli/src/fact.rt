@@ -1,3 +1,5 @@
+use alf_ops::RunFault;
+
 /// What is said of each run. Nodes are named by their numbers.
 #[derive(Clone, Copy, Debug, PartialEq, Eq)]
 pub enum Fact {
@@ -5,4 +7,6 @@ pub enum Fact {
     Dead(u32),
     /// The node, and the least and the greatest count of its places in a run.
     Total(u32, u32, u32),
+    /// The node, and the fault with which a run may end at it.
+    Alarm(u32, RunFault),
 }

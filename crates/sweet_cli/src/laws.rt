@@ -9,8 +9,8 @@ pub fn one_answer()
     first_texts();
 }
 
-/// A run has one continuation, and so a first text's program has one run at most that ends. Does
-/// nothing when it is called.
+/// A run has one continuation, and so a first text's program has one run at most that ends, with
+/// one fault or with none. Does nothing when it is called.
 pub fn one_run()
     ensures step { HaveOneStep }
     ensures run { HaveOneRun }

@@ -11,9 +11,17 @@ mod command;
 // The graph of a function's items, its run, and what is found of it.
 mod analysis;
 mod blocks;
+mod cells;
+mod code;
+mod edges;
 mod findings;
 mod graph;
+mod labels;
 mod machine;
+mod moves;
+mod operand;
+mod search;
+mod tally;
 
 // Facts, reports and their text.
 mod fact;

@@ -1,9 +1,10 @@
 ghost use Rattle.std.specs.Prelude.{◌≡◌, string_bytes, IfOk};
 ghost use Rattle.std.specs.List.{flat_map};
 ghost use Rattle.sweet_cli.specs.Facts.{findings_of};
-ghost use Rattle.sweet_cli.specs.ReportText.{fact_line, report_text};
+ghost use Rattle.sweet_cli.specs.ReportText.{fault_word, fact_line, report_text};
 
 use crate::{Fact, Report};
+use alf_ops::RunFault;
 use std::alloc::{AllocError, Global};
 
 /// The text of a report.
@@ -41,5 +42,25 @@ fn line_of(alloc: Global, fact: Fact) -> Result<String, AllocError>
             let text = format!(in alloc; "total {node} {low} {high}\n")?;
             Ok(text)
         }
+        Fact::Alarm(node, cause) => {
+            let word = word_of(cause);
+            let text = format!(in alloc; "alarm {node} {word}\n")?;
+            Ok(text)
+        }
+    }
+}
+
+// The word of a fault.
+fn word_of(cause: RunFault) -> &'static str
+    ensures { result.now ≡ fault_word cause }
+{
+    match cause {
+        RunFault::Divide => "divide",
+        RunFault::Uninit => "uninit",
+        RunFault::Mixed => "mixed",
+        RunFault::Bounds => "bounds",
+        RunFault::Dead => "dead",
+        RunFault::Kind => "kind",
+        RunFault::Pointers => "pointers",
     }
 }

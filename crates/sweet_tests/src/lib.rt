@@ -4,10 +4,14 @@
 // What the tests share.
 #[cfg(test)]
 mod answers;
+#[cfg(test)]
+mod notation;
 
-// Words, programs, files and sinks that fail, and the codes of all answers.
+// Words, programs, programs with memory, files and sinks that fail, and the codes of all answers.
 #[cfg(test)]
 mod codes;
+#[cfg(test)]
+mod memory;
 #[cfg(test)]
 mod outside;
 #[cfg(test)]

@@ -1,4 +1,5 @@
 use crate::answers::{REPORT, RETURNS, answer_of};
+use crate::notation::program_of;
 use std::alloc::{AllocError, Global};
 use std::test::Fail;
 use sweet_cli::Status;
@@ -55,43 +56,6 @@ fn tokens_may_have_any_white_space_between_them(rt: HostRuntime) -> Result<(), F
     Ok(())
 }
 
-// The program with these items, in which `@A` stands for a label and `^A` for a jump to it.
-fn with_items(alloc: Global, items: &str) -> Result<Vec<u8>, AllocError> {
-    let mut program = Vec::new(alloc);
-    for part in RETURNS.split("{ return }") {
-        if !program.is_empty() {
-            for word in items.split(' ') {
-                push_item(&mut program, word)?;
-            }
-        }
-        program.extend_from_slice(part.as_bytes())?;
-    }
-    Ok(program)
-}
-
-// Adds one item.
-fn push_item(program: &mut Vec<u8>, word: &str) -> Result<(), AllocError> {
-    match (word.strip_prefix('@'), word.strip_prefix('^')) {
-        (Some(name), _) => push_label(program, name),
-        (None, Some(name)) => {
-            program.extend_from_slice(b"{ jump ")?;
-            push_label(program, name)?;
-            program.extend_from_slice(b"leaving 0 } ")
-        }
-        (None, None) => {
-            program.extend_from_slice(b"{ ")?;
-            program.extend_from_slice(word.as_bytes())?;
-            program.extend_from_slice(b" } ")
-        }
-    }
-}
-
-fn push_label(program: &mut Vec<u8>, name: &str) -> Result<(), AllocError> {
-    program.extend_from_slice(b"{ label 32 { lref 32 \"")?;
-    program.extend_from_slice(name.as_bytes())?;
-    program.extend_from_slice(b"\" } { dec_unsigned 32 0 } } ")
-}
-
 const UNBOUNDED: &str = "unbounded 0 \"main\":entry\n";
 
 const TWO_BLOCKS: &str = "facts 1\ntotal 0 1 1\ntotal 1 1 1\ntotal 2 1 1\ncount-bound 2\nend\n";
@@ -144,9 +108,9 @@ fn a_program_is_answered_by_its_items(rt: HostRuntime) -> Result<(), Fail> {
     ];
     let alloc = rt.alloc();
     for (items, turns, wanted, wanted_text) in cases {
-        let program = with_items(alloc, items)?;
+        let program = program_of(alloc, "", items)?;
         let line = format!(in alloc; "analyse a.alf --turns {turns}")?;
-        let (status, text) = answer_of(alloc, line.as_str(), &program)?;
+        let (status, text) = answer_of(alloc, line.as_str(), program.as_bytes())?;
         assert_eq!(rt; status, wanted, "{items} {turns}");
         assert_eq!(rt; text.as_slice(), wanted_text.as_bytes(), "{items} {turns}");
     }

@@ -1,10 +1,12 @@
 use Rattle.sweet_cli.specs.Blocks.{blocks_of}
-use Rattle.sweet_cli.proofs.Labels.{labels_one}
-use Rattle.sweet_cli.proofs.OneRun.{leads_one, runs_one}
+use Rattle.sweet_cli.proofs.OneStep.{labels_one, steps_one}
+use Rattle.sweet_cli.proofs.OneRun.{runs_one}
 use Rattle.sweet_cli.proofs.laws.one_run.Goals as goal
 
 pub returns-clause-step : goal.returns-clause-step
-returns-clause-step c = λ bytes items node a b text s t. leads_one (blocks_of items) (labels_one items (c.first_texts.ensures.first bytes _ text)) s t
+returns-clause-step c =
+    λ bytes frames items node history a b text x y. steps_one (blocks_of items) (labels_one frames items (c.first_texts.ensures.first bytes _ text)) node history a b x y
 
 pub returns-clause-run : goal.returns-clause-run
-returns-clause-run c = λ bytes items a b text s t. runs_one (blocks_of items) (labels_one items (c.first_texts.ensures.first bytes _ text)) s t
+returns-clause-run c =
+    λ bytes frames items s t f g text x y. runs_one (blocks_of items) (labels_one frames items (c.first_texts.ensures.first bytes _ text)) x y

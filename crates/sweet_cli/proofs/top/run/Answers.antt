@@ -1,4 +1,4 @@
-use Rattle.std.proofs.Common.{◌≡◌, ap, sym, ◌∙◌, subst, refl, map, string_bytes, List, ℕ}
+use Rattle.std.proofs.Common.{subst, map, string_bytes, List, ℕ}
 use Rattle.flow_base.specs.Outside.{Appended}
 use Rattle.sweet_cli.proofs.Answered.{prints_sound}
 use Rattle.sweet_cli.proofs.top.run.Goals as goal

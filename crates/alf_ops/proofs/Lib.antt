@@ -1,0 +1,7 @@
+pub mod Histories
+pub mod Modular
+pub mod NamedOperators
+pub mod Operands
+pub mod Rotations
+pub mod Values
+pub mod WordReadings

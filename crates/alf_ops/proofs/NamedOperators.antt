@@ -1,0 +1,72 @@
+-- Names of rows: where none is found, and tests that a table is right.
+use Rattle.std.proofs.Common.{◌≡◌, ◌≢◌, ◌↔◌, ℕ, List, [], ◌∷◌, All, AllPairs, IsNone, Some, Bool, true, false, not, ◌&&◌, length, arith, refl}
+use Rattle.std.specs.Prelude.{◌==◌}
+use Rattle.std.specs.Str.{bytes_eq}
+use Rattle.std.specs.List.{list_all}
+use Rattle.std.proofs.lemmas.Grind.{common_steps}
+use Rattle.std.proofs.lemmas.Bool.Decides.{not_from_Decides}
+use Rattle.std.proofs.lemmas.List.Elements.{All-cons, All-nil, All-head, All-tail}
+use Rattle.std.proofs.lemmas.List.Kept.{AllPairs-cons}
+use Rattle.std.proofs.lemmas.Slice.Eq.{bytes_eq-Decides}
+use Rattle.alf_ops.specs.declared.table.OpRow.{OpRow}
+use Rattle.alf_ops.specs.Table.{layout_of, size_count, operands_by_layout}
+use Rattle.alf_ops.specs.Names.{operator_named, name_of, spelling, TellsOperator}
+
+by_test : {A : Type 0} (v : Bool) → (v ≡ true → A) → (v ≡ false → A) → A
+by_test true f g = f refl
+by_test false f g = g refl
+
+-- where the first row has another name, the rest decides
+skips_other : (row : OpRow) (rows : List OpRow) (name : List ℕ) → bytes_eq (name_of row) name ≡ false → operator_named (row ∷ rows) name ≡ operator_named rows name
+skips_other row rows name other = rw other refl
+
+takes_first : (row : OpRow) (rows : List OpRow) (name : List ℕ) → bytes_eq (name_of row) name ≡ true → operator_named (row ∷ rows) name ≡ Some row.op
+takes_first row rows name same = rw same refl
+
+pub none_is_named : (rows : List OpRow) (name : List ℕ) → IsNone (operator_named rows name) ↔ All (λ row. name_of row ≢ name) rows
+none_is_named [] name = (λ none. All-nil (λ row. name_of row ≢ name), λ all. grind (arith, common_steps))
+none_is_named (row ∷ rows) name = by_test (bytes_eq (name_of row) name)
+    (λ same. (
+      λ none. cc (takes_first row rows name same),
+      λ all. absurd (All-head (λ row. name_of row ≢ name) row rows all ((bytes_eq-Decides (name_of row) name).0 same)),
+    ))
+    (λ other. rw (skips_other row rows name other) (
+      λ none. All-cons (λ row. name_of row ≢ name) row rows (λ e. not_from_Decides _ (bytes_eq-Decides (name_of row) name) other e) ((none_is_named rows name).0 none),
+      λ all. (none_is_named rows name).1 (All-tail (λ row. name_of row ≢ name) row rows all),
+    ))
+
+-- no name stands twice
+abbrev pub names_apart : List (List ℕ) → Bool
+names_apart [] = true
+names_apart (name ∷ names) = list_all (λ other. not (bytes_eq name other)) names && names_apart names
+
+-- the name is none of these
+apart_from : (name : List ℕ) (names : List (List ℕ)) → list_all (λ other. not (bytes_eq name other)) names ≡ true → All (λ other. name ≢ other) names
+apart_from name [] passed = All-nil (λ other. name ≢ other)
+apart_from name (other ∷ names) passed =
+    All-cons (λ other. name ≢ other) other names
+    (λ same. grind (arith, common_steps, bytes_eq-Decides name other))
+    (apart_from name names (grind (arith, common_steps)))
+
+pub apart_names : (names : List (List ℕ)) → names_apart names ≡ true → AllPairs (λ a b. a ≢ b) names
+apart_names [] passed = λ i j d below within. grind (arith, common_steps)
+apart_names (name ∷ names) passed =
+    AllPairs-cons (λ a b. a ≢ b) name names
+    (apart_from name names (grind (arith, common_steps)))
+    (apart_names names (grind (arith, common_steps)))
+
+-- the row tells its operator
+abbrev pub tells : OpRow → Bool
+tells row = bytes_eq (name_of row) (spelling row.op)
+    && (row.sizes == size_count (layout_of row.op))
+    && (row.operands == length (operands_by_layout (layout_of row.op) 0 0 0))
+
+pub told_rows : (rows : List OpRow) → list_all tells rows ≡ true → All TellsOperator rows
+told_rows [] passed = All-nil TellsOperator
+told_rows (row ∷ rows) passed = All-cons TellsOperator row rows
+    (record {
+      name = grind (arith, common_steps, bytes_eq-Decides (name_of row) (spelling row.op));
+      sizes = grind (arith, common_steps);
+      operands = grind (arith, common_steps);
+    })
+    (told_rows rows (grind (arith, common_steps)))

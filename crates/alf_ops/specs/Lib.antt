@@ -1,0 +1,9 @@
+pub mod Names
+pub mod PointerLaws
+pub mod Pointers
+pub mod RunLaws
+pub mod Runs
+pub mod Signs
+pub mod Table
+pub mod WordLaws
+pub mod Words

@@ -1,0 +1,44 @@
+//! The operators of ALF on words, and what a run stores and loads.
+//!
+//! `apply` gives the word of an operator, `shape` and `operand` the sizes of its result and its
+//! operands, `find` the operator that a name stands for. Their meaning is stated as formulas on
+//! whole numbers, apart from the code, which works on machine words. `Value`, `RunFault` and
+//! `History` are what runs are made of: what a load gives after a history, and what an operator
+//! gives at pointers, are defined here for every layer above. No call takes memory. The rules
+//! stand in words in `docs/formats/alf-operators.md`.
+#![tactic(auto)]
+
+// The operators, the table of their names, and the layouts of its rows.
+mod layout;
+mod operator;
+mod table;
+
+// The sizes of an operator and its value, over the arithmetic of words.
+mod divide;
+mod operations;
+mod words;
+
+// What a run is made of, and operators at its values.
+mod history;
+mod loads;
+mod outcomes;
+
+// What the definitions promise.
+mod laws;
+
+pub use divide::Divide;
+pub use history::{Event, Frame, History, RunFault, Value};
+pub use laws::{
+    a_load_gives_what_was_stored, a_load_looks_at_the_newest_store, a_store_leaves_other_cells,
+    entering_empties_the_frames_of_the_function, leaving_ends_the_frames_of_the_function,
+    operands_fault_from_left_to_right, pointers_stand_where_a_rule_takes_them,
+    pointers_to_different_frames_are_unequal, words_are_read_and_cut,
+};
+pub use loads::load_after;
+pub use operations::{apply, operand, shape};
+pub use operator::Op;
+pub use outcomes::apply_to_values;
+pub use table::{OPS, OpRow, find, rows};
+
+#[cfg(test)]
+mod tests;

@@ -1,0 +1,89 @@
+//! The table of the operators' names.
+
+ghost use Rattle.std.specs.Prelude.{◌≡◌, ◌≢◌, ◌↔◌, map, All, AllPairs, IsNone};
+ghost use Rattle.alf_ops.specs.Names.{operator_named, name_of, operators, spelling, TellsOperator};
+
+use crate::operator::Op;
+
+/// A row of the table.
+#[derive(Clone, Copy, Debug)]
+pub struct OpRow {
+    pub op: Op,
+    /// The word that stands for the operator.
+    pub name: &'static str,
+    /// How many sizes are written behind it.
+    pub sizes: u8,
+    /// How many operands it has.
+    pub operands: u8,
+}
+
+macro_rules! row {
+    ($op:ident, $name:literal, $sizes:literal, $operands:literal) => {
+        OpRow { op: Op::$op, name: $name, sizes: $sizes, operands: $operands }
+    };
+}
+
+/// The operators, in the order of the table.
+pub const OPS: [OpRow; 36] = [
+    row!(Neg, "neg", 1, 1),
+    row!(Not, "not", 1, 1),
+    row!(Add, "add", 1, 3),
+    row!(Sub, "sub", 1, 3),
+    row!(CAdd, "c_add", 1, 3),
+    row!(CSub, "c_sub", 1, 3),
+    row!(UMul, "u_mul", 2, 2),
+    row!(SMul, "s_mul", 2, 2),
+    row!(UDiv, "u_div", 2, 2),
+    row!(SDiv, "s_div", 2, 2),
+    row!(UMod, "u_mod", 2, 2),
+    row!(SMod, "s_mod", 2, 2),
+    row!(LShift, "l_shift", 2, 2),
+    row!(RShift, "r_shift", 2, 2),
+    row!(RShiftA, "r_shift_a", 2, 2),
+    row!(And, "and", 1, 2),
+    row!(Or, "or", 1, 2),
+    row!(Xor, "xor", 1, 2),
+    row!(Eq, "eq", 1, 2),
+    row!(Neq, "neq", 1, 2),
+    row!(ULt, "u_lt", 1, 2),
+    row!(ULe, "u_le", 1, 2),
+    row!(UGt, "u_gt", 1, 2),
+    row!(UGe, "u_ge", 1, 2),
+    row!(SLt, "s_lt", 1, 2),
+    row!(SLe, "s_le", 1, 2),
+    row!(SGt, "s_gt", 1, 2),
+    row!(SGe, "s_ge", 1, 2),
+    row!(SExt, "s_ext", 2, 1),
+    row!(ZExt, "z_ext", 2, 1),
+    row!(Trunc, "trunc", 2, 1),
+    row!(Select, "select", 3, 1),
+    row!(Conc, "conc", 2, 2),
+    row!(If, "if", 1, 3),
+    row!(RotL, "rot_l", 2, 2),
+    row!(RotR, "rot_r", 2, 2),
+];
+
+/// The operator of the first row of this name. Takes no memory.
+pub fn find(rows: &[OpRow], name: &str) -> Option<Op>
+    ensures first { result ≡ operator_named rows.now name.now }
+    ensures none { IsNone result ↔ All (λ row. name_of row ≢ name.now) rows.now }
+{
+    let mut rest = rows;
+    while let Some((first, others)) = rest.split_first() {
+        if first.name == name {
+            return Some(first.op);
+        }
+        rest = others;
+    }
+    None
+}
+
+/// The table: the 36 operators in their order, each with its name, and no two with one name.
+pub fn rows() -> &'static [OpRow; 36]
+    ensures order { map (λ row. row.op) result.now ≡ operators }
+    ensures told { All TellsOperator result.now }
+    ensures distinct { AllPairs (λ a b. a ≢ b) (map name_of result.now) }
+    ensures found { (op : Op) → operator_named result.now (spelling op) ≡ Some op }
+{
+    &OPS
+}

@@ -1,0 +1,151 @@
+-- In a first program a label stands in one block, and from a node with a history there is one step.
+use Rattle.std.proofs.Common.{◌≡◌, ◌==◌, ℕ, zero, suc, true, false, List, [], ◌∷◌, ◌++◌, inl, inr, Option, None, Some, refl, ap, sym, ◌∙◌, subst}
+use Rattle.std.proofs.lemmas.List.{same_from_push}
+use Rattle.alf_ops.specs.declared.history.RunFault.TheVariants.{Uninit}
+use Rattle.alf_text.specs.declared.program.Num.{Num}
+use Rattle.alf_text.specs.Tree.{Nothing, Stores, Jumps, Switches, Calls, Returns, Entry, Labels, Does, Whole}
+use Rattle.alf_text.specs.First.{Among, Each, LabelsDiffer, IsFirstItem, IsLed, EndsWell, main_alone, IsFirst}
+use Rattle.sweet_cli.specs.Blocks.{ends_block, blocks_of}
+use Rattle.sweet_cli.specs.Nodes.{Node, entry, at_block, EndsWith, StandsIn, IsLabelOf, Leads}
+use Rattle.sweet_cli.specs.Nodes as edges
+use Rattle.sweet_cli.specs.Memory.{History, value_of, executed}
+use Rattle.sweet_cli.specs.Runs.{Step, onwards, over, Executes, target_of, Steps, enters, faults, returns, jumps, switches, switch_faults, falls}
+use Rattle.sweet_cli.proofs.Cutting.{some_is, by_test, flat, flat_blocks, among_right, among_flat}
+
+-- what a first program's items keep
+pub record Fit (items : List Entry) : Type 0 where
+  pub each : Each IsFirstItem items
+  pub labels : LabelsDiffer items
+  pub led : Each (IsLed items) items
+  pub ends : EndsWell items
+
+items_in : Whole → List Entry
+items_in whole = elim whole.funcs [ [] ↦ [] | func ∷ funcs ↦ func.items ]
+
+pub fit : (frames : List (List ℕ)) (items : List Entry) → IsFirst (main_alone frames items) → Fit items
+unfolding items_in
+fit frames items first =
+    let same : first.items ≡ items = sym (ap items_in first.alone) in
+    subst (λ (x : List Entry). Fit x) same (record { each = first.each; labels = first.labels; led = first.led; ends = first.ends })
+
+-- a label stands in one block
+abbrev pub LabelsAreOne : List (List Entry) → Type 0
+LabelsAreOne blocks = (name : List ℕ) (j k : ℕ) → StandsIn blocks j name → StandsIn blocks k name → j ≡ k
+
+differ_behind : (xs ys : List Entry) → LabelsDiffer (xs ++ ys) → LabelsDiffer ys
+differ_behind [] ys h = h
+differ_behind (Labels name ∷ xs) ys h = differ_behind xs ys h.1
+differ_behind (Does act ∷ xs) ys h = differ_behind xs ys h
+
+differ_apart : (xs ys : List Entry) (name : List ℕ) → LabelsDiffer (xs ++ ys) → Among xs (Labels name) → Among ys (Labels name) → ⊥
+differ_apart [] ys name h a b = a
+differ_apart (Labels other ∷ xs) ys name h (inl e) b = h.0 (among_right xs ys (Labels other) (subst (λ (x : Entry). Among ys x) e b))
+differ_apart (Labels other ∷ xs) ys name h (inr a) b = differ_apart xs ys name h.1 a b
+differ_apart (Does act ∷ xs) ys name h (inl e) b = let k : Labels name ≡ Does act = e in cc
+differ_apart (Does act ∷ xs) ys name h (inr a) b = differ_apart xs ys name h a b
+
+one_in : (blocks : List (List Entry)) → LabelsDiffer (flat blocks) → LabelsAreOne blocks
+one_in [] h name j k (a, is, x) there = absurd (let e : None ≡ Some a = is in cc)
+one_in (block ∷ blocks) h name zero zero (a, is, x) (b, at, y) = refl
+one_in (block ∷ blocks) h name zero (suc k) (a, is, x) (b, at, y) = absurd (
+    let here : Among block (Labels name) = subst (λ (z : List Entry). Among z (Labels name)) (sym (some_is is)) x in
+    differ_apart block (flat blocks) name h here (among_flat blocks k b (Labels name) at y))
+one_in (block ∷ blocks) h name (suc j) zero (a, is, x) (b, at, y) = absurd (
+    let here : Among block (Labels name) = subst (λ (z : List Entry). Among z (Labels name)) (sym (some_is at)) y in
+    differ_apart block (flat blocks) name h here (among_flat blocks j a (Labels name) is x))
+one_in (block ∷ blocks) h name (suc j) (suc k) (a, is, x) (b, at, y) =
+    ap (λ (n : ℕ). suc n) (one_in blocks (differ_behind block (flat blocks) h) name j k (a, is, x) (b, at, y))
+
+pub labels_one : (frames : List (List ℕ)) (items : List Entry) → IsFirst (main_alone frames items) → LabelsAreOne (blocks_of items)
+labels_one frames items first =
+    one_in (blocks_of items) (subst (λ (x : List Entry). LabelsDiffer x) (sym (flat_blocks items)) (fit frames items first).labels)
+
+-- the label that a switch takes is one of its labels
+taken_is : (targets : List (Num × List ℕ)) (others : List ℕ) (n : ℕ) → IsLabelOf targets others (target_of targets others n)
+taken_is [] others n = refl
+taken_is (target ∷ targets) others n = by_test (target.0.bits == n) (λ e. rw e (inl refl)) (λ e. rw e (inr (taken_is targets others n)))
+
+-- a step onwards follows an edge
+pub edge_of : {blocks : List (List Entry)} {node to : Node} {before behind : History} → Steps blocks node before (onwards to behind) → Leads blocks node (Some to)
+edge_of enters = edges.enters
+edge_of (jumps k to label x ends there) = edges.jumps k to label ends there
+edge_of (switches k to n value targets others x ends is there) = edges.switches k to value targets others (target_of targets others n) ends (taken_is targets others n) there
+edge_of (falls k last x ends open_) = edges.falls k last ends open_
+
+module _ (blocks : List (List Entry)) where
+  -- what is done behind a block: of a switch by its value, and of each item
+  abbrev ByValue : History → Option ℕ → List (Num × List ℕ) → List ℕ → Step → Type 0
+  ByValue behind None targets others s = s ≡ over (Some Uninit)
+  ByValue behind (Some n) targets others s = (to : ℕ) × StandsIn blocks to (target_of targets others n) × (s ≡ onwards (at_block to) behind)
+
+  abbrev ByLast : ℕ → History → Entry → Step → Type 0
+  ByLast k behind (Labels name) s = s ≡ onwards (at_block (suc k)) behind
+  ByLast k behind (Does Nothing) s = s ≡ onwards (at_block (suc k)) behind
+  ByLast k behind (Does (Stores at value)) s = s ≡ onwards (at_block (suc k)) behind
+  ByLast k behind (Does (Jumps label)) s = (to : ℕ) × StandsIn blocks to label × (s ≡ onwards (at_block to) behind)
+  ByLast k behind (Does (Switches value targets others)) s = ByValue behind (value_of behind value) targets others s
+  ByLast k behind (Does (Calls label args result)) s = ⊥
+  ByLast k behind (Does (Returns value)) s = s ≡ over None
+
+  abbrev ByHistory : ℕ → Option History → Step → Type 0
+  ByHistory k None s = s ≡ over (Some Uninit)
+  ByHistory k (Some behind) s = (last : Entry) × EndsWith blocks k last × ByLast k behind last s
+
+  record View (k : ℕ) (before : History) (s : Step) : Type 0 where
+    pub behind : Option History
+    pub executes : Executes blocks k before behind
+    pub by : ByHistory k behind s
+
+  falls_by : (k : ℕ) (behind : History) (last : Entry) → ends_block last ≡ false → ByLast k behind last (onwards (at_block (suc k)) behind)
+  falls_by k behind (Labels name) open_ = refl
+  falls_by k behind (Does Nothing) open_ = refl
+  falls_by k behind (Does (Stores at value)) open_ = refl
+  falls_by k behind (Does (Jumps label)) open_ = absurd (let e : true ≡ false = open_ in cc)
+  falls_by k behind (Does (Switches value targets others)) open_ = absurd (let e : true ≡ false = open_ in cc)
+  falls_by k behind (Does (Calls label args result)) open_ = absurd (let e : true ≡ false = open_ in cc)
+  falls_by k behind (Does (Returns value)) open_ = absurd (let e : true ≡ false = open_ in cc)
+
+  view : (k : ℕ) {before : History} {s : Step} → Steps blocks (at_block k) before s → View k before s
+  view k (faults _ x) = record { behind = None; executes = x; by = refl }
+  view k (returns _ {behind = behind} x ends) = record { behind = Some behind; executes = x; by = (Does (Returns None), ends, refl) }
+  view k (jumps _ to label {behind = behind} x ends there) = record { behind = Some behind; executes = x; by = (Does (Jumps label), ends, (to, there, refl)) }
+  view k (switches _ to n value targets others {behind = behind} x ends is there) =
+      record { behind = Some behind; executes = x; by = (Does (Switches value targets others), ends, rw is (to, there, refl)) }
+  view k (switch_faults _ value targets others {behind = behind} x ends is) =
+      record { behind = Some behind; executes = x; by = (Does (Switches value targets others), ends, rw is refl) }
+  view k (falls _ last {behind = behind} x ends open_) = record { behind = Some behind; executes = x; by = (last, ends, falls_by k behind last open_) }
+
+  last_one : (k : ℕ) (a b : Entry) → EndsWith blocks k a → EndsWith blocks k b → a ≡ b
+  last_one k a b (front, is) (more, at) = (same_from_push front more a b (some_is (sym is ∙ at))).1
+
+  executes_one : (k : ℕ) (before : History) (a b : Option History) → Executes blocks k before a → Executes blocks k before b → a ≡ b
+  executes_one k before a b x y = sym x.so ∙ ap (λ (z : List Entry). executed before z) (some_is (sym x.is ∙ y.is)) ∙ y.so
+
+  module _ (one : LabelsAreOne blocks) where
+    by_value_one : (behind : History) (value : Option ℕ) (targets : List (Num × List ℕ)) (others : List ℕ) (a b : Step)
+        → ByValue behind value targets others a → ByValue behind value targets others b → a ≡ b
+    by_value_one behind None targets others a b x y = x ∙ sym y
+    by_value_one behind (Some n) targets others a b x y = x.2 ∙ ap (λ (t : ℕ). onwards (at_block t) behind) (one (target_of targets others n) x.0 y.0 x.1 y.1) ∙ sym y.2
+
+    by_last_one : (k : ℕ) (behind : History) (last : Entry) (a b : Step) → ByLast k behind last a → ByLast k behind last b → a ≡ b
+    by_last_one k behind (Labels name) a b x y = x ∙ sym y
+    by_last_one k behind (Does Nothing) a b x y = x ∙ sym y
+    by_last_one k behind (Does (Stores at value)) a b x y = x ∙ sym y
+    by_last_one k behind (Does (Jumps label)) a b x y = x.2 ∙ ap (λ (t : ℕ). onwards (at_block t) behind) (one label x.0 y.0 x.1 y.1) ∙ sym y.2
+    by_last_one k behind (Does (Switches value targets others)) a b x y = by_value_one behind (value_of behind value) targets others a b x y
+    by_last_one k behind (Does (Calls label args result)) a b x y = absurd x
+    by_last_one k behind (Does (Returns value)) a b x y = x ∙ sym y
+
+    by_history_one : (k : ℕ) (behind : Option History) (a b : Step) → ByHistory k behind a → ByHistory k behind b → a ≡ b
+    by_history_one k None a b x y = x ∙ sym y
+    by_history_one k (Some behind) a b x y =
+        by_last_one k behind y.0 a b (subst (λ (last : Entry). ByLast k behind last a) (last_one k x.0 y.0 x.1 y.1) x.2) y.2
+
+    view_one : (k : ℕ) (before : History) (a b : Step) → View k before a → View k before b → a ≡ b
+    view_one k before a b x y =
+        by_history_one k y.behind a b (subst (λ (h : Option History). ByHistory k h a) (executes_one k before x.behind y.behind x.executes y.executes) x.by) y.by
+
+    -- from a node with a history there is one step
+    pub steps_one : (node : Node) (history : History) (a b : Step) → Steps blocks node history a → Steps blocks node history b → a ≡ b
+    steps_one entry history a b enters enters = refl
+    steps_one (at_block k) history a b g h = view_one k history a b (view k g) (view k h)

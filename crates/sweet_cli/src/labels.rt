@@ -1,0 +1,44 @@
+ghost use Rattle.std.specs.Prelude.{◌≡◌, map, IsTrue, ◌↔◌};
+ghost use Rattle.alf_text.specs.Tree.{Labels, item_of};
+ghost use Rattle.alf_text.specs.First.{Among};
+ghost use Rattle.sweet_cli.specs.Nodes.{StandsIn};
+ghost use Rattle.sweet_cli.specs.Cut.{block_meant};
+ghost use Rattle.sweet_cli.specs.Resolved.{Stands};
+
+use crate::blocks::Block;
+use alf_text::Item;
+use flow_base::Name;
+
+/// The number of the first block in which the label stands.
+pub fn block_of_label(blocks: &[Block<'_>], label: &Name) -> usize
+    requires { Stands (map block_meant blocks.now) label.now }
+    ensures { StandsIn (map block_meant blocks.now) result label.now }
+{
+    for k in 0..blocks.len() {
+        if has_label(blocks[k].items, label) {
+            return k;
+        }
+    }
+    unreachable!()
+}
+
+// Whether the label stands among the items.
+fn has_label(items: &[Item], label: &Name) -> bool
+    ensures { IsTrue result ↔ Among (map item_of items.now) (Labels label.now) }
+{
+    for item in items {
+        if is_label_of(item, label) {
+            return true;
+        }
+    }
+    false
+}
+
+fn is_label_of(item: &Item, label: &Name) -> bool
+    ensures { IsTrue result ↔ (item_of item.now ≡ Labels label.now) }
+{
+    match item {
+        Item::Label(name) => name.bytes() == label.bytes(),
+        Item::Stmt(_) => false,
+    }
+}

@@ -6,6 +6,7 @@ ghost use Rattle.sweet_cli.specs.Cut.{block_meant};
 ghost use Rattle.sweet_cli.specs.Edges.{IsIn, LabelsAreOne, FallsWithin, IsRankOf, IsTarget, IsRow, IsTable, rows_of};
 
 use crate::blocks::Block;
+use crate::labels::has_label;
 use alf_text::{Item, Num, Stmt};
 use flow_base::Name;
 use std::alloc::{AllocError, Global};
@@ -117,25 +118,4 @@ fn rank_of_label(blocks: &[Block<'_>], label: &Name) -> Option<usize>
         }
     }
     None
-}
-
-// Whether the label stands among the items.
-fn has_label(items: &[Item], label: &Name) -> bool
-    ensures { IsTrue result ↔ Among (map item_of items.now) (Labels label.now) }
-{
-    for item in items {
-        if is_label_of(item, label) {
-            return true;
-        }
-    }
-    false
-}
-
-fn is_label_of(item: &Item, label: &Name) -> bool
-    ensures { IsTrue result ↔ (item_of item.now ≡ Labels label.now) }
-{
-    match item {
-        Item::Label(name) => name.bytes() == label.bytes(),
-        Item::Stmt(_) => false,
-    }
 }

@@ -22,8 +22,8 @@ pub fn block_of_label(blocks: &[Block<'_>], label: &Name) -> usize
     unreachable!()
 }
 
-// Whether the label stands among the items.
-fn has_label(items: &[Item], label: &Name) -> bool
+/// Whether the label stands among the items.
+pub fn has_label(items: &[Item], label: &Name) -> bool
     ensures { IsTrue result ↔ Among (map item_of items.now) (Labels label.now) }
 {
     for item in items {

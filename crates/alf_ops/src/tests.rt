@@ -146,149 +146,106 @@ fn a_name_stands_for_its_operator(rt: HostRuntime) -> Result<(), Fail> {
     Ok(())
 }
 
-/// A word of 32 bits.
-const fn word(bits: u64) -> Value {
-    Value::Int { size: 32, bits }
+/// A store of a word of 32 bits.
+macro_rules! stored {
+    ($frame:literal, $offset:literal, $bits:literal) => {
+        Event::Store {
+            frame: $frame,
+            offset: $offset,
+            size: 32,
+            value: Value::Int { size: 32, bits: $bits },
+        }
+    };
 }
 
-#[test]
-fn a_load_answers_by_the_events(rt: HostRuntime) -> Result<(), Fail> {
-    let frames = [
-        Frame {
-            owner: None,
-            bits: 64,
-        },
-        Frame {
-            owner: Some(7),
-            bits: 32,
-        },
-        Frame {
-            owner: Some(8),
-            bits: 32,
-        },
-    ];
-    let stored = |frame, offset, bits| Event::Store {
-        frame,
-        offset,
-        size: 32,
-        value: word(bits),
-    };
-    let narrow = Event::Store {
+const FRAMES: [Frame; 3] = [
+    Frame {
+        owner: None,
+        bits: 64,
+    },
+    Frame {
+        owner: Some(7),
+        bits: 32,
+    },
+    Frame {
+        owner: Some(8),
+        bits: 32,
+    },
+];
+
+/// The newest event first.
+const EVENTS: [Event; 11] = [
+    stored!(1, 0, 6),
+    Event::Enter(7),
+    Event::Leave(8),
+    Event::Enter(8),
+    Event::Leave(7),
+    stored!(1, 0, 5),
+    Event::Enter(7),
+    Event::Store {
         frame: 0,
         offset: 2,
         size: 8,
         value: Value::Int { size: 8, bits: 9 },
+    },
+    stored!(0, 4, 4),
+    stored!(0, 0, 3),
+    stored!(0, 4, 2),
+];
+
+/// How many of the newest events have not happened yet, the cell's frame, offset and size, what a
+/// load of it gives, and why.
+type LoadCase = (usize, u32, u32, u32, Result<Value, RunFault>, &'static str);
+
+macro_rules! load {
+    ($skipped:literal [$frame:literal $offset:literal $size:literal] gives $bits:literal, $why:literal) => {
+        ($skipped, $frame, $offset, $size, Ok(Value::Int { size: $size, bits: $bits }), $why)
     };
-    let events = [
-        stored(1, 0, 6),
-        Event::Enter(7),
-        Event::Leave(8),
-        Event::Enter(8),
-        Event::Leave(7),
-        stored(1, 0, 5),
-        Event::Enter(7),
-        narrow,
-        stored(0, 4, 4),
-        stored(0, 0, 3),
-        stored(0, 4, 2),
-    ];
-    let at = |frame, offset| Value::Ptr { frame, offset };
-    let cases = [
-        (0, word(0), 32, Err(RunFault::Kind), "a word is no address"),
-        (
-            0,
-            at(3, 0),
-            32,
-            Err(RunFault::Dead),
-            "there is no such frame",
-        ),
-        (
-            0,
-            at(2, 0),
-            32,
-            Err(RunFault::Dead),
-            "the function was left",
-        ),
-        (
-            0,
-            at(2, 8),
-            32,
-            Err(RunFault::Dead),
-            "dead comes before bounds",
-        ),
-        (
-            3,
-            at(2, 0),
-            32,
-            Err(RunFault::Uninit),
-            "the function was entered, and nothing stored",
-        ),
-        (
-            4,
-            at(1, 0),
-            32,
-            Err(RunFault::Dead),
-            "the newest event of the function is that it was left",
-        ),
-        (5, at(1, 0), 32, Ok(word(5)), "the newest store of the cell"),
-        (
-            0,
-            at(1, 0),
-            32,
-            Ok(word(6)),
-            "a store after the function was entered again",
-        ),
-        (
-            1,
-            at(1, 0),
-            32,
-            Err(RunFault::Uninit),
-            "what was stored before the function was entered again is gone",
-        ),
-        (0, at(0, 4), 32, Ok(word(4)), "the newest of two stores"),
-        (
-            9,
-            at(0, 4),
-            32,
-            Ok(word(2)),
-            "the older of them, before the newer",
-        ),
-        (
-            0,
-            at(0, 0),
-            32,
-            Err(RunFault::Mixed),
-            "a newer store shares a byte",
-        ),
-        (8, at(0, 0), 32, Ok(word(3)), "before that store"),
-        (
-            0,
-            at(0, 2),
-            8,
-            Ok(Value::Int { size: 8, bits: 9 }),
-            "the narrow cell",
-        ),
-        (8, at(0, 0), 64, Err(RunFault::Mixed), "a wider cell"),
-        (8, at(0, 0), 16, Err(RunFault::Mixed), "a narrower cell"),
-        (0, at(0, 5), 32, Err(RunFault::Bounds), "one byte too far"),
-        (0, at(0, 4), 64, Err(RunFault::Bounds), "four bytes too far"),
-        (
-            0,
-            at(0, 4_294_967_295),
-            8,
-            Err(RunFault::Bounds),
-            "the greatest offset",
-        ),
-        (11, at(0, 0), 32, Err(RunFault::Uninit), "before any event"),
-    ];
-    for (skipped, place, size, expected, what) in cases {
+    ($skipped:literal [$frame:literal $offset:literal $size:literal] faults $fault:ident, $why:literal) => {
+        ($skipped, $frame, $offset, $size, Err(RunFault::$fault), $why)
+    };
+}
+
+const LOADS: [LoadCase; 19] = [
+    load!(0 [3 0 32] faults Dead, "there is no such frame"),
+    load!(0 [2 0 32] faults Dead, "the function was left"),
+    load!(0 [2 8 32] faults Dead, "dead comes before bounds"),
+    load!(3 [2 0 32] faults Uninit, "the function was entered, and nothing stored"),
+    load!(4 [1 0 32] faults Dead, "the newest event of the function is that it was left"),
+    load!(5 [1 0 32] gives 5, "the newest store of the cell"),
+    load!(0 [1 0 32] gives 6, "a store after the function was entered again"),
+    load!(1 [1 0 32] faults Uninit, "what was stored before it was entered again is gone"),
+    load!(0 [0 4 32] gives 4, "the newest of two stores"),
+    load!(9 [0 4 32] gives 2, "the older of them, before the newer"),
+    load!(0 [0 0 32] faults Mixed, "a newer store shares a byte"),
+    load!(8 [0 0 32] gives 3, "before that store"),
+    load!(0 [0 2 8] gives 9, "the narrow cell"),
+    load!(8 [0 0 64] faults Mixed, "a wider cell"),
+    load!(8 [0 0 16] faults Mixed, "a narrower cell"),
+    load!(0 [0 5 32] faults Bounds, "one byte too far"),
+    load!(0 [0 4 64] faults Bounds, "four bytes too far"),
+    load!(0 [0 4294967295 8] faults Bounds, "the greatest offset"),
+    load!(11 [0 0 32] faults Uninit, "before any event"),
+];
+
+#[test]
+fn a_load_answers_by_the_events(rt: HostRuntime) -> Result<(), Fail> {
+    let (frames, events, cases) = (FRAMES, EVENTS, LOADS);
+    for (skipped, frame, offset, size, expected, why) in cases {
         assert!(rt; skipped <= 11);
-        assert_eq!(rt;
-            load_after(&frames, &events[skipped..], place, size),
-            expected,
-            "{what}"
+        let answer = load_after(
+            &frames,
+            &events[skipped..],
+            Value::Ptr { frame, offset },
+            size,
         );
+        assert_eq!(rt; answer, expected, "{why}");
     }
+    assert_eq!(rt;
+        load_after(&frames, &events, FOUR, 32),
+        Err(RunFault::Kind),
+        "a word is no address"
+    );
     Ok(())
 }
 

@@ -52,7 +52,7 @@ IsFirstTerm (Address frame offset) = ⊥
 IsFirstTerm (Loads size at) = (size ≡ 32) × IsCell at
 IsFirstTerm (Applies op sizes operands) = (op ≡ Add) × (sizes ≡ 32 ∷ []) × IsLoadAndNumber operands
 
--- each target of a switch is a number of 32 bits
+-- this holds of each target of a switch
 abbrev pub EachTarget : (Num × List ℕ → Type 0) → List (Num × List ℕ) → Type 0
 EachTarget Holds [] = Unit {0}
 EachTarget Holds (target ∷ targets) = Holds target × EachTarget Holds targets
@@ -119,11 +119,12 @@ NamesFrames frames (Does (Stores at value)) = IsDeclared frames at × IsDeclared
 NamesFrames frames (Does (Switches value targets others)) = IsDeclared frames value
 NamesFrames frames item = Unit {0}
 
--- no two targets have one number
+-- one of the targets has this number
 abbrev pub HasNumber : List (Num × List ℕ) → ℕ → Type 0
 HasNumber [] n = ⊥
 HasNumber (target ∷ targets) n = (n ≡ target.0.bits) ⊎ HasNumber targets n
 
+-- no two targets have one number
 abbrev pub TargetsDiffer : List (Num × List ℕ) → Type 0
 TargetsDiffer [] = Unit {0}
 TargetsDiffer (target ∷ targets) = (HasNumber targets target.0.bits → ⊥) × TargetsDiffer targets

@@ -2,7 +2,7 @@
 --   Holds nodes trace fact        the fact holds of a run, where the nodes have these numbers
 --   HasAlarm nodes trace fault facts   where the run faults, the facts have an alarm for the fault at its last node
 --   Findings                      what a report says: its facts, and the bound on the cost
---   IsSound items findings        every run of the items ends, each fact holds of it, its fault has an alarm, and it costs no more than the bound
+--   IsSound items findings        a run of the items ends; each fact holds of every run that ends, its fault has an alarm, and it costs no more than the bound
 --   IsReportOf items findings     the report of the one run: the nodes without a place, the exact totals of the others, its fault, and its cost
 --   IsReportWithin items turns findings   the same, and the run has no more nodes than the turns
 use Rattle.std.specs.Prelude.{◌≡◌, ◌≤◌, ◌==◌, ℕ, suc, List, [], ◌∷◌, ◌++◌, ◌⊎◌, length, if◌then◌else◌, Option, None, Some, IfSome, slice_get}
@@ -44,7 +44,7 @@ pub record Findings : Type 0 where
 abbrev pub findings_of : Report → Findings
 findings_of report = record { facts = report.facts.items; bound = report.count_bound }
 
--- every run of the items ends, each fact holds of it, its fault has an alarm, and it costs no more than the bound
+-- a run of the items ends; each fact holds of every run that ends, its fault has an alarm, and it costs no more than the bound
 pub record IsSound (items : List Entry) (findings : Findings) : Type 0 where
   pub ends : (trace : List Node) × (fault : Option RunFault) × Runs (blocks_of items) entry [] trace fault
   pub facts : (nodes trace : List Node) (fault : Option RunFault) → IsNumbering (blocks_of items) nodes → Runs (blocks_of items) entry [] trace fault → AllHold nodes trace findings.facts

@@ -1,17 +1,17 @@
 -- Where the blocks of a first program lead, read off their last items.
-use Rattle.std.proofs.Common.{◌≡◌, ◌<◌, ◌≤◌, ◌+◌, ◌-◌, ◌↔◌, ℕ, zero, suc, Bool, true, false, List, [], ◌∷◌, ◌++◌, ◌⊎◌, inl, inr, Option, None, Some, IfSome, IfNone, slice_get, get_or, map, option_map, drop, drop-cons, Vec, Global, length, length-append, refl, ap, sym, ◌∙◌, subst, arith}
+use Rattle.std.proofs.Common.{◌≡◌, ◌<◌, ◌≤◌, ◌+◌, ◌-◌, ◌↔◌, ℕ, zero, suc, true, false, List, [], ◌∷◌, ◌++◌, ◌⊎◌, inl, inr, Option, None, Some, IfSome, slice_get, get_or, map, option_map, drop, drop-cons, Vec, Global, length, length-append, refl, ap, sym, ◌∙◌, subst, arith}
 use Rattle.std.proofs.lemmas.List.{same_from_push, length-map, map-append}
 use Rattle.std.proofs.lemmas.Option.{slice_get-get_or, slice_get_within, slice_get-map}
 use Rattle.alf_text.specs.declared.program.Num.{Num}
 use Rattle.alf_text.specs.declared.program.Item.{Item}
 use Rattle.alf_text.specs.Tree.{Term, Nothing, Stores, Jumps, Switches, Calls, Returns, Entry, Labels, Does, item_of}
-use Rattle.alf_text.specs.First.{Among, Each, IsFirstItem, IsLed, EndsWell, main_alone, IsFirst}
+use Rattle.alf_text.specs.First.{Among, EndsWell, main_alone, IsFirst}
 use Rattle.sweet_cli.specs.Blocks.{ends_block, blocks_of}
 use Rattle.sweet_cli.specs.Nodes.{Node, entry, at_block, node_at, rank_of, EndsWith, StandsIn, IsLabelOf, Leads, enters, returns, jumps, switches, falls}
 use Rattle.sweet_cli.specs.declared.blocks.Block.{Block}
 use Rattle.sweet_cli.specs.Cut.{block_meant}
 use Rattle.sweet_cli.specs.Edges.{IsIn, LabelsAreOne, FallsWithin, IsRankOf, IsTarget, IsRow, IsTable, rows_of}
-use Rattle.sweet_cli.proofs.Cutting.{blocks_some, some_is, flat, flat_blocks, flat_end}
+use Rattle.sweet_cli.proofs.Cutting.{blocks_some, some_is, flat_blocks, flat_end}
 use Rattle.sweet_cli.proofs.Standing.{fit}
 use Rattle.sweet_cli.proofs.Ranks.{in_front, in_last, in_push}
 

@@ -3,7 +3,6 @@ use Rattle.std.proofs.Common.{◌≡◌, ℕ, zero, suc, List, [], ◌∷◌, �
 use Rattle.alf_text.specs.Tree.{Entry, Labels, Does, Whole}
 use Rattle.alf_text.specs.First.{Among, Each, LabelsDiffer, IsFirstItem, IsLed, EndsWell, main_alone, IsFirst}
 use Rattle.sweet_cli.specs.Blocks.{blocks_of}
-use Rattle.sweet_cli.specs.Nodes.{StandsIn}
 use Rattle.sweet_cli.specs.Edges.{LabelsAreOne}
 use Rattle.sweet_cli.proofs.Cutting.{some_is, flat, flat_blocks, among_right, among_flat}
 

@@ -9,15 +9,19 @@ const UNBOUNDED: &str = "unbounded 0 \"main\":entry\n";
 const BOTH: &str = "facts 1\ntotal 0 1 1\ntotal 1 1 1\ntotal 2 1 1\ncount-bound 2\nend\n";
 
 // The report of a run that faults in its first block, before the one other.
-const FAULTS: &str = "facts 1\ndead 2\ntotal 0 1 1\ntotal 1 1 1\nalarm 1 uninit\ncount-bound 1\nend\n";
+const FAULTS: &str =
+    "facts 1\ndead 2\ntotal 0 1 1\ntotal 1 1 1\nalarm 1 uninit\ncount-bound 1\nend\n";
 
 // The reports of a run through the first block and one of the two or three that it leads to.
 const FIRST_OF_TWO: &str =
     "facts 1\ndead 3\ntotal 0 1 1\ntotal 1 1 1\ntotal 2 1 1\ncount-bound 2\nend\n";
+
 const SECOND_OF_TWO: &str =
     "facts 1\ndead 2\ntotal 0 1 1\ntotal 1 1 1\ntotal 3 1 1\ncount-bound 2\nend\n";
+
 const SECOND_OF_THREE: &str =
     "facts 1\ndead 2\ndead 4\ntotal 0 1 1\ntotal 1 1 1\ntotal 3 1 1\ncount-bound 2\nend\n";
+
 const THIRD_OF_THREE: &str =
     "facts 1\ndead 2\ndead 3\ntotal 0 1 1\ntotal 1 1 1\ntotal 4 1 1\ncount-bound 2\nend\n";
 
@@ -30,11 +34,21 @@ const COUNTS_FOR_LONG: &str = "i=0 @H ?i:249999>E:B @B i=i+1 ^C @C null ^D @D ^H
 fn a_program_is_answered_by_its_run(rt: HostRuntime) -> Result<(), Fail> {
     // The frames, the items, the turns and the answer.
     let cases = [
-        ("i", COUNTS_TO_TEN, "24", Status::Done,
-            "facts 1\ntotal 0 1 1\ntotal 1 1 1\ntotal 2 11 11\ntotal 3 10 10\ntotal 4 1 1\ncount-bound 23\nend\n"),
+        (
+            "i",
+            COUNTS_TO_TEN,
+            "24",
+            Status::Done,
+            "facts 1\ntotal 0 1 1\ntotal 1 1 1\ntotal 2 11 11\ntotal 3 10 10\ntotal 4 1 1\ncount-bound 23\nend\n",
+        ),
         ("i", COUNTS_TO_TEN, "23", Status::Unbounded, UNBOUNDED),
-        ("i", COUNTS_FOR_LONG, "1000000", Status::Done,
-            "facts 1\ntotal 0 1 1\ntotal 1 1 1\ntotal 2 250000 250000\ntotal 3 249999 249999\ntotal 4 249999 249999\ntotal 5 249999 249999\ntotal 6 1 1\ncount-bound 999999\nend\n"),
+        (
+            "i",
+            COUNTS_FOR_LONG,
+            "1000000",
+            Status::Done,
+            "facts 1\ntotal 0 1 1\ntotal 1 1 1\ntotal 2 250000 250000\ntotal 3 249999 249999\ntotal 4 249999 249999\ntotal 5 249999 249999\ntotal 6 1 1\ncount-bound 999999\nend\n",
+        ),
         ("i", COUNTS_FOR_LONG, "999999", Status::Unbounded, UNBOUNDED),
 
         // A fault: in a switch, in a store, in a sum, and behind a loop.
@@ -42,36 +56,128 @@ fn a_program_is_answered_by_its_run(rt: HostRuntime) -> Result<(), Fail> {
         ("i", "?i:E @E return", "1", Status::Unbounded, UNBOUNDED),
         ("x y", "y=1 ?x:E @E return", "2", Status::Done, FAULTS),
         ("x y", "x=y ^E @E return", "2", Status::Done, FAULTS),
-        ("x", "x=x+1 return", "2", Status::Done,
-            "facts 1\ntotal 0 1 1\ntotal 1 1 1\nalarm 1 uninit\ncount-bound 1\nend\n"),
-        ("i j k", "i=0 @H ?i:2>E:B @B i=i+1 ^H @E j=k return", "9", Status::Done,
-            "facts 1\ntotal 0 1 1\ntotal 1 1 1\ntotal 2 3 3\ntotal 3 2 2\ntotal 4 1 1\nalarm 4 uninit\ncount-bound 7\nend\n"),
+        (
+            "x",
+            "x=x+1 return",
+            "2",
+            Status::Done,
+            "facts 1\ntotal 0 1 1\ntotal 1 1 1\nalarm 1 uninit\ncount-bound 1\nend\n",
+        ),
+        (
+            "i j k",
+            "i=0 @H ?i:2>E:B @B i=i+1 ^H @E j=k return",
+            "9",
+            Status::Done,
+            "facts 1\ntotal 0 1 1\ntotal 1 1 1\ntotal 2 3 3\ntotal 3 2 2\ntotal 4 1 1\nalarm 4 uninit\ncount-bound 7\nend\n",
+        ),
 
         // A switch takes the target of its value, else the default.
-        ("x", "x=2 ?x:1>A:2>B:C @A return @B return @C return", "3", Status::Done, SECOND_OF_THREE),
-        ("x", "x=2 ?x:2>B:1>A:C @A return @B return @C return", "3", Status::Done, SECOND_OF_THREE),
-        ("x", "x=3 ?x:1>A:2>B:C @A return @B return @C return", "3", Status::Done, THIRD_OF_THREE),
+        (
+            "x",
+            "x=2 ?x:1>A:2>B:C @A return @B return @C return",
+            "3",
+            Status::Done,
+            SECOND_OF_THREE,
+        ),
+        (
+            "x",
+            "x=2 ?x:2>B:1>A:C @A return @B return @C return",
+            "3",
+            Status::Done,
+            SECOND_OF_THREE,
+        ),
+        (
+            "x",
+            "x=3 ?x:1>A:2>B:C @A return @B return @C return",
+            "3",
+            Status::Done,
+            THIRD_OF_THREE,
+        ),
         ("x", "x=0 ?x:A @A return", "3", Status::Done, BOTH),
         ("x", "x=1 ?x:1>A:2>A:A @A return", "3", Status::Done, BOTH),
-        ("x", "x=0 ?x:0>A:B @A ^C @B ^C @C return", "4", Status::Done,
-            "facts 1\ndead 3\ntotal 0 1 1\ntotal 1 1 1\ntotal 2 1 1\ntotal 4 1 1\ncount-bound 3\nend\n"),
-        ("x", "x=1 ?x:0>A:B @A ^C @B ^C @C return", "4", Status::Done,
-            "facts 1\ndead 2\ntotal 0 1 1\ntotal 1 1 1\ntotal 3 1 1\ntotal 4 1 1\ncount-bound 3\nend\n"),
+        (
+            "x",
+            "x=0 ?x:0>A:B @A ^C @B ^C @C return",
+            "4",
+            Status::Done,
+            "facts 1\ndead 3\ntotal 0 1 1\ntotal 1 1 1\ntotal 2 1 1\ntotal 4 1 1\ncount-bound 3\nend\n",
+        ),
+        (
+            "x",
+            "x=1 ?x:0>A:B @A ^C @B ^C @C return",
+            "4",
+            Status::Done,
+            "facts 1\ndead 2\ntotal 0 1 1\ntotal 1 1 1\ntotal 3 1 1\ntotal 4 1 1\ncount-bound 3\nend\n",
+        ),
 
         // The newest store to the frame counts, and no other frame's.
-        ("x", "x=1 x=2 ?x:1>A:2>B:C @A return @B return @C return", "3", Status::Done, SECOND_OF_THREE),
-        ("x y", "x=1 y=2 ?x:1>A:B @A return @B return", "3", Status::Done, FIRST_OF_TWO),
-        ("y x", "x=1 y=2 ?x:1>A:B @A return @B return", "3", Status::Done, FIRST_OF_TWO),
-        ("x y", "y=2 x=y y=3 ?x:2>A:B @A return @B return", "3", Status::Done, FIRST_OF_TWO),
+        (
+            "x",
+            "x=1 x=2 ?x:1>A:2>B:C @A return @B return @C return",
+            "3",
+            Status::Done,
+            SECOND_OF_THREE,
+        ),
+        (
+            "x y",
+            "x=1 y=2 ?x:1>A:B @A return @B return",
+            "3",
+            Status::Done,
+            FIRST_OF_TWO,
+        ),
+        (
+            "y x",
+            "x=1 y=2 ?x:1>A:B @A return @B return",
+            "3",
+            Status::Done,
+            FIRST_OF_TWO,
+        ),
+        (
+            "x y",
+            "y=2 x=y y=3 ?x:2>A:B @A return @B return",
+            "3",
+            Status::Done,
+            FIRST_OF_TWO,
+        ),
 
         // Sums are modulo 2 to the 32.
-        ("x", "x=4294967295 x=x+2 ?x:1>A:B @A return @B return", "3", Status::Done, FIRST_OF_TWO),
-        ("x", "x=1 x=x+4294967295 ?x:0>A:B @A return @B return", "3", Status::Done, FIRST_OF_TWO),
-        ("x", "x=4294967294 x=x+1 ?x:4294967295>A:B @A return @B return", "3", Status::Done, FIRST_OF_TWO),
-        ("x", "x=4294967294 x=x+1 ?x:0>A:B @A return @B return", "3", Status::Done, SECOND_OF_TWO),
+        (
+            "x",
+            "x=4294967295 x=x+2 ?x:1>A:B @A return @B return",
+            "3",
+            Status::Done,
+            FIRST_OF_TWO,
+        ),
+        (
+            "x",
+            "x=1 x=x+4294967295 ?x:0>A:B @A return @B return",
+            "3",
+            Status::Done,
+            FIRST_OF_TWO,
+        ),
+        (
+            "x",
+            "x=4294967294 x=x+1 ?x:4294967295>A:B @A return @B return",
+            "3",
+            Status::Done,
+            FIRST_OF_TWO,
+        ),
+        (
+            "x",
+            "x=4294967294 x=x+1 ?x:0>A:B @A return @B return",
+            "3",
+            Status::Done,
+            SECOND_OF_TWO,
+        ),
 
         // A frame and a label may have one name, and numbers 20 digits.
-        ("i", "i=00000000000000000001 @i return", "3", Status::Done, BOTH),
+        (
+            "i",
+            "i=00000000000000000001 @i return",
+            "3",
+            Status::Done,
+            BOTH,
+        ),
         ("main", "main=1 return", "2", Status::Done, REPORT),
     ];
     let alloc = rt.alloc();
@@ -112,7 +218,11 @@ fn names_and_numbers_that_do_not_fit_make_no_program(rt: HostRuntime) -> Result<
         let program = program_of(alloc, frames, items)?;
         let (status, text) = answer_of(alloc, "analyse a.alf", program.as_bytes())?;
         assert_eq!(rt; status, Status::Source, "{frames} {items}");
-        assert_eq!(rt; text.as_slice(), b"fault 10 syntax 1 1\n".as_slice(), "{frames} {items}");
+        assert_eq!(rt;
+            text.as_slice(),
+            b"fault 10 syntax 1 1\n".as_slice(),
+            "{frames} {items}"
+        );
     }
     Ok(())
 }
@@ -130,7 +240,10 @@ fn other_sizes_and_forms_make_no_program(rt: HostRuntime) -> Result<(), Fail> {
         ("{ add 32 ", "{ sub 32 "),
         ("{ dec_unsigned 1 0 }", "{ dec_unsigned 1 1 }"),
         ("{ dec_unsigned 32 10 }", "{ dec_unsigned 16 10 }"),
-        ("\"i\" } { dec_unsigned 32 0 }", "\"i\" } { dec_unsigned 32 1 }"),
+        (
+            "\"i\" } { dec_unsigned 32 0 }",
+            "\"i\" } { dec_unsigned 32 1 }",
+        ),
         ("leaving 0", "leaving 1"),
         (" with ", " "),
     ];
@@ -144,7 +257,11 @@ fn other_sizes_and_forms_make_no_program(rt: HostRuntime) -> Result<(), Fail> {
         }
         let (status, text) = answer_of(alloc, "analyse a.alf", other.as_bytes())?;
         assert_eq!(rt; status, Status::Source, "{new}");
-        assert_eq!(rt; text.as_slice(), b"fault 10 syntax 1 1\n".as_slice(), "{new}");
+        assert_eq!(rt;
+            text.as_slice(),
+            b"fault 10 syntax 1 1\n".as_slice(),
+            "{new}"
+        );
     }
     Ok(())
 }

@@ -1,8 +1,10 @@
 use std::alloc::{AllocError, Global};
 
-const HEAD: &str = "{ alf { macro_defs } { least_addr_unit 8 } little_endian { exports { frefs } { lrefs } } { imports { frefs } { lrefs } } { decls ";
+const HEAD: &str =
+    "{ alf { macro_defs } { least_addr_unit 8 } little_endian { exports { frefs } { lrefs } } { imports { frefs } { lrefs } } { decls ";
 
-const FUNC: &str = "} { inits } { funcs { func { label 32 { lref 32 \"main\" } { dec_unsigned 32 0 } } { arg_decls } { scope { decls } { inits } { stmts ";
+const FUNC: &str =
+    "} { inits } { funcs { func { label 32 { lref 32 \"main\" } { dec_unsigned 32 0 } } { arg_decls } { scope { decls } { inits } { stmts ";
 
 const TAIL: &str = "} } } } }";
 
@@ -57,7 +59,11 @@ fn push_item(text: &mut String, item: &str) -> Result<(), AllocError> {
 fn push_label(text: &mut String, name: &str) -> Result<(), AllocError> {
     push_all(
         text,
-        &["{ label 32 { lref 32 \"", name, "\" } { dec_unsigned 32 0 } } "],
+        &[
+            "{ label 32 { lref 32 \"",
+            name,
+            "\" } { dec_unsigned 32 0 } } ",
+        ],
     )
 }
 
@@ -116,6 +122,10 @@ fn push_load(text: &mut String, frame: &str) -> Result<(), AllocError> {
 fn push_address(text: &mut String, frame: &str) -> Result<(), AllocError> {
     push_all(
         text,
-        &["{ addr 32 { fref 32 \"", frame, "\" } { dec_unsigned 32 0 } } "],
+        &[
+            "{ addr 32 { fref 32 \"",
+            frame,
+            "\" } { dec_unsigned 32 0 } } ",
+        ],
     )
 }

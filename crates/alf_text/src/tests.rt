@@ -13,6 +13,8 @@ const FRAMES: &str = "{ alloc 32 \"x\" 32 } { alloc 32 \"y\" 32 } ";
 
 const X: &str = "{ addr 32 { fref 32 \"x\" } { dec_unsigned 32 0 } }";
 
+const LOAD: &str = "{ load 32 { addr 32 { fref 32 \"x\" } { dec_unsigned 32 0 } } }";
+
 const MAIN: &str = "{ label 32 { lref 32 \"main\" } { dec_unsigned 32 0 } } ";
 
 const BODY: &str = "{ arg_decls } { scope { decls } { inits } { stmts ";
@@ -164,124 +166,91 @@ fn names_have_up_to_64_bytes(rt: HostRuntime) -> Result<(), Fail> {
     Ok(())
 }
 
+// What a short word stands for.
+fn meaning(word: &str) -> &str {
+    match word {
+        "X" => X,
+        "LOAD" => LOAD,
+        "ONE" => "{ dec_unsigned 32 1 }",
+        "TWO" => "{ dec_unsigned 32 2 }",
+        "MOST" => "{ dec_unsigned 32 4294967295 }",
+        "MORE" => "{ dec_unsigned 32 4294967296 }",
+        "CARRY" => "{ dec_unsigned 1 0 }",
+        "A" => LABEL_A,
+        _ => word,
+    }
+}
+
+// The items with what their short words stand for.
+fn expanded(alloc: Global, items: &str) -> Result<String, AllocError> {
+    let mut text = String::new(alloc);
+    for word in items.split(' ') {
+        text.push_str(meaning(word))?;
+        text.push_str(" ")?;
+    }
+    Ok(text)
+}
+
+// The kinds of the items of the program with these frames, and with these items before a return.
+fn kinds_with(alloc: Global, frames: &str, items: &str) -> Result<Option<String>, AllocError> {
+    let items = expanded(alloc, items)?;
+    let text = format!(in alloc; "{HEAD}{frames}{FUNC}{MAIN}{BODY}{items}{{ return }}{TAIL}")?;
+    kinds_of(alloc, text.as_str())
+}
+
 #[test]
 fn stores_and_switches_are_read(rt: HostRuntime) -> Result<(), Fail> {
-    let alloc = rt.alloc();
-    let load = format!(in alloc; "{{ load 32 {X} }}")?;
-    let one = "{ dec_unsigned 32 1 }";
-    let carry = "{ dec_unsigned 1 0 }";
-    // The frames, the items before `{ return }`, and the kinds that are read, if it is a first text.
     let cases = [
+        ("{ store X with ONE }", "store return "),
+        ("{ store X with MOST }", "store return "),
+        ("{ store X with LOAD }", "copy return "),
+        ("{ store X with { add 32 LOAD ONE CARRY } }", "add return "),
+        ("{ switch LOAD { default A } } A", "switch label return "),
         (
-            FRAMES,
-            format!(in alloc; "{{ store {X} with {one} }}")?,
-            "store return ",
-        ),
-        (
-            FRAMES,
-            format!(in alloc; "{{ store {X} with {{ dec_unsigned 32 4294967295 }} }}")?,
-            "store return ",
-        ),
-        (
-            FRAMES,
-            format!(in alloc; "{{ store {X} with {load} }}")?,
-            "copy return ",
-        ),
-        (
-            FRAMES,
-            format!(in alloc; "{{ store {X} with {{ add 32 {load} {one} {carry} }} }}")?,
-            "add return ",
-        ),
-        (
-            FRAMES,
-            format!(in alloc; "{{ switch {load} {{ default {LABEL_A} }} }} {LABEL_A}")?,
+            "{ switch LOAD { target ONE A } { target TWO A } { default A } } A",
             "switch label return ",
         ),
-        (
-            FRAMES,
-            format!(in alloc;
-                "{{ switch {load} {{ target {one} {LABEL_A} }} {{ target {{ dec_unsigned 32 2 }} {LABEL_A} }} {{ default {LABEL_A} }} }} {LABEL_A}"
-            )?,
-            "switch label return ",
-        ),
+    ];
+    for (items, wanted) in cases {
+        let kinds = kinds_with(rt.alloc(), FRAMES, items)?;
+        match kinds {
+            Some(kinds) => assert_eq!(rt; kinds.as_str(), wanted, "{items}"),
+            None => assert!(rt; false, "{items}"),
+        }
+    }
+    Ok(())
+}
+
+#[test]
+fn other_stores_and_switches_are_refused(rt: HostRuntime) -> Result<(), Fail> {
+    let cases = [
         // No frame of this name, a frame that stands twice, and another size.
-        ("", format!(in alloc; "{{ store {X} with {one} }}")?, ""),
-        (
-            "{ alloc 32 \"x\" 32 } { alloc 32 \"x\" 32 } ",
-            format!(in alloc; "{{ null }}")?,
-            "",
-        ),
-        (
-            "{ alloc 32 \"x\" 64 } ",
-            format!(in alloc; "{{ null }}")?,
-            "",
-        ),
+        ("", "{ store X with ONE }"),
+        ("{ alloc 32 \"x\" 32 } { alloc 32 \"x\" 32 } ", "{ null }"),
+        ("{ alloc 32 \"x\" 64 } ", "{ null }"),
         // A number that does not fit, another sum, and what no store or switch takes.
+        (FRAMES, "{ store X with MORE }"),
+        (FRAMES, "{ store X with { add 32 ONE LOAD CARRY } }"),
         (
             FRAMES,
-            format!(in alloc; "{{ store {X} with {{ dec_unsigned 32 4294967296 }} }}")?,
-            "",
+            "{ store X with { add 32 LOAD ONE { dec_unsigned 1 1 } } }",
         ),
-        (
-            FRAMES,
-            format!(in alloc; "{{ store {X} with {{ add 32 {one} {load} {carry} }} }}")?,
-            "",
-        ),
-        (
-            FRAMES,
-            format!(in alloc;
-                "{{ store {X} with {{ add 32 {load} {one} {{ dec_unsigned 1 1 }} }} }}"
-            )?,
-            "",
-        ),
-        (
-            FRAMES,
-            format!(in alloc; "{{ store {X} with {{ sub 32 {load} {one} {carry} }} }}")?,
-            "",
-        ),
-        (FRAMES, format!(in alloc; "{{ store {X} with {X} }}")?, ""),
-        (
-            FRAMES,
-            format!(in alloc; "{{ store {load} with {one} }}")?,
-            "",
-        ),
-        (
-            FRAMES,
-            format!(in alloc; "{{ switch {one} {{ default {LABEL_A} }} }} {LABEL_A}")?,
-            "",
-        ),
+        (FRAMES, "{ store X with { sub 32 LOAD ONE CARRY } }"),
+        (FRAMES, "{ store X with X }"),
+        (FRAMES, "{ store LOAD with ONE }"),
+        (FRAMES, "{ switch ONE { default A } } A"),
         // Targets with one number, no default, a default before a target, and a label that is not there.
         (
             FRAMES,
-            format!(in alloc;
-                "{{ switch {load} {{ target {one} {LABEL_A} }} {{ target {{ dec_unsigned 32 01 }} {LABEL_A} }} {{ default {LABEL_A} }} }} {LABEL_A}"
-            )?,
-            "",
+            "{ switch LOAD { target ONE A } { target { dec_unsigned 32 01 } A } { default A } } A",
         ),
-        (
-            FRAMES,
-            format!(in alloc; "{{ switch {load} {{ target {one} {LABEL_A} }} }} {LABEL_A}")?,
-            "",
-        ),
-        (
-            FRAMES,
-            format!(in alloc;
-                "{{ switch {load} {{ default {LABEL_A} }} {{ target {one} {LABEL_A} }} }} {LABEL_A}"
-            )?,
-            "",
-        ),
-        (
-            FRAMES,
-            format!(in alloc; "{{ switch {load} {{ default {LABEL_A} }} }}")?,
-            "",
-        ),
+        (FRAMES, "{ switch LOAD { target ONE A } } A"),
+        (FRAMES, "{ switch LOAD { default A } { target ONE A } } A"),
+        (FRAMES, "{ switch LOAD { default A } }"),
     ];
-    for (frames, items, wanted) in &cases {
-        let text = format!(in alloc; "{HEAD}{frames}{FUNC}{MAIN}{BODY}{items} {{ return }}{TAIL}")?;
-        match kinds_of(alloc, text.as_str())? {
-            Some(kinds) => assert_eq!(rt; kinds.as_str(), *wanted, "{items}"),
-            None => assert!(rt; wanted.is_empty(), "{items}"),
-        }
+    for (frames, items) in cases {
+        let kinds = kinds_with(rt.alloc(), frames, items)?;
+        assert!(rt; kinds.is_none(), "{frames} {items}");
     }
     Ok(())
 }

@@ -12,6 +12,7 @@ use Rattle.sweet_cli.specs.ReportText.{report_text}
 use Rattle.sweet_cli.specs.Answer.{TextAnswers, not_first, left, done, Answers, usage, unread, too_long, read, PrintsSound}
 use Rattle.sweet_cli.specs.declared.status.Status.{Status}
 use Rattle.sweet_cli.specs.declared.status.Status.TheVariants.{Done, Usage, Source, Unbounded, ReadFailed}
+use Rattle.sweet_cli.proofs.Cutting.{some_is}
 use Rattle.sweet_cli.proofs.OneRun.{sound_of_exact}
 
 -- what follows from what is known of the value
@@ -25,9 +26,6 @@ put P s t x y p (e, f) = subst (λ (u : Status). P u y) (sym e) (subst (λ (z : 
 
 pub within_is : (bytes : Vec ℕ Global) → vec_len bytes ≤ 1048576 → length bytes.items ≤ 1048576
 within_is bytes h = omega (arith, bytes.ok.0)
-
-pub some_is : {A : Type 0} {a b : A} → Some a ≡ Some b → a ≡ b
-some_is h = cc
 
 -- what was found out after `Done`
 record DoneBy (words : List (List ℕ)) (told : Option Files) (text : List ℕ) : Type 0 where

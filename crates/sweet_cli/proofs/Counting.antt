@@ -1,5 +1,5 @@
 -- The facts and the cost, read off the counts.
-use Rattle.std.proofs.Common.{◌≡◌, ◌<◌, ◌+◌, ◌==◌, ℕ, suc, zero, Bool, not, cond, List, [], ◌∷◌, ◌++◌, Option, None, Some, map, length, drop, get_or, sum, refl, ap, arith}
+use Rattle.std.proofs.Common.{◌≡◌, ◌<◌, ◌+◌, ◌==◌, ℕ, suc, Bool, not, cond, List, [], ◌∷◌, ◌++◌, Option, None, Some, map, length, drop, get_or, sum, refl, ap, arith}
 use Rattle.std.proofs.lemmas.List.Sums.{sum_by-cons}
 use Rattle.alf_ops.specs.declared.history.RunFault.{RunFault}
 use Rattle.alf_ops.specs.declared.history.RunFault.TheVariants.{Uninit}
@@ -12,10 +12,7 @@ use Rattle.sweet_cli.specs.Listed.{dead_from, totals_from, alarms_from, alarm_of
 use Rattle.sweet_cli.specs.declared.fact.Fact.{Fact}
 use Rattle.sweet_cli.specs.declared.fact.Fact.TheVariants.{Dead, Total}
 use Rattle.sweet_cli.proofs.Cutting.{by_test}
-
-pub node_rank : (rank : ℕ) → rank_of (node_at rank) ≡ rank
-node_rank zero = refl
-node_rank (suc k) = refl
+use Rattle.sweet_cli.proofs.Ranks.{node_rank}
 
 -- 1 where the test passes
 abbrev one_if : Bool → ℕ

@@ -46,12 +46,6 @@ module _ (frames : List (List ℕ)) (history : History) (items : List Item) (i :
       → executed history (map item_of items) ≡ option_and_then (λ next. executed next (map item_of (drop (i + 1) items))) (puts_executed frames history (puts ++ put ∷ []))
   stored_on put same = opened ∙ put_on frames (item_of (get_or items i d)) (map item_of (drop (i + 1) items)) put same history puts
 
-  -- an item that is none
-  pub passed_on : ((history : History) → executed_one history (item_of (get_or items i d)) ≡ Some history)
-      → executed history (map item_of items) ≡ option_and_then (λ next. executed next (map item_of (drop (i + 1) items))) (puts_executed frames history puts)
-  passed_on same =
-      opened ∙ by_option (puts_executed frames history puts) (λ e. rw e refl) (λ next e. rw e (rw (same next) refl))
-
 -- behind one more code
 pub pushed : {A : Type 0} (xs : List A) (x y : A) (k : ℕ) → slice_get (xs ++ x ∷ []) k ≡ Some y → (slice_get xs k ≡ Some y) ⊎ ((k ≡ length xs) × (x ≡ y))
 pushed [] x y zero is = inr (refl, some_is is)

@@ -7,11 +7,13 @@ use Rattle.sweet_cli.specs.Blocks.{blocks_of}
 use Rattle.sweet_cli.specs.Nodes.{Node, entry, at_block, Reached, start, step, rank_of, Ascends, OneOf, IsNumbering}
 use Rattle.sweet_cli.specs.Memory.{History}
 use Rattle.sweet_cli.specs.Runs.{onwards, over, Runs, ends, goes_on, RunsPast, here, on, places_of, cost_of, last_of}
+use Rattle.sweet_cli.specs.Edges.{LabelsAreOne}
 use Rattle.sweet_cli.specs.Facts.{Findings, IsSound, IsReportOf, IsReportWithin, AllHold, IsFactOf, HasAlarm, dead_facts, total_facts, alarms_at, alarm_facts}
 use Rattle.sweet_cli.specs.declared.fact.Fact.{Fact}
 use Rattle.sweet_cli.specs.declared.fact.Fact.TheVariants.{Alarm}
 use Rattle.sweet_cli.proofs.Cutting.{by_test}
-use Rattle.sweet_cli.proofs.OneStep.{LabelsAreOne, labels_one, steps_one, edge_of}
+use Rattle.sweet_cli.proofs.Standing.{labels_one}
+use Rattle.sweet_cli.proofs.OneStep.{steps_one, edge_of}
 
 -- what holds behind a step holds behind the same step
 moved : (P : Node → History → Type 0) (a b : Node) (h g : History) → onwards a h ≡ onwards b g → P a h → P b g

@@ -13,6 +13,7 @@ use Rattle.sweet_cli.specs.Tally.{IsTally}
 use Rattle.sweet_cli.specs.Cells.{AreCells, Did}
 use Rattle.sweet_cli.specs.declared.moves.Move.{Move}
 use Rattle.sweet_cli.proofs.Cutting.{by_test}
+use Rattle.sweet_cli.proofs.Ranks.{node_rank}
 
 -- what completes the run from this node with this history completes the whole
 pub record OnTheWay (blocks : List (List Entry)) (trace : List Node) (node : Node) (history : History) : Type 0 where
@@ -58,10 +59,6 @@ pub did_as : (frames : List (List ℕ)) (blocks : List (List Entry)) (at : ℕ) 
     → AreCells frames history cells → move ≡ out → (AreCells frames history given → Did frames blocks at history after move) → Did frames blocks at history after out
 did_as frames blocks at history given cells after move out same are is did =
     subst (λ (x : Move). Did frames blocks at history after x) is (did (subst (λ (x : List (Option ℕ)). AreCells frames history x) (sym same) are))
-
-node_rank : (rank : ℕ) → rank_of (node_at rank) ≡ rank
-node_rank zero = refl
-node_rank (suc k) = refl
 
 places_push : (rank at : ℕ) (trace : List Node) → places_of (node_at rank) (trace ++ node_at at ∷ []) ≡ places_of (node_at rank) trace + cond (at == rank) 1 0
 places_push rank at trace =

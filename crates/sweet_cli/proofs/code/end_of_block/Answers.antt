@@ -1,7 +1,7 @@
 use Rattle.std.proofs.Common.{arith, sym}
 use Rattle.std.proofs.lemmas.List.{length-map}
 use Rattle.sweet_cli.specs.Cut.{block_meant}
-use Rattle.sweet_cli.proofs.Ending.{ends_with}
+use Rattle.sweet_cli.proofs.Standing.{ends_with}
 use Rattle.sweet_cli.proofs.code.end_of_block.Goals as goal
 
 pub end_behind-requires : goal.end_behind-requires

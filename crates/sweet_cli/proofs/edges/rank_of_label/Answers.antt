@@ -1,5 +1,5 @@
 use Rattle.std.proofs.Common.{rules, arith, below_more}
-use Rattle.sweet_cli.proofs.Leading.{stands_not, stands_low}
+use Rattle.sweet_cli.proofs.Standing.{stands_not, stands_low}
 use Rattle.sweet_cli.proofs.edges.rank_of_label.Goals as goal
 
 pub loop-k-preserved : goal.loop-k-preserved

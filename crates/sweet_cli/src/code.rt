@@ -2,7 +2,7 @@ ghost use Rattle.std.specs.Prelude.{◌≡◌, ◌<◌, ℕ, suc, false, map, le
 ghost use Rattle.alf_text.specs.Tree.{item_of, names_of};
 ghost use Rattle.alf_text.specs.First.{IsFirstItem, NamesFrames, Each, EachTarget, IsWord};
 ghost use Rattle.sweet_cli.specs.Blocks.{ends_block};
-ghost use Rattle.sweet_cli.specs.Nodes.{EndsWith};
+ghost use Rattle.sweet_cli.specs.Nodes.{EndsWith, StandsIn};
 ghost use Rattle.sweet_cli.specs.Cut.{block_meant};
 ghost use Rattle.sweet_cli.specs.Memory.{History, executed};
 ghost use Rattle.sweet_cli.specs.Resolved.{puts_executed, PutsWithin, Stands, IsLedIn, CanResolve, AreTargets, IsEnd, IsCodeOf, AreCodes};
@@ -112,11 +112,11 @@ fn end_behind(
         Item::Label(_) => Ok(End::To(k + 1)),
         Item::Stmt(Stmt::Null) => Ok(End::To(k + 1)),
         Item::Stmt(Stmt::Store(_, _)) => Ok(End::To(k + 1)),
-        Item::Stmt(Stmt::Jump(label)) => Ok(End::To(block_of_label(blocks, label))),
+        Item::Stmt(Stmt::Jump(label)) => Ok(End::To(block_to(blocks, label))),
         Item::Stmt(Stmt::Switch(value, targets, others)) => {
             let cell = cell_of_load(decls, value);
             let targets = resolved(alloc, blocks, targets)?;
-            Ok(End::Choose(cell, targets, block_of_label(blocks, others)))
+            Ok(End::Choose(cell, targets, block_to(blocks, others)))
         }
         Item::Stmt(Stmt::Call(_, _, _)) => unreachable!(),
         Item::Stmt(Stmt::Return(_)) => Ok(End::Stop),
@@ -135,8 +135,19 @@ fn resolved(
 {
     let mut found = Vec::new(alloc);
     for (number, label) in targets {
-        let to = block_of_label(blocks, label);
+        let to = block_to(blocks, label);
         found.push((number.bits as u32, to))?;
     }
     Ok(found)
+}
+
+// The block in which the label stands.
+fn block_to(blocks: &[Block<'_>], label: &Name) -> usize
+    requires { Stands (map block_meant blocks.now) label.now }
+    ensures { StandsIn (map block_meant blocks.now) result label.now }
+{
+    match block_of_label(blocks, label) {
+        None => unreachable!(),
+        Some(block) => block,
+    }
 }

@@ -1,5 +1,5 @@
 -- Blocks, cut from the front on, and what they have in all.
-use Rattle.std.proofs.Common.{◌≡◌, ◌≤◌, ◌<◌, ℕ, zero, suc, Bool, true, false, List, [], ◌∷◌, ◌++◌, ◌⊎◌, inl, inr, None, Some, slice_get, map, length, take, drop, refl, ap, sym, ◌∙◌, subst, append_assoc, append-nil, arith}
+use Rattle.std.proofs.Common.{◌≡◌, ◌≤◌, ◌<◌, ◌+◌, ℕ, zero, suc, Bool, true, false, List, [], ◌∷◌, ◌++◌, ◌⊎◌, inl, inr, None, Some, slice_get, map, length, take, drop, drop-cons, get_or, add-one, refl, ap, sym, ◌∙◌, subst, append_assoc, append-nil, arith}
 use Rattle.std.proofs.lemmas.List.{take-map, drop-map, length-map}
 use Rattle.alf_text.specs.declared.program.Item.{Item}
 use Rattle.alf_text.specs.Tree.{Entry, item_of}
@@ -13,6 +13,10 @@ by_test false if_true if_false = if_false refl
 
 pub some_is : {A : Type 0} {a b : A} → Some a ≡ Some b → a ≡ b
 some_is h = cc
+
+-- the first of those that are left
+pub front : {A : Type 0} (xs : List A) (n : ℕ) (d : A) → n < length xs → drop n xs ≡ get_or xs n d ∷ drop (n + 1) xs
+front xs n d low = rw add-one (drop-cons xs n d low)
 
 -- the first block has the items up to its length
 pub first_cut : (items : List Entry) → 0 < length items → blocks_of items ≡ take (first_length items) items ∷ blocks_of (drop (first_length items) items)

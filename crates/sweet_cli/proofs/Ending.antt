@@ -1,22 +1,18 @@
 -- How a block ends, read off its last item.
-use Rattle.std.proofs.Common.{◌≡◌, ◌<◌, ◌+◌, ◌-◌, ℕ, suc, false, List, Some, map, length, ap, add-one, arith}
+use Rattle.std.proofs.Common.{◌≡◌, ◌<◌, ◌+◌, ◌-◌, ℕ, suc, false, List, map, length, ap, add-one, arith}
 use Rattle.std.proofs.lemmas.List.{length-map}
 use Rattle.std.proofs.lemmas.Option.{slice_get_within}
 use Rattle.alf_text.specs.declared.program.Alloc.{Alloc}
 use Rattle.alf_text.specs.declared.program.Num.{Num}
 use Rattle.alf_text.specs.Tree.{Term, Loads, Address, Jumps, Switches, Entry, Does, names_of}
 use Rattle.sweet_cli.specs.Blocks.{ends_block}
-use Rattle.sweet_cli.specs.Nodes.{at_block, EndsWith, StandsIn}
+use Rattle.sweet_cli.specs.Nodes.{EndsWith, StandsIn}
 use Rattle.sweet_cli.specs.declared.blocks.Block.{Block}
 use Rattle.sweet_cli.specs.Cut.{block_meant}
-use Rattle.sweet_cli.specs.Memory.{History, value_of}
-use Rattle.sweet_cli.specs.Runs.{Executes, Steps, jumps, falls, onwards}
-use Rattle.sweet_cli.specs.Resolved.{name_at, AreTargets, IsChoice}
+use Rattle.sweet_cli.specs.Memory.{value_of}
+use Rattle.sweet_cli.specs.Runs.{jumps, falls}
+use Rattle.sweet_cli.specs.Resolved.{name_at, AreTargets, IsChoice, LeadsOn}
 use Rattle.sweet_cli.proofs.Resolving.{chosen_stands}
-
--- where control goes behind a block
-abbrev pub LeadsOn : List (List Entry) → ℕ → ℕ → Type 0
-LeadsOn blocks k to = (to < length blocks) × ((before behind : History) → Executes blocks k before (Some behind) → Steps blocks (at_block k) before (onwards (at_block to) behind))
 
 pub falls_on : (blocks : List Block) (k : ℕ) (last : Entry) → EndsWith (map block_meant blocks) k last → (ends_block last ≡ false → suc k < length blocks) → ends_block last ≡ false
     → LeadsOn (map block_meant blocks) k (k + 1)

@@ -1,5 +1,5 @@
 -- Where the blocks of a first program lead, read off their last items.
-use Rattle.std.proofs.Common.{◌≡◌, ◌<◌, ◌≤◌, ◌+◌, ◌-◌, ◌↔◌, ℕ, zero, suc, true, false, List, [], ◌∷◌, ◌++◌, ◌⊎◌, inl, inr, Option, None, Some, IfSome, slice_get, get_or, map, drop, drop-cons, Vec, Global, length, length-append, refl, ap, sym, ◌∙◌, subst, arith}
+use Rattle.std.proofs.Common.{◌≡◌, ◌<◌, ◌≤◌, ◌+◌, ◌-◌, ◌↔◌, ℕ, zero, suc, true, false, List, [], ◌∷◌, ◌++◌, ◌⊎◌, inl, inr, Option, None, Some, IfSome, slice_get, get_or, map, drop, Vec, Global, length, length-append, refl, ap, sym, ◌∙◌, subst, arith}
 use Rattle.std.proofs.lemmas.List.{length-map, map-append}
 use Rattle.std.proofs.lemmas.Option.{slice_get_within}
 use Rattle.alf_text.specs.declared.program.Num.{Num}
@@ -9,6 +9,7 @@ use Rattle.sweet_cli.specs.Nodes.{Node, entry, at_block, node_at, rank_of, EndsW
 use Rattle.sweet_cli.specs.declared.blocks.Block.{Block}
 use Rattle.sweet_cli.specs.Cut.{block_meant}
 use Rattle.sweet_cli.specs.Edges.{IsIn, LabelsAreOne, FallsWithin, IsRankOf, IsTarget, IsRow, IsTable, rows_of}
+use Rattle.sweet_cli.proofs.Cutting.{front}
 use Rattle.sweet_cli.proofs.Standing.{last_one, last_some}
 use Rattle.sweet_cli.proofs.Ranks.{in_front, in_last, in_push}
 
@@ -159,9 +160,7 @@ module _ (blocks : List (List Entry)) where
       → IsIn more to ↔ (IsIn ranks to ⊎ IsRankOf blocks target.1 to)
       → IsTarget blocks targets others to ↔ (IsIn more to ⊎ IsTarget blocks (drop (i + 1) targets) others to)
   one_target targets others i target ranks more to low at before added =
-      let next : suc i ≡ i + 1 = omega arith in
-      let is : drop i targets ≡ target ∷ drop (i + 1) targets =
-      drop-cons targets i target low ∙ ap (λ (x : Num × List ℕ). x ∷ drop (suc i) targets) (sym at) ∙ ap (λ (n : ℕ). target ∷ drop n targets) next in
+      let is : drop i targets ≡ target ∷ drop (i + 1) targets = front targets i target low ∙ ap (λ (x : Num × List ℕ). x ∷ drop (i + 1) targets) (sym at) in
       let split : IsTarget blocks targets others to ↔ (IsIn ranks to ⊎ (IsRankOf blocks target.1 to ⊎ IsTarget blocks (drop (i + 1) targets) others to)) =
       subst (λ (x : List (Num × List ℕ)). IsTarget blocks targets others to ↔ (IsIn ranks to ⊎ IsTarget blocks x others to)) is before in (
         λ h. elim (split.0 h) [ inl a ↦ inl (added.1 (inl a)) | inr (inl b) ↦ inl (added.1 (inr b)) | inr (inr d) ↦ inr d ],

@@ -2,15 +2,10 @@
 use Rattle.std.proofs.Common.{◌≡◌, ◌<◌, ◌+◌, ℕ, zero, suc, Bool, true, false, List, [], ◌∷◌, inl, inr, Some, Vec, Global, length, map, refl, ap, sym, subst, arith}
 use Rattle.std.proofs.lemmas.List.{length-map}
 use Rattle.alf_text.specs.Tree.{Entry}
-use Rattle.sweet_cli.specs.Nodes.{Node, entry, at_block, node_at, rank_of, Leads, Reached, start, step, Ascends, OneOf, IsNumbering}
+use Rattle.sweet_cli.specs.Nodes.{Node, node_at, rank_of, Leads, Reached, start, step, Ascends, OneOf, IsNumbering}
 use Rattle.sweet_cli.specs.Edges.{IsTable, rows_of}
 use Rattle.sweet_cli.specs.Search.{HasEdge, Reaches, begins, leads_on, IsClosed, IsMarked, IsMarking, marked_from}
-use Rattle.sweet_cli.proofs.Ranks.{node_rank}
-
--- a node is that of its rank
-node_back : (node : Node) → node ≡ node_at (rank_of node)
-node_back entry = refl
-node_back (at_block k) = refl
+use Rattle.sweet_cli.proofs.Ranks.{node_rank, node_back}
 
 -- ---- walks along edges, and walks over the table
 

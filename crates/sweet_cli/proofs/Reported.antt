@@ -52,8 +52,8 @@ reported frames items turns ranks counts at trace fault findings first numbered 
     fault = fault;
     numbered = numbered;
     run = run;
-    facts = facts ∙ facts_are (blocks_of items) trace fault counts at ranks tally (kept_low frames items ranks counts first numbered tally.long);
-    bound = bound ∙ cost_is (blocks_of items) trace fault counts at tally;
+    facts = facts ∙ facts_are (blocks_of items) trace fault counts at ranks tally (kept_low frames items ranks counts first numbered tally.count.long);
+    bound = bound ∙ cost_is (blocks_of items) trace counts tally.count;
   };
   within = within;
 }

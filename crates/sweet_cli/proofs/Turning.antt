@@ -9,7 +9,7 @@ use Rattle.alf_text.specs.Tree.{Entry}
 use Rattle.sweet_cli.specs.Nodes.{Node, entry, at_block, node_at, rank_of}
 use Rattle.sweet_cli.specs.Memory.{History}
 use Rattle.sweet_cli.specs.Runs.{Steps, onwards, over, Runs, ends, goes_on, RunsPast, here, on, places_of, last_of}
-use Rattle.sweet_cli.specs.Tally.{IsTally}
+use Rattle.sweet_cli.specs.Tally.{IsCount, IsTally}
 use Rattle.sweet_cli.specs.Cells.{AreCells, Did}
 use Rattle.sweet_cli.specs.declared.moves.Move.{Move}
 use Rattle.sweet_cli.proofs.Cutting.{by_test}
@@ -19,12 +19,6 @@ use Rattle.sweet_cli.proofs.Ranks.{node_rank}
 pub record OnTheWay (blocks : List (List Entry)) (trace : List Node) (node : Node) (history : History) : Type 0 where
   pub forth : (rest : List Node) (fault : Option RunFault) → Runs blocks node history rest fault → Runs blocks entry [] (trace ++ rest) fault
   pub past : (n : ℕ) → RunsPast blocks node history n → RunsPast blocks entry [] (length trace + n)
-
--- the counts of a run so far
-pub record IsCount (blocks : List (List Entry)) (trace : List Node) (counts : List ℕ) : Type 0 where
-  pub long : length counts ≡ suc (length blocks)
-  pub each : (rank : ℕ) → rank < length counts → get_or counts rank 0 ≡ places_of (node_at rank) trace
-  pub all : sum counts ≡ length trace
 
 -- a run so far, behind this turn
 pub record SoFar (frames : List (List ℕ)) (blocks : List (List Entry)) (counts : List ℕ) (cells : List (Option ℕ)) (at turn : ℕ) : Type 0 where
@@ -100,14 +94,6 @@ last_push [] node = refl
 last_push (other ∷ []) node = refl
 last_push (other ∷ next ∷ trace) node = last_push (next ∷ trace) node
 
--- the tally of a run that ends, or faults at this node
-pub tally_ends : (blocks : List (List Entry)) (trace : List Node) (counts : List ℕ) → IsCount blocks trace counts → IsTally blocks trace None counts None
-tally_ends blocks trace counts count = record { long = count.long; each = count.each; all = count.all; ended = tt }
-
-pub tally_faults : (blocks : List (List Entry)) (trace : List Node) (counts : List ℕ) (at : ℕ) → IsCount blocks (trace ++ node_at at ∷ []) counts
-    → IsTally blocks (trace ++ node_at at ∷ []) (Some Uninit) counts (Some at)
-tally_faults blocks trace counts at count = record { long = count.long; each = count.each; all = count.all; ended = (refl, last_push trace (node_at at)) }
-
 all_default : {A : Type 0} {d : A} (n i : ℕ) → get_or (replicate n d) i d ≡ d
 all_default zero i = refl
 all_default (suc n) zero = refl
@@ -160,9 +146,9 @@ module _ (frames : List (List ℕ)) (blocks : List (List Entry)) (counts : List 
   pub ends_here : (turns : ℕ) → turn < turns → Steps blocks (node_at at) so.history (over None)
       → (trace : List Node) × (fault : Option RunFault) × Runs blocks entry [] trace fault × (length trace ≤ turns) × IsTally blocks trace fault (set counts at (one + 1)) None
   ends_here turns few is_over =
-      (so.trace ++ node_at at ∷ [], None, at_the_end blocks so.trace (node_at at) so.history so.way None is_over, (let long = longer in omega arith), tally_ends blocks (so.trace ++ node_at at ∷ []) (set counts at (one + 1)) counted_on)
+      (so.trace ++ node_at at ∷ [], None, at_the_end blocks so.trace (node_at at) so.history so.way None is_over, (let long = longer in omega arith), record { count = counted_on; ended = tt })
 
   pub faults_here : (turns : ℕ) → turn < turns → Steps blocks (node_at at) so.history (over (Some Uninit))
       → (trace : List Node) × (fault : Option RunFault) × Runs blocks entry [] trace fault × (length trace ≤ turns) × IsTally blocks trace fault (set counts at (one + 1)) (Some at)
   faults_here turns few is_over =
-      (so.trace ++ node_at at ∷ [], Some Uninit, at_the_end blocks so.trace (node_at at) so.history so.way (Some Uninit) is_over, (let long = longer in omega arith), tally_faults blocks so.trace (set counts at (one + 1)) at counted_on)
+      (so.trace ++ node_at at ∷ [], Some Uninit, at_the_end blocks so.trace (node_at at) so.history so.way (Some Uninit) is_over, (let long = longer in omega arith), record { count = counted_on; ended = (refl, last_push so.trace (node_at at)) })

@@ -1,5 +1,5 @@
 -- Lemmas on answers.
-use Rattle.std.proofs.Common.{◌≡◌, ◌≤◌, ℕ, List, ◌++◌, None, Some, Result, Ok, Err, IfOk, IfSome, length, refl, ap, sym, ◌∙◌, subst, arith}
+use Rattle.std.proofs.Common.{◌≡◌, ◌≤◌, ℕ, List, ◌++◌, None, Some, IfSome, length, refl, ap, sym, ◌∙◌, subst, arith}
 use Rattle.std.specs.Prelude.{Vec, vec_len}
 use Rattle.std.specs.declared.alloc.Global.{Global}
 use Rattle.flow_base.specs.Outside.{Appended}
@@ -13,11 +13,6 @@ use Rattle.sweet_cli.specs.declared.status.Status.{Status}
 use Rattle.sweet_cli.specs.declared.status.Status.TheVariants.{Done, Usage, Source, Unbounded, ReadFailed}
 use Rattle.sweet_cli.proofs.Cutting.{some_is}
 use Rattle.sweet_cli.proofs.OneRun.{sound_of_exact}
-
--- what follows from what is known of the value
-pub mapped : {T E : Type 0} {P Q : T → Type 0} (r : Result T E) → IfOk r P → ((a : T) → P a → Q a) → IfOk r Q
-mapped (Ok a) h f = f a h
-mapped (Err e) h f = tt
 
 -- a status and a text in the place of equal ones
 pub put : (P : Status → List ℕ → Type 0) (s t : Status) (x y : List ℕ) → P s x → (t ≡ s) × (y ≡ x) → P t y

@@ -1,6 +1,7 @@
 -- What holds from turn to turn of a run.
 use Rattle.std.proofs.Common.{◌≡◌, ◌≢◌, ◌<◌, ◌≤◌, ◌+◌, ℕ, zero, suc, add-one, zero-add, replicate, get_or, cond, ◌==◌, List, [], ◌∷◌, ◌++◌, length, set, Option, None, Some, sum, refl, ap, sym, ◌∙◌, subst, append_assoc, length-append, length-set, get_or-set_other, arith, rules}
-use Rattle.std.proofs.lemmas.List.Sums.{sum_by-cons, sum_by_push, sum_by-set}
+use Rattle.std.proofs.lemmas.List.Folds.{sum_by-replicate}
+use Rattle.std.proofs.lemmas.List.Sums.{sum_by_push, sum_by-set}
 use Rattle.std.proofs.lemmas.Grind.{get_or_default_zero, get_or-set_at}
 use Rattle.std.proofs.lemmas.List.{length-replicate}
 use Rattle.alf_ops.specs.declared.history.RunFault.{RunFault}
@@ -99,10 +100,6 @@ all_default zero i = refl
 all_default (suc n) zero = refl
 all_default (suc n) (suc i) = all_default n i
 
-no_sum : (n : ℕ) → sum (replicate n 0) ≡ 0
-no_sum zero = refl
-no_sum (suc n) = sum_by-cons (λ x. x) 0 (replicate n 0) ∙ zero-add (sum (replicate n 0)) ∙ no_sum n
-
 -- no run so far
 pub none_yet : (frames : List (List ℕ)) (blocks : List (List Entry)) (n m : ℕ) (counts : List ℕ) (cells : List (Option ℕ)) → n ≡ suc (length blocks) → m ≡ length frames
     → counts ≡ replicate n 0 → cells ≡ replicate m None → SoFar frames blocks counts cells 0 0
@@ -118,7 +115,7 @@ none_yet frames blocks n m counts cells long many zeros nones = record {
   count = record {
     long = ap length zeros ∙ length-replicate n 0 ∙ long;
     each = λ rank low. ap (λ (x : List ℕ). get_or x rank 0) zeros ∙ all_default n rank;
-    all = ap sum zeros ∙ no_sum n;
+    all = ap sum zeros ∙ (let all = sum_by-replicate (λ x. x) n 0 in omega arith);
   };
 }
 

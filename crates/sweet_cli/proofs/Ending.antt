@@ -1,5 +1,5 @@
 -- How a block ends, read off its last item.
-use Rattle.std.proofs.Common.{◌≡◌, ◌<◌, ◌+◌, ◌-◌, ℕ, suc, false, List, map, length, ap, add-one, arith}
+use Rattle.std.proofs.Common.{◌≡◌, ◌<◌, ◌+◌, ◌-◌, ℕ, suc, false, List, length, ap, add-one, arith}
 use Rattle.std.proofs.lemmas.List.{length-map}
 use Rattle.std.proofs.lemmas.Option.{slice_get_within}
 use Rattle.alf_text.specs.declared.program.Alloc.{Alloc}
@@ -7,19 +7,13 @@ use Rattle.alf_text.specs.declared.program.Num.{Num}
 use Rattle.alf_text.specs.Tree.{Term, Loads, Address, Jumps, Switches, Entry, Does, names_of}
 use Rattle.sweet_cli.specs.Blocks.{ends_block}
 use Rattle.sweet_cli.specs.Nodes.{EndsWith, StandsIn}
-use Rattle.sweet_cli.specs.declared.blocks.Block.{Block}
-use Rattle.sweet_cli.specs.Cut.{block_meant}
 use Rattle.sweet_cli.specs.Memory.{value_of}
 use Rattle.sweet_cli.specs.Runs.{jumps, falls}
 use Rattle.sweet_cli.specs.Resolved.{name_at, AreTargets, IsChoice, LeadsOn}
 use Rattle.sweet_cli.proofs.Resolving.{chosen_stands}
 
-pub falls_on : (blocks : List Block) (k : ℕ) (last : Entry) → EndsWith (map block_meant blocks) k last → (ends_block last ≡ false → suc k < length blocks) → ends_block last ≡ false
-    → LeadsOn (map block_meant blocks) k (k + 1)
-falls_on blocks k last ends on open_ =
-    let low = on open_ in
-    let long = length-map blocks block_meant in
-    rw add-one (omega arith, λ before behind done. falls k last done ends open_)
+pub falls_on : (blocks : List (List Entry)) (k : ℕ) (last : Entry) → EndsWith blocks k last → (ends_block last ≡ false → suc k < length blocks) → ends_block last ≡ false → LeadsOn blocks k (k + 1)
+falls_on blocks k last ends on open_ = rw add-one (on open_, λ before behind done. falls k last done ends open_)
 
 pub jumps_on : (blocks : List (List Entry)) (k to : ℕ) (label : List ℕ) → EndsWith blocks k (Does (Jumps label)) → StandsIn blocks to label → LeadsOn blocks k to
 jumps_on blocks k to label ends stands = (slice_get_within blocks to stands.0 stands.1, λ before behind done. jumps k to label done ends stands)

@@ -1,11 +1,10 @@
-ghost use Rattle.std.specs.Prelude.{◌≡◌, ◌<◌, ℕ, suc, false, map, length, IfOk};
+ghost use Rattle.std.specs.Prelude.{◌≡◌, ◌<◌, ℕ, map, length, IfOk};
 ghost use Rattle.alf_text.specs.Tree.{item_of, names_of};
 ghost use Rattle.alf_text.specs.First.{IsFirstItem, NamesFrames, Each, EachTarget, IsWord};
-ghost use Rattle.sweet_cli.specs.Blocks.{ends_block};
 ghost use Rattle.sweet_cli.specs.Nodes.{EndsWith, StandsIn};
 ghost use Rattle.sweet_cli.specs.Cut.{block_meant};
 ghost use Rattle.sweet_cli.specs.Memory.{History, executed};
-ghost use Rattle.sweet_cli.specs.Resolved.{puts_executed, PutsWithin, Stands, IsLedIn, CanResolve, AreTargets, IsEnd, IsCodeOf, AreCodes};
+ghost use Rattle.sweet_cli.specs.Resolved.{puts_executed, PutsWithin, Stands, LeadsWell, CanResolve, AreTargets, IsEnd, IsCodeOf, AreCodes};
 
 use crate::blocks::Block;
 use crate::labels::block_of_label;
@@ -102,10 +101,7 @@ fn end_behind(
     last: &Item,
 ) -> Result<End, AllocError>
     requires ends { EndsWith (map block_meant blocks.now) k (item_of last.now) }
-    requires first { IsFirstItem (item_of last.now) }
-    requires declared { NamesFrames (names_of decls.now) (item_of last.now) }
-    requires led { IsLedIn (map block_meant blocks.now) (item_of last.now) }
-    requires on { ends_block (item_of last.now) ≡ false → suc k < length blocks.now }
+    requires leads { LeadsWell (names_of decls.now) (map block_meant blocks.now) k (item_of last.now) }
     ensures { IfOk result (λ end. IsEnd (names_of decls.now) (map block_meant blocks.now) k end) }
 {
     match last {

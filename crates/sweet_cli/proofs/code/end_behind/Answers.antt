@@ -11,17 +11,17 @@ use Rattle.sweet_cli.proofs.code.end_behind.Goals as goal
 pub returns-in-Label : goal.returns-in-Label
 returns-in-Label c =
     let open_ : ends_block (item_of c.args.last.now) ≡ false = search rules in
-    falls_on c.args.blocks.now c.args.k _ c.requires.ends c.requires.on open_
+    falls_on (map block_meant c.args.blocks.now) c.args.k _ c.requires.ends c.requires.leads.on open_
 
 pub returns-in-Stmt-Null : goal.returns-in-Stmt-Null
 returns-in-Stmt-Null c =
     let open_ : ends_block (item_of c.args.last.now) ≡ false = search rules in
-    falls_on c.args.blocks.now c.args.k _ c.requires.ends c.requires.on open_
+    falls_on (map block_meant c.args.blocks.now) c.args.k _ c.requires.ends c.requires.leads.on open_
 
 pub returns-in-Stmt-Store : goal.returns-in-Stmt-Store
 returns-in-Stmt-Store c =
     let open_ : ends_block (item_of c.args.last.now) ≡ false = search rules in
-    falls_on c.args.blocks.now c.args.k _ c.requires.ends c.requires.on open_
+    falls_on (map block_meant c.args.blocks.now) c.args.k _ c.requires.ends c.requires.leads.on open_
 
 pub returns-in-Stmt-Jump : goal.returns-in-Stmt-Jump
 returns-in-Stmt-Jump c =

@@ -1,9 +1,9 @@
 -- What holds from turn to turn of a run.
-use Rattle.std.proofs.Common.{◌≡◌, ◌≢◌, ◌<◌, ◌≤◌, ◌+◌, ℕ, zero, suc, add-one, zero-add, replicate, get_or, cond, ◌==◌, List, [], ◌∷◌, ◌++◌, length, set, Option, None, Some, sum, refl, ap, sym, ◌∙◌, subst, append_assoc, length-append, length-set, get_or-set_other, arith, rules}
+use Rattle.std.proofs.Common.{◌≡◌, ◌≢◌, ◌<◌, ◌≤◌, ◌+◌, ℕ, suc, add-one, zero-add, replicate, get_or, cond, ◌==◌, List, [], ◌∷◌, ◌++◌, length, set, Option, None, Some, sum, refl, ap, sym, ◌∙◌, subst, append_assoc, length-append, length-set, get_or-set_other, arith, rules}
 use Rattle.std.proofs.lemmas.List.Folds.{sum_by-replicate}
 use Rattle.std.proofs.lemmas.List.Sums.{sum_by_push, sum_by-set}
 use Rattle.std.proofs.lemmas.Grind.{get_or_default_zero, get_or-set_at}
-use Rattle.std.proofs.lemmas.List.{length-replicate}
+use Rattle.std.proofs.lemmas.List.{get_or-replicate, length-replicate}
 use Rattle.alf_ops.specs.declared.history.RunFault.{RunFault}
 use Rattle.alf_ops.specs.declared.history.RunFault.TheVariants.{Uninit}
 use Rattle.alf_text.specs.Tree.{Entry}
@@ -95,29 +95,27 @@ last_push [] node = refl
 last_push (other ∷ []) node = refl
 last_push (other ∷ next ∷ trace) node = last_push (next ∷ trace) node
 
-all_default : {A : Type 0} {d : A} (n i : ℕ) → get_or (replicate n d) i d ≡ d
-all_default zero i = refl
-all_default (suc n) zero = refl
-all_default (suc n) (suc i) = all_default n i
-
 -- no run so far
 pub none_yet : (frames : List (List ℕ)) (blocks : List (List Entry)) (n m : ℕ) (counts : List ℕ) (cells : List (Option ℕ)) → n ≡ suc (length blocks) → m ≡ length frames
     → counts ≡ replicate n 0 → cells ≡ replicate m None → SoFar frames blocks counts cells 0 0
-none_yet frames blocks n m counts cells long many zeros nones = record {
-  trace = [];
-  history = [];
-  way = record { forth = λ rest fault h. h; past = λ n h. subst (λ (x : ℕ). RunsPast blocks entry [] x) (sym (zero-add n)) h };
-  held = record {
-    long = ap length nones ∙ length-replicate m None ∙ many;
-    each = λ i low. ap (λ (x : List (Option ℕ)). get_or x i None) nones ∙ all_default m i;
-  };
-  long = refl;
-  count = record {
-    long = ap length zeros ∙ length-replicate n 0 ∙ long;
-    each = λ rank low. ap (λ (x : List ℕ). get_or x rank 0) zeros ∙ all_default n rank;
-    all = ap sum zeros ∙ (let all = sum_by-replicate (λ x. x) n 0 in omega arith);
-  };
-}
+none_yet frames blocks n m counts cells long many zeros nones =
+    let cells_long : length cells ≡ m = ap length nones ∙ length-replicate m None in
+    let counts_long : length counts ≡ n = ap length zeros ∙ length-replicate n 0 in
+    record {
+      trace = [];
+      history = [];
+      way = record { forth = λ rest fault h. h; past = λ n h. subst (λ (x : ℕ). RunsPast blocks entry [] x) (sym (zero-add n)) h };
+      held = record {
+        long = cells_long ∙ many;
+        each = λ i low. ap (λ (x : List (Option ℕ)). get_or x i None) nones ∙ get_or-replicate m i None None (omega arith);
+      };
+      long = refl;
+      count = record {
+        long = counts_long ∙ long;
+        each = λ rank low. ap (λ (x : List ℕ). get_or x rank 0) zeros ∙ get_or-replicate n rank 0 0 (omega arith);
+        all = ap sum zeros ∙ (let all = sum_by-replicate (λ x. x) n 0 in omega arith);
+      };
+    }
 
 module _ (frames : List (List ℕ)) (blocks : List (List Entry)) (counts : List ℕ) (cells : List (Option ℕ)) (at turn one : ℕ) (low : at ≤ length blocks) (is : one ≡ get_or counts at one)
     (so : SoFar frames blocks counts cells at turn) where

@@ -120,19 +120,14 @@ among_flat [] k block item is h = absurd (let e : None ≡ Some block = is in cc
 among_flat (first ∷ blocks) zero block item is h = among_left first (flat blocks) item (subst (λ (x : List Entry). Among x item) (sym (some_is is)) h)
 among_flat (first ∷ blocks) (suc k) block item is h = among_right first (flat blocks) item (among_flat blocks k block item is h)
 
--- the block in which an item stands
-pub record Found (blocks : List (List Entry)) (item : Entry) : Type 0 where
-  pub k : ℕ
-  pub block : List Entry
-  pub is : slice_get blocks k ≡ Some block
-  pub among : Among block item
-
-pub found_flat : (blocks : List (List Entry)) (item : Entry) → Among (flat blocks) item → Found blocks item
+-- an item of all blocks stands in one of them
+pub found_flat : (blocks : List (List Entry)) (item : Entry) → Among (flat blocks) item
+    → (k : ℕ) × ((block : List Entry) × (slice_get blocks k ≡ Some block) × Among block item)
 found_flat [] item h = absurd h
 found_flat (block ∷ blocks) item h =
     elim (among_either block (flat blocks) item h) [
-      | inl a ↦ record { k = 0; block = block; is = refl; among = a }
-      | inr b ↦ (let f = found_flat blocks item b in record { k = suc f.k; block = f.block; is = f.is; among = f.among })
+      | inl a ↦ (0, (block, refl, a))
+      | inr b ↦ (let f = found_flat blocks item b in (suc f.0, f.1))
     ]
 
 -- what the last block ends with, the items end with

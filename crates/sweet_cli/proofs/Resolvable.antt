@@ -27,19 +27,16 @@ each_last : (P : Entry → Type 0) (blocks : List (List Entry)) (k : ℕ) (last 
 each_last P blocks k last h (front, is) = (each_right P front (last ∷ []) (each_block P blocks k (front ++ last ∷ []) h is)).0
 
 module _ (blocks : List (List Entry)) where
-  stands : (label : List ℕ) → Among (flat blocks) (Labels label) → Stands blocks label
-  stands label among = let f = found_flat blocks (Labels label) among in (f.k, (f.block, f.is, f.among))
-
   each_stands : (targets : List (Num × List ℕ)) → EachTarget (λ target. Among (flat blocks) (Labels target.1)) targets → EachTarget (λ target. Stands blocks target.1) targets
   each_stands [] h = tt
-  each_stands (target ∷ targets) h = (stands target.1 h.0, each_stands targets h.1)
+  each_stands (target ∷ targets) h = (found_flat blocks (Labels target.1) h.0, each_stands targets h.1)
 
   led_in : (item : Entry) → IsLed (flat blocks) item → IsLedIn blocks item
   led_in (Labels name) led = tt
   led_in (Does Nothing) led = tt
   led_in (Does (Stores at value)) led = tt
-  led_in (Does (Jumps label)) led = stands label led
-  led_in (Does (Switches value targets others)) led = (each_stands targets led.0, stands others led.1)
+  led_in (Does (Jumps label)) led = found_flat blocks (Labels label) led
+  led_in (Does (Switches value targets others)) led = (each_stands targets led.0, found_flat blocks (Labels others) led.1)
   led_in (Does (Calls label args result)) led = tt
   led_in (Does (Returns value)) led = tt
 

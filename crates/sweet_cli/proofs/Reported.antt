@@ -16,6 +16,7 @@ use Rattle.sweet_cli.proofs.Standing.{some_blocks, falls_within}
 use Rattle.sweet_cli.proofs.Counting.{cost_is, facts_are}
 
 module _ (blocks : List (List Entry)) (some : 0 < length blocks) (low : FallsWithin blocks) where
+  -- what an edge leads to has a rank
   leads_low : (node to : Node) → Leads blocks node (Some to) → rank_of to < suc (length blocks)
   leads_low node to enters = omega arith
   leads_low node to (jumps k j label ends there) = let less = slice_get_within blocks j there.0 there.1 in omega arith

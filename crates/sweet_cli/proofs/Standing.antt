@@ -13,7 +13,7 @@ use Rattle.sweet_cli.specs.Edges.{LabelsAreOne, FallsWithin}
 use Rattle.sweet_cli.proofs.Cutting.{blocks_some, some_is, flat, flat_blocks, flat_end, among_right, among_flat}
 use Rattle.sweet_cli.proofs.Named.{main_items, main_frames}
 
--- one item is the last of a block
+-- a block ends with one item
 pub last_one : (blocks : List (List Entry)) (k : ℕ) (a b : Entry) → EndsWith blocks k a → EndsWith blocks k b → a ≡ b
 last_one blocks k a b (front, is) (more, at) = (same_from_push front more a b (some_is (sym is ∙ at))).1
 

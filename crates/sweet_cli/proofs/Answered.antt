@@ -1,23 +1,18 @@
 -- Lemmas on answers.
-use Rattle.std.proofs.Common.{◌≡◌, ◌≤◌, ℕ, List, ◌++◌, Option, None, Some, Result, Ok, Err, IfOk, IfSome, length, refl, ap, sym, ◌∙◌, subst, arith}
+use Rattle.std.proofs.Common.{◌≡◌, ◌≤◌, ℕ, List, ◌++◌, None, Some, IfSome, length, refl, ap, sym, ◌∙◌, subst, arith}
 use Rattle.std.specs.Prelude.{Vec, vec_len}
 use Rattle.std.specs.declared.alloc.Global.{Global}
-use Rattle.flow_base.specs.Outside.{Files, Appended}
+use Rattle.flow_base.specs.Outside.{Appended}
 use Rattle.alf_text.specs.Tree.{Entry, Whole}
 use Rattle.alf_text.specs.First.{main_alone, IsFirst}
 use Rattle.alf_text.specs.FirstText.{FirstText}
-use Rattle.sweet_cli.specs.Words.{Command, command_of}
 use Rattle.sweet_cli.specs.Facts.{Findings, IsSound}
 use Rattle.sweet_cli.specs.ReportText.{report_text}
 use Rattle.sweet_cli.specs.Answer.{TextAnswers, not_first, left, done, Answers, usage, unread, too_long, read, PrintsSound}
 use Rattle.sweet_cli.specs.declared.status.Status.{Status}
 use Rattle.sweet_cli.specs.declared.status.Status.TheVariants.{Done, Usage, Source, Unbounded, ReadFailed}
+use Rattle.sweet_cli.proofs.Cutting.{some_is}
 use Rattle.sweet_cli.proofs.OneRun.{sound_of_exact}
-
--- what follows from what is known of the value
-pub mapped : {T E : Type 0} {P Q : T → Type 0} (r : Result T E) → IfOk r P → ((a : T) → P a → Q a) → IfOk r Q
-mapped (Ok a) h f = f a h
-mapped (Err e) h f = tt
 
 -- a status and a text in the place of equal ones
 pub put : (P : Status → List ℕ → Type 0) (s t : Status) (x y : List ℕ) → P s x → (t ≡ s) × (y ≡ x) → P t y
@@ -25,22 +20,6 @@ put P s t x y p (e, f) = subst (λ (u : Status). P u y) (sym e) (subst (λ (z : 
 
 pub within_is : (bytes : Vec ℕ Global) → vec_len bytes ≤ 1048576 → length bytes.items ≤ 1048576
 within_is bytes h = omega (arith, bytes.ok.0)
-
-pub some_is : {A : Type 0} {a b : A} → Some a ≡ Some b → a ≡ b
-some_is h = cc
-
--- what was found out after `Done`
-record DoneBy (words : List (List ℕ)) (told : Option Files) (text : List ℕ) : Type 0 where
-  pub command : Command
-  pub bytes : List ℕ
-  pub frames : List (List ℕ)
-  pub items : List Entry
-  pub findings : Findings
-  pub means : command_of words ≡ Some command
-  pub file_is : IfSome told (λ files. files command.file ≡ Some bytes)
-  pub spelled : FirstText bytes (main_alone frames items)
-  pub sound : IsSound items findings
-  pub printed : text ≡ report_text findings
 
 -- the program of each first text is one whose exact reports are sound
 module _ (firsts : (bytes : List ℕ) (whole : Whole) → FirstText bytes whole → IsFirst whole) where
@@ -51,30 +30,25 @@ module _ (firsts : (bytes : List ℕ) (whole : Whole) → FirstText bytes whole 
   done_text {bytes = bytes} (done frames items findings text within) e =
       (frames, items, findings, text, sound_of_exact frames items findings (firsts bytes (main_alone frames items) text) within.exact, refl)
 
-  done_by : {words : List (List ℕ)} {told : Option Files} {status : Status} {text : List ℕ} → Answers words told status text → status ≡ Done → DoneBy words told text
-  done_by (usage none) e = absurd (let k : Usage ≡ Done = e in cc)
-  done_by (unread command means) e = absurd (let k : ReadFailed ≡ Done = e in cc)
-  done_by (too_long command means long) e = absurd (let k : Source ≡ Done = e in cc)
-  done_by (read command bytes means short file answers) e =
-      let d = done_text answers e in
-      record { command = command; bytes = bytes; frames = d.0; items = d.1; findings = d.2; means = means; file_is = file; spelled = d.3; sound = d.4; printed = d.5 }
-
   pub prints_sound : (words : List (List ℕ)) (told before after : _) (status : Status) (text : List ℕ) → Answers words told status text → Appended before after text
       → status ≡ Done → IfSome told (λ files. IfSome before (λ held. IfSome after (λ now. PrintsSound words files held now)))
   prints_sound words None before after status text a w e = tt
   prints_sound words (Some files) None after status text a w e = tt
   prints_sound words (Some files) (Some held) None status text a w e = tt
-  prints_sound words (Some files) (Some held) (Some now) status text a w e =
-      let d = done_by a e in
+  prints_sound words (Some files) (Some held) (Some now) status text (usage none) w e = absurd (let k : Usage ≡ Done = e in cc)
+  prints_sound words (Some files) (Some held) (Some now) status text (unread command means) w e = absurd (let k : ReadFailed ≡ Done = e in cc)
+  prints_sound words (Some files) (Some held) (Some now) status text (too_long command means long) w e = absurd (let k : Source ≡ Done = e in cc)
+  prints_sound words (Some files) (Some held) (Some now) status text (read command bytes means short file answers) w e =
+      let d = done_text answers e in
       record {
-        command = d.command;
-        bytes = d.bytes;
-        frames = d.frames;
-        items = d.items;
-        findings = d.findings;
-        means = d.means;
-        told = d.file_is;
-        spelled = d.spelled;
-        sound = d.sound;
-        printed = some_is w ∙ ap (λ (x : List ℕ). held ++ x) d.printed;
+        command = command;
+        bytes = bytes;
+        frames = d.0;
+        items = d.1;
+        findings = d.2;
+        means = means;
+        told = file;
+        spelled = d.3;
+        sound = d.4;
+        printed = some_is w ∙ ap (λ (x : List ℕ). held ++ x) d.5;
       }

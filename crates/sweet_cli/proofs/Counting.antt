@@ -1,21 +1,18 @@
 -- The facts and the cost, read off the counts.
-use Rattle.std.proofs.Common.{◌≡◌, ◌<◌, ◌+◌, ◌==◌, ℕ, suc, zero, Bool, not, cond, List, [], ◌∷◌, ◌++◌, Option, None, Some, map, length, drop, get_or, sum, refl, ap, arith}
+use Rattle.std.proofs.Common.{◌≡◌, ◌<◌, ◌+◌, ◌==◌, ℕ, suc, Bool, not, cond, List, [], ◌∷◌, ◌++◌, Option, None, Some, map, length, drop, get_or, sum, refl, ap, arith}
 use Rattle.std.proofs.lemmas.List.Sums.{sum_by-cons}
 use Rattle.alf_ops.specs.declared.history.RunFault.{RunFault}
 use Rattle.alf_ops.specs.declared.history.RunFault.TheVariants.{Uninit}
 use Rattle.alf_text.specs.Tree.{Entry}
 use Rattle.sweet_cli.specs.Nodes.{Node, entry, node_at, rank_of}
 use Rattle.sweet_cli.specs.Runs.{places_of, cost_of}
-use Rattle.sweet_cli.specs.Tally.{FaultsAt, IsTally}
+use Rattle.sweet_cli.specs.Tally.{FaultsAt, IsCount, IsTally}
 use Rattle.sweet_cli.specs.Facts.{dead_facts, total_facts, alarms_at, alarm_facts}
 use Rattle.sweet_cli.specs.Listed.{dead_from, totals_from, alarms_from, alarm_of, listed}
 use Rattle.sweet_cli.specs.declared.fact.Fact.{Fact}
 use Rattle.sweet_cli.specs.declared.fact.Fact.TheVariants.{Dead, Total}
 use Rattle.sweet_cli.proofs.Cutting.{by_test}
-
-pub node_rank : (rank : ℕ) → rank_of (node_at rank) ≡ rank
-node_rank zero = refl
-node_rank (suc k) = refl
+use Rattle.sweet_cli.proofs.Ranks.{node_rank}
 
 -- 1 where the test passes
 abbrev one_if : Bool → ℕ
@@ -31,26 +28,25 @@ cost_rest (first ∷ trace) =
     let one : one_if (not (rank_of first == 0)) + one_if (rank_of first == 0) ≡ 1 = by_test (rank_of first == 0) (λ e. rw e refl) (λ e. rw e refl) in
     omega arith
 
-pub cost_is : (blocks : List (List Entry)) (trace : List Node) (fault : Option RunFault) (counts : List ℕ) (at : Option ℕ) → IsTally blocks trace fault counts at
-    → sum (drop 1 counts) ≡ cost_of trace
-cost_is blocks trace fault [] at tally = absurd (let long = tally.long in omega arith)
-cost_is blocks trace fault (count ∷ counts) at tally =
+pub cost_is : (blocks : List (List Entry)) (trace : List Node) (counts : List ℕ) → IsCount blocks trace counts → sum (drop 1 counts) ≡ cost_of trace
+cost_is blocks trace [] is = absurd (let long = is.long in omega arith)
+cost_is blocks trace (count ∷ counts) is =
     let whole = sum_by-cons (λ x. x) count counts in
-    let first = tally.each 0 (omega arith) in
-    let all = tally.all in
+    let first = is.each 0 (omega arith) in
+    let all = is.all in
     let rest = cost_rest trace in
     omega arith
 
 -- the counts have the places of the nodes of these ranks
-abbrev pub Counted : List ℕ → List ℕ → List Node → Type 0
+abbrev Counted : List ℕ → List ℕ → List Node → Type 0
 Counted [] counts trace = Unit {0}
 Counted (rank ∷ ranks) counts trace = (get_or counts rank 0 ≡ places_of (node_at rank) trace) × Counted ranks counts trace
 
-pub counted : (blocks : List (List Entry)) (trace : List Node) (fault : Option RunFault) (counts : List ℕ) (at : Option ℕ) (ranks : List ℕ) → IsTally blocks trace fault counts at
+counted : (blocks : List (List Entry)) (trace : List Node) (counts ranks : List ℕ) → IsCount blocks trace counts
     → ((i : ℕ) → i < length ranks → get_or ranks i 0 < length counts) → Counted ranks counts trace
-counted blocks trace fault counts at [] tally low = tt
-counted blocks trace fault counts at (rank ∷ ranks) tally low =
-    (tally.each rank (low 0 (omega arith)), counted blocks trace fault counts at ranks tally (λ i h. low (suc i) (omega arith)))
+counted blocks trace counts [] is low = tt
+counted blocks trace counts (rank ∷ ranks) is low =
+    (is.each rank (low 0 (omega arith)), counted blocks trace counts ranks is (λ i h. low (suc i) (omega arith)))
 
 module _ (trace : List Node) (counts : List ℕ) where
   dead_are : (n : ℕ) (ranks : List ℕ) → Counted ranks counts trace → dead_from n ranks counts ≡ dead_facts n (map node_at ranks) trace
@@ -83,7 +79,7 @@ pub facts_are : (blocks : List (List Entry)) (trace : List Node) (fault : Option
     → ((i : ℕ) → i < length ranks → get_or ranks i 0 < length counts)
     → listed ranks counts at ≡ dead_facts 0 (map node_at ranks) trace ++ (total_facts 0 (map node_at ranks) trace ++ alarm_facts (map node_at ranks) trace fault)
 facts_are blocks trace fault counts at ranks tally low =
-    let h = counted blocks trace fault counts at ranks tally low in
+    let h = counted blocks trace counts ranks tally.count low in
     let dead = dead_are trace counts 0 ranks h in
     let totals = totals_are trace counts 0 ranks h in
     let alarm = alarm_is trace fault at ranks tally.ended in

@@ -1,5 +1,5 @@
 -- Blocks, cut from the front on, and what they have in all.
-use Rattle.std.proofs.Common.{◌≡◌, ◌≤◌, ◌<◌, ℕ, zero, suc, Bool, true, false, List, [], ◌∷◌, ◌++◌, ◌⊎◌, inl, inr, None, Some, slice_get, map, length, take, drop, refl, ap, sym, ◌∙◌, subst, append_assoc, append-nil, arith}
+use Rattle.std.proofs.Common.{◌≡◌, ◌≤◌, ◌<◌, ◌+◌, ℕ, zero, suc, Bool, true, false, List, [], ◌∷◌, ◌++◌, ◌⊎◌, inl, inr, None, Some, slice_get, map, length, take, drop, drop-cons, get_or, add-one, refl, ap, sym, ◌∙◌, subst, append_assoc, append-nil, arith}
 use Rattle.std.proofs.lemmas.List.{take-map, drop-map, length-map}
 use Rattle.alf_text.specs.declared.program.Item.{Item}
 use Rattle.alf_text.specs.Tree.{Entry, item_of}
@@ -13,6 +13,10 @@ by_test false if_true if_false = if_false refl
 
 pub some_is : {A : Type 0} {a b : A} → Some a ≡ Some b → a ≡ b
 some_is h = cc
+
+-- the first of those that are left
+pub front : {A : Type 0} (xs : List A) (n : ℕ) (d : A) → n < length xs → drop n xs ≡ get_or xs n d ∷ drop (n + 1) xs
+front xs n d low = rw add-one (drop-cons xs n d low)
 
 -- the first block has the items up to its length
 pub first_cut : (items : List Entry) → 0 < length items → blocks_of items ≡ take (first_length items) items ∷ blocks_of (drop (first_length items) items)
@@ -116,19 +120,14 @@ among_flat [] k block item is h = absurd (let e : None ≡ Some block = is in cc
 among_flat (first ∷ blocks) zero block item is h = among_left first (flat blocks) item (subst (λ (x : List Entry). Among x item) (sym (some_is is)) h)
 among_flat (first ∷ blocks) (suc k) block item is h = among_right first (flat blocks) item (among_flat blocks k block item is h)
 
--- the block in which an item stands
-pub record Found (blocks : List (List Entry)) (item : Entry) : Type 0 where
-  pub k : ℕ
-  pub block : List Entry
-  pub is : slice_get blocks k ≡ Some block
-  pub among : Among block item
-
-pub found_flat : (blocks : List (List Entry)) (item : Entry) → Among (flat blocks) item → Found blocks item
+-- an item of all blocks stands in one of them
+pub found_flat : (blocks : List (List Entry)) (item : Entry) → Among (flat blocks) item
+    → (k : ℕ) × ((block : List Entry) × (slice_get blocks k ≡ Some block) × Among block item)
 found_flat [] item h = absurd h
 found_flat (block ∷ blocks) item h =
     elim (among_either block (flat blocks) item h) [
-      | inl a ↦ record { k = 0; block = block; is = refl; among = a }
-      | inr b ↦ (let f = found_flat blocks item b in record { k = suc f.k; block = f.block; is = f.is; among = f.among })
+      | inl a ↦ (0, (block, refl, a))
+      | inr b ↦ (let f = found_flat blocks item b in (suc f.0, f.1))
     ]
 
 -- what the last block ends with, the items end with

@@ -1,5 +1,5 @@
 -- Stores in place of the items that they stand for.
-use Rattle.std.proofs.Common.{◌≡◌, ◌<◌, ◌+◌, ℕ, zero, suc, List, [], ◌∷◌, ◌++◌, ◌⊎◌, inl, inr, Option, None, Some, slice_get, get_or, map, drop, drop-cons, add-one, length, refl, ap, ◌∙◌, subst}
+use Rattle.std.proofs.Common.{◌≡◌, ◌<◌, ◌+◌, ℕ, zero, suc, List, [], ◌∷◌, ◌++◌, ◌⊎◌, inl, inr, Option, None, Some, slice_get, get_or, map, drop, length, refl, ap, ◌∙◌, subst}
 use Rattle.std.specs.Prelude.{option_and_then}
 use Rattle.alf_text.specs.declared.program.Item.{Item}
 use Rattle.alf_text.specs.Tree.{Entry, item_of}
@@ -7,7 +7,7 @@ use Rattle.alf_text.specs.First.{Each}
 use Rattle.sweet_cli.specs.Memory.{History, executed_one, executed}
 use Rattle.sweet_cli.specs.Resolved.{put_executed, puts_executed, PutWithin, PutsWithin}
 use Rattle.sweet_cli.specs.declared.operand.Put.{Put}
-use Rattle.sweet_cli.proofs.Cutting.{some_is}
+use Rattle.sweet_cli.proofs.Cutting.{some_is, front}
 
 by_option : {A B : Type 0} (o : Option A) → (o ≡ None → B) → ((x : A) → o ≡ Some x → B) → B
 by_option None if_none if_some = if_none refl
@@ -16,9 +16,7 @@ by_option (Some x) if_none if_some = if_some x refl
 -- the item, and those behind it
 pub next_item : (P : Entry → Type 0) (items : List Item) (i : ℕ) (d : Item) → i < length items → Each P (map item_of (drop i items))
     → P (item_of (get_or items i d)) × Each P (map item_of (drop (i + 1) items))
-next_item P items i d low each =
-    let more : drop i items ≡ get_or items i d ∷ drop (i + 1) items = rw add-one (drop-cons items i d low) in
-    subst (λ (x : List Item). Each P (map item_of x)) more each
+next_item P items i d low each = subst (λ (x : List Item). Each P (map item_of x)) (front items i d low) each
 
 pub within_push : (count : ℕ) (puts : List Put) (put : Put) → PutsWithin count puts → PutWithin count put → PutsWithin count (puts ++ put ∷ [])
 within_push count [] put all one = (one, tt)
@@ -37,20 +35,12 @@ module _ (frames : List (List ℕ)) (history : History) (items : List Item) (i :
     (done : executed history (map item_of items) ≡ option_and_then (λ next. executed next (map item_of (drop i items))) (puts_executed frames history puts)) where
   opened : executed history (map item_of items)
       ≡ option_and_then (λ next. executed next (item_of (get_or items i d) ∷ map item_of (drop (i + 1) items))) (puts_executed frames history puts)
-  opened =
-      let more : drop i items ≡ get_or items i d ∷ drop (i + 1) items = rw add-one (drop-cons items i d low) in
-      done ∙ ap (λ (x : List Item). option_and_then (λ next. executed next (map item_of x)) (puts_executed frames history puts)) more
+  opened = done ∙ ap (λ (x : List Item). option_and_then (λ next. executed next (map item_of x)) (puts_executed frames history puts)) (front items i d low)
 
   -- an item that is a store
   pub stored_on : (put : Put) → ((history : History) → executed_one history (item_of (get_or items i d)) ≡ put_executed frames history put)
       → executed history (map item_of items) ≡ option_and_then (λ next. executed next (map item_of (drop (i + 1) items))) (puts_executed frames history (puts ++ put ∷ []))
   stored_on put same = opened ∙ put_on frames (item_of (get_or items i d)) (map item_of (drop (i + 1) items)) put same history puts
-
-  -- an item that is none
-  pub passed_on : ((history : History) → executed_one history (item_of (get_or items i d)) ≡ Some history)
-      → executed history (map item_of items) ≡ option_and_then (λ next. executed next (map item_of (drop (i + 1) items))) (puts_executed frames history puts)
-  passed_on same =
-      opened ∙ by_option (puts_executed frames history puts) (λ e. rw e refl) (λ next e. rw e (rw (same next) refl))
 
 -- behind one more code
 pub pushed : {A : Type 0} (xs : List A) (x y : A) (k : ℕ) → slice_get (xs ++ x ∷ []) k ≡ Some y → (slice_get xs k ≡ Some y) ⊎ ((k ≡ length xs) × (x ≡ y))

@@ -1,60 +1,21 @@
--- Where the blocks of a first program lead, read off their last items.
-use Rattle.std.proofs.Common.{◌≡◌, ◌<◌, ◌≤◌, ◌+◌, ◌-◌, ◌↔◌, ℕ, zero, suc, true, false, List, [], ◌∷◌, ◌++◌, ◌⊎◌, inl, inr, Option, None, Some, IfSome, slice_get, get_or, map, option_map, drop, drop-cons, Vec, Global, length, length-append, refl, ap, sym, ◌∙◌, subst, arith}
-use Rattle.std.proofs.lemmas.List.{same_from_push, length-map, map-append}
-use Rattle.std.proofs.lemmas.Option.{slice_get-get_or, slice_get_within, slice_get-map}
+-- Where blocks lead, read off their last items.
+use Rattle.std.proofs.Common.{◌≡◌, ◌<◌, ◌≤◌, ◌+◌, ◌-◌, ◌↔◌, ℕ, zero, suc, true, false, List, [], ◌∷◌, ◌++◌, ◌⊎◌, inl, inr, Option, None, Some, IfSome, slice_get, get_or, map, drop, Vec, Global, length, length-append, refl, ap, sym, ◌∙◌, subst, arith}
+use Rattle.std.proofs.lemmas.List.{length-map, map-append}
+use Rattle.std.proofs.lemmas.Option.{slice_get_within}
 use Rattle.alf_text.specs.declared.program.Num.{Num}
-use Rattle.alf_text.specs.declared.program.Item.{Item}
-use Rattle.alf_text.specs.Tree.{Term, Nothing, Stores, Jumps, Switches, Calls, Returns, Entry, Labels, Does, item_of}
-use Rattle.alf_text.specs.First.{Among, EndsWell, main_alone, IsFirst}
-use Rattle.sweet_cli.specs.Blocks.{ends_block, blocks_of}
+use Rattle.alf_text.specs.Tree.{Term, Jumps, Switches, Returns, Entry, Does}
+use Rattle.sweet_cli.specs.Blocks.{ends_block}
 use Rattle.sweet_cli.specs.Nodes.{Node, entry, at_block, node_at, rank_of, EndsWith, StandsIn, IsLabelOf, Leads, enters, returns, jumps, switches, falls}
 use Rattle.sweet_cli.specs.declared.blocks.Block.{Block}
 use Rattle.sweet_cli.specs.Cut.{block_meant}
 use Rattle.sweet_cli.specs.Edges.{IsIn, LabelsAreOne, FallsWithin, IsRankOf, IsTarget, IsRow, IsTable, rows_of}
-use Rattle.sweet_cli.proofs.Cutting.{blocks_some, some_is, flat_blocks, flat_end}
-use Rattle.sweet_cli.proofs.Standing.{fit}
+use Rattle.sweet_cli.proofs.Cutting.{front}
+use Rattle.sweet_cli.proofs.Standing.{last_one, last_some}
 use Rattle.sweet_cli.proofs.Ranks.{in_front, in_last, in_push}
-
-ends_alone : (xs : List Entry) (last : Entry) → EndsWell (xs ++ last ∷ []) → EndsWell (last ∷ [])
-ends_alone [] last h = h
-ends_alone (x ∷ []) last h = h
-ends_alone (x ∷ y ∷ xs) last h = ends_alone (y ∷ xs) last h
-
--- what ends well ends a block
-ends_of_well : (last : Entry) → EndsWell (last ∷ []) → ends_block last ≡ false → ⊥
-ends_of_well (Labels name) h e = h
-ends_of_well (Does Nothing) h e = h
-ends_of_well (Does (Stores at value)) h e = h
-ends_of_well (Does (Jumps label)) h e = let no : true ≡ false = e in cc
-ends_of_well (Does (Switches value targets others)) h e = let no : true ≡ false = e in cc
-ends_of_well (Does (Calls label args result)) h e = h
-ends_of_well (Does (Returns value)) h e = let no : true ≡ false = e in cc
-
-items_some : (items : List Entry) → EndsWell items → 0 < length items
-items_some [] h = absurd h
-items_some (item ∷ items) h = omega arith
-
--- a first program has blocks
-pub some_blocks : (frames : List (List ℕ)) (items : List Entry) → IsFirst (main_alone frames items) → 0 < length (blocks_of items)
-some_blocks frames items first = blocks_some items (items_some items (fit frames items first).ends)
-
--- and the last of them is ended by a statement
-pub falls_within : (frames : List (List ℕ)) (items : List Entry) → IsFirst (main_alone frames items) → FallsWithin (blocks_of items)
-falls_within frames items first k last (front, is) open_ =
-    let blocks = blocks_of items in
-    let low = slice_get_within blocks k (front ++ last ∷ []) is in
-    let apart : suc k ≡ length blocks → ⊥ =
-    λ long. (let z = flat_end blocks k front last long is in
-    ends_of_well last (ends_alone z.0 last (subst (λ (x : List Entry). EndsWell x) (sym (flat_blocks items) ∙ z.1) (fit frames items first).ends)) open_) in
-    omega arith
 
 -- ---- rows
 
 module _ (blocks : List (List Entry)) where
-  -- one item is the last of a block
-  pub last_one : (k : ℕ) (a b : Entry) → EndsWith blocks k a → EndsWith blocks k b → a ≡ b
-  last_one k a b (front, is) (more, at) = (same_from_push front more a b (some_is (sym is ∙ at))).1
-
   -- the entry leads to the first block
   row_entry : 0 < length blocks → IsRow blocks 0 (1 ∷ [])
   row_entry some = record { leads = leads; all = all; within = within }
@@ -79,7 +40,7 @@ module _ (blocks : List (List Entry)) where
       leads to (inr h) = absurd h
 
       closed : (other : Entry) → EndsWith blocks k other → ends_block other ≡ true → ⊥
-      closed other h e = let no : true ≡ false = sym e ∙ ap ends_block (last_one k other last h ends) ∙ open_ in cc
+      closed other h e = let no : true ≡ false = sym e ∙ ap ends_block (last_one blocks k other last h ends) ∙ open_ in cc
 
       all : (next : Option Node) → Leads blocks (at_block k) next → IfSome next (λ node. IsIn (suc (suc k) ∷ []) (rank_of node))
       all next (returns _ h) = tt
@@ -143,12 +104,12 @@ module _ (blocks : List (List Entry)) where
       from_edge : (next : Option Node) → Leads blocks (at_block k) next → IfSome next (λ node. IsTarget blocks [] label (rank_of node))
       from_edge next (returns _ h) = tt
       from_edge next (jumps _ to other h there) =
-          let e : Does (Jumps label) ≡ Does (Jumps other) = last_one k _ _ ends h in
+          let e : Does (Jumps label) ≡ Does (Jumps other) = last_one blocks k _ _ ends h in
           let same : other ≡ label = (let d : label ≡ other = cc in sym d) in
           (to, refl, subst (λ (x : List ℕ). StandsIn blocks to x) same there)
       from_edge next (switches _ to value targets others other h one there) =
-          absurd (let e : Does (Jumps label) ≡ Does (Switches value targets others) = last_one k _ _ ends h in cc)
-      from_edge next (falls _ last h open_) = absurd (let e : true ≡ false = ap ends_block (last_one k _ _ ends h) ∙ open_ in cc)
+          absurd (let e : Does (Jumps label) ≡ Does (Switches value targets others) = last_one blocks k _ _ ends h in cc)
+      from_edge next (falls _ last h open_) = absurd (let e : true ≡ false = ap ends_block (last_one blocks k _ _ ends h) ∙ open_ in cc)
 
       to_edge : (to : ℕ) → IsTarget blocks [] label to → Leads blocks (at_block k) (Some (node_at to))
       to_edge to (at, is, there) = subst (λ (n : ℕ). Leads blocks (at_block k) (Some (node_at n))) (sym is) (jumps k at label ends there)
@@ -161,13 +122,13 @@ module _ (blocks : List (List Entry)) where
       from_edge : (next : Option Node) → Leads blocks (at_block k) next → IfSome next (λ node. IsTarget blocks targets others (rank_of node))
       from_edge next (returns _ h) = tt
       from_edge next (jumps _ to label h there) =
-          absurd (let e : Does (Switches value targets others) ≡ Does (Jumps label) = last_one k _ _ ends h in cc)
+          absurd (let e : Does (Switches value targets others) ≡ Does (Jumps label) = last_one blocks k _ _ ends h in cc)
       from_edge next (switches _ to term cases rest label h one there) =
-          let e : Does (Switches value targets others) ≡ Does (Switches term cases rest) = last_one k _ _ ends h in
+          let e : Does (Switches value targets others) ≡ Does (Switches term cases rest) = last_one blocks k _ _ ends h in
           let a : cases ≡ targets = (let d : targets ≡ cases = cc in sym d) in
           let b : rest ≡ others = (let d : others ≡ rest = cc in sym d) in
           label_target targets others label to (subst (λ (x : List (Num × List ℕ)). IsLabelOf x others label) a (subst (λ (x : List ℕ). IsLabelOf cases x label) b one)) there
-      from_edge next (falls _ last h open_) = absurd (let e : true ≡ false = ap ends_block (last_one k _ _ ends h) ∙ open_ in cc)
+      from_edge next (falls _ last h open_) = absurd (let e : true ≡ false = ap ends_block (last_one blocks k _ _ ends h) ∙ open_ in cc)
 
       to_edge : (to : ℕ) → IsTarget blocks targets others to → Leads blocks (at_block k) (Some (node_at to))
       to_edge to h =
@@ -199,9 +160,7 @@ module _ (blocks : List (List Entry)) where
       → IsIn more to ↔ (IsIn ranks to ⊎ IsRankOf blocks target.1 to)
       → IsTarget blocks targets others to ↔ (IsIn more to ⊎ IsTarget blocks (drop (i + 1) targets) others to)
   one_target targets others i target ranks more to low at before added =
-      let next : suc i ≡ i + 1 = omega arith in
-      let is : drop i targets ≡ target ∷ drop (i + 1) targets =
-      drop-cons targets i target low ∙ ap (λ (x : Num × List ℕ). x ∷ drop (suc i) targets) (sym at) ∙ ap (λ (n : ℕ). target ∷ drop n targets) next in
+      let is : drop i targets ≡ target ∷ drop (i + 1) targets = front targets i target low ∙ ap (λ (x : Num × List ℕ). x ∷ drop (i + 1) targets) (sym at) in
       let split : IsTarget blocks targets others to ↔ (IsIn ranks to ⊎ (IsRankOf blocks target.1 to ⊎ IsTarget blocks (drop (i + 1) targets) others to)) =
       subst (λ (x : List (Num × List ℕ)). IsTarget blocks targets others to ↔ (IsIn ranks to ⊎ IsTarget blocks x others to)) is before in (
         λ h. elim (split.0 h) [ inl a ↦ inl (added.1 (inl a)) | inr (inl b) ↦ inl (added.1 (inr b)) | inr (inr d) ↦ inr d ],
@@ -209,32 +168,6 @@ module _ (blocks : List (List Entry)) where
       )
 
 -- ---- the code's blocks
-
-pub block_there : (blocks : List Block) (k : ℕ) (d : Block) → k < length blocks → slice_get (map block_meant blocks) k ≡ Some (block_meant (get_or blocks k d))
-block_there blocks k d low = slice_get-map block_meant blocks k ∙ ap (λ (x : Option Block). option_map block_meant x) (slice_get-get_or blocks k d low)
-
-pub stands_not : (blocks : List Block) (k : ℕ) (d : Block) (label : List ℕ) → k < length blocks → (Among (block_meant (get_or blocks k d)) (Labels label) → ⊥)
-    → StandsIn (map block_meant blocks) k label → ⊥
-stands_not blocks k d label low none (block, is, among) =
-    none (subst (λ (x : List Entry). Among x (Labels label)) (some_is (sym is ∙ block_there blocks k d low)) among)
-
-pub stands_low : (blocks : List Block) (k : ℕ) (label : List ℕ) → StandsIn (map block_meant blocks) k label → k < length blocks
-stands_low blocks k label (block, is, among) = let low = slice_get_within (map block_meant blocks) k block is in simp length-map at low
-
-ends_at : (items : List Item) (n : ℕ) (last : Item) → suc n ≡ length items → slice_get items n ≡ Some last → (front : List Entry) × (map item_of items ≡ front ++ item_of last ∷ [])
-ends_at [] n last long is = absurd (omega arith)
-ends_at (item ∷ []) zero last long is = ([], ap (λ (x : Item). item_of x ∷ []) (some_is is))
-ends_at (item ∷ next ∷ items) zero last long is = absurd (omega arith)
-ends_at (item ∷ items) (suc n) last long is = let more = ends_at items n last (omega arith) is in (item_of item ∷ more.0, ap (λ (x : List Entry). item_of item ∷ x) more.1)
-
--- the last item of a code's block
-pub ends_with : (blocks : List Block) (k : ℕ) (d : Block) (last : Item) → k < length blocks
-    → slice_get (get_or blocks k d).items.now (length (get_or blocks k d).items.now - 1) ≡ Some last → EndsWith (map block_meant blocks) k (item_of last)
-ends_with blocks k d last low is =
-    let items = (get_or blocks k d).items.now in
-    let some = slice_get_within items (length items - 1) last is in
-    let e = ends_at items (length items - 1) last (omega arith) is in
-    (e.0, block_there blocks k d low ∙ ap (λ (x : List Entry). Some x) e.1)
 
 ends_on : (blocks : List (List Entry)) (k : ℕ) (next : Option Node) → Leads blocks (at_block k) next → (last : Entry) × EndsWith blocks k last
 ends_on blocks k next (returns _ h) = (Does (Returns None), h)
@@ -245,20 +178,9 @@ ends_on blocks k next (falls _ last h open_) = (last, h)
 -- a block without a last item leads nowhere
 pub empty_leads : (blocks : List Block) (k : ℕ) (d : Block) → k < length blocks
     → slice_get (get_or blocks k d).items.now (length (get_or blocks k d).items.now - 1) ≡ None → IsRow (map block_meant blocks) (suc k) []
-empty_leads blocks k d low none = row_none (map block_meant blocks) k (λ next leads. none_leads (Some next) leads)
-  where
-    no_item : (items : List Item) (n : ℕ) → n < length items → slice_get items n ≡ None → ⊥
-    no_item [] n low none = omega arith
-    no_item (item ∷ items) zero low none = let e : Some item ≡ None = none in cc
-    no_item (item ∷ items) (suc n) low none = no_item items n (omega arith) none
-
-    none_leads : (next : Option Node) → Leads (map block_meant blocks) (at_block k) next → ⊥
-    none_leads next leads =
-        let items = (get_or blocks k d).items.now in
-        let e = ends_on (map block_meant blocks) k next leads in
-        let same : map item_of items ≡ e.1.0 ++ e.0 ∷ [] = some_is (sym (block_there blocks k d low) ∙ e.1.1) in
-        let long : length items ≡ length e.1.0 + 1 = sym (length-map items item_of) ∙ ap length same ∙ length-append e.1.0 (e.0 ∷ []) in
-        no_item items (length items - 1) (omega arith) none
+empty_leads blocks k d low none =
+    row_none (map block_meant blocks) k
+    (λ next leads. let e = ends_on (map block_meant blocks) k (Some next) leads in last_some blocks k d e.0 low e.1 none)
 
 -- ---- the table
 

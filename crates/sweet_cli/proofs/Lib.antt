@@ -1,6 +1,7 @@
 pub mod Cutting
-pub mod OneStep
+pub mod Named
 pub mod Standing
+pub mod OneStep
 pub mod Ranks
 pub mod Leading
 pub mod Searching
@@ -17,6 +18,5 @@ pub mod OneRun
 pub mod Counting
 pub mod Reported
 pub mod Numbers
-pub mod Named
 pub mod Answered
 pub mod OneAnswer

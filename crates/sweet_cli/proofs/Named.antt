@@ -2,8 +2,8 @@
 use Rattle.std.proofs.Common.{◌≡◌, ℕ, List, [], ◌∷◌, map, get_or, refl, ap, sym, ◌∙◌}
 use Rattle.alf_text.specs.declared.program.Alloc.{Alloc}
 use Rattle.alf_text.specs.declared.program.Func.{Func}
-use Rattle.alf_text.specs.Tree.{Entry, Frame, Function, item_of, frame_of, names_of, function_of}
-use Rattle.alf_text.specs.First.{cell_frame}
+use Rattle.alf_text.specs.Tree.{Entry, Frame, Function, Whole, item_of, frame_of, names_of, function_of}
+use Rattle.alf_text.specs.First.{cell_frame, main_alone}
 
 cell_names : (frames : List (List ℕ)) → map (λ (frame : Frame). frame.name) (map cell_frame frames) ≡ frames
 cell_names [] = refl
@@ -26,3 +26,12 @@ pub items_are : (funcs : List Func) (other : Func) (function : Function) → map
 unfolding items_at
 items_are [] other function h = absurd cc
 items_are (func ∷ funcs) other function h = ap items_at h
+
+-- one program has one list of items
+pub main_items : (f g : List (List ℕ)) (a b : List Entry) → main_alone f a ≡ main_alone g b → a ≡ b
+unfolding items_at
+main_items f g a b h = ap (λ (w : Whole). items_at w.funcs) h
+
+-- and one list of frames
+pub main_frames : (f g : List (List ℕ)) (a b : List Entry) → main_alone f a ≡ main_alone g b → f ≡ g
+main_frames f g a b h = sym (cell_names f) ∙ ap (λ (w : Whole). map (λ (frame : Frame). frame.name) w.decls) h ∙ cell_names g

@@ -2,18 +2,10 @@
 use Rattle.std.proofs.Common.{◌≡◌, ◌<◌, ◌+◌, ℕ, zero, suc, Bool, true, false, List, [], ◌∷◌, inl, inr, Some, Vec, Global, length, map, refl, ap, sym, subst, arith}
 use Rattle.std.proofs.lemmas.List.{length-map}
 use Rattle.alf_text.specs.Tree.{Entry}
-use Rattle.sweet_cli.specs.Nodes.{Node, entry, at_block, node_at, rank_of, Leads, Reached, start, step, Ascends, OneOf, IsNumbering}
+use Rattle.sweet_cli.specs.Nodes.{Node, node_at, rank_of, Leads, Reached, start, step, Ascends, OneOf, IsNumbering}
 use Rattle.sweet_cli.specs.Edges.{IsTable, rows_of}
 use Rattle.sweet_cli.specs.Search.{HasEdge, Reaches, begins, leads_on, IsClosed, IsMarked, IsMarking, marked_from}
-
--- ranks and nodes are the same
-rank_back : (rank : ℕ) → rank_of (node_at rank) ≡ rank
-rank_back zero = refl
-rank_back (suc k) = refl
-
-node_back : (node : Node) → node ≡ node_at (rank_of node)
-node_back entry = refl
-node_back (at_block k) = refl
+use Rattle.sweet_cli.proofs.Ranks.{node_rank, node_back}
 
 -- ---- walks along edges, and walks over the table
 
@@ -85,7 +77,7 @@ marked_one n (false ∷ marks) (suc k) at sum h = marked_one (suc n) marks k at 
 ascends_above : (low n : ℕ) (marks : List Bool) → low < n → Ascends (node_at low ∷ map node_at (marked_from n marks))
 ascends_above low n [] h = tt
 ascends_above low n (true ∷ marks) h =
-    (let a = rank_back low in let b = rank_back n in omega arith, ascends_above n (suc n) marks (omega arith))
+    (let a = node_rank low in let b = node_rank n in omega arith, ascends_above n (suc n) marks (omega arith))
 ascends_above low n (false ∷ marks) h = ascends_above low (suc n) marks (omega arith)
 
 ascends_from : (n : ℕ) (marks : List Bool) → Ascends (map node_at (marked_from n marks))

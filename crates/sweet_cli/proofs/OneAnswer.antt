@@ -1,8 +1,8 @@
 -- Told files and words have one answer.
-use Rattle.std.proofs.Common.{◌≡◌, ◌≤◌, ◌<◌, ℕ, List, [], ◌∷◌, Option, None, Some, length, refl, ap, sym, ◌∙◌, subst, arith}
+use Rattle.std.proofs.Common.{◌≡◌, ◌≤◌, ◌<◌, ℕ, List, [], Option, None, Some, length, refl, ap, sym, ◌∙◌, subst, arith}
 use Rattle.std.specs.Prelude.{IsSomeAnd}
 use Rattle.flow_base.specs.Outside.{Files}
-use Rattle.alf_text.specs.Tree.{Entry, Function, Whole}
+use Rattle.alf_text.specs.Tree.{Entry, Whole}
 use Rattle.alf_text.specs.First.{main_alone, IsFirst}
 use Rattle.alf_text.specs.FirstText.{FirstText}
 use Rattle.sweet_cli.specs.Words.{Command, command_of}
@@ -14,18 +14,9 @@ use Rattle.sweet_cli.specs.ReportText.{report_text}
 use Rattle.sweet_cli.specs.Answer.{TextAnswers, not_first, left, done, usage, unread, too_long, read, most_bytes}
 use Rattle.sweet_cli.specs.Laws.{HaveOneAnswer}
 use Rattle.sweet_cli.specs.declared.status.Status.{Status}
+use Rattle.sweet_cli.proofs.Named.{main_items}
 use Rattle.sweet_cli.proofs.OneRun.{report_one, past_apart}
-use Rattle.sweet_cli.proofs.Answered.{some_is}
-
--- the items of the first function
-items_at : List Function → List Entry
-items_at [] = []
-items_at (function ∷ functions) = function.items
-
--- one program has one list of items
-main_items : (f g : List (List ℕ)) (a b : List Entry) → main_alone f a ≡ main_alone g b → a ≡ b
-unfolding items_at
-main_items f g a b h = ap (λ (w : Whole). items_at w.funcs) h
+use Rattle.sweet_cli.proofs.Cutting.{some_is}
 
 module _ (text_one : (bytes : List ℕ) (a b : Whole) → FirstText bytes a → FirstText bytes b → a ≡ b)
     (firsts : (bytes : List ℕ) (whole : Whole) → FirstText bytes whole → IsFirst whole) where

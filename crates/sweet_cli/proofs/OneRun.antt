@@ -4,14 +4,17 @@ use Rattle.alf_ops.specs.declared.history.RunFault.{RunFault}
 use Rattle.alf_text.specs.Tree.{Entry}
 use Rattle.alf_text.specs.First.{main_alone, IsFirst}
 use Rattle.sweet_cli.specs.Blocks.{blocks_of}
-use Rattle.sweet_cli.specs.Nodes.{Node, entry, at_block, Reached, start, step, rank_of, Ascends, OneOf, IsNumbering}
+use Rattle.sweet_cli.specs.Nodes.{Node, entry, node_at, Reached, start, step, rank_of, Ascends, OneOf, IsNumbering}
 use Rattle.sweet_cli.specs.Memory.{History}
 use Rattle.sweet_cli.specs.Runs.{onwards, over, Runs, ends, goes_on, RunsPast, here, on, places_of, cost_of, last_of}
+use Rattle.sweet_cli.specs.Edges.{LabelsAreOne}
 use Rattle.sweet_cli.specs.Facts.{Findings, IsSound, IsReportOf, IsReportWithin, AllHold, IsFactOf, HasAlarm, dead_facts, total_facts, alarms_at, alarm_facts}
 use Rattle.sweet_cli.specs.declared.fact.Fact.{Fact}
 use Rattle.sweet_cli.specs.declared.fact.Fact.TheVariants.{Alarm}
 use Rattle.sweet_cli.proofs.Cutting.{by_test}
-use Rattle.sweet_cli.proofs.OneStep.{LabelsAreOne, labels_one, steps_one, edge_of}
+use Rattle.sweet_cli.proofs.Ranks.{node_back}
+use Rattle.sweet_cli.proofs.Standing.{labels_one}
+use Rattle.sweet_cli.proofs.OneStep.{steps_one, edge_of}
 
 -- what holds behind a step holds behind the same step
 moved : (P : Node → History → Type 0) (a b : Node) (h g : History) → onwards a h ≡ onwards b g → P a h → P b g
@@ -65,11 +68,8 @@ module _ (blocks : List (List Entry)) where
   last_there (goes_on {node = node} x more) = let found = last_there more in (found.0, last_behind node more ∙ found.1, inr found.2)
 
 -- a node is its rank
-pub rank_one : (a b : Node) → rank_of a ≡ rank_of b → a ≡ b
-rank_one entry entry h = refl
-rank_one entry (at_block k) h = absurd (omega arith)
-rank_one (at_block k) entry h = absurd (omega arith)
-rank_one (at_block j) (at_block k) h = let e : j ≡ k = omega arith in ap (λ (x : ℕ). at_block x) e
+rank_one : (a b : Node) → rank_of a ≡ rank_of b → a ≡ b
+rank_one a b h = node_back a ∙ ap node_at h ∙ sym (node_back b)
 
 -- in ascending nodes those behind the first have greater ranks
 above : (a : Node) (nodes : List Node) (n : Node) → Ascends (a ∷ nodes) → OneOf nodes n → rank_of a < rank_of n

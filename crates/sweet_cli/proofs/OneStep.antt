@@ -1,64 +1,16 @@
--- In a first program a label stands in one block, and from a node with a history there is one step.
-use Rattle.std.proofs.Common.{◌≡◌, ◌==◌, ℕ, zero, suc, true, false, List, [], ◌∷◌, ◌++◌, inl, inr, Option, None, Some, refl, ap, sym, ◌∙◌, subst}
-use Rattle.std.proofs.lemmas.List.{same_from_push}
+-- Where each label stands in one block, there is one step from a node with a history.
+use Rattle.std.proofs.Common.{◌≡◌, ◌==◌, ℕ, suc, true, false, List, [], ◌∷◌, inl, inr, Option, None, Some, refl, ap, sym, ◌∙◌, subst}
 use Rattle.alf_ops.specs.declared.history.RunFault.TheVariants.{Uninit}
 use Rattle.alf_text.specs.declared.program.Num.{Num}
-use Rattle.alf_text.specs.Tree.{Nothing, Stores, Jumps, Switches, Calls, Returns, Entry, Labels, Does, Whole}
-use Rattle.alf_text.specs.First.{Among, Each, LabelsDiffer, IsFirstItem, IsLed, EndsWell, main_alone, IsFirst}
-use Rattle.sweet_cli.specs.Blocks.{ends_block, blocks_of}
+use Rattle.alf_text.specs.Tree.{Nothing, Stores, Jumps, Switches, Calls, Returns, Entry, Labels, Does}
+use Rattle.sweet_cli.specs.Blocks.{ends_block}
 use Rattle.sweet_cli.specs.Nodes.{Node, entry, at_block, EndsWith, StandsIn, IsLabelOf, Leads}
 use Rattle.sweet_cli.specs.Nodes as edges
 use Rattle.sweet_cli.specs.Memory.{History, value_of, executed}
 use Rattle.sweet_cli.specs.Runs.{Step, onwards, over, Executes, target_of, Steps, enters, faults, returns, jumps, switches, switch_faults, falls}
-use Rattle.sweet_cli.proofs.Cutting.{some_is, by_test, flat, flat_blocks, among_right, among_flat}
-
--- what a first program's items keep
-pub record Fit (items : List Entry) : Type 0 where
-  pub each : Each IsFirstItem items
-  pub labels : LabelsDiffer items
-  pub led : Each (IsLed items) items
-  pub ends : EndsWell items
-
-items_in : Whole → List Entry
-items_in whole = elim whole.funcs [ [] ↦ [] | func ∷ funcs ↦ func.items ]
-
-pub fit : (frames : List (List ℕ)) (items : List Entry) → IsFirst (main_alone frames items) → Fit items
-unfolding items_in
-fit frames items first =
-    let same : first.items ≡ items = sym (ap items_in first.alone) in
-    subst (λ (x : List Entry). Fit x) same (record { each = first.each; labels = first.labels; led = first.led; ends = first.ends })
-
--- a label stands in one block
-abbrev pub LabelsAreOne : List (List Entry) → Type 0
-LabelsAreOne blocks = (name : List ℕ) (j k : ℕ) → StandsIn blocks j name → StandsIn blocks k name → j ≡ k
-
-differ_behind : (xs ys : List Entry) → LabelsDiffer (xs ++ ys) → LabelsDiffer ys
-differ_behind [] ys h = h
-differ_behind (Labels name ∷ xs) ys h = differ_behind xs ys h.1
-differ_behind (Does act ∷ xs) ys h = differ_behind xs ys h
-
-differ_apart : (xs ys : List Entry) (name : List ℕ) → LabelsDiffer (xs ++ ys) → Among xs (Labels name) → Among ys (Labels name) → ⊥
-differ_apart [] ys name h a b = a
-differ_apart (Labels other ∷ xs) ys name h (inl e) b = h.0 (among_right xs ys (Labels other) (subst (λ (x : Entry). Among ys x) e b))
-differ_apart (Labels other ∷ xs) ys name h (inr a) b = differ_apart xs ys name h.1 a b
-differ_apart (Does act ∷ xs) ys name h (inl e) b = let k : Labels name ≡ Does act = e in cc
-differ_apart (Does act ∷ xs) ys name h (inr a) b = differ_apart xs ys name h a b
-
-one_in : (blocks : List (List Entry)) → LabelsDiffer (flat blocks) → LabelsAreOne blocks
-one_in [] h name j k (a, is, x) there = absurd (let e : None ≡ Some a = is in cc)
-one_in (block ∷ blocks) h name zero zero (a, is, x) (b, at, y) = refl
-one_in (block ∷ blocks) h name zero (suc k) (a, is, x) (b, at, y) = absurd (
-    let here : Among block (Labels name) = subst (λ (z : List Entry). Among z (Labels name)) (sym (some_is is)) x in
-    differ_apart block (flat blocks) name h here (among_flat blocks k b (Labels name) at y))
-one_in (block ∷ blocks) h name (suc j) zero (a, is, x) (b, at, y) = absurd (
-    let here : Among block (Labels name) = subst (λ (z : List Entry). Among z (Labels name)) (sym (some_is at)) y in
-    differ_apart block (flat blocks) name h here (among_flat blocks j a (Labels name) is x))
-one_in (block ∷ blocks) h name (suc j) (suc k) (a, is, x) (b, at, y) =
-    ap (λ (n : ℕ). suc n) (one_in blocks (differ_behind block (flat blocks) h) name j k (a, is, x) (b, at, y))
-
-pub labels_one : (frames : List (List ℕ)) (items : List Entry) → IsFirst (main_alone frames items) → LabelsAreOne (blocks_of items)
-labels_one frames items first =
-    one_in (blocks_of items) (subst (λ (x : List Entry). LabelsDiffer x) (sym (flat_blocks items)) (fit frames items first).labels)
+use Rattle.sweet_cli.specs.Edges.{LabelsAreOne}
+use Rattle.sweet_cli.proofs.Cutting.{some_is, by_test}
+use Rattle.sweet_cli.proofs.Standing.{last_one}
 
 -- the label that a switch takes is one of its labels
 taken_is : (targets : List (Num × List ℕ)) (others : List ℕ) (n : ℕ) → IsLabelOf targets others (target_of targets others n)
@@ -115,9 +67,6 @@ module _ (blocks : List (List Entry)) where
       record { behind = Some behind; executes = x; by = (Does (Switches value targets others), ends, rw is refl) }
   view k (falls _ last {behind = behind} x ends open_) = record { behind = Some behind; executes = x; by = (last, ends, falls_by k behind last open_) }
 
-  last_one : (k : ℕ) (a b : Entry) → EndsWith blocks k a → EndsWith blocks k b → a ≡ b
-  last_one k a b (front, is) (more, at) = (same_from_push front more a b (some_is (sym is ∙ at))).1
-
   executes_one : (k : ℕ) (before : History) (a b : Option History) → Executes blocks k before a → Executes blocks k before b → a ≡ b
   executes_one k before a b x y = sym x.so ∙ ap (λ (z : List Entry). executed before z) (some_is (sym x.is ∙ y.is)) ∙ y.so
 
@@ -139,7 +88,7 @@ module _ (blocks : List (List Entry)) where
     by_history_one : (k : ℕ) (behind : Option History) (a b : Step) → ByHistory k behind a → ByHistory k behind b → a ≡ b
     by_history_one k None a b x y = x ∙ sym y
     by_history_one k (Some behind) a b x y =
-        by_last_one k behind y.0 a b (subst (λ (last : Entry). ByLast k behind last a) (last_one k x.0 y.0 x.1 y.1) x.2) y.2
+        by_last_one k behind y.0 a b (subst (λ (last : Entry). ByLast k behind last a) (last_one blocks k x.0 y.0 x.1 y.1) x.2) y.2
 
     view_one : (k : ℕ) (before : History) (a b : Step) → View k before a → View k before b → a ≡ b
     view_one k before a b x y =

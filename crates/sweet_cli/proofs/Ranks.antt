@@ -1,6 +1,17 @@
--- Ranks in lists.
+-- Ranks of nodes, and ranks in lists.
 use Rattle.std.proofs.Common.{◌≡◌, ◌<◌, ℕ, zero, suc, List, [], ◌∷◌, ◌++◌, ◌⊎◌, inl, inr, get_or, length, refl, arith}
+use Rattle.sweet_cli.specs.Nodes.{Node, entry, at_block, node_at, rank_of}
 use Rattle.sweet_cli.specs.Edges.{IsIn}
+
+-- a rank is that of its node
+pub node_rank : (rank : ℕ) → rank_of (node_at rank) ≡ rank
+node_rank zero = refl
+node_rank (suc k) = refl
+
+-- and a node that of its rank
+pub node_back : (node : Node) → node ≡ node_at (rank_of node)
+node_back entry = refl
+node_back (at_block k) = refl
 
 -- in a longer list
 pub in_front : (xs ys : List ℕ) (rank : ℕ) → IsIn xs rank → IsIn (xs ++ ys) rank

@@ -1,18 +1,14 @@
 -- What stands for the names of frames and for labels.
-use Rattle.std.proofs.Common.{◌≡◌, ◌<◌, ◌+◌, ◌==◌, ℕ, zero, suc, List, [], ◌∷◌, ◌++◌, inl, inr, Option, Some, option_map, slice_get, get_or, map, take, drop, drop-cons, add-one, length, refl, ap, sym, ◌∙◌, subst, arith}
+use Rattle.std.proofs.Common.{◌≡◌, ◌<◌, ◌+◌, ◌==◌, ℕ, zero, suc, List, [], ◌∷◌, ◌++◌, inl, inr, get_or, take, drop, add-one, length, refl, sym, subst, arith}
 use Rattle.std.proofs.Math.Seq.{take-suc}
-use Rattle.std.proofs.lemmas.List.{length-map}
-use Rattle.std.proofs.lemmas.Option.{slice_get-get_or, slice_get_within, slice_get-map}
 use Rattle.alf_text.specs.declared.program.Alloc.{Alloc}
 use Rattle.alf_text.specs.declared.program.Num.{Num}
-use Rattle.alf_text.specs.Tree.{Entry, Labels, names_of}
-use Rattle.alf_text.specs.First.{Among, Named, EachTarget}
+use Rattle.alf_text.specs.Tree.{Entry, names_of}
+use Rattle.alf_text.specs.First.{Named, EachTarget}
 use Rattle.sweet_cli.specs.Nodes.{StandsIn}
-use Rattle.sweet_cli.specs.declared.blocks.Block.{Block}
-use Rattle.sweet_cli.specs.Cut.{block_meant}
 use Rattle.sweet_cli.specs.Runs.{target_of}
 use Rattle.sweet_cli.specs.Resolved.{name_at, AreTargets, chosen}
-use Rattle.sweet_cli.proofs.Cutting.{some_is, by_test}
+use Rattle.sweet_cli.proofs.Cutting.{by_test, front}
 
 -- ---- frames
 
@@ -25,30 +21,14 @@ name_there (alloc ∷ decls) (suc i) d low = name_there decls i d (omega arith)
 pub next_named : (decls : List Alloc) (i : ℕ) (d : Alloc) (name : List ℕ) → i < length decls → Named (names_of (drop i decls)) name → ((get_or decls i d).name ≡ name → ⊥)
     → Named (names_of (drop (i + 1) decls)) name
 next_named decls i d name low named other =
-    let more : drop i decls ≡ get_or decls i d ∷ drop (i + 1) decls = rw add-one (drop-cons decls i d low) in
-    elim (subst (λ (x : List Alloc). Named (names_of x) name) more named) [ inl same ↦ absurd (other (sym same)) | inr later ↦ later ]
-
--- ---- labels
-
-pub block_there : (blocks : List Block) (k : ℕ) (d : Block) → k < length blocks → slice_get (map block_meant blocks) k ≡ Some (block_meant (get_or blocks k d))
-block_there blocks k d low = slice_get-map block_meant blocks k ∙ ap (λ (x : Option Block). option_map block_meant x) (slice_get-get_or blocks k d low)
-
-pub stands_not : (blocks : List Block) (k : ℕ) (d : Block) (label : List ℕ) → k < length blocks → (Among (block_meant (get_or blocks k d)) (Labels label) → ⊥)
-    → StandsIn (map block_meant blocks) k label → ⊥
-stands_not blocks k d label low none (block, is, among) =
-    none (subst (λ (x : List Entry). Among x (Labels label)) (some_is (sym is ∙ block_there blocks k d low)) among)
-
-pub stands_low : (blocks : List Block) (k : ℕ) (label : List ℕ) → StandsIn (map block_meant blocks) k label → k < length blocks
-stands_low blocks k label (block, is, among) = let low = slice_get_within (map block_meant blocks) k block is in simp length-map at low
+    elim (subst (λ (x : List Alloc). Named (names_of x) name) (front decls i d low) named) [ inl same ↦ absurd (other (sym same)) | inr later ↦ later ]
 
 -- ---- targets
 
 -- the target of this place, and those behind it
 pub next_target : (P : Num × List ℕ → Type 0) (targets : List (Num × List ℕ)) (i : ℕ) (d : Num × List ℕ) → i < length targets → EachTarget P (drop i targets)
     → P (get_or targets i d) × EachTarget P (drop (i + 1) targets)
-next_target P targets i d low each =
-    let more : drop i targets ≡ get_or targets i d ∷ drop (i + 1) targets = rw add-one (drop-cons targets i d low) in
-    subst (λ (x : List (Num × List ℕ)). EachTarget P x) more each
+next_target P targets i d low each = subst (λ (x : List (Num × List ℕ)). EachTarget P x) (front targets i d low) each
 
 module _ (blocks : List (List Entry)) where
   -- one more target

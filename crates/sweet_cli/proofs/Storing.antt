@@ -1,5 +1,5 @@
 -- A store changes one cell.
-use Rattle.std.proofs.Common.{◌≡◌, ◌≢◌, ◌<◌, ◌+◌, ℕ, zero, suc, true, false, List, [], ◌∷◌, inl, inr, Option, None, Some, get_or, set, length, length-set, get_or-set_other, ◌==◌, ◌≤◌, drop, drop-cons, add-one, refl, ap, sym, ◌∙◌, subst, arith, rules}
+use Rattle.std.proofs.Common.{◌≡◌, ◌≢◌, ◌<◌, ◌+◌, ℕ, zero, suc, true, false, List, [], ◌∷◌, inl, inr, Option, None, Some, get_or, set, length, length-set, get_or-set_other, ◌==◌, ◌≤◌, drop, refl, ap, sym, ◌∙◌, subst, arith, rules}
 use Rattle.std.specs.Prelude.{option_and_then}
 use Rattle.std.specs.Str.{bytes_eq}
 use Rattle.std.proofs.Math.ListN.{drop_of_length-le}
@@ -11,7 +11,7 @@ use Rattle.sweet_cli.specs.Memory.{History, stored_in}
 use Rattle.sweet_cli.specs.Resolved.{name_at, operand_value, PutWithin, PutsWithin, puts_executed}
 use Rattle.sweet_cli.specs.Cells.{AreCells}
 use Rattle.sweet_cli.specs.declared.operand.Put.{Put}
-use Rattle.sweet_cli.proofs.Cutting.{by_test}
+use Rattle.sweet_cli.proofs.Cutting.{by_test, front}
 
 -- the cells behind some of the stores
 pub record PutSoFar (frames : List (List ℕ)) (history : History) (puts rest : List Put) (cells : List (Option ℕ)) : Type 0 where
@@ -59,9 +59,6 @@ one_put frames history cells cell word differ are low =
           (λ miss. miss) in
           rw miss (kept ∙ are.each i within));
     }
-
-front : {A : Type 0} (xs : List A) (n : ℕ) (d : A) → n < length xs → drop n xs ≡ get_or xs n d ∷ drop (n + 1) xs
-front xs n d low = rw add-one (drop-cons xs n d low)
 
 -- the first of the stores that are left
 pub first_within : (count : ℕ) (puts : List Put) (n : ℕ) (d : Put) → n < length puts → PutsWithin count (drop n puts)

@@ -1,29 +1,25 @@
 -- What holds from turn to turn of a run.
-use Rattle.std.proofs.Common.{◌≡◌, ◌≢◌, ◌<◌, ◌≤◌, ◌+◌, ℕ, zero, suc, add-one, zero-add, replicate, get_or, cond, ◌==◌, List, [], ◌∷◌, ◌++◌, length, set, Option, None, Some, sum, refl, ap, sym, ◌∙◌, subst, append_assoc, length-append, length-set, get_or-set_other, arith, rules}
-use Rattle.std.proofs.lemmas.List.Sums.{sum_by-cons, sum_by_push, sum_by-set}
+use Rattle.std.proofs.Common.{◌≡◌, ◌≢◌, ◌<◌, ◌≤◌, ◌+◌, ℕ, suc, add-one, zero-add, replicate, get_or, cond, ◌==◌, List, [], ◌∷◌, ◌++◌, length, set, Option, None, Some, sum, refl, ap, sym, ◌∙◌, subst, append_assoc, length-append, length-set, get_or-set_other, arith, rules}
+use Rattle.std.proofs.lemmas.List.Folds.{sum_by-replicate}
+use Rattle.std.proofs.lemmas.List.Sums.{sum_by_push, sum_by-set}
 use Rattle.std.proofs.lemmas.Grind.{get_or_default_zero, get_or-set_at}
-use Rattle.std.proofs.lemmas.List.{length-replicate}
+use Rattle.std.proofs.lemmas.List.{get_or-replicate, length-replicate}
 use Rattle.alf_ops.specs.declared.history.RunFault.{RunFault}
 use Rattle.alf_ops.specs.declared.history.RunFault.TheVariants.{Uninit}
 use Rattle.alf_text.specs.Tree.{Entry}
 use Rattle.sweet_cli.specs.Nodes.{Node, entry, at_block, node_at, rank_of}
 use Rattle.sweet_cli.specs.Memory.{History}
 use Rattle.sweet_cli.specs.Runs.{Steps, onwards, over, Runs, ends, goes_on, RunsPast, here, on, places_of, last_of}
-use Rattle.sweet_cli.specs.Tally.{IsTally}
+use Rattle.sweet_cli.specs.Tally.{IsCount, IsTally}
 use Rattle.sweet_cli.specs.Cells.{AreCells, Did}
 use Rattle.sweet_cli.specs.declared.moves.Move.{Move}
 use Rattle.sweet_cli.proofs.Cutting.{by_test}
+use Rattle.sweet_cli.proofs.Ranks.{node_rank}
 
 -- what completes the run from this node with this history completes the whole
 pub record OnTheWay (blocks : List (List Entry)) (trace : List Node) (node : Node) (history : History) : Type 0 where
   pub forth : (rest : List Node) (fault : Option RunFault) → Runs blocks node history rest fault → Runs blocks entry [] (trace ++ rest) fault
   pub past : (n : ℕ) → RunsPast blocks node history n → RunsPast blocks entry [] (length trace + n)
-
--- the counts of a run so far
-pub record IsCount (blocks : List (List Entry)) (trace : List Node) (counts : List ℕ) : Type 0 where
-  pub long : length counts ≡ suc (length blocks)
-  pub each : (rank : ℕ) → rank < length counts → get_or counts rank 0 ≡ places_of (node_at rank) trace
-  pub all : sum counts ≡ length trace
 
 -- a run so far, behind this turn
 pub record SoFar (frames : List (List ℕ)) (blocks : List (List Entry)) (counts : List ℕ) (cells : List (Option ℕ)) (at turn : ℕ) : Type 0 where
@@ -58,10 +54,6 @@ pub did_as : (frames : List (List ℕ)) (blocks : List (List Entry)) (at : ℕ) 
     → AreCells frames history cells → move ≡ out → (AreCells frames history given → Did frames blocks at history after move) → Did frames blocks at history after out
 did_as frames blocks at history given cells after move out same are is did =
     subst (λ (x : Move). Did frames blocks at history after x) is (did (subst (λ (x : List (Option ℕ)). AreCells frames history x) (sym same) are))
-
-node_rank : (rank : ℕ) → rank_of (node_at rank) ≡ rank
-node_rank zero = refl
-node_rank (suc k) = refl
 
 places_push : (rank at : ℕ) (trace : List Node) → places_of (node_at rank) (trace ++ node_at at ∷ []) ≡ places_of (node_at rank) trace + cond (at == rank) 1 0
 places_push rank at trace =
@@ -103,41 +95,27 @@ last_push [] node = refl
 last_push (other ∷ []) node = refl
 last_push (other ∷ next ∷ trace) node = last_push (next ∷ trace) node
 
--- the tally of a run that ends, or faults at this node
-pub tally_ends : (blocks : List (List Entry)) (trace : List Node) (counts : List ℕ) → IsCount blocks trace counts → IsTally blocks trace None counts None
-tally_ends blocks trace counts count = record { long = count.long; each = count.each; all = count.all; ended = tt }
-
-pub tally_faults : (blocks : List (List Entry)) (trace : List Node) (counts : List ℕ) (at : ℕ) → IsCount blocks (trace ++ node_at at ∷ []) counts
-    → IsTally blocks (trace ++ node_at at ∷ []) (Some Uninit) counts (Some at)
-tally_faults blocks trace counts at count = record { long = count.long; each = count.each; all = count.all; ended = (refl, last_push trace (node_at at)) }
-
-all_default : {A : Type 0} {d : A} (n i : ℕ) → get_or (replicate n d) i d ≡ d
-all_default zero i = refl
-all_default (suc n) zero = refl
-all_default (suc n) (suc i) = all_default n i
-
-no_sum : (n : ℕ) → sum (replicate n 0) ≡ 0
-no_sum zero = refl
-no_sum (suc n) = sum_by-cons (λ x. x) 0 (replicate n 0) ∙ zero-add (sum (replicate n 0)) ∙ no_sum n
-
 -- no run so far
 pub none_yet : (frames : List (List ℕ)) (blocks : List (List Entry)) (n m : ℕ) (counts : List ℕ) (cells : List (Option ℕ)) → n ≡ suc (length blocks) → m ≡ length frames
     → counts ≡ replicate n 0 → cells ≡ replicate m None → SoFar frames blocks counts cells 0 0
-none_yet frames blocks n m counts cells long many zeros nones = record {
-  trace = [];
-  history = [];
-  way = record { forth = λ rest fault h. h; past = λ n h. subst (λ (x : ℕ). RunsPast blocks entry [] x) (sym (zero-add n)) h };
-  held = record {
-    long = ap length nones ∙ length-replicate m None ∙ many;
-    each = λ i low. ap (λ (x : List (Option ℕ)). get_or x i None) nones ∙ all_default m i;
-  };
-  long = refl;
-  count = record {
-    long = ap length zeros ∙ length-replicate n 0 ∙ long;
-    each = λ rank low. ap (λ (x : List ℕ). get_or x rank 0) zeros ∙ all_default n rank;
-    all = ap sum zeros ∙ no_sum n;
-  };
-}
+none_yet frames blocks n m counts cells long many zeros nones =
+    let cells_long : length cells ≡ m = ap length nones ∙ length-replicate m None in
+    let counts_long : length counts ≡ n = ap length zeros ∙ length-replicate n 0 in
+    record {
+      trace = [];
+      history = [];
+      way = record { forth = λ rest fault h. h; past = λ n h. subst (λ (x : ℕ). RunsPast blocks entry [] x) (sym (zero-add n)) h };
+      held = record {
+        long = cells_long ∙ many;
+        each = λ i low. ap (λ (x : List (Option ℕ)). get_or x i None) nones ∙ get_or-replicate m i None None (omega arith);
+      };
+      long = refl;
+      count = record {
+        long = counts_long ∙ long;
+        each = λ rank low. ap (λ (x : List ℕ). get_or x rank 0) zeros ∙ get_or-replicate n rank 0 0 (omega arith);
+        all = ap sum zeros ∙ (let all = sum_by-replicate (λ x. x) n 0 in omega arith);
+      };
+    }
 
 module _ (frames : List (List ℕ)) (blocks : List (List Entry)) (counts : List ℕ) (cells : List (Option ℕ)) (at turn one : ℕ) (low : at ≤ length blocks) (is : one ≡ get_or counts at one)
     (so : SoFar frames blocks counts cells at turn) where
@@ -163,9 +141,9 @@ module _ (frames : List (List ℕ)) (blocks : List (List Entry)) (counts : List 
   pub ends_here : (turns : ℕ) → turn < turns → Steps blocks (node_at at) so.history (over None)
       → (trace : List Node) × (fault : Option RunFault) × Runs blocks entry [] trace fault × (length trace ≤ turns) × IsTally blocks trace fault (set counts at (one + 1)) None
   ends_here turns few is_over =
-      (so.trace ++ node_at at ∷ [], None, at_the_end blocks so.trace (node_at at) so.history so.way None is_over, (let long = longer in omega arith), tally_ends blocks (so.trace ++ node_at at ∷ []) (set counts at (one + 1)) counted_on)
+      (so.trace ++ node_at at ∷ [], None, at_the_end blocks so.trace (node_at at) so.history so.way None is_over, (let long = longer in omega arith), record { count = counted_on; ended = tt })
 
   pub faults_here : (turns : ℕ) → turn < turns → Steps blocks (node_at at) so.history (over (Some Uninit))
       → (trace : List Node) × (fault : Option RunFault) × Runs blocks entry [] trace fault × (length trace ≤ turns) × IsTally blocks trace fault (set counts at (one + 1)) (Some at)
   faults_here turns few is_over =
-      (so.trace ++ node_at at ∷ [], Some Uninit, at_the_end blocks so.trace (node_at at) so.history so.way (Some Uninit) is_over, (let long = longer in omega arith), tally_faults blocks so.trace (set counts at (one + 1)) at counted_on)
+      (so.trace ++ node_at at ∷ [], Some Uninit, at_the_end blocks so.trace (node_at at) so.history so.way (Some Uninit) is_over, (let long = longer in omega arith), record { count = counted_on; ended = (refl, last_push so.trace (node_at at)) })

@@ -13,6 +13,7 @@
 --   AreTargets blocks targets found        the targets of a switch, with numbers of blocks in place of labels
 --   chosen found others n                  the block of the first target of this number, else the last one
 --   IsChoice frames blocks k cell found rest   the block of this number ends with a switch on this cell, to these blocks
+--   LeadsOn blocks k to                    control goes from the block of this number to that one
 --   IsEnd frames blocks k end              the end of the block of this number
 --   IsCodeOf frames blocks k code          the code of the block of this number
 --   AreCodes frames blocks codes           the codes of all blocks, in order
@@ -134,10 +135,14 @@ pub record IsChoice (frames : List (List ℕ)) (blocks : List (List Entry)) (k c
   pub loads : (history : History) → value_of history on ≡ newest history (name_at frames cell)
   pub leads : (n : ℕ) → StandsIn blocks (chosen found rest n) (target_of targets others n)
 
+-- control goes from a block to another
+abbrev pub LeadsOn : List (List Entry) → ℕ → ℕ → Type 0
+LeadsOn blocks k to =
+    (to < length blocks) × ((before behind : History) → Executes blocks k before (Some behind) → Steps blocks (at_block k) before (onwards (at_block to) behind))
+
 -- the end of the block of this number
 abbrev pub IsEnd : List (List ℕ) → List (List Entry) → ℕ → End → Type 0
-IsEnd frames blocks k (To to) =
-    (to < length blocks) × ((before behind : History) → Executes blocks k before (Some behind) → Steps blocks (at_block k) before (onwards (at_block to) behind))
+IsEnd frames blocks k (To to) = LeadsOn blocks k to
 IsEnd frames blocks k (Choose cell found rest) = IsChoice frames blocks k cell found.items rest
 IsEnd frames blocks k Stop = EndsWith blocks k (Does (Returns None))
 

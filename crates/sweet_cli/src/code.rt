@@ -1,11 +1,10 @@
-ghost use Rattle.std.specs.Prelude.{◌≡◌, ◌<◌, ℕ, suc, false, map, length, IfOk};
+ghost use Rattle.std.specs.Prelude.{◌≡◌, ◌<◌, ℕ, map, length, IfOk};
 ghost use Rattle.alf_text.specs.Tree.{item_of, names_of};
 ghost use Rattle.alf_text.specs.First.{IsFirstItem, NamesFrames, Each, EachTarget, IsWord};
-ghost use Rattle.sweet_cli.specs.Blocks.{ends_block};
-ghost use Rattle.sweet_cli.specs.Nodes.{EndsWith};
+ghost use Rattle.sweet_cli.specs.Nodes.{EndsWith, StandsIn};
 ghost use Rattle.sweet_cli.specs.Cut.{block_meant};
 ghost use Rattle.sweet_cli.specs.Memory.{History, executed};
-ghost use Rattle.sweet_cli.specs.Resolved.{puts_executed, PutsWithin, Stands, IsLedIn, CanResolve, AreTargets, IsEnd, IsCodeOf, AreCodes};
+ghost use Rattle.sweet_cli.specs.Resolved.{puts_executed, PutsWithin, Stands, LeadsWell, CanResolve, AreTargets, IsEnd, IsCodeOf, AreCodes};
 
 use crate::blocks::Block;
 use crate::labels::block_of_label;
@@ -102,21 +101,18 @@ fn end_behind(
     last: &Item,
 ) -> Result<End, AllocError>
     requires ends { EndsWith (map block_meant blocks.now) k (item_of last.now) }
-    requires first { IsFirstItem (item_of last.now) }
-    requires declared { NamesFrames (names_of decls.now) (item_of last.now) }
-    requires led { IsLedIn (map block_meant blocks.now) (item_of last.now) }
-    requires on { ends_block (item_of last.now) ≡ false → suc k < length blocks.now }
+    requires leads { LeadsWell (names_of decls.now) (map block_meant blocks.now) k (item_of last.now) }
     ensures { IfOk result (λ end. IsEnd (names_of decls.now) (map block_meant blocks.now) k end) }
 {
     match last {
         Item::Label(_) => Ok(End::To(k + 1)),
         Item::Stmt(Stmt::Null) => Ok(End::To(k + 1)),
         Item::Stmt(Stmt::Store(_, _)) => Ok(End::To(k + 1)),
-        Item::Stmt(Stmt::Jump(label)) => Ok(End::To(block_of_label(blocks, label))),
+        Item::Stmt(Stmt::Jump(label)) => Ok(End::To(block_to(blocks, label))),
         Item::Stmt(Stmt::Switch(value, targets, others)) => {
             let cell = cell_of_load(decls, value);
             let targets = resolved(alloc, blocks, targets)?;
-            Ok(End::Choose(cell, targets, block_of_label(blocks, others)))
+            Ok(End::Choose(cell, targets, block_to(blocks, others)))
         }
         Item::Stmt(Stmt::Call(_, _, _)) => unreachable!(),
         Item::Stmt(Stmt::Return(_)) => Ok(End::Stop),
@@ -135,8 +131,19 @@ fn resolved(
 {
     let mut found = Vec::new(alloc);
     for (number, label) in targets {
-        let to = block_of_label(blocks, label);
+        let to = block_to(blocks, label);
         found.push((number.bits as u32, to))?;
     }
     Ok(found)
+}
+
+// The block in which the label stands.
+fn block_to(blocks: &[Block<'_>], label: &Name) -> usize
+    requires { Stands (map block_meant blocks.now) label.now }
+    ensures { StandsIn (map block_meant blocks.now) result label.now }
+{
+    match block_of_label(blocks, label) {
+        None => unreachable!(),
+        Some(block) => block,
+    }
 }

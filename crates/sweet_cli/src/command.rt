@@ -1,4 +1,4 @@
-ghost use Rattle.std.specs.Prelude.{◌≡◌, ◌≤◌, ◌<◌, List, ℕ, map, None, Some, IsNone, IfSome, string_bytes};
+ghost use Rattle.std.specs.Prelude.{◌≡◌, ◌<◌, map, None, Some, IsNone, IfSome, string_bytes};
 ghost use Rattle.sweet_cli.specs.Words.{command_of, turns_in, is_file};
 ghost use Rattle.sweet_cli.specs.Meant.{command_meant};
 

@@ -1,12 +1,11 @@
-ghost use Rattle.std.specs.Prelude.{◌≡◌, ◌<◌, ◌⊎◌, ℕ, suc, [], ◌∷◌, map, length, IfOk, OnOk, IfSome, IfNone, IsTrue, ◌↔◌};
-ghost use Rattle.alf_text.specs.Tree.{Labels, item_of};
-ghost use Rattle.alf_text.specs.First.{Among};
-ghost use Rattle.sweet_cli.specs.Nodes.{EndsWith, StandsIn};
+ghost use Rattle.std.specs.Prelude.{◌≡◌, ◌<◌, ◌⊎◌, ℕ, suc, [], ◌∷◌, map, length, IfOk, OnOk, ◌↔◌};
+ghost use Rattle.alf_text.specs.Tree.{item_of};
+ghost use Rattle.sweet_cli.specs.Nodes.{EndsWith};
 ghost use Rattle.sweet_cli.specs.Cut.{block_meant};
 ghost use Rattle.sweet_cli.specs.Edges.{IsIn, LabelsAreOne, FallsWithin, IsRankOf, IsTarget, IsRow, IsTable, rows_of};
 
 use crate::blocks::Block;
-use crate::labels::has_label;
+use crate::labels::block_of_label;
 use alf_text::{Item, Num, Stmt};
 use flow_base::Name;
 use std::alloc::{AllocError, Global};
@@ -100,22 +99,9 @@ fn push_rank(ranks: &mut Vec<usize>, blocks: &[Block<'_>], label: &Name) -> Resu
     requires labels { LabelsAreOne (map block_meant blocks.now) }
     ensures { OnOk result ((to : ℕ) → IsIn ranks.new.items to ↔ (IsIn ranks.old.items to ⊎ IsRankOf (map block_meant blocks.now) label.now to)) }
 {
-    match rank_of_label(blocks, label) {
+    match block_of_label(blocks, label) {
         None => {}
-        Some(rank) => ranks.push(rank)?,
+        Some(block) => ranks.push(block + 1)?,
     }
     Ok(())
-}
-
-// The rank of the first block in which the label stands.
-fn rank_of_label(blocks: &[Block<'_>], label: &Name) -> Option<usize>
-    ensures found { IfSome result (IsRankOf (map block_meant blocks.now) label.now) }
-    ensures none { IfNone result ((k : ℕ) → StandsIn (map block_meant blocks.now) k label.now → ⊥) }
-{
-    for k in 0..blocks.len() {
-        if has_label(blocks[k].items, label) {
-            return Some(k + 1);
-        }
-    }
-    None
 }

@@ -1,5 +1,5 @@
 ghost use Rattle.std.specs.Prelude.{◌≡◌, ◌<◌, ◌≤◌, ◌^◌, ◌++◌, sum, drop, length, slice_index, EachIndex, IfOk, OnOk};
-ghost use Rattle.sweet_cli.specs.Listed.{dead_from, totals_from, alarms_from, alarm_of, listed};
+ghost use Rattle.sweet_cli.specs.Listed.{dead_from, totals_from, alarm_of, listed};
 
 use crate::tally::Tally;
 use crate::{Fact, Report};

@@ -1,29 +1,28 @@
-ghost use Rattle.std.specs.Prelude.{◌≡◌, map, IsTrue, ◌↔◌};
+ghost use Rattle.std.specs.Prelude.{◌≡◌, ℕ, map, IfSome, IfNone, IsTrue, ◌↔◌};
 ghost use Rattle.alf_text.specs.Tree.{Labels, item_of};
 ghost use Rattle.alf_text.specs.First.{Among};
 ghost use Rattle.sweet_cli.specs.Nodes.{StandsIn};
 ghost use Rattle.sweet_cli.specs.Cut.{block_meant};
-ghost use Rattle.sweet_cli.specs.Resolved.{Stands};
 
 use crate::blocks::Block;
 use alf_text::Item;
 use flow_base::Name;
 
 /// The number of the first block in which the label stands.
-pub fn block_of_label(blocks: &[Block<'_>], label: &Name) -> usize
-    requires { Stands (map block_meant blocks.now) label.now }
-    ensures { StandsIn (map block_meant blocks.now) result label.now }
+pub fn block_of_label(blocks: &[Block<'_>], label: &Name) -> Option<usize>
+    ensures found { IfSome result (λ k. StandsIn (map block_meant blocks.now) k label.now) }
+    ensures none { IfNone result ((k : ℕ) → StandsIn (map block_meant blocks.now) k label.now → ⊥) }
 {
     for k in 0..blocks.len() {
         if has_label(blocks[k].items, label) {
-            return k;
+            return Some(k);
         }
     }
-    unreachable!()
+    None
 }
 
-/// Whether the label stands among the items.
-pub fn has_label(items: &[Item], label: &Name) -> bool
+// Whether the label stands among the items.
+fn has_label(items: &[Item], label: &Name) -> bool
     ensures { IsTrue result ↔ Among (map item_of items.now) (Labels label.now) }
 {
     for item in items {

@@ -1,4 +1,4 @@
-ghost use Rattle.std.specs.Prelude.{◌≡◌, ◌≤◌, ◌<◌, ℕ, List, [], Option, map, length, IfOk, IfNone, IfSome};
+ghost use Rattle.std.specs.Prelude.{◌≡◌, ◌≤◌, ◌<◌, List, [], Option, map, length, IfOk, IfNone, IfSome};
 ghost use Rattle.alf_ops.specs.declared.history.RunFault.{RunFault};
 ghost use Rattle.alf_text.specs.Tree.{item_of, names_of};
 ghost use Rattle.alf_text.specs.First.{main_alone, IsFirst, NamesDiffer};

@@ -12,7 +12,7 @@ report-requires-clause-within c =
     let run = rw c.in-Some.is at c.in_ok-tally.ensures.done in
     let same : c.in_ok-kept.kept.items ≡ c.deref-3.result.now = search rules in
     let numbered = subst (λ (x : List ℕ). IsNumbering (blocks_of items) (map node_at x)) same c.in_ok-kept.ensures in
-    kept_low (names_of c.args.decls.now) items c.deref-3.result.now c.in-Some.tally.counts.items c.requires numbered run.4.long
+    kept_low (names_of c.args.decls.now) items c.deref-3.result.now c.in-Some.tally.counts.items c.requires numbered run.4.count.long
 
 pub returns-clause-done : goal.returns-clause-done
 returns-clause-done c =

@@ -1,19 +1,20 @@
 use Rattle.std.proofs.Common.{List, ℕ, map, sym, subst}
+use Rattle.std.proofs.lemmas.Result.{IfOk-weaker}
 use Rattle.alf_text.specs.Tree.{Whole, item_of, names_of}
 use Rattle.alf_text.specs.FirstText.{FirstText}
 use Rattle.sweet_cli.specs.Facts.{findings_of}
 use Rattle.sweet_cli.specs.Answer.{TextAnswers, left, done}
 use Rattle.sweet_cli.specs.declared.status.Status.TheVariants.{Done}
-use Rattle.sweet_cli.proofs.Answered.{mapped, put}
+use Rattle.sweet_cli.proofs.Answered.{put}
 use Rattle.sweet_cli.proofs.answer.program_answer.Goals as goal
 
 pub returns-in_default-clause-answer : goal.returns-in_default-clause-answer
 returns-in_default-clause-answer c =
     λ bytes text.
     let past = rw c.in_default.is at c.in_ok-report.ensures.left in
-    mapped c.said.result c.said.ensures
+    IfOk-weaker c.said.result _ _
     (λ a h. put (TextAnswers bytes c.args.turns) _ _ _ _
-    (left (names_of c.args.program.now.decls.items) (map item_of c.items_of_main.result.now) (subst (λ (x : Whole). FirstText bytes x) c.items_of_main.ensures text) past) h)
+    (left (names_of c.args.program.now.decls.items) (map item_of c.items_of_main.result.now) (subst (λ (x : Whole). FirstText bytes x) c.items_of_main.ensures text) past) h) c.said.ensures
 
 pub returns-clause-answer : goal.returns-clause-answer
 returns-clause-answer c =

@@ -1,7 +1,8 @@
 use Rattle.std.proofs.Common.{ap, Err}
+use Rattle.std.proofs.lemmas.Result.{IfOk-weaker}
 use Rattle.alf_text.specs.Tree.{whole_of}
 use Rattle.sweet_cli.specs.Answer.{TextAnswers, not_first}
-use Rattle.sweet_cli.proofs.Answered.{mapped, put}
+use Rattle.sweet_cli.proofs.Answered.{put}
 use Rattle.sweet_cli.proofs.answer.text_answer.Goals as goal
 
 pub program_answer-requires : goal.program_answer-requires
@@ -9,5 +10,5 @@ program_answer-requires c = c.first_texts.ensures.first c.args.bytes.now (whole_
 
 pub returns-in-Err-NotFirst-clause-answer : goal.returns-in-Err-NotFirst-clause-answer
 returns-in-Err-NotFirst-clause-answer c =
-    mapped c.said.result c.said.ensures
-    (λ a h. put (TextAnswers c.args.bytes.now c.args.turns) _ _ _ _ (not_first (c.in-Err-NotFirst.ensures.not_first (ap (λ x. Err x) c.in-Err-NotFirst.field-0-is))) h)
+    IfOk-weaker c.said.result _ _
+    (λ a h. put (TextAnswers c.args.bytes.now c.args.turns) _ _ _ _ (not_first (c.in-Err-NotFirst.ensures.not_first (ap (λ x. Err x) c.in-Err-NotFirst.field-0-is))) h) c.said.ensures

@@ -1,30 +1,31 @@
 use Rattle.std.proofs.Common.{subst, refl, map, string_bytes, List, ℕ}
+use Rattle.std.proofs.lemmas.Result.{IfOk-weaker}
 use Rattle.flow_base.specs.Read.{IsTooLongFor}
 use Rattle.sweet_cli.specs.Meant.{command_meant}
 use Rattle.sweet_cli.specs.Answer.{TextAnswers, Answers, usage, unread, too_long, read}
-use Rattle.sweet_cli.proofs.Answered.{mapped, put, within_is}
+use Rattle.sweet_cli.proofs.Answered.{put, within_is}
 use Rattle.sweet_cli.proofs.answer.words_answer.Goals as goal
 
 pub returns-in_default-clause-answer : goal.returns-in_default-clause-answer
 returns-in_default-clause-answer g c =
-    mapped c.said.result c.said.ensures
-    (λ a h. put (Answers (map string_bytes c.args.words.now) (g.F.Shelf.files c.args.shelf.now)) _ _ _ _ (usage (c.in_default.ensures.none refl)) h)
+    IfOk-weaker c.said.result _ _
+    (λ a h. put (Answers (map string_bytes c.args.words.now) (g.F.Shelf.files c.args.shelf.now)) _ _ _ _ (usage (c.in_default.ensures.none refl)) h) c.said.ensures
 
 pub returns-in-Ok-clause-answer : goal.returns-in-Ok-clause-answer
 returns-in-Ok-clause-answer g c =
-    mapped c.text_answer.result c.text_answer.ensures.answer
+    IfOk-weaker c.text_answer.result _ _
     (λ a h. read (command_meant c.in-Some.command) c.in-Ok.bytes.items c.in-Some.ensures.meant (within_is c.in-Ok.bytes c.in-Ok.ensures.within) c.in-Ok.ensures.told
-    (subst (λ (x : List ℕ). TextAnswers x c.in-Some.command.turns a.status (string_bytes a.text)) c.deref.ensures.value h))
+    (subst (λ (x : List ℕ). TextAnswers x c.in-Some.command.turns a.status (string_bytes a.text)) c.deref.ensures.value h)) c.text_answer.ensures.answer
 
 pub returns-in-Err-Failed-clause-answer : goal.returns-in-Err-Failed-clause-answer
 returns-in-Err-Failed-clause-answer g c =
-    mapped c.said-in-Err-Failed.result c.said-in-Err-Failed.ensures
+    IfOk-weaker c.said-in-Err-Failed.result _ _
     (λ a h. put (Answers (map string_bytes c.args.words.now) (g.F.Shelf.files c.args.shelf.now)) _ _ _ _
-    (unread (command_meant c.in-Some.command) c.in-Some.ensures.meant) h)
+    (unread (command_meant c.in-Some.command) c.in-Some.ensures.meant) h) c.said-in-Err-Failed.ensures
 
 pub returns-in-Err-TooLong-clause-answer : goal.returns-in-Err-TooLong-clause-answer
 returns-in-Err-TooLong-clause-answer g c =
     let long = subst (λ x. IsTooLongFor (g.F.Shelf.files c.args.shelf.now) c.in-Some.command.file.now 1048576 x) c.in-Err-TooLong.field-0-is c.in-Err-TooLong.ensures.too_long in
-    mapped c.said-in-Err-TooLong.result c.said-in-Err-TooLong.ensures
+    IfOk-weaker c.said-in-Err-TooLong.result _ _
     (λ a h. put (Answers (map string_bytes c.args.words.now) (g.F.Shelf.files c.args.shelf.now)) _ _ _ _
-    (too_long (command_meant c.in-Some.command) c.in-Some.ensures.meant long.1) h)
+    (too_long (command_meant c.in-Some.command) c.in-Some.ensures.meant long.1) h) c.said-in-Err-TooLong.ensures

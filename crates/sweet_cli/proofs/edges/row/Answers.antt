@@ -1,7 +1,8 @@
 use Rattle.std.proofs.Common.{ℕ, List, suc, map, subst, sym}
 use Rattle.sweet_cli.specs.Cut.{block_meant}
 use Rattle.sweet_cli.specs.Edges.{IsRow}
-use Rattle.sweet_cli.proofs.Leading.{ends_with, empty_leads}
+use Rattle.sweet_cli.proofs.Standing.{ends_with}
+use Rattle.sweet_cli.proofs.Leading.{empty_leads}
 use Rattle.sweet_cli.proofs.edges.row.Goals as goal
 
 pub row_behind-requires-clause-ends : goal.row_behind-requires-clause-ends

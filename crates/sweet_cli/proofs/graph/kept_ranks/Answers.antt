@@ -7,8 +7,7 @@ use Rattle.sweet_cli.specs.Nodes.{node_at, IsNumbering}
 use Rattle.sweet_cli.specs.Cut.{block_meant}
 use Rattle.sweet_cli.specs.Edges.{LabelsAreOne, FallsWithin, IsTable, rows_of}
 use Rattle.sweet_cli.specs.Search.{IsMarking, marked_from}
-use Rattle.sweet_cli.proofs.Standing.{labels_one}
-use Rattle.sweet_cli.proofs.Leading.{some_blocks, falls_within}
+use Rattle.sweet_cli.proofs.Standing.{labels_one, some_blocks, falls_within}
 use Rattle.sweet_cli.proofs.Numbering.{table_closed, rows_some, numbering}
 use Rattle.sweet_cli.proofs.graph.kept_ranks.Goals as goal
 

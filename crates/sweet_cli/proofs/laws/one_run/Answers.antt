@@ -1,5 +1,6 @@
 use Rattle.sweet_cli.specs.Blocks.{blocks_of}
-use Rattle.sweet_cli.proofs.OneStep.{labels_one, steps_one}
+use Rattle.sweet_cli.proofs.Standing.{labels_one}
+use Rattle.sweet_cli.proofs.OneStep.{steps_one}
 use Rattle.sweet_cli.proofs.OneRun.{runs_one}
 use Rattle.sweet_cli.proofs.laws.one_run.Goals as goal
 

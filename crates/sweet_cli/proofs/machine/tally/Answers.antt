@@ -3,7 +3,8 @@ use Rattle.std.proofs.lemmas.List.{length-map}
 use Rattle.alf_text.specs.Tree.{Entry, item_of, names_of}
 use Rattle.sweet_cli.specs.Cut.{block_meant}
 use Rattle.sweet_cli.specs.Resolved.{CanResolve}
-use Rattle.sweet_cli.proofs.Resolvable.{kept, can_resolve, some_blocks}
+use Rattle.sweet_cli.proofs.Standing.{kept, some_blocks}
+use Rattle.sweet_cli.proofs.Resolvable.{can_resolve}
 use Rattle.sweet_cli.proofs.machine.tally.Goals as goal
 
 pub codes-requires : goal.codes-requires

@@ -13,4 +13,24 @@ pub struct Place {
 pub enum Which {
     /// The bytes of a file.
     Bytes,
+    /// The nesting of an expression.
+    Depth,
+    /// The functions of a program.
+    Functions,
+    /// The frames of a program, arguments among them.
+    Frames,
+    /// The bytes of one frame.
+    FrameBytes,
+    /// The bytes of all frames.
+    AllBytes,
+    /// The nodes of a control flow graph.
+    Nodes,
+    /// The edges of a control flow graph.
+    Edges,
+    /// The parentheses that are open at one place of a C text.
+    Parens,
+    /// The nesting of statements of a C text.
+    Nesting,
+    /// The elements of all arrays of a C text.
+    Elements,
 }

@@ -1,8 +1,8 @@
 ghost use Rattle.std.specs.Prelude.{◌≡◌, ◌+◌, ◌<◌, ◌≤◌, ℕ, true, IfSome, IsTrue, length, drop};
 ghost use Rattle.std.specs.List.{prefix_len};
 ghost use Rattle.std.specs.Char.{is_ascii_digit};
-ghost use Rattle.alf_text.specs.Bytes.{class_of, is_word_byte, is_name_byte, begins_with, to_close, closes};
-ghost use Rattle.alf_text.specs.Cutting.{piece, name_piece, comment_piece, number_piece, word_piece};
+ghost use Rattle.alf_tokens.specs.Bytes.{class_of, is_word_byte, is_name_byte, begins_with, to_close, closes};
+ghost use Rattle.alf_tokens.specs.Cutting.{piece, name_piece, comment_piece, number_piece, word_piece};
 
 use crate::token::Kind;
 

@@ -5,8 +5,8 @@
 --   to_close bytes                   how many bytes there are up to the end of the first end of a comment
 use Rattle.std.specs.Prelude.{ℕ, ◌+◌, ◌==◌, List, [], ◌∷◌, Bool, false, ◌&&◌, ◌||◌, not, Option, Some, None, nat_le, if◌then◌else◌}
 use Rattle.std.specs.Char.{is_ascii_digit, is_ascii_alphabetic}
-use Rattle.alf_text.specs.declared.lexer.Class.{Class}
-use Rattle.alf_text.specs.declared.lexer.Class.TheVariants as classes
+use Rattle.alf_tokens.specs.declared.lexer.Class.{Class}
+use Rattle.alf_tokens.specs.declared.lexer.Class.TheVariants as classes
 
 -- a letter, a digit or an underscore
 abbrev pub is_word_byte : ℕ → Bool

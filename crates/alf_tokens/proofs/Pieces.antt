@@ -6,13 +6,13 @@ use Rattle.std.proofs.lemmas.Bool.{ltb-true, leb-true, leb-false, le-leb}
 use Rattle.std.proofs.lemmas.List.{length-drop, append-nil}
 use Rattle.std.proofs.lemmas.List.Sums.{prefix_len-le-length}
 use Rattle.std.specs.Prelude.{◌==◌}
-use Rattle.alf_text.specs.declared.token.Kind.{Kind}
-use Rattle.alf_text.specs.declared.token.Kind.TheVariants as kinds
-use Rattle.alf_text.specs.declared.lexer.Class.{Class}
-use Rattle.alf_text.specs.declared.lexer.Class.TheVariants as classes
-use Rattle.alf_text.specs.Bytes.{class_of, is_word_byte, front_class, begins_with, to_close, closes, one_more}
-use Rattle.alf_text.specs.Tokens.{Lexeme, name_len, Stands, Begins, Pieces, IsTokens, text_of, lexeme_of, is_last, is_numeral, is_token, shown}
-use Rattle.alf_text.specs.Cutting.{comment_piece, word_piece, piece_at, piece, cut, tokens_of}
+use Rattle.alf_tokens.specs.declared.token.Kind.{Kind}
+use Rattle.alf_tokens.specs.declared.token.Kind.TheVariants as kinds
+use Rattle.alf_tokens.specs.declared.lexer.Class.{Class}
+use Rattle.alf_tokens.specs.declared.lexer.Class.TheVariants as classes
+use Rattle.alf_tokens.specs.Bytes.{class_of, is_word_byte, front_class, begins_with, to_close, closes, one_more}
+use Rattle.alf_tokens.specs.Tokens.{Lexeme, name_len, Stands, Begins, Pieces, IsTokens, text_of, lexeme_of, is_last, is_numeral, is_token, shown}
+use Rattle.alf_tokens.specs.Cutting.{comment_piece, word_piece, piece_at, piece, cut, tokens_of}
 
 -- ---- one piece
 

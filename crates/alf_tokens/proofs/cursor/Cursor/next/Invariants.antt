@@ -1,6 +1,6 @@
 use Rattle.std.proofs.Common.{◌≡◌}
-use Rattle.alf_text.specs.Reading.{ahead, room}
-use Rattle.alf_text.proofs.reader.Reader.next.Given as goal
+use Rattle.alf_tokens.specs.Ahead.{ahead, room}
+use Rattle.alf_tokens.proofs.cursor.Cursor.next.Given as goal
 
 abbrev pub invariant-loop-self : goal.invariant-loop-self
 invariant-loop-self l = ahead l.self ≡ ahead l.fn.self

@@ -1,7 +1,7 @@
 use Rattle.std.proofs.Common.{◌≡◌, ◌-◌, sym, arith, take, drop, length}
 use Rattle.std.proofs.lemmas.Grind.{common_steps}
-use Rattle.alf_text.proofs.Closing.{close_goes_on, close_found, close_none}
-use Rattle.alf_text.proofs.lexer.to_close.Goals as goal
+use Rattle.alf_tokens.proofs.Closing.{close_goes_on, close_found, close_none}
+use Rattle.alf_tokens.proofs.lexer.to_close.Goals as goal
 
 pub returns-then-closes-clause-place : goal.returns-then-closes-clause-place
 returns-then-closes-clause-place c =

@@ -4,14 +4,15 @@
 --   Begins behind kind n bytes  the same, or no piece stands there and the kind is Broken
 --   Pieces behind bytes pieces  the pieces of a text, one behind the other
 --   IsTokens bytes tokens       the tokens of a text: its pieces without white space
+--   first tokens, after tokens  the first token, and those behind it; behind the last one there is the end of the text
 -- `behind` says that a number ends right before the bytes. A letter there begins no piece.
 use Rattle.std.specs.Prelude.{◌≡◌, ℕ, ◌+◌, ◌-◌, ◌<◌, ◌≤◌, List, [], ◌∷◌, length, take, drop, filter, Bool, true, false, not, Some, ◌⊎◌, if◌then◌else◌}
 use Rattle.std.specs.List.{prefix_len}
 use Rattle.std.specs.Char.{is_ascii_digit}
-use Rattle.alf_text.specs.declared.token.Kind.{Kind}
-use Rattle.alf_text.specs.declared.token.Kind.TheVariants as kinds
-use Rattle.alf_text.specs.declared.lexer.Class.TheVariants as classes
-use Rattle.alf_text.specs.Bytes.{is_word_byte, is_name_byte, front_class, begins_with, to_close}
+use Rattle.alf_tokens.specs.declared.token.Kind.{Kind}
+use Rattle.alf_tokens.specs.declared.token.Kind.TheVariants as kinds
+use Rattle.alf_tokens.specs.declared.lexer.Class.TheVariants as classes
+use Rattle.alf_tokens.specs.Bytes.{is_word_byte, is_name_byte, front_class, begins_with, to_close}
 
 -- a token: its kind, its bytes, and how many bytes of the text are left where it begins
 pub record Lexeme : Type 0 where
@@ -86,3 +87,43 @@ IsTokens bytes ts = (ps : List Lexeme) × Pieces false bytes ps × (ts ≡ filte
 -- what a piece adds to the tokens
 abbrev pub shown : Lexeme → List Lexeme
 shown t = if is_token t then t ∷ [] else []
+
+-- ---- tokens in a row
+
+-- what stands behind the last token
+abbrev pub nothing : Lexeme
+nothing = record { kind = kinds.End; text = []; left = 0 }
+
+abbrev pub first : List Lexeme → Lexeme
+first [] = nothing
+first (t ∷ ts) = t
+
+abbrev pub after : List Lexeme → List Lexeme
+after [] = []
+after (t ∷ ts) = ts
+
+-- ---- kinds of tokens
+
+abbrev pub is_open : Kind → Bool
+is_open kinds.Open = true
+is_open _ = false
+
+abbrev pub is_close : Kind → Bool
+is_close kinds.Close = true
+is_close _ = false
+
+abbrev pub is_word : Kind → Bool
+is_word kinds.Word = true
+is_word _ = false
+
+abbrev pub is_number : Kind → Bool
+is_number kinds.Number = true
+is_number _ = false
+
+abbrev pub is_quoted : Kind → Bool
+is_quoted kinds.Quoted = true
+is_quoted _ = false
+
+abbrev pub is_end : Kind → Bool
+is_end kinds.End = true
+is_end _ = false

@@ -4,12 +4,12 @@
 use Rattle.std.specs.Prelude.{ℕ, zero, suc, ◌+◌, List, [], ◌∷◌, length, drop, filter, Bool, true, false, ◌&&◌, Option, Some, None, nat_le, nat_lt, if◌then◌else◌}
 use Rattle.std.specs.List.{prefix_len}
 use Rattle.std.specs.Char.{is_ascii_digit}
-use Rattle.alf_text.specs.declared.token.Kind.{Kind}
-use Rattle.alf_text.specs.declared.token.Kind.TheVariants as kinds
-use Rattle.alf_text.specs.declared.lexer.Class.{Class}
-use Rattle.alf_text.specs.declared.lexer.Class.TheVariants as classes
-use Rattle.alf_text.specs.Bytes.{is_word_byte, front_class, begins_with, to_close}
-use Rattle.alf_text.specs.Tokens.{Lexeme, name_len, lexeme_of, is_last, is_numeral, is_token}
+use Rattle.alf_tokens.specs.declared.token.Kind.{Kind}
+use Rattle.alf_tokens.specs.declared.token.Kind.TheVariants as kinds
+use Rattle.alf_tokens.specs.declared.lexer.Class.{Class}
+use Rattle.alf_tokens.specs.declared.lexer.Class.TheVariants as classes
+use Rattle.alf_tokens.specs.Bytes.{is_word_byte, front_class, begins_with, to_close}
+use Rattle.alf_tokens.specs.Tokens.{Lexeme, name_len, lexeme_of, is_last, is_numeral, is_token}
 
 abbrev pub comment_piece : Bool → Option ℕ → Kind × ℕ
 comment_piece false o = (kinds.Broken, 0)

@@ -1,7 +1,7 @@
 -- Looking for the end of a comment, as a loop does.
 use Rattle.std.proofs.Common.{◌≡◌, ℕ, ◌+◌, ◌≤◌, ◌<◌, Bool, true, false, cond, List, [], ◌∷◌, length, drop, Option, Some, None, refl, sym, ap, ◌∙◌, arith}
 use Rattle.std.proofs.lemmas.List.{length-drop, drop-drop, drop_all}
-use Rattle.alf_text.specs.Bytes.{to_close, one_more, closes}
+use Rattle.alf_tokens.specs.Bytes.{to_close, one_more, closes}
 
 -- the answer for a rest, when so many bytes were passed
 abbrev pub passed_by : ℕ → Option ℕ → Option ℕ

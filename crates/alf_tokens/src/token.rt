@@ -1,6 +1,5 @@
 ghost use Rattle.std.specs.Prelude.{◌≡◌};
-ghost use Rattle.alf_text.specs.Tokens.{is_white, is_last, is_numeral};
-ghost use Rattle.alf_text.specs.Grammar.{is_open, is_close, is_word, is_number, is_quoted, is_end};
+ghost use Rattle.alf_tokens.specs.Tokens.{is_white, is_last, is_numeral, is_open, is_close, is_word, is_number, is_quoted, is_end};
 
 /// What a piece of a text is.
 #[derive(Clone, Copy, Debug, PartialEq, Eq)]

@@ -1,8 +1,8 @@
 use Rattle.std.proofs.Common.{◌≡◌, true, false, sym, ◌∙◌, arith}
-use Rattle.alf_text.specs.Tokens.{is_last}
-use Rattle.alf_text.specs.Reading.{lexeme}
-use Rattle.alf_text.proofs.Pieces.{cut_fits, cut_quotes, cut_smaller, taken_last, taken_more}
-use Rattle.alf_text.proofs.reader.Reader.piece.Goals as goal
+use Rattle.alf_tokens.specs.Tokens.{is_last}
+use Rattle.alf_tokens.specs.Ahead.{lexeme}
+use Rattle.alf_tokens.proofs.Pieces.{cut_fits, cut_quotes, cut_smaller, taken_last, taken_more}
+use Rattle.alf_tokens.proofs.cursor.Cursor.piece.Goals as goal
 
 pub split_at-requires : goal.split_at-requires
 split_at-requires c = cut_fits c.args.self.now.behind c.piece-kind.result c.args.self.now.rest.now c.piece-kind.ensures

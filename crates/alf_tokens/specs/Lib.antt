@@ -1,0 +1,5 @@
+pub mod Bytes
+pub mod Tokens
+pub mod Cutting
+pub mod Ahead
+pub mod Laws

@@ -1,6 +1,6 @@
 -- Marks, and how many there are.
-use Rattle.std.proofs.Common.{◌≡◌, ◌<◌, ◌≤◌, ◌+◌, ℕ, zero, suc, Bool, true, false, List, [], ◌∷◌, ◌⊎◌, inl, inr, get_or, set, replicate, length, length-set, refl, ap, sym, ◌∙◌, subst, arith}
-use Rattle.std.proofs.lemmas.List.{get_or-set_same, get_or-replicate, length-replicate}
+use Rattle.std.proofs.Common.{◌≡◌, ◌<◌, ◌≤◌, ℕ, zero, suc, Bool, true, false, List, [], ◌∷◌, ◌⊎◌, inl, inr, get_or, set, replicate, length, length-set, refl, ap, sym, ◌∙◌, subst, arith}
+use Rattle.std.proofs.lemmas.List.{get_or-set_same}
 use Rattle.call_cycles.specs.Search.{IsMarked, marked_count}
 
 -- a marked function is one of the marks

@@ -1,9 +1,9 @@
 -- Ranks, and the first function on a cycle.
-use Rattle.std.proofs.Common.{◌≡◌, ◌<◌, ℕ, List, [], get_or, length, Contains, ◌⊎◌, inl, inr, sym, ◌∙◌, subst, arith}
+use Rattle.std.proofs.Common.{◌≡◌, ◌<◌, ℕ, List, [], get_or, length, Contains, inl, inr, sym, ◌∙◌, subst, arith}
 use Rattle.std.proofs.lemmas.Bool.{cases_lt}
 use Rattle.std.proofs.lemmas.List.{get_or_past}
-use Rattle.call_cycles.specs.Calls.{Calls, Reaches, directly, OnCycle, CallsWithin, IsCycle, IsFirstCycle, IsRanked}
-use Rattle.call_cycles.specs.Search.{IsRankOf, marked_count}
+use Rattle.call_cycles.specs.Calls.{Calls, directly, OnCycle, CallsWithin, IsCycle, IsFirstCycle, IsRanked}
+use Rattle.call_cycles.specs.Search.{IsRankOf}
 use Rattle.call_cycles.proofs.Reaching.{calls_on, walked}
 use Rattle.call_cycles.proofs.Marks.{both, fewer, not_all}
 
@@ -28,7 +28,7 @@ module _ (calls : List (List ℕ)) where
   rank_low f rank inside r = let e = r.marking.long in let few = not_all r.marks f (omega arith) r.marking.clear in let a = r.counted in omega arith
 
   -- a function that calls is one of them
-  caller_low : (f g : ℕ) → Calls calls f g → f < length calls
+  pub caller_low : (f g : ℕ) → Calls calls f g → f < length calls
   caller_low f g call =
       elim (cases_lt f (length calls)) [
         | inl low ↦ low

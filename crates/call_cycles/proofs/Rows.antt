@@ -1,5 +1,5 @@
 -- The code's lists of calls, and one turn of the search over them.
-use Rattle.std.proofs.Common.{◌≡◌, ◌<◌, ◌-◌, ◌+◌, ℕ, Bool, true, false, ◌==◌, List, [], ◌∷◌, Vec, Global, get_or, length, map, Contains, eq-eqb, ◌⊎◌, inl, inr, refl, ap, sym, ◌∙◌, subst, arith}
+use Rattle.std.proofs.Common.{◌≡◌, ◌<◌, ◌-◌, ◌+◌, ℕ, Bool, true, false, ◌==◌, List, [], ◌∷◌, Vec, Global, get_or, length, Contains, eq-eqb, inl, inr, ap, sym, ◌∙◌, subst, arith}
 use Rattle.std.specs.List.{list_any}
 use Rattle.std.proofs.lemmas.Bool.{eqb-true}
 use Rattle.std.proofs.lemmas.List.{length-map, get_or-map}

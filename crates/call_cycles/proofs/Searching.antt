@@ -1,12 +1,12 @@
 -- The search marks what the first function reaches.
-use Rattle.std.proofs.Common.{◌≡◌, ◌≢◌, ◌<◌, ◌≤◌, ◌+◌, ◌-◌, ℕ, zero, suc, Bool, true, false, List, [], ◌∷◌, ◌++◌, ◌⊎◌, inl, inr, get_or, set, replicate, length, length-append, length-set, Contains, refl, ap, sym, ◌∙◌, subst, arith}
+use Rattle.std.proofs.Common.{◌≡◌, ◌≢◌, ◌<◌, ◌≤◌, ◌+◌, ◌-◌, ℕ, zero, suc, Bool, true, false, List, [], ◌∷◌, ◌++◌, inl, inr, get_or, set, replicate, length, length-append, length-set, Contains, refl, ap, sym, ◌∙◌, subst, arith}
 use Rattle.std.proofs.lemmas.List.{get_or_append_left, get_or_push, length-replicate}
 use Rattle.std.proofs.lemmas.Bool.{cases_lt}
 use Rattle.call_cycles.specs.declared.search.Found.{Found}
 use Rattle.call_cycles.specs.Calls.{Calls, Reaches, directly, through, CallsWithin, IsCycle}
 use Rattle.call_cycles.specs.Search.{IsMarked, marked_count, IsMarking, IsRankOf, found_by, found_at, IsTree, Search, search_at, put, put_all}
 use Rattle.call_cycles.proofs.Reaching.{contains_cases, contains_first, contains_other}
-use Rattle.call_cycles.proofs.Marks.{marked_low, marked_kept, marked_either, marked_new, both, none_marked, none_counted, one_more, at_most_all, not_all}
+use Rattle.call_cycles.proofs.Marks.{marked_low, marked_kept, marked_either, marked_new, both, none_marked, none_counted, one_more, not_all}
 
 pub by_test : {A : Type 0} (v : Bool) → (v ≡ true → A) → (v ≡ false → A) → A
 by_test true if_true if_false = if_true refl

@@ -1,5 +1,5 @@
 -- The last part of a cycle, written from its end on.
-use Rattle.std.proofs.Common.{◌≡◌, ◌≢◌, ◌<◌, ℕ, zero, suc, List, [], ◌∷◌, ◌++◌, reverse, length, Contains, AllPairs, refl, ap, sym, ◌∙◌, subst, inl, inr, arith}
+use Rattle.std.proofs.Common.{◌≡◌, ◌≢◌, ◌<◌, ℕ, List, [], ◌∷◌, ◌++◌, reverse, length, Contains, AllPairs, refl, ap, sym, ◌∙◌, subst, inl, inr, arith}
 use Rattle.std.proofs.lemmas.List.{reverse-append}
 use Rattle.call_cycles.specs.declared.search.Found.{Found}
 use Rattle.call_cycles.specs.Calls.{Calls, Walks, IsCycle}

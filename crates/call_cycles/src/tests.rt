@@ -36,14 +36,28 @@ fn lists(alloc: Global, rows: &[&[u32]]) -> Result<Vec<Vec<u32>>, AllocError> {
     Ok(calls)
 }
 
+/// Ranks, a cycle, or want of memory.
+#[derive(Debug, PartialEq, Drop)]
+enum Answer {
+    Ranks(Vec<u32>),
+    Cycle(Vec<u32>),
+    Memory,
+}
+
 /// The answer for these calls.
-fn answer(rt: &impl Abort, calls: &[Vec<u32>], alloc: Global) -> Result<Vec<u32>, CallFault> {
+fn answer_of(rt: &impl Abort, alloc: Global, calls: &[Vec<u32>]) -> Answer {
     assert!(rt;
         is_whole(calls),
         "a function that is called is none of them"
     );
     assert!(rt; calls.len() < 100, "there are too many functions");
-    call_ranks(alloc, calls)
+    match call_ranks(alloc, calls) {
+        Ok(ranks) => Answer::Ranks(ranks),
+        Err(fault) => match fault {
+            CallFault::Cycle(path) => Answer::Cycle(path),
+            CallFault::Memory => Answer::Memory,
+        },
+    }
 }
 
 /// What is told of calls, the calls, and the ranks or the cycle.
@@ -67,11 +81,8 @@ fn calls_with_no_cycle_are_ranked(rt: HostRuntime) -> Result<(), Fail> {
     ranked_calls_have_no_cycle();
     let alloc = rt.alloc();
     for (name, rows, ranks) in &RANKED {
-        let calls = lists(alloc, rows)?;
-        match answer(&rt, &calls, alloc) {
-            Ok(found) => assert_eq!(rt; found.as_slice(), *ranks, "{name}"),
-            Err(_) => assert!(rt; false, "{name}"),
-        }
+        let told = answer_of(&rt, alloc, &lists(alloc, rows)?);
+        assert_eq!(rt; told, Answer::Ranks(ranks.to_vec(alloc)?), "{name}");
     }
     Ok(())
 }
@@ -103,11 +114,8 @@ static CYCLES: [Row; 8] = [
 fn the_first_cycle_is_told(rt: HostRuntime) -> Result<(), Fail> {
     let alloc = rt.alloc();
     for (name, rows, path) in &CYCLES {
-        let calls = lists(alloc, rows)?;
-        match answer(&rt, &calls, alloc) {
-            Err(CallFault::Cycle(found)) => assert_eq!(rt; found.as_slice(), *path, "{name}"),
-            _ => assert!(rt; false, "{name}"),
-        }
+        let told = answer_of(&rt, alloc, &lists(alloc, rows)?);
+        assert_eq!(rt; told, Answer::Cycle(path.to_vec(alloc)?), "{name}");
     }
     Ok(())
 }

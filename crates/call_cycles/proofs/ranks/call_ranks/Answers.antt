@@ -1,4 +1,4 @@
-use Rattle.std.proofs.Common.{◌≡◌, ℕ, length, subst, sym, ◌∙◌, arith}
+use Rattle.std.proofs.Common.{arith}
 use Rattle.call_cycles.specs.Calls.{calls_of}
 use Rattle.call_cycles.proofs.Rows.{rows_long}
 use Rattle.call_cycles.proofs.Ranking.{all_ranked, first_cycle}

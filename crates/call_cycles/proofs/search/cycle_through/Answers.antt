@@ -1,8 +1,8 @@
-use Rattle.std.proofs.Common.{◌≡◌, ◌++◌, ◌∷◌, [], ℕ, List, reverse, subst, sym, ap, ◌∙◌, rules, arith}
+use Rattle.std.proofs.Common.{◌≡◌, ◌++◌, ◌∷◌, [], ℕ, List, reverse, subst, sym, arith}
 use Rattle.std.proofs.lemmas.Grind.{common_steps}
-use Rattle.call_cycles.specs.Calls.{Calls, IsCycle}
+use Rattle.call_cycles.specs.Calls.{IsCycle}
 use Rattle.call_cycles.specs.Search.{found_at}
-use Rattle.call_cycles.proofs.Tails.{IsTail, tail_begins, tail_written, tail_ends}
+use Rattle.call_cycles.proofs.Tails.{IsTail, tail_written, tail_ends}
 use Rattle.call_cycles.proofs.search.cycle_through.Goals as goal
 
 pub loop-place-preserved : goal.loop-place-preserved

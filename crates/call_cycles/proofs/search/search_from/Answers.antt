@@ -1,9 +1,9 @@
-use Rattle.std.proofs.Common.{◌≡◌, ◌<◌, ◌≤◌, ◌+◌, ◌-◌, ◌∷◌, [], ℕ, Bool, false, List, Vec, Global, length, replicate, Contains, subst, ap, sym, ◌∙◌, rules, arith}
+use Rattle.std.proofs.Common.{◌≡◌, ◌<◌, ◌≤◌, ◌+◌, ◌-◌, ◌∷◌, [], ℕ, Bool, false, List, length, replicate, subst, sym, ◌∙◌, arith}
 use Rattle.std.proofs.lemmas.Grind.{common_steps}
 use Rattle.std.proofs.lemmas.List.{get_or_read}
 use Rattle.call_cycles.specs.declared.search.Found.{Found}
-use Rattle.call_cycles.specs.Calls.{Calls, IsCycle, calls_of}
-use Rattle.call_cycles.specs.Search.{Search, found_by, found_at, search_at, IsRankOf}
+use Rattle.call_cycles.specs.Calls.{calls_of}
+use Rattle.call_cycles.specs.Search.{Search, found_by, search_at, IsRankOf}
 use Rattle.call_cycles.proofs.Searching.{Keeps, closed_by, first_found, rank_found, found_few}
 use Rattle.call_cycles.proofs.Rows.{rows_long, any_is, any_is_not, less_left, entry_low, row_calls, row_low, row_looked}
 use Rattle.call_cycles.proofs.search.search_from.Goals as goal

@@ -33,12 +33,13 @@ marked_new marks f low = get_or-set_same marks f true false low
 pub both : (marks : List Bool) (f : ℕ) → get_or marks f false ≡ false → IsMarked marks f → ⊥
 both marks f clear is = let e : false ≡ true = sym clear ∙ is in cc
 
--- no function is marked at first
+-- where none is marked
 pub none_marked : (n f : ℕ) → get_or (replicate n false) f false ≡ false
 none_marked zero f = refl
 none_marked (suc n) zero = refl
 none_marked (suc n) (suc f) = none_marked n f
 
+-- there are none
 pub none_counted : (n : ℕ) → marked_count (replicate n false) ≡ 0
 none_counted zero = refl
 none_counted (suc n) = none_counted n
@@ -51,6 +52,7 @@ one_more (false ∷ marks) zero low clear = refl
 one_more (true ∷ marks) (suc f) low clear = ap (λ (n : ℕ). suc n) (one_more marks f (omega arith) clear)
 one_more (false ∷ marks) (suc f) low clear = one_more marks f (omega arith) clear
 
+-- no more are marked than there are
 pub at_most_all : (marks : List Bool) → marked_count marks ≤ length marks
 at_most_all [] = omega arith
 at_most_all (true ∷ marks) = let most = at_most_all marks in omega arith

@@ -27,9 +27,11 @@ pub contains_cases : (x : ℕ) (xs : List ℕ) (y : ℕ) → Contains (x ∷ xs)
 contains_cases x xs y (zero, low, e) = inl (sym e)
 contains_cases x xs y (suc k, low, e) = inr (k, omega arith, e)
 
+-- the first one
 pub contains_first : (x : ℕ) (xs : List ℕ) → Contains (x ∷ xs) x
 contains_first x xs = (0, omega arith, refl)
 
+-- one of the others
 pub contains_other : (x : ℕ) (xs : List ℕ) (y : ℕ) → Contains xs y → Contains (x ∷ xs) y
 contains_other x xs y (k, low, e) = (suc k, omega arith, e)
 

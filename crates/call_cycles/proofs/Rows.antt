@@ -19,6 +19,7 @@ any_is [] f h = absurd (let e : false ≡ true = h in cc)
 any_is (g ∷ row) f h =
     by_test (g == f) (λ e. subst (λ (n : ℕ). Contains (g ∷ row) n) (eqb-true g f e) (contains_first g row)) (λ e. contains_other g row f (any_is row f (rw e at h)))
 
+-- or that none does
 pub any_is_not : (row : List ℕ) (f : ℕ) → list_any (λ y. y == f) row ≡ false → Contains row f → ⊥
 any_is_not [] f h is = let inside : is.0 < 0 = is.1 in omega arith
 any_is_not (g ∷ row) f h is =
@@ -27,7 +28,8 @@ any_is_not (g ∷ row) f h is =
 
 module _ (rows : List (Vec ℕ Global)) (first next : ℕ) (marks : List Bool) (found : List Found) (k : Keeps (calls_of rows) first next (search_at marks found)) (low : next < length found) (inside : first < length rows)
   where
-    first_low : first < length (calls_of rows)
+    -- the first function has one of them
+  first_low : first < length (calls_of rows)
     first_low = let e = rows_long rows in omega arith
 
     -- less is left to be looked at behind it
@@ -48,7 +50,8 @@ module _ (rows : List (Vec ℕ Global)) (first next : ℕ) (marks : List Bool) (
             ∙ ap (λ (x : Vec ℕ Global). x.items) (sym is_v)
             ∙ sym is_row
 
-        pub row_calls : (f : ℕ) → Contains row f → Calls (calls_of rows) (found_at found next).function f
+        -- what stands there is called
+      pub row_calls : (f : ℕ) → Contains row f → Calls (calls_of rows) (found_at found next).function f
         row_calls f h = subst (λ (x : List ℕ). Contains x f) (sym same_row) h
 
         -- each function that it calls can be marked

@@ -8,6 +8,7 @@ use Rattle.call_cycles.specs.Search.{IsMarked, marked_count, IsMarking, IsRankOf
 use Rattle.call_cycles.proofs.Reaching.{contains_cases, contains_first, contains_other}
 use Rattle.call_cycles.proofs.Marks.{marked_low, marked_kept, marked_either, marked_new, both, none_marked, none_counted, one_more, not_all}
 
+-- a test is true or false
 pub by_test : {A : Type 0} (v : Bool) → (v ≡ true → A) → (v ≡ false → A) → A
 by_test true if_true if_false = if_true refl
 by_test false if_true if_false = if_false refl
@@ -40,12 +41,15 @@ pub record Keeps (calls : List (List ℕ)) (first next : ℕ) (s : Search) : Typ
 -- ---- one function more at the end
 
 module _ (found : List Found) (entry : Found) where
+  -- the old ones stay where they were
   at_old : (place : ℕ) → place < length found → found_at (found ++ entry ∷ []) place ≡ found_at found place
   at_old place low = get_or_append_left found (entry ∷ []) _ place low
 
+  -- the new one stands behind them
   at_new : found_at (found ++ entry ∷ []) (length found) ≡ entry
   at_new = get_or_push found entry _ (length found) refl
 
+  -- there is one more
   one_longer : length (found ++ entry ∷ []) ≡ suc (length found)
   one_longer = let e = length-append found (entry ∷ []) in omega arith
 

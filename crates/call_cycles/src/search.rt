@@ -79,7 +79,8 @@ fn put_all(
     caller: usize,
 ) -> Result<(), AllocError>
     requires { (f : ℕ) → Contains functions.now f → f < length marks.old }
-    ensures { OnOk result (search_at marks.new found.new.items ≡ put_all (search_at marks.old found.old.items) caller functions.now) }
+    ensures { OnOk result (search_at marks.new found.new.items
+        ≡ put_all (search_at marks.old found.old.items) caller functions.now) }
 {
     for function in functions {
         put(marks, found, *function, caller)?;
@@ -95,7 +96,8 @@ fn put(
     caller: usize,
 ) -> Result<(), AllocError>
     requires { function < length marks.old }
-    ensures { OnOk result (search_at marks.new found.new.items ≡ put (search_at marks.old found.old.items) caller function) }
+    ensures { OnOk result (search_at marks.new found.new.items
+        ≡ put (search_at marks.old found.old.items) caller function) }
 {
     if marks[function as usize] {
         return Ok(());

@@ -50,7 +50,7 @@ fn answer_of(rt: &impl Abort, alloc: Global, calls: &[Vec<u32>]) -> Answer {
         is_whole(calls),
         "a function that is called is none of them"
     );
-    assert!(rt; calls.len() < 100, "there are too many functions");
+    assert!(rt; calls.len() < 1000, "there are too many functions");
     match call_ranks(alloc, calls) {
         Ok(ranks) => Answer::Ranks(ranks),
         Err(fault) => match fault {
@@ -117,5 +117,26 @@ fn the_first_cycle_is_told(rt: HostRuntime) -> Result<(), Fail> {
         let told = answer_of(&rt, alloc, &lists(alloc, rows)?);
         assert_eq!(rt; told, Answer::Cycle(path.to_vec(alloc)?), "{name}");
     }
+    Ok(())
+}
+
+// How many functions the widest program has.
+const FUNCTIONS: u32 = 200;
+
+#[test]
+fn each_function_may_call_all_behind_it(rt: HostRuntime) -> Result<(), Fail> {
+    let alloc = rt.alloc();
+    let mut calls = Vec::new(alloc);
+    let mut ranks = Vec::new(alloc);
+    for caller in 0..FUNCTIONS {
+        let mut callees = Vec::new(alloc);
+        for callee in caller + 1..FUNCTIONS {
+            callees.push(callee)?;
+        }
+        calls.push(callees)?;
+        // No other numbers below the count fall along all these calls.
+        ranks.push(FUNCTIONS - 1 - caller)?;
+    }
+    assert_eq!(rt; answer_of(&rt, alloc, &calls), Answer::Ranks(ranks));
     Ok(())
 }

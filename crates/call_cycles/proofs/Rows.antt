@@ -29,7 +29,7 @@ any_is_not (g ∷ row) f h is =
 module _ (rows : List (Vec ℕ Global)) (first next : ℕ) (marks : List Bool) (found : List Found) (k : Keeps (calls_of rows) first next (search_at marks found)) (low : next < length found) (inside : first < length rows)
   where
     -- the first function has one of them
-  first_low : first < length (calls_of rows)
+    first_low : first < length (calls_of rows)
     first_low = let e = rows_long rows in omega arith
 
     -- less is left to be looked at behind it
@@ -51,7 +51,7 @@ module _ (rows : List (Vec ℕ Global)) (first next : ℕ) (marks : List Bool) (
             ∙ sym is_row
 
         -- what stands there is called
-      pub row_calls : (f : ℕ) → Contains row f → Calls (calls_of rows) (found_at found next).function f
+        pub row_calls : (f : ℕ) → Contains row f → Calls (calls_of rows) (found_at found next).function f
         row_calls f h = subst (λ (x : List ℕ). Contains x f) (sym same_row) h
 
         -- each function that it calls can be marked

@@ -23,9 +23,11 @@ mod numbers;
 mod programs;
 mod statements;
 
-// What a text means.
+// What a text means, and what the definitions promise.
 mod language;
+mod laws;
 
 pub use language::{one_meaning, read};
+pub use laws::spelled_programs_end_well;
 pub use program::{Alloc, Expr, Func, Init, Item, Num, Program, Stmt};
 pub use text_fault::TextFault;

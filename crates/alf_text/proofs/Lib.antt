@@ -1,3 +1,5 @@
 pub mod Operators
 pub mod Exactness
 pub mod Meaning
+pub mod FirstPrograms
+pub mod FirstMeaning

@@ -26,6 +26,13 @@ mod statements;
 // What a text means.
 mod language;
 
+// Texts whose program is `main` alone.
+mod first;
+
+#[cfg(test)]
+mod first_tests;
+
+pub use first::{FirstFault, first_texts, read_first};
 pub use language::{one_meaning, read};
 pub use program::{Alloc, Expr, Func, Init, Item, Num, Program, Stmt};
 pub use text_fault::TextFault;

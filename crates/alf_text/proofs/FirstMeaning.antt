@@ -37,8 +37,8 @@ module _ (cut : EachTextIsCut) (one : EachTextIsCutOneWay) (bytes : List ℕ) (f
   -- a program that is read and fails them
   pub fails_test : (whole : Whole) (rest : At) → program.reading from ≡ Ok (whole, rest) → is_first whole ≡ false → (other : Whole) → FirstText bytes other → ⊥
   fails_test whole rest e h other text =
-    let t : is_first other ≡ true = (first_is other).1 text.first in
-    let k : is_first other ≡ false = ap (λ (w : Whole). is_first w) (read_one other whole text rest e) ∙ h in cc
+      let t : is_first other ≡ true = (first_is other).1 text.first in
+      let k : is_first other ≡ false = ap (λ (w : Whole). is_first w) (read_one other whole text rest e) ∙ h in cc
 
   -- a text that departs from the grammar
   pub departed : (o : Option Fault) → IsSome o → Fails o (program.reading from) → (other : Whole) → FirstText bytes other → ⊥

@@ -206,7 +206,7 @@ main_is : (frames : List (List ℕ)) (function : Function) → Decides (is_main 
 main_is frames function =
     same_as _
     (Decides-and _ _ (bytes_eq-Decides function.name (codes "main")) (Decides-and _ _ (none function.args) (Decides-and _ _ (none function.decls) (Decides-and _ _ (none function.inits)
-      (Decides-and _ _ (items_are frames function.items function.items) (ends function.items))))))
+    (Decides-and _ _ (items_are frames function.items function.items) (ends function.items))))))
     (λ h. (function_of_parts function.name function.args function.decls function.inits function.items h.0 h.1.0 h.1.1.0 h.1.1.1.0, h.1.1.1.1.0, h.1.1.1.1.1))
     (λ h. (ap (λ (f : Function). f.name) h.0, (ap (λ (f : Function). f.args) h.0, (ap (λ (f : Function). f.decls) h.0, (ap (λ (f : Function). f.inits) h.0, (h.1, h.2))))))
 
@@ -256,7 +256,7 @@ parts_of_first : (whole : Whole) → IsFirst whole → PartsFit (names_in whole.
 parts_of_first whole first =
     subst (λ (w : Whole). PartsFit (names_in w.decls) w) (sym first.alone)
     (subst (λ (names : List (List ℕ)). PartsFit names (main_alone first.frames first.items)) (sym (names_of_cells first.frames))
-      (refl, (refl, (refl, ((refl, first.differ), (first.items, refl, (first.each, first.declared, first.led, first.apart, first.labels), first.ends))))))
+    (refl, (refl, (refl, ((refl, first.differ), (first.items, refl, (first.each, first.declared, first.led, first.apart, first.labels), first.ends))))))
 
 pub first_is : (whole : Whole) → Decides (is_first whole) (IsFirst whole)
 first_is whole =

@@ -189,12 +189,10 @@ fn is_cell_load(decls: &[Alloc], expr: &Expr) -> bool
 fn is_sum(decls: &[Alloc], operands: &[Expr]) -> bool
     ensures { result ≡ is_sum (names_in (map frame_of decls.now)) (terms_of (map term_of operands.now)) }
 {
-    match operands {
-        [load, number, carry] => {
-            is_cell_load(decls, load) && is_number(number) && is_no_carry(carry)
-        }
-        _ => false,
-    }
+    let [load, number, carry] = operands else {
+        return false;
+    };
+    is_cell_load(decls, load) && is_number(number) && is_no_carry(carry)
 }
 
 // Whether it is a number, a load of one of the frames, or the sum of such a load and a number.

@@ -28,7 +28,6 @@ mod language;
 
 // Texts whose program is `main` alone.
 mod first;
-
 #[cfg(test)]
 mod first_tests;
 

@@ -1,11 +1,10 @@
 -- A first text spells one program, which reading its tokens gives.
-use Rattle.std.proofs.Common.{◌≡◌, ℕ, List, true, false, Ok, Err, Option, None, Some, IsSome, sym, ap, subst, ◌∙◌}
+use Rattle.std.proofs.Common.{◌≡◌, ℕ, List, true, false, Ok, Option, None, Some, IsSome, sym, ap, subst, ◌∙◌}
 use Rattle.grammar.specs.Form.{Fails}
 use Rattle.grammar.specs.Exact.{Says, ok_is, ok_no_err}
 use Rattle.alf_tokens.specs.Cutting.{tokens_of}
 use Rattle.alf_tokens.specs.Laws.{EachTextIsCut, EachTextIsCutOneWay}
 use Rattle.alf_text.specs.Tree.{Whole}
-use Rattle.alf_text.specs.First.{IsFirst}
 use Rattle.alf_text.specs.FirstTests.{is_first}
 use Rattle.alf_text.specs.FirstText.{without_limits, FirstText}
 use Rattle.alf_text.specs.Grammar.{At, Fault, program}

@@ -9,7 +9,7 @@
 --   items_fit frames items others          so does each of the others
 --   is_main frames function                the function is `main`, has its items alone, and they fit
 --   is_first whole                         the program has frames and one such function alone
-use Rattle.std.specs.Prelude.{ℕ, Bool, true, false, not, ◌&&◌, ◌||◌, ◌==◌, ◌^◌, nat_lt, List, [], ◌∷◌, length, map, codes, Option, None, Some}
+use Rattle.std.specs.Prelude.{ℕ, Bool, true, false, not, ◌&&◌, ◌||◌, ◌==◌, ◌^◌, nat_lt, List, [], ◌∷◌, length, map, codes, None, Some}
 use Rattle.std.specs.Str.{bytes_eq}
 use Rattle.alf_ops.specs.declared.operator.Op.TheVariants.{Add}
 use Rattle.alf_text.specs.declared.program.Num.{Num}

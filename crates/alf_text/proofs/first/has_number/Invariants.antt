@@ -1,4 +1,4 @@
-use Rattle.std.proofs.Common.{◌≡◌, length, map}
+use Rattle.std.proofs.Common.{◌≡◌, length}
 use Rattle.alf_text.specs.FirstTests.{has_number}
 use Rattle.alf_text.proofs.first.has_number.Given as goal
 

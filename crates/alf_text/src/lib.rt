@@ -27,6 +27,12 @@ mod statements;
 mod language;
 mod laws;
 
+// Texts whose program is `main` alone.
+mod first;
+#[cfg(test)]
+mod first_tests;
+
+pub use first::{FirstFault, first_texts, read_first};
 pub use language::{one_meaning, read};
 pub use laws::spelled_programs_are_written;
 pub use program::{Alloc, Expr, Func, Init, Item, Num, Program, Stmt};

@@ -1,16 +1,22 @@
 -- Each rule of the grammar is read exactly.
-use Rattle.std.proofs.Common.{◌≡◌, ℕ, ◌<◌, ◌≤◌, Bool, true, false, ◌&&◌, cond, List, [], ◌∷◌, length, Result, Ok, Err, refl, ap, arith}
+use Rattle.std.proofs.Common.{◌≡◌, ℕ, zero, suc, ◌-◌, ◌/◌, ◌^◌, ◌<◌, ◌≤◌, Bool, true, false, ◌&&◌, cond, List, [], ◌∷◌, length, Result, Ok, Err, Option, Some, None, refl, ap, arith}
+use Rattle.std.specs.Prelude.{nat_lt}
+use Rattle.flow_base.specs.declared.place.Which.{Which}
+use Rattle.flow_base.specs.declared.place.Which.TheVariants as whichs
 use Rattle.grammar.specs.Source.{IsSource}
-use Rattle.grammar.specs.Form.{and_then, one, made, ◌>>=◌, many}
-use Rattle.grammar.specs.Exact.{IsExact, TakesSome, ok_is, ok_no_err, one_exact, made_exact, bind_exact, bind_takes, many_exact}
+use Rattle.grammar.specs.Form.{and_then, one, judged, made, ◌>>=◌, many, maybe, exactly}
+use Rattle.grammar.specs.Exact.{IsExact, TakesSome, ok_is, ok_no_err, one_exact, judged_exact, made_exact, bind_exact, bind_takes, many_exact, maybe_exact, exactly_exact}
+use Rattle.alf_tokens.specs.Tokens.{Lexeme, first, after, is_open, is_number}
 use Rattle.alf_text.specs.declared.program.Num.{Num}
-use Rattle.alf_text.specs.declared.rules.ExprWord.{ExprWord}
-use Rattle.alf_text.specs.declared.rules.ExprWord.TheVariants as expr_words
-use Rattle.alf_text.specs.declared.rules.ItemWord.{ItemWord}
-use Rattle.alf_text.specs.declared.rules.ItemWord.TheVariants as item_words
-use Rattle.alf_text.specs.Tokens.{Lexeme}
-use Rattle.alf_text.specs.Tree.{Entry, Frame}
-use Rattle.alf_text.specs.Grammar.{Fault, Rule, alf, first, after, is_open, opening, closing, end, word, fixed, at_most, name, empty, lref, fref, zero_offset, label_tail, label, alloc, decls, address, number_tail, dec_unsigned, number, load_tail, load, carry, add_tail, number_term, expr_tail, expr, opens_target, targets_ahead, target, default_arm, switch, with_word, store, label_item, null, leaving, jump, returns, item_tail, item, stmts, scope, function, no_names, macro_defs, addr_unit, little_endian, heading, arg_decls, functions, program}
+use Rattle.alf_text.specs.declared.words.NumWord.{NumWord}
+use Rattle.alf_text.specs.declared.words.NumWord.TheVariants as num_words
+use Rattle.alf_text.specs.declared.words.ExprWord.{ExprWord}
+use Rattle.alf_text.specs.declared.words.ExprWord.TheVariants as expr_words
+use Rattle.alf_text.specs.declared.words.ItemWord.{ItemWord}
+use Rattle.alf_text.specs.declared.words.ItemWord.TheVariants as item_words
+use Rattle.alf_ops.specs.declared.operator.Op.{Op}
+use Rattle.alf_text.specs.Tree.{Term, Loads, Applies, Entry, Frame, Start, Function, terms_of}
+use Rattle.alf_text.specs.Grammar.{Fault, Passes, At, Rule, alf, left, token, behind, misfit, outside, opening, closing, end, word, between, fixed, size, at_most, name, begin, counted, one_function, one_frame, most_functions, most_frames, most_frame_bytes, most_bytes, number_between, fits_bytes, or_bytes, bits, reference, references, offset, zero_offset, label_tail, label, alloc, allocs, address_tail, address, unsigned, minus, signed_bits, signed, num_tail, num, ref_place, init, inits, unsigned_term, signed_term, address_term, load, further, sizes, apply, expr_tail, fits_word, expr_word, fits_too_deep, nested, expr, whole_expr, opens_target, targets_ahead, target, default_arm, switch, with_word, store, label_item, null, leaving, jump, result_word, call, returns, item_tail, item, closing_after, stmts, scope, arg_decls, function_tail, function, functions, closing_empty, empty, addr_unit, macro_defs, little_endian, heading, exports, imports, program}
 
 length_after : (ts : List Lexeme) → length (after ts) ≤ length ts
 length_after [] = omega arith
@@ -21,7 +27,7 @@ opens_some [] o = absurd cc
 opens_some (t ∷ ts) o = omega arith
 
 pub alf_is : IsSource alf
-alf_is = record { later = length_after; some = opens_some }
+alf_is = record { later = λ at. length_after at.ahead; some = λ at. opens_some at.ahead }
 
 pub token_exact : {A : Type 0} (fit : Lexeme → Result A Fault) → IsExact alf (one alf fit)
 token_exact fit = one_exact alf alf_is fit
@@ -38,16 +44,22 @@ value_exact a = made_exact alf a
 pub list_exact : {A : Type 0} {p : Rule A} → IsExact alf p → TakesSome alf p → IsExact alf (many alf p)
 list_exact hp some = many_exact alf alf_is hp some
 
+pub option_exact : {A : Type 0} {p : Rule A} → IsExact alf p → IsExact alf (maybe alf p)
+option_exact hp = maybe_exact alf hp
+
 -- ---- single tokens
 
-open_shrinks : (ts : List Lexeme) (b : Bool) (e : Fault) (x : Unit {0} × List Lexeme) → is_open (first ts).kind ≡ b → and_then (cond b (Ok tt) (Err e)) (λ x. Ok (x, after ts)) ≡ Ok x → length x.1 < length ts
-open_shrinks [] true e x o h = absurd cc
-open_shrinks (t ∷ ts) true e x o h = let g : ts ≡ x.1 = ap (λ (r : Unit {0} × List Lexeme). r.1) (ok_is {F = Fault} (tt, ts) x h) in rw (← g) (omega arith)
-open_shrinks ts false e x o h = ok_no_err x e h
+open_shrinks : (at : At) (b : Bool) (e : Fault) (x : Unit {0} × At) → is_open (token at).kind ≡ b → and_then (cond b (Ok tt) (Err e)) (λ x. Ok (x, behind at)) ≡ Ok x → left x.1 < left at
+open_shrinks at true e x o h = let g : behind at ≡ x.1 = ap (λ (r : Unit {0} × At). r.1) (ok_is {F = Fault} (tt, behind at) x h) in rw (← g) (shorter at.ahead o)
+  where
+    shorter : (ts : List Lexeme) → is_open (first ts).kind ≡ true → length (after ts) < length ts
+    shorter [] o = absurd cc
+    shorter (t ∷ ts) o = omega arith
+open_shrinks at false e x o h = ok_no_err x e h
 
 pub opening_takes : TakesSome alf opening
 unfolding opening
-opening_takes = record { smaller = λ ts x h. open_shrinks ts (is_open (first ts).kind) _ x refl h }
+opening_takes = record { smaller = λ at x h. open_shrinks at (is_open (token at).kind) _ x refl h }
 
 pub opening_exact : IsExact alf opening
 unfolding opening
@@ -65,9 +77,9 @@ pub word_exact : (w : List ℕ) → IsExact alf (word w)
 unfolding word
 word_exact w = search token_exact
 
-pub fixed_exact : (n : ℕ) → IsExact alf (fixed n)
-unfolding fixed
-fixed_exact n = search token_exact
+pub between_exact : (least most step : ℕ) → IsExact alf (between least most step)
+unfolding between
+between_exact least most step = search token_exact
 
 pub at_most_exact : (n : ℕ) → IsExact alf (at_most n)
 unfolding at_most
@@ -77,222 +89,352 @@ pub name_exact : IsExact alf name
 unfolding name
 name_exact = search token_exact
 
-pub ruleset exactness = (then_exact, value_exact, token_exact, then_takes, opening_takes, opening_exact, closing_exact, end_exact, word_exact, fixed_exact, at_most_exact, name_exact)
+pub ruleset exactness = (then_exact, value_exact, token_exact, then_takes, opening_takes, opening_exact, closing_exact, end_exact, word_exact, between_exact, at_most_exact, name_exact)
 
--- ---- rules
+pub fixed_exact : (n : ℕ) → IsExact alf (fixed n)
+unfolding fixed
+fixed_exact n = search exactness
 
-pub empty_exact : (w : List ℕ) → IsExact alf (empty w)
-unfolding empty
-empty_exact w = search exactness depth 20
+pub size_exact : IsExact alf size
+unfolding size
+size_exact = search exactness
 
-pub lref_exact : IsExact alf lref
-unfolding lref
-lref_exact = search exactness depth 20
+pub begin_exact : (w : List ℕ) → IsExact alf (begin w)
+unfolding begin
+begin_exact w = search exactness depth 20
+
+pub begin_takes : (w : List ℕ) → TakesSome alf (begin w)
+unfolding begin
+begin_takes w = search exactness depth 20
+
+-- ---- what is counted
+
+module _ (which : Which) (most count : ℕ) (less : ℕ → At) (at : At) (later : (n : ℕ) → left (less n) ≤ left (behind at)) where
+  count_takes : (o c : Bool) → is_open (token at).kind ≡ o → (x : Unit {0} × At) → cond o (cond c (Ok (tt, less (count - 1))) (Err (Passes which (suc most)))) (Err (misfit (token at))) ≡ Ok x → left x.1 < left at
+  count_takes true true o x h =
+      let g : less (count - 1) ≡ x.1 = ap (λ (r : Unit {0} × At). r.1) (ok_is {F = Fault} (tt, less (count - 1)) x h) in
+      let s : left (behind at) < left at = open_shrinks at true (misfit (token at)) (tt, behind at) o refl in
+      rw (← g) (omega (arith, later (count - 1), s))
+  count_takes true false o x h = ok_no_err x _ h
+  count_takes false c o x h = ok_no_err x _ h
+
+pub one_function_takes : TakesSome alf one_function
+unfolding one_function
+one_function_takes = record { smaller = λ at x h. count_takes whichs.Functions most_functions at.functions (λ n. record { ahead = after at.ahead; functions = n; frames = at.frames; bytes = at.bytes }) at (λ n. omega arith) (is_open (token at).kind) (nat_lt 0 at.functions) refl x h }
+
+pub one_frame_takes : TakesSome alf one_frame
+unfolding one_frame
+one_frame_takes = record { smaller = λ at x h. count_takes whichs.Frames most_frames at.frames (λ n. record { ahead = after at.ahead; functions = at.functions; frames = n; bytes = at.bytes }) at (λ n. omega arith) (is_open (token at).kind) (nat_lt 0 at.frames) refl x h }
+
+pub one_function_exact : IsExact alf one_function
+unfolding one_function
+one_function_exact = judged_exact alf _ (λ at x h. let s = one_function_takes.smaller at x h in omega (arith, s))
+
+pub one_frame_exact : IsExact alf one_frame
+unfolding one_frame
+one_frame_exact = judged_exact alf _ (λ at x h. let s = one_frame_takes.smaller at x h in omega (arith, s))
+
+bytes_shrink : (at : At) (n : ℕ) (c d : Bool) (e f : Fault) (x : ℕ × At) → cond c (Err e) (cond d (Err f) (Ok (n, record { ahead = after at.ahead; functions = at.functions; frames = at.frames; bytes = at.bytes - n / 8 }))) ≡ Ok x → left x.1 ≤ left at
+bytes_shrink at n true d e f x h = ok_no_err x e h
+bytes_shrink at n false true e f x h = ok_no_err x f h
+bytes_shrink at n false false e f x h =
+    let g : after at.ahead ≡ x.1.ahead = ap (λ (r : ℕ × At). r.1.ahead) (ok_is {F = Fault} (n, record { ahead = after at.ahead; functions = at.functions; frames = at.frames; bytes = at.bytes - n / 8 }) x h) in
+    rw (← g) (length_after at.ahead)
+
+or_bytes_shrink : (at : At) (o : Option ℕ) (x : ℕ × At) → or_bytes at o ≡ Ok x → left x.1 ≤ left at
+or_bytes_shrink at None x h = ok_no_err x _ h
+or_bytes_shrink at (Some n) x h = bytes_shrink at n (nat_lt most_frame_bytes (n / 8)) (nat_lt at.bytes (n / 8)) _ _ x h
+
+bits_shrink : (at : At) (b : Bool) (o : Option ℕ) (e : Fault) (x : ℕ × At) → cond b (or_bytes at o) (Err e) ≡ Ok x → left x.1 ≤ left at
+bits_shrink at true o e x h = or_bytes_shrink at o x h
+bits_shrink at false o e x h = ok_no_err x e h
+
+pub bits_exact : IsExact alf bits
+unfolding bits
+bits_exact = judged_exact alf _ (λ at x h. bits_shrink at (is_number (token at).kind) (number_between 1 (2 ^ 128 - 1) 8 (token at).text) (misfit (token at)) x h)
+
+pub ruleset tokens = (exactness, fixed_exact, size_exact, begin_exact, begin_takes, one_function_exact, one_frame_exact, one_function_takes, one_frame_takes, bits_exact)
+
+-- ---- names
+
+pub reference_exact : (w : List ℕ) → IsExact alf (reference w)
+unfolding reference
+reference_exact w = search tokens depth 20
+
+pub reference_takes : (w : List ℕ) → TakesSome alf (reference w)
+unfolding reference
+reference_takes w = search tokens depth 20
+
+pub reference_smaller : (w : List ℕ) (at : At) (x : List ℕ) (rest : At) → (reference w).reading at ≡ Ok (x, rest) → left rest < left at
+reference_smaller w at x rest e = (reference_takes w).smaller at (x, rest) e
+
+pub references_exact : (list w : List ℕ) → IsExact alf (references list w)
+unfolding references
+references_exact list w = search (tokens, list_exact, reference_exact, reference_takes) depth 20
+
+pub offset_exact : IsExact alf offset
+unfolding offset
+offset_exact = search tokens depth 20
 
 pub zero_offset_exact : IsExact alf zero_offset
 unfolding zero_offset
-zero_offset_exact = search exactness depth 20
+zero_offset_exact = search tokens depth 20
 
 pub label_tail_exact : IsExact alf label_tail
 unfolding label_tail
-label_tail_exact = search (exactness, lref_exact, zero_offset_exact) depth 20
+label_tail_exact = search (tokens, reference_exact, zero_offset_exact) depth 20
 
 pub label_exact : IsExact alf label
 unfolding label
-label_exact = search (exactness, label_tail_exact) depth 20
-
-pub fref_exact : IsExact alf fref
-unfolding fref
-fref_exact = search exactness depth 20
+label_exact = search (tokens, label_tail_exact) depth 20
 
 pub alloc_exact : IsExact alf alloc
 unfolding alloc
-alloc_exact = search exactness depth 20
+alloc_exact = search tokens depth 20
 
-pub alloc_some : TakesSome alf alloc
+pub alloc_takes : TakesSome alf alloc
 unfolding alloc
-alloc_some = search exactness depth 20
+alloc_takes = search tokens depth 20
 
-pub alloc_smaller : (ts : List Lexeme) (x : Frame) (rest : List Lexeme) → alloc.reading ts ≡ Ok (x, rest) → length rest < length ts
-alloc_smaller ts x rest e = alloc_some.smaller ts (x, rest) e
+pub alloc_smaller : (at : At) (x : Frame) (rest : At) → alloc.reading at ≡ Ok (x, rest) → left rest < left at
+alloc_smaller at x rest e = alloc_takes.smaller at (x, rest) e
 
-pub decls_exact : IsExact alf decls
-unfolding decls
-decls_exact = search (exactness, list_exact, alloc_exact, alloc_some) depth 20
+pub allocs_exact : (list : List ℕ) → IsExact alf (allocs list)
+unfolding allocs
+allocs_exact list = search (tokens, list_exact, alloc_exact, alloc_takes) depth 20
+
+pub address_tail_exact : IsExact alf address_tail
+unfolding address_tail
+address_tail_exact = search (tokens, reference_exact, offset_exact) depth 20
 
 pub address_exact : IsExact alf address
 unfolding address
-address_exact = search (exactness, fref_exact, zero_offset_exact) depth 20
+address_exact = search (tokens, address_tail_exact) depth 20
 
-pub number_tail_exact : IsExact alf number_tail
-unfolding number_tail
-number_tail_exact = search exactness depth 20
+-- ---- numbers
 
-pub dec_unsigned_exact : IsExact alf dec_unsigned
-unfolding dec_unsigned
-dec_unsigned_exact = word_exact _
+pub unsigned_exact : IsExact alf unsigned
+unfolding unsigned
+unsigned_exact = search tokens depth 20
 
-pub number_exact : IsExact alf number
-unfolding number
-number_exact = search (exactness, dec_unsigned_exact, number_tail_exact) depth 20
+pub minus_exact : (s : ℕ) → IsExact alf (minus s)
+unfolding minus
+minus_exact s = search tokens depth 20
 
-pub load_tail_exact : IsExact alf load_tail
-unfolding load_tail
-load_tail_exact = search (exactness, address_exact) depth 20
+pub signed_bits_exact : (s : ℕ) (m : Option ℕ) → IsExact alf (signed_bits s m)
+unfolding signed_bits
+signed_bits_exact s None = search tokens
+signed_bits_exact s (Some n) = search tokens
 
-pub load_exact : IsExact alf load
+pub signed_exact : IsExact alf signed
+unfolding signed
+signed_exact = search (tokens, option_exact, minus_exact, signed_bits_exact) depth 20
+
+pub num_tail_exact : (w : NumWord) → IsExact alf (num_tail w)
+unfolding num_tail
+num_tail_exact num_words.Unsigned = unsigned_exact
+num_tail_exact num_words.Signed = signed_exact
+
+pub num_exact : IsExact alf num
+unfolding num
+num_exact = search (tokens, num_tail_exact) depth 20
+
+-- ---- initial values
+
+pub ref_place_exact : IsExact alf ref_place
+unfolding ref_place
+ref_place_exact = search (tokens, offset_exact) depth 20
+
+pub init_exact : IsExact alf init
+unfolding init
+init_exact = search (tokens, ref_place_exact, num_exact) depth 20
+
+pub init_takes : TakesSome alf init
+unfolding init
+init_takes = search (tokens, ref_place_exact, num_exact) depth 20
+
+pub init_smaller : (at : At) (x : Start) (rest : At) → init.reading at ≡ Ok (x, rest) → left rest < left at
+init_smaller at x rest e = init_takes.smaller at (x, rest) e
+
+pub inits_exact : IsExact alf inits
+unfolding inits
+inits_exact = search (tokens, list_exact, init_exact, init_takes) depth 20
+
+-- ---- expressions
+
+unsigned_term_exact : IsExact alf unsigned_term
+unfolding unsigned_term
+unsigned_term_exact = search (tokens, unsigned_exact) depth 20
+
+signed_term_exact : IsExact alf signed_term
+unfolding signed_term
+signed_term_exact = search (tokens, signed_exact) depth 20
+
+address_term_exact : IsExact alf address_term
+unfolding address_term
+address_term_exact = search (tokens, address_tail_exact) depth 20
+
+load_exact : (inner : Rule Term) → IsExact alf inner → IsExact alf (load inner)
 unfolding load
-load_exact = search (exactness, load_tail_exact) depth 20
+load_exact inner h = then_exact (between_exact 8 64 8) (λ s. then_exact h (λ t. then_exact closing_exact (λ _. value_exact (Loads s t))))
 
-pub carry_exact : IsExact alf carry
-unfolding carry
-carry_exact = search (exactness, dec_unsigned_exact) depth 20
+further_exact : (op : Op) → IsExact alf (further op)
+unfolding further
+further_exact op = search tokens
 
-pub add_tail_exact : IsExact alf add_tail
-unfolding add_tail
-add_tail_exact = search (exactness, load_exact, number_exact, carry_exact) depth 20
+sizes_exact : (op : Op) (count : ℕ) → IsExact alf (sizes op count)
+unfolding sizes
+sizes_exact op count = then_exact size_exact (λ s. then_exact (exactly_exact alf (count - 1) (further op) (further_exact op)) (λ ss. value_exact (s ∷ ss)))
 
-pub number_term_exact : IsExact alf number_term
-unfolding number_term
-number_term_exact = search (exactness, number_tail_exact) depth 20
+apply_exact : (inner : Rule Term) → IsExact alf inner → (op : Op) (m n : ℕ) → IsExact alf (apply inner op m n)
+unfolding apply
+apply_exact inner h op m n = then_exact (sizes_exact op m) (λ ss. then_exact (exactly_exact alf n inner h) (λ es. then_exact closing_exact (λ _. value_exact (Applies op ss (terms_of es)))))
 
-pub expr_tail_exact : (w : ExprWord) → IsExact alf (expr_tail w)
+expr_tail_exact : (inner : Rule Term) → IsExact alf inner → (w : ExprWord) → IsExact alf (expr_tail inner w)
 unfolding expr_tail
-expr_tail_exact expr_words.Number = number_term_exact
-expr_tail_exact expr_words.Load = load_tail_exact
-expr_tail_exact expr_words.Add = add_tail_exact
+expr_tail_exact inner h expr_words.Unsigned = unsigned_term_exact
+expr_tail_exact inner h expr_words.Signed = signed_term_exact
+expr_tail_exact inner h expr_words.Address = address_term_exact
+expr_tail_exact inner h expr_words.Load = load_exact inner h
+expr_tail_exact inner h (expr_words.Apply op m n) = apply_exact inner h op m n
 
-pub expr_exact : IsExact alf expr
+nested_exact : (inner : Rule Term) → IsExact alf inner → IsExact alf (nested inner)
+unfolding nested
+nested_exact inner h = then_exact opening_exact (λ _. then_exact (token_exact (fits_word expr_word)) (expr_tail_exact inner h))
+
+nested_takes : (inner : Rule Term) → IsExact alf inner → TakesSome alf (nested inner)
+unfolding nested
+nested_takes inner h = then_takes opening_takes (λ _. then_exact (token_exact (fits_word expr_word)) (expr_tail_exact inner h))
+
+pub expr_exact : (depth : ℕ) → IsExact alf (expr depth)
 unfolding expr
-expr_exact = search (exactness, expr_tail_exact) depth 20
+expr_exact zero = search token_exact
+expr_exact (suc depth) = nested_exact (expr depth) (expr_exact depth)
 
-target_opens : (ts : List Lexeme) → opens_target ts ≡ true → is_open (first ts).kind ≡ true
-target_opens ts h = first_of (is_open (first ts).kind) _ h
-  where
-    first_of : (a b : Bool) → a && b ≡ true → a ≡ true
-    first_of true b h = refl
-    first_of false b h = absurd cc
+pub expr_none : (n : ℕ) (at : At) → n ≡ 0 → (expr n).reading at ≡ (one alf fits_too_deep).reading at
+unfolding expr
+expr_none zero at e = refl
+expr_none (suc n) at e = absurd cc
+
+pub expr_more : (n : ℕ) (at : At) → 0 < n → (expr n).reading at ≡ (nested (expr (n - 1))).reading at
+unfolding expr
+expr_more zero at h = absurd (omega arith)
+expr_more (suc n) at h = let e : suc n - 1 ≡ n = omega arith in rw e refl
+
+pub whole_expr_exact : IsExact alf whole_expr
+unfolding whole_expr
+whole_expr_exact = expr_exact 64
+
+pub expr_takes : TakesSome alf whole_expr
+unfolding whole_expr expr
+expr_takes = nested_takes (expr 63) (expr_exact 63)
+
+pub expr_smaller : (at : At) (x : Term) (rest : At) → whole_expr.reading at ≡ Ok (x, rest) → left rest < left at
+expr_smaller at x rest e = expr_takes.smaller at (x, rest) e
+
+-- ---- items
+
+opens_target_some : (at : At) (a b : Bool) → is_open (token at).kind ≡ a → a && b ≡ true → 0 < left at
+opens_target_some at true b o h = opens_some at.ahead o
+opens_target_some at false b o h = absurd cc
 
 pub targets_are : IsSource targets_ahead
-targets_are = record { later = length_after; some = λ ts o. opens_some ts (target_opens ts o) }
-
--- what is exact for one source is so for the other, since both leave as much
-same_left : {A : Type 0} {p : Rule A} → IsExact alf p → IsExact targets_ahead p
-same_left h = record { holds = h.holds; alone = h.alone; shrinks = h.shrinks }
-
-back_left : {A : Type 0} {p : Rule A} → IsExact targets_ahead p → IsExact alf p
-back_left h = record { holds = h.holds; alone = h.alone; shrinks = h.shrinks }
+targets_are = record { later = λ at. length_after at.ahead; some = λ at h. opens_target_some at (is_open (token at).kind) _ refl h }
 
 pub target_exact : IsExact alf target
 unfolding target
-target_exact = search (exactness, number_exact, label_exact) depth 20
+target_exact = search (tokens, num_exact, label_exact) depth 20
 
-pub target_some : TakesSome alf target
+pub target_takes : TakesSome alf target
 unfolding target
-target_some = search (exactness, number_exact, label_exact) depth 20
+target_takes = search (tokens, num_exact, label_exact) depth 20
 
-pub target_smaller : (ts : List Lexeme) (x : Num × List ℕ) (rest : List Lexeme) → target.reading ts ≡ Ok (x, rest) → length rest < length ts
-target_smaller ts x rest e = target_some.smaller ts (x, rest) e
+pub target_smaller : (at : At) (x : Num × List ℕ) (rest : At) → target.reading at ≡ Ok (x, rest) → left rest < left at
+target_smaller at x rest e = target_takes.smaller at (x, rest) e
 
-pub targets_exact : IsExact alf (many targets_ahead target)
-targets_exact = back_left (many_exact targets_ahead targets_are (same_left target_exact) (record { smaller = target_some.smaller }))
+-- the same of the source of targets, which is read alike
+targets_exact : IsExact alf (many targets_ahead target)
+targets_exact = let h = many_exact targets_ahead targets_are (record { holds = target_exact.holds; alone = target_exact.alone; shrinks = target_exact.shrinks }) (record { smaller = target_takes.smaller }) in
+    record { holds = h.holds; alone = h.alone; shrinks = h.shrinks }
 
-pub default_arm_exact : IsExact alf default_arm
+default_exact : IsExact alf default_arm
 unfolding default_arm
-default_arm_exact = search (exactness, label_exact) depth 20
+default_exact = search (tokens, label_exact) depth 20
 
-pub switch_exact : IsExact alf switch
-unfolding switch
-switch_exact = search (exactness, load_exact, targets_exact, default_arm_exact) depth 20
+pub ruleset values = (tokens, label_exact, label_tail_exact, num_exact, whole_expr_exact, expr_takes, address_exact, list_exact, option_exact)
 
-pub with_word_exact : IsExact alf with_word
-unfolding with_word
-with_word_exact = word_exact _
-
-pub store_exact : IsExact alf store
-unfolding store
-store_exact = search (exactness, address_exact, with_word_exact, expr_exact) depth 20
-
-pub label_item_exact : IsExact alf label_item
-unfolding label_item
-label_item_exact = search (exactness, label_tail_exact) depth 20
-
-pub null_exact : IsExact alf null
-unfolding null
-null_exact = search exactness depth 20
-
-pub leaving_exact : IsExact alf leaving
-unfolding leaving
-leaving_exact = word_exact _
-
-pub jump_exact : IsExact alf jump
-unfolding jump
-jump_exact = search (exactness, label_exact, leaving_exact) depth 20
-
-pub returns_exact : IsExact alf returns
-unfolding returns
-returns_exact = search exactness depth 20
-
-pub item_tail_exact : (w : ItemWord) → IsExact alf (item_tail w)
-unfolding item_tail
-item_tail_exact item_words.Label = label_item_exact
-item_tail_exact item_words.Null = null_exact
-item_tail_exact item_words.Store = store_exact
-item_tail_exact item_words.Jump = jump_exact
-item_tail_exact item_words.Switch = switch_exact
-item_tail_exact item_words.Return = returns_exact
+item_tail_exact : (w : ItemWord) → IsExact alf (item_tail w)
+unfolding item_tail label_item null store with_word jump leaving switch call result_word returns
+item_tail_exact item_words.Label = search values depth 20
+item_tail_exact item_words.Null = search values depth 20
+item_tail_exact item_words.Store = search values depth 20
+item_tail_exact item_words.Jump = search values depth 20
+item_tail_exact item_words.Switch = search (values, targets_exact, default_exact) depth 20
+item_tail_exact item_words.Call = search values depth 20
+item_tail_exact item_words.Return = search values depth 20
 
 pub item_exact : IsExact alf item
 unfolding item
-item_exact = search (exactness, item_tail_exact) depth 20
+item_exact = search (tokens, item_tail_exact) depth 20
 
-pub item_some : TakesSome alf item
+pub item_takes : TakesSome alf item
 unfolding item
-item_some = search (exactness, item_tail_exact) depth 20
+item_takes = search (tokens, item_tail_exact) depth 20
 
-pub item_smaller : (ts : List Lexeme) (x : Entry) (rest : List Lexeme) → item.reading ts ≡ Ok (x, rest) → length rest < length ts
-item_smaller ts x rest e = item_some.smaller ts (x, rest) e
+pub item_smaller : (at : At) (x : Entry) (rest : At) → item.reading at ≡ Ok (x, rest) → left rest < left at
+item_smaller at x rest e = item_takes.smaller at (x, rest) e
 
-pub stmts_exact : IsExact alf stmts
+-- ---- functions
+
+closing_after_exact : (items : List Entry) → IsExact alf (closing_after items)
+unfolding closing_after
+closing_after_exact items = search token_exact
+
+stmts_exact : IsExact alf stmts
 unfolding stmts
-stmts_exact = search (exactness, list_exact, item_exact, item_some) depth 20
+stmts_exact = search (tokens, list_exact, item_exact, item_takes, closing_after_exact) depth 20
 
-pub scope_exact : IsExact alf scope
+scope_exact : IsExact alf scope
 unfolding scope
-scope_exact = search (exactness, empty_exact, stmts_exact) depth 20
+scope_exact = search (tokens, allocs_exact, inits_exact, stmts_exact) depth 20
 
-pub arg_decls_exact : IsExact alf arg_decls
-unfolding arg_decls
-arg_decls_exact = empty_exact _
+function_tail_exact : IsExact alf function_tail
+unfolding function_tail arg_decls
+function_tail_exact = search (tokens, label_exact, allocs_exact, scope_exact) depth 20
 
 pub function_exact : IsExact alf function
 unfolding function
-function_exact = search (exactness, label_exact, arg_decls_exact, scope_exact) depth 20
+function_exact = search (tokens, function_tail_exact) depth 20
 
-pub no_names_exact : (w : List ℕ) → IsExact alf (no_names w)
-unfolding no_names
-no_names_exact w = search (exactness, empty_exact) depth 20
+pub function_takes : TakesSome alf function
+unfolding function
+function_takes = search (tokens, function_tail_exact) depth 20
 
-pub macro_defs_exact : IsExact alf macro_defs
-unfolding macro_defs
-macro_defs_exact = empty_exact _
+pub function_smaller : (at : At) (x : Function) (rest : At) → function.reading at ≡ Ok (x, rest) → left rest < left at
+function_smaller at x rest e = function_takes.smaller at (x, rest) e
 
-pub addr_unit_exact : IsExact alf addr_unit
-unfolding addr_unit
-addr_unit_exact = search exactness depth 20
-
-pub little_endian_exact : IsExact alf little_endian
-unfolding little_endian
-little_endian_exact = word_exact _
-
-pub heading_exact : IsExact alf heading
-unfolding heading
-heading_exact = search (exactness, macro_defs_exact, addr_unit_exact, little_endian_exact) depth 20
-
-pub functions_exact : IsExact alf functions
+functions_exact : IsExact alf functions
 unfolding functions
-functions_exact = search (exactness, function_exact) depth 20
+functions_exact = search (tokens, list_exact, function_exact, function_takes) depth 20
+
+-- ---- programs
+
+empty_exact : (w told : List ℕ) → IsExact alf (empty w told)
+unfolding empty closing_empty
+empty_exact w told = search tokens depth 20
+
+heading_exact : IsExact alf heading
+unfolding heading macro_defs addr_unit little_endian
+heading_exact = search (tokens, empty_exact) depth 20
+
+exports_exact : IsExact alf exports
+unfolding exports
+exports_exact = search (tokens, references_exact) depth 20
+
+imports_exact : IsExact alf imports
+unfolding imports
+imports_exact = search (tokens, empty_exact) depth 20
 
 pub program_exact : IsExact alf program
 unfolding program
-program_exact = search (exactness, heading_exact, no_names_exact, empty_exact, decls_exact, functions_exact) depth 30
+program_exact = search (tokens, heading_exact, exports_exact, imports_exact, allocs_exact, inits_exact, functions_exact) depth 20

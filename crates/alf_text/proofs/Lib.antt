@@ -1,5 +1,3 @@
-pub mod Closing
-pub mod Pieces
+pub mod Operators
 pub mod Exactness
-pub mod FirstPrograms
 pub mod Meaning

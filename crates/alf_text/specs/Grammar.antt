@@ -1,25 +1,33 @@
 -- The grammar, rule by rule.
 --   Fault            how a text departs from the grammar; a place is told by how many bytes are left there
---   alf              where a text is read from: the tokens ahead
+--   At               where a text is read from: the tokens ahead, and what there may still be of what is counted
+--   alf              positions as a source of tokens
 --   Rule A           a part of the grammar that spells values of type A
 --   fits, fits_word, fits_number, fits_name   one token, which fits its place or is the departure
-use Rattle.std.specs.Prelude.{ℕ, ◌-◌, ◌^◌, ◌&&◌, ◌==◌, List, [], ◌∷◌, length, Bool, true, false, Result, Ok, Err, Option, Some, None, nat_le, if◌then◌else◌, codes}
+use Rattle.std.specs.Prelude.{ℕ, zero, suc, ◌+◌, ◌-◌, ◌*◌, ◌/◌, ◌%◌, ◌^◌, ◌&&◌, ◌==◌, List, [], ◌∷◌, length, Bool, true, false, Result, Ok, Err, Option, Some, None, nat_le, nat_lt, if◌then◌else◌, codes}
+use Rattle.std.specs.Option.{option_map}
 use Rattle.std.specs.Str.{bytes_eq}
 use Rattle.flow_base.specs.Digits.{front_digits, number_of}
+use Rattle.flow_base.specs.declared.place.Which.{Which}
+use Rattle.flow_base.specs.declared.place.Which.TheVariants.{Depth, Functions, Frames, FrameBytes, AllBytes}
 use Rattle.grammar.specs.Source.{Source}
-use Rattle.grammar.specs.Form.{Form, one, made, ◌>>=◌, ◌>>◌, many}
-use Rattle.alf_text.specs.declared.token.Kind.{Kind}
-use Rattle.alf_text.specs.declared.token.Kind.TheVariants as kinds
-use Rattle.alf_ops.specs.declared.operator.Op.TheVariants.{Add}
+use Rattle.grammar.specs.Form.{Form, one, judged, made, ◌>>=◌, ◌>>◌, many, maybe, exactly}
+use Rattle.alf_ops.specs.declared.operator.Op.{Op}
+use Rattle.alf_ops.specs.declared.operator.Op.TheVariants.{Select}
+use Rattle.alf_ops.specs.Table.{layout_of, size_count, operands_by_layout}
+use Rattle.alf_ops.specs.Names.{spelling, operators}
+use Rattle.alf_tokens.specs.declared.token.Kind.{Kind}
+use Rattle.alf_tokens.specs.declared.token.Kind.TheVariants as kinds
+use Rattle.alf_tokens.specs.Tokens.{Lexeme, first, after, is_open, is_close, is_word, is_number, is_quoted, is_end}
 use Rattle.alf_text.specs.declared.program.Num.{Num}
-use Rattle.alf_text.specs.declared.rules.ExprWord.{ExprWord}
-use Rattle.alf_text.specs.declared.rules.ExprWord.TheVariants as expr_words
-use Rattle.alf_text.specs.declared.rules.ItemWord.{ItemWord}
-use Rattle.alf_text.specs.declared.rules.ItemWord.TheVariants as item_words
-use Rattle.alf_text.specs.Tokens.{Lexeme}
-use Rattle.alf_text.specs.Tree.{Term, Address, Loads, Applies, Last, With, Nothing, Stores, Jumps, Switches, Returns, Entry, Labels, Does, Frame, Function, Whole}
+use Rattle.alf_text.specs.declared.words.NumWord.{NumWord}
+use Rattle.alf_text.specs.declared.words.NumWord.TheVariants as num_words
+use Rattle.alf_text.specs.declared.words.ExprWord.{ExprWord}
+use Rattle.alf_text.specs.declared.words.ExprWord.TheVariants as expr_words
+use Rattle.alf_text.specs.declared.words.ItemWord.{ItemWord}
+use Rattle.alf_text.specs.declared.words.ItemWord.TheVariants as item_words
+use Rattle.alf_text.specs.Tree.{Term, Address, Loads, Applies, Nothing, Stores, Jumps, Switches, Calls, Returns, Entry, Labels, Does, Frame, Start, Function, Whole, terms_of}
 use Rattle.alf_text.specs.Tree as tree
-use Rattle.alf_text.specs.First.{cell_frame}
 
 -- how a text departs from the grammar
 pub data Fault : Type 0 where
@@ -29,35 +37,58 @@ pub data Fault : Type 0 where
   Number : ℕ → Fault
   -- this word or number is none of those that the profile has here
   OutOfProfile : ℕ → List ℕ → Fault
+  -- this quantity comes to this number, which is above its limit
+  Passes : Which → ℕ → Fault
+
+-- ---- limits
+
+abbrev pub most_depth : ℕ
+most_depth = 64
+
+abbrev pub most_functions : ℕ
+most_functions = 256
+
+abbrev pub most_frames : ℕ
+most_frames = 256
+
+abbrev pub most_frame_bytes : ℕ
+most_frame_bytes = 65536
+
+abbrev pub most_bytes : ℕ
+most_bytes = 1048576
 
 -- ---- where a text is read from
 
--- what stands behind the last token
-abbrev pub nothing : Lexeme
-nothing = record { kind = kinds.End; text = []; left = 0 }
+-- the tokens ahead, and how many functions, frames and bytes of frames there may still be
+pub record At : Type 0 where
+  pub ahead : List Lexeme
+  pub functions : ℕ
+  pub frames : ℕ
+  pub bytes : ℕ
 
-abbrev pub first : List Lexeme → Lexeme
-first [] = nothing
-first (t ∷ ts) = t
+-- the same place with other tokens ahead
+abbrev pub with_ahead : At → List Lexeme → At
+with_ahead at tokens = record { ahead = tokens; functions = at.functions; frames = at.frames; bytes = at.bytes }
 
-abbrev pub after : List Lexeme → List Lexeme
-after [] = []
-after (t ∷ ts) = ts
+abbrev pub token : At → Lexeme
+token at = first at.ahead
 
-abbrev pub is_open : Kind → Bool
-is_open kinds.Open = true
-is_open _ = false
+abbrev pub behind : At → At
+behind at = with_ahead at (after at.ahead)
+
+abbrev pub left : At → ℕ
+left at = length at.ahead
 
 -- a brace opens
-abbrev pub opens : List Lexeme → Bool
-opens ts = is_open (first ts).kind
+abbrev pub opens : At → Bool
+opens at = is_open (token at).kind
 
 -- a further part of a list begins with a brace that opens
-abbrev pub alf : Source (List Lexeme) Lexeme
-alf = record { first = first; after = after; left = length; goes_on = opens }
+abbrev pub alf : Source At Lexeme
+alf = record { first = token; after = behind; left = left; goes_on = opens }
 
 abbrev pub Rule : Type 0 → Type 1
-Rule A = Form (List Lexeme) Fault A
+Rule A = Form At Fault A
 
 -- ---- what fits at one place, and what it is otherwise
 
@@ -72,26 +103,6 @@ misfit t = misfit_of t.kind t.left
 -- a word or a number that the grammar has not here
 abbrev pub outside : Lexeme → Fault
 outside t = OutOfProfile t.left t.text
-
-abbrev pub is_close : Kind → Bool
-is_close kinds.Close = true
-is_close _ = false
-
-abbrev pub is_word : Kind → Bool
-is_word kinds.Word = true
-is_word _ = false
-
-abbrev pub is_number : Kind → Bool
-is_number kinds.Number = true
-is_number _ = false
-
-abbrev pub is_quoted : Kind → Bool
-is_quoted kinds.Quoted = true
-is_quoted _ = false
-
-abbrev pub is_end : Kind → Bool
-is_end kinds.End = true
-is_end _ = false
 
 abbrev pub fits : (Kind → Bool) → Lexeme → Result (Unit {0}) Fault
 fits is t = if is t.kind then Ok tt else Err (misfit t)
@@ -141,16 +152,27 @@ only w text = if bytes_eq text w then Some tt else None
 unfoldable pub word : List ℕ → Rule (Unit {0})
 word w = one alf (fits_word (only w))
 
-abbrev pub same_number : ℕ → Option ℕ → Option (Unit {0})
-same_number n None = None
-same_number n (Some v) = if v == n then Some tt else None
+-- the number is from the least on, and a multiple of the step
+abbrev pub from_least : ℕ → ℕ → Option ℕ → Option ℕ
+from_least least step None = None
+from_least least step (Some n) = if nat_le least n && (n % step == 0) then Some n else None
 
-abbrev pub the_number : ℕ → List ℕ → Option (Unit {0})
-the_number n text = same_number n (number_within n (front_digits text))
+abbrev pub number_between : ℕ → ℕ → ℕ → List ℕ → Option ℕ
+number_between least most step text = from_least least step (number_within most (front_digits text))
 
--- the number n, however it is written
+-- a number from the least to the most, a multiple of the step, however it is written
+unfoldable pub between : ℕ → ℕ → ℕ → Rule ℕ
+between least most step = one alf (fits_number (number_between least most step))
+
+-- the number n
 unfoldable pub fixed : ℕ → Rule (Unit {0})
-fixed n = one alf (fits_number (the_number n))
+fixed n = do
+  between n n 1
+  made tt
+
+-- SIZE
+unfoldable pub size : Rule ℕ
+size = between 1 64 1
 
 -- N, at most so much
 unfoldable pub at_most : ℕ → Rule ℕ
@@ -160,41 +182,75 @@ at_most most = one alf (fits_below most)
 unfoldable pub name : Rule (List ℕ)
 name = one alf fits_name
 
--- ---- the rules
-
--- { WORD }
-unfoldable pub empty : List ℕ → Rule (Unit {0})
-empty w = do
+-- a brace and its word
+unfoldable pub begin : List ℕ → Rule (Unit {0})
+begin w = do
   opening
   word w
-  closing
   made tt
 
--- LREF = { lref 32 NAME }
-unfoldable pub lref : Rule (List ℕ)
-lref = do
-  opening
-  word (codes "lref")
+-- ---- what is counted
+
+-- a brace that opens where the count allows one more, which leaves less of it
+abbrev pub counted : Which → ℕ → ℕ → (ℕ → At) → Lexeme → Result (Unit {0} × At) Fault
+counted which most count less t =
+    if is_open t.kind then (if nat_lt 0 count then Ok (tt, less (count - 1)) else Err (Passes which (most + 1))) else Err (misfit t)
+
+-- the brace of one more function
+unfoldable pub one_function : Rule (Unit {0})
+one_function = judged (λ at. counted Functions most_functions at.functions (λ n. record { ahead = after at.ahead; functions = n; frames = at.frames; bytes = at.bytes }) (token at))
+
+-- the brace of one more frame
+unfoldable pub one_frame : Rule (Unit {0})
+one_frame = judged (λ at. counted Frames most_frames at.frames (λ n. record { ahead = after at.ahead; functions = at.functions; frames = n; bytes = at.bytes }) (token at))
+
+-- as many bits fit a frame, and the frames that may still be
+abbrev pub fits_bytes : At → ℕ → Result (ℕ × At) Fault
+fits_bytes at bits =
+    if nat_lt most_frame_bytes (bits / 8) then Err (Passes FrameBytes (most_frame_bytes + 1))
+    else if nat_lt at.bytes (bits / 8) then Err (Passes AllBytes (most_bytes + 1))
+    else Ok (bits, record { ahead = after at.ahead; functions = at.functions; frames = at.frames; bytes = at.bytes - bits / 8 })
+
+abbrev pub or_bytes : At → Option ℕ → Result (ℕ × At) Fault
+or_bytes at (Some bits) = fits_bytes at bits
+or_bytes at None = Err (outside (token at))
+
+-- BITS, a positive multiple of 8
+unfoldable pub bits : Rule ℕ
+bits = judged (λ at. if is_number (token at).kind then or_bytes at (number_between 1 (2 ^ 128 - 1) 8 (token at).text) else Err (misfit (token at)))
+
+-- ---- names, frames and labels
+
+-- { WORD 32 NAME }: FREF = { fref 32 NAME }, LREF = { lref 32 NAME }
+unfoldable pub reference : List ℕ → Rule (List ℕ)
+reference w = do
+  begin w
   fixed 32
   n ← name
   closing
   made n
 
--- FREF = { fref 32 NAME }
-unfoldable pub fref : Rule (List ℕ)
-fref = do
-  opening
-  word (codes "fref")
+-- { LIST { WORD 32 NAME }* }
+unfoldable pub references : List ℕ → List ℕ → Rule (List (List ℕ))
+references list w = do
+  begin list
+  names ← many alf (reference w)
+  closing
+  made names
+
+-- OFFSET = { dec_unsigned 32 N }
+unfoldable pub offset : Rule ℕ
+offset = do
+  begin (codes "dec_unsigned")
   fixed 32
-  n ← name
+  n ← at_most (2 ^ 32 - 1)
   closing
   made n
 
 -- { dec_unsigned 32 0 }
 unfoldable pub zero_offset : Rule (Unit {0})
 zero_offset = do
-  opening
-  word (codes "dec_unsigned")
+  begin (codes "dec_unsigned")
   fixed 32
   fixed 0
   closing
@@ -204,150 +260,245 @@ zero_offset = do
 unfoldable pub label_tail : Rule (List ℕ)
 label_tail = do
   fixed 32
-  n ← lref
+  n ← reference (codes "lref")
   zero_offset
   closing
   made n
 
 unfoldable pub label : Rule (List ℕ)
 label = do
-  opening
-  word (codes "label")
+  begin (codes "label")
   n ← label_tail
   made n
 
--- ALLOC = { alloc 32 NAME 32 }
+-- ALLOC = { alloc 32 NAME BITS }
 unfoldable pub alloc : Rule Frame
 alloc = do
-  opening
+  one_frame
   word (codes "alloc")
   fixed 32
   n ← name
-  fixed 32
+  b ← bits
   closing
-  made (cell_frame n)
+  made (record { name = n; bits = b })
 
--- { decls ALLOC* }
-unfoldable pub decls : Rule (List Frame)
-decls = do
-  opening
-  word (codes "decls")
+-- { LIST ALLOC* }
+unfoldable pub allocs : List ℕ → Rule (List Frame)
+allocs list = do
+  begin list
   frames ← many alf alloc
   closing
   made frames
 
--- ---- expressions
+-- ADDR = { addr 32 FREF OFFSET }, behind its word
+unfoldable pub address_tail : Rule (List ℕ × ℕ)
+address_tail = do
+  fixed 32
+  n ← reference (codes "fref")
+  o ← offset
+  closing
+  made (n, o)
 
--- ADDR = { addr 32 FREF { dec_unsigned 32 0 } }
-unfoldable pub address : Rule Term
+unfoldable pub address : Rule (List ℕ × ℕ)
 address = do
-  opening
-  word (codes "addr")
-  fixed 32
-  n ← fref
-  zero_offset
+  begin (codes "addr")
+  a ← address_tail
+  made a
+
+-- ---- numbers
+
+-- { dec_unsigned SIZE N }, behind its word
+unfoldable pub unsigned : Rule Num
+unsigned = do
+  s ← size
+  n ← at_most (2 ^ s - 1)
   closing
-  made (Address n 0)
+  made (record { signed = false; size = s; bits = n })
 
-abbrev pub word_of : ℕ → Num
-word_of n = record { signed = false; size = 32; bits = n }
-
--- { dec_unsigned 32 N }, behind its word
-unfoldable pub number_tail : Rule Num
-number_tail = do
-  fixed 32
-  n ← at_most (2 ^ 32 - 1)
+-- { minus N }
+unfoldable pub minus : ℕ → Rule ℕ
+minus s = do
+  begin (codes "minus")
+  n ← at_most (2 ^ (s - 1))
   closing
-  made (word_of n)
-
-unfoldable pub dec_unsigned : Rule (Unit {0})
-dec_unsigned = word (codes "dec_unsigned")
-
--- NUM = { dec_unsigned 32 N }
-unfoldable pub number : Rule Num
-number = do
-  opening
-  dec_unsigned
-  n ← number_tail
   made n
 
--- { load 32 ADDR }, behind its word
-unfoldable pub load_tail : Rule Term
-load_tail = do
-  fixed 32
-  at ← address
-  closing
-  made (Loads 32 at)
+-- the word of a number with its sign
+unfoldable pub signed_bits : ℕ → Option ℕ → Rule ℕ
+signed_bits s None = at_most (2 ^ (s - 1) - 1)
+signed_bits s (Some n) = made ((2 ^ s - n) % 2 ^ s)
 
-unfoldable pub load : Rule Term
-load = do
+-- { dec_signed SIZE N } or { dec_signed SIZE { minus N } }, behind its word
+unfoldable pub signed : Rule Num
+signed = do
+  s ← size
+  m ← maybe alf (minus s)
+  b ← signed_bits s m
+  closing
+  made (record { signed = true; size = s; bits = b })
+
+abbrev pub num_word : List ℕ → Option NumWord
+num_word w =
+    if bytes_eq w (codes "dec_unsigned") then Some num_words.Unsigned
+    else if bytes_eq w (codes "dec_signed") then Some num_words.Signed
+    else None
+
+unfoldable pub num_tail : NumWord → Rule Num
+num_tail num_words.Unsigned = unsigned
+num_tail num_words.Signed = signed
+
+-- NUM
+unfoldable pub num : Rule Num
+num = do
   opening
-  word (codes "load")
-  t ← load_tail
-  made t
+  w ← one alf (fits_word num_word)
+  num_tail w
 
--- { dec_unsigned 1 0 }
-unfoldable pub carry : Rule (Unit {0})
-carry = do
-  opening
-  dec_unsigned
-  fixed 1
-  fixed 0
+-- ---- initial values
+
+-- { ref NAME OFFSET }
+unfoldable pub ref_place : Rule (List ℕ × ℕ)
+ref_place = do
+  begin (codes "ref")
+  n ← name
+  o ← offset
   closing
-  made tt
+  made (n, o)
 
-abbrev pub no_carry : Num
-no_carry = record { signed = false; size = 1; bits = 0 }
-
--- { add 32 { load 32 ADDR } NUM { dec_unsigned 1 0 } }, behind its word
-unfoldable pub add_tail : Rule Term
-add_tail = do
-  fixed 32
-  a ← load
-  b ← number
-  carry
+-- INIT = { init { ref NAME OFFSET } NUM }
+unfoldable pub init : Rule Start
+init = do
+  begin (codes "init")
+  p ← ref_place
+  n ← num
   closing
-  made (Applies Add (32 ∷ []) (With a (With (tree.Number b) (With (tree.Number no_carry) Last))))
+  made (record { name = p.0; offset = p.1; num = n })
 
-unfoldable pub number_term : Rule Term
-number_term = do
-  n ← number_tail
-  made (tree.Number n)
+-- { inits INIT* }
+unfoldable pub inits : Rule (List Start)
+inits = do
+  begin (codes "inits")
+  starts ← many alf init
+  closing
+  made starts
+
+-- ---- expressions
+
+-- the operator that a word spells
+abbrev pub operator_among : List Op → List ℕ → Option Op
+operator_among [] w = None
+operator_among (op ∷ ops) w = if bytes_eq (spelling op) w then Some op else operator_among ops w
+
+-- how many operands an operator has
+abbrev pub operand_count : Op → ℕ
+operand_count op = length (operands_by_layout (layout_of op) 0 0 0)
+
+-- an operator, and how many sizes and operands its row has
+abbrev pub row_word : Op → ExprWord
+row_word op = expr_words.Apply op (size_count (layout_of op)) (operand_count op)
+
+-- the row of the operator that a word spells
+unfoldable pub operator_word : List ℕ → Option ExprWord
+operator_word w = option_map row_word (operator_among operators w)
 
 abbrev pub expr_word : List ℕ → Option ExprWord
 expr_word w =
-    if bytes_eq w (codes "dec_unsigned") then Some expr_words.Number
+    if bytes_eq w (codes "dec_unsigned") then Some expr_words.Unsigned
+    else if bytes_eq w (codes "dec_signed") then Some expr_words.Signed
+    else if bytes_eq w (codes "addr") then Some expr_words.Address
     else if bytes_eq w (codes "load") then Some expr_words.Load
-    else if bytes_eq w (codes "add") then Some expr_words.Add
-    else None
+    else operator_word w
 
-unfoldable pub expr_tail : ExprWord → Rule Term
-expr_tail expr_words.Number = number_term
-expr_tail expr_words.Load = load_tail
-expr_tail expr_words.Add = add_tail
+unfoldable pub unsigned_term : Rule Term
+unsigned_term = do
+  n ← unsigned
+  made (tree.Number n)
 
--- EXPR = NUM | { load 32 ADDR } | { add 32 { load 32 ADDR } NUM { dec_unsigned 1 0 } }
-unfoldable pub expr : Rule Term
-expr = do
+unfoldable pub signed_term : Rule Term
+signed_term = do
+  n ← signed
+  made (tree.Number n)
+
+unfoldable pub address_term : Rule Term
+address_term = do
+  a ← address_tail
+  made (Address a.0 a.1)
+
+-- { load SIZE EXPR }, behind its word; inner is what stands in it as an expression
+unfoldable pub load : Rule Term → Rule Term
+load inner = do
+  s ← between 8 64 8
+  at ← inner
+  closing
+  made (Loads s at)
+
+abbrev pub least_further : Op → ℕ
+least_further Select = 0
+least_further _ = 1
+
+abbrev pub most_further : Op → ℕ
+most_further Select = 63
+most_further _ = 64
+
+-- a size behind the first, or a place in it where the operator is `select`
+unfoldable pub further : Op → Rule ℕ
+further op = between (least_further op) (most_further op) 1
+
+-- SIZE.., so many
+unfoldable pub sizes : Op → ℕ → Rule (List ℕ)
+sizes op count = do
+  s ← size
+  ss ← exactly (count - 1) (further op)
+  made (s ∷ ss)
+
+-- { OP SIZE.. EXPR.. }, behind its word, with so many sizes and operands
+unfoldable pub apply : Rule Term → Op → ℕ → ℕ → Rule Term
+apply inner op size_count operand_count = do
+  ss ← sizes op size_count
+  es ← exactly operand_count inner
+  closing
+  made (Applies op ss (terms_of es))
+
+unfoldable pub expr_tail : Rule Term → ExprWord → Rule Term
+expr_tail inner expr_words.Unsigned = unsigned_term
+expr_tail inner expr_words.Signed = signed_term
+expr_tail inner expr_words.Address = address_term
+expr_tail inner expr_words.Load = load inner
+expr_tail inner (expr_words.Apply op size_count operand_count) = apply inner op size_count operand_count
+
+abbrev pub fits_too_deep : Lexeme → Result Term Fault
+fits_too_deep t = if is_open t.kind then Err (Passes Depth (most_depth + 1)) else Err (misfit t)
+
+-- { .. }, where inner is what stands in it as an expression
+unfoldable pub nested : Rule Term → Rule Term
+nested inner = do
   opening
   w ← one alf (fits_word expr_word)
-  expr_tail w
+  expr_tail inner w
+
+-- EXPR = NUM | ADDR | { load SIZE EXPR } | { OP SIZE.. EXPR.. }, in which at most so many expressions stand in one another
+unfoldable pub expr : ℕ → Rule Term
+expr zero = one alf fits_too_deep
+expr (suc depth) = nested (expr depth)
+
+-- an expression that stands in no other
+unfoldable pub whole_expr : Rule Term
+whole_expr = expr most_depth
 
 -- ---- items
 
 -- a further target begins with a brace and its word
-abbrev pub opens_target : List Lexeme → Bool
-opens_target ts = opens ts && (is_word (first (after ts)).kind && bytes_eq (first (after ts)).text (codes "target"))
+abbrev pub opens_target : At → Bool
+opens_target at = opens at && (is_word (token (behind at)).kind && bytes_eq (token (behind at)).text (codes "target"))
 
-abbrev pub targets_ahead : Source (List Lexeme) Lexeme
-targets_ahead = record { first = first; after = after; left = length; goes_on = opens_target }
+abbrev pub targets_ahead : Source At Lexeme
+targets_ahead = record { first = token; after = behind; left = left; goes_on = opens_target }
 
 -- TARGET = { target NUM LABEL }
 unfoldable pub target : Rule (Num × List ℕ)
 target = do
-  opening
-  word (codes "target")
-  n ← number
+  begin (codes "target")
+  n ← num
   l ← label
   closing
   made (n, l)
@@ -355,16 +506,15 @@ target = do
 -- { default LABEL }
 unfoldable pub default_arm : Rule (List ℕ)
 default_arm = do
-  opening
-  word (codes "default")
+  begin (codes "default")
   l ← label
   closing
   made l
 
--- { switch { load 32 ADDR } TARGET* { default LABEL } }, behind its word
+-- { switch EXPR TARGET* { default LABEL } }, behind its word
 unfoldable pub switch : Rule Entry
 switch = do
-  value ← load
+  value ← whole_expr
   targets ← many targets_ahead target
   others ← default_arm
   closing
@@ -373,12 +523,12 @@ switch = do
 unfoldable pub with_word : Rule (Unit {0})
 with_word = word (codes "with")
 
--- { store ADDR with EXPR }, behind its word
+-- { store EXPR with EXPR }, behind its word
 unfoldable pub store : Rule Entry
 store = do
-  at ← address
+  at ← whole_expr
   with_word
-  value ← expr
+  value ← whole_expr
   closing
   made (Does (Stores at value))
 
@@ -389,6 +539,7 @@ item_word w =
     else if bytes_eq w (codes "store") then Some item_words.Store
     else if bytes_eq w (codes "jump") then Some item_words.Jump
     else if bytes_eq w (codes "switch") then Some item_words.Switch
+    else if bytes_eq w (codes "call") then Some item_words.Call
     else if bytes_eq w (codes "return") then Some item_words.Return
     else None
 
@@ -416,11 +567,25 @@ jump = do
   closing
   made (Does (Jumps n))
 
--- { return }, behind its word
+unfoldable pub result_word : Rule (Unit {0})
+result_word = word (codes "result")
+
+-- { call LABEL EXPR* result ADDR? }, behind its word
+unfoldable pub call : Rule Entry
+call = do
+  n ← label
+  args ← many alf whole_expr
+  result_word
+  to ← maybe alf address
+  closing
+  made (Does (Calls n args to))
+
+-- { return EXPR? }, behind its word
 unfoldable pub returns : Rule Entry
 returns = do
+  value ← maybe alf whole_expr
   closing
-  made (Does (Returns None))
+  made (Does (Returns value))
 
 unfoldable pub item_tail : ItemWord → Rule Entry
 item_tail item_words.Label = label_item
@@ -428,70 +593,113 @@ item_tail item_words.Null = null
 item_tail item_words.Store = store
 item_tail item_words.Jump = jump
 item_tail item_words.Switch = switch
+item_tail item_words.Call = call
 item_tail item_words.Return = returns
 
--- ITEM = LABEL | { null } | { store .. } | { jump LABEL leaving 0 } | { switch .. } | { return }
+-- ITEM = LABEL | STMT
 unfoldable pub item : Rule Entry
 item = do
   opening
   w ← one alf (fits_word item_word)
   item_tail w
 
--- { stmts ITEM* }
+-- ---- functions
+
+-- a jump, a switch or a return
+abbrev pub is_ending : Entry → Bool
+is_ending (Labels _) = false
+is_ending (Does Nothing) = false
+is_ending (Does (Stores _ _)) = false
+is_ending (Does (Jumps _)) = true
+is_ending (Does (Switches _ _ _)) = true
+is_ending (Does (Calls _ _ _)) = false
+is_ending (Does (Returns _)) = true
+
+-- the last item is one
+abbrev pub ends_well : List Entry → Bool
+ends_well [] = false
+ends_well (last ∷ []) = is_ending last
+ends_well (_ ∷ next ∷ others) = ends_well (next ∷ others)
+
+-- the brace behind the last item
+abbrev pub fits_close_after : List Entry → Lexeme → Result (Unit {0}) Fault
+fits_close_after items t = if ends_well items then fits is_close t else Err (misfit t)
+
+unfoldable pub closing_after : List Entry → Rule (Unit {0})
+closing_after items = one alf (fits_close_after items)
+
+-- { stmts ITEM* }, of which the last is a jump, a switch or a return
 unfoldable pub stmts : Rule (List Entry)
 stmts = do
-  opening
-  word (codes "stmts")
+  begin (codes "stmts")
   items ← many alf item
-  closing
+  closing_after items
   made items
 
--- { scope { decls } { inits } { stmts ITEM* } }
-unfoldable pub scope : Rule (List Entry)
+-- { scope { decls ALLOC* } { inits INIT* } { stmts ITEM* } }
+unfoldable pub scope : Rule (List Frame × List Start × List Entry)
 scope = do
-  opening
-  word (codes "scope")
-  empty (codes "decls")
-  empty (codes "inits")
+  begin (codes "scope")
+  frames ← allocs (codes "decls")
+  starts ← inits
   items ← stmts
   closing
-  made items
+  made (frames, starts, items)
 
-unfoldable pub arg_decls : Rule (Unit {0})
-arg_decls = empty (codes "arg_decls")
+unfoldable pub arg_decls : Rule (List Frame)
+arg_decls = allocs (codes "arg_decls")
 
--- FUNC = { func LABEL { arg_decls } { scope .. } }
+-- LABEL { arg_decls ALLOC* } { scope .. }, behind the word of a function
+unfoldable pub function_tail : Rule Function
+function_tail = do
+  n ← label
+  frames ← arg_decls
+  s ← scope
+  closing
+  made (record { name = n; args = frames; decls = s.0; inits = s.1; items = s.2 })
+
+-- FUNC = { func LABEL { arg_decls ALLOC* } { scope .. } }
 unfoldable pub function : Rule Function
 function = do
-  opening
+  one_function
   word (codes "func")
-  n ← label
-  arg_decls
-  items ← scope
-  closing
-  made (record { name = n; args = []; decls = []; inits = []; items = items })
+  f ← function_tail
+  made f
 
--- { WORD { frefs } { lrefs } }
-unfoldable pub no_names : List ℕ → Rule (Unit {0})
-no_names w = do
-  opening
-  word w
-  empty (codes "frefs")
-  empty (codes "lrefs")
+-- { funcs FUNC* }
+unfoldable pub functions : Rule (List Function)
+functions = do
+  begin (codes "funcs")
+  fs ← many alf function
   closing
+  made fs
+
+-- ---- programs
+
+-- the brace behind a list that the profile keeps empty; an item in it is outside the profile, and is told by the word of the list
+abbrev pub fits_empty : List ℕ → Lexeme → Result (Unit {0}) Fault
+fits_empty told t = if is_open t.kind then Err (OutOfProfile t.left told) else fits is_close t
+
+unfoldable pub closing_empty : List ℕ → Rule (Unit {0})
+closing_empty told = one alf (fits_empty told)
+
+-- { WORD }
+unfoldable pub empty : List ℕ → List ℕ → Rule (Unit {0})
+empty w told = do
+  begin w
+  closing_empty told
   made tt
-
-unfoldable pub macro_defs : Rule (Unit {0})
-macro_defs = empty (codes "macro_defs")
 
 -- { least_addr_unit 8 }
 unfoldable pub addr_unit : Rule (Unit {0})
 addr_unit = do
-  opening
-  word (codes "least_addr_unit")
+  begin (codes "least_addr_unit")
   fixed 8
   closing
   made tt
+
+unfoldable pub macro_defs : Rule (Unit {0})
+macro_defs = empty (codes "macro_defs") (codes "macro_defs")
 
 unfoldable pub little_endian : Rule (Unit {0})
 little_endian = word (codes "little_endian")
@@ -504,26 +712,34 @@ heading = do
   little_endian
   made tt
 
--- { funcs FUNC }
-unfoldable pub functions : Rule Function
-functions = do
-  opening
-  word (codes "funcs")
-  f ← function
+-- { exports { frefs FREF* } { lrefs LREF* } }
+unfoldable pub exports : Rule (List (List ℕ) × List (List ℕ))
+exports = do
+  begin (codes "exports")
+  frames ← references (codes "frefs") (codes "fref")
+  labels ← references (codes "lrefs") (codes "lref")
   closing
-  made f
+  made (frames, labels)
 
--- PROGRAM = { alf { macro_defs } { least_addr_unit 8 } little_endian { exports .. } { imports .. } { decls ALLOC* } { inits } { funcs FUNC } }
+-- { imports { frefs } { lrefs } }
+unfoldable pub imports : Rule (Unit {0})
+imports = do
+  begin (codes "imports")
+  empty (codes "frefs") (codes "imports")
+  empty (codes "lrefs") (codes "imports")
+  closing
+  made tt
+
+-- PROGRAM = { alf { macro_defs } { least_addr_unit 8 } little_endian { exports .. } { imports .. } { decls ALLOC* } { inits INIT* } { funcs FUNC* } }
 unfoldable pub program : Rule Whole
 program = do
-  opening
-  word (codes "alf")
+  begin (codes "alf")
   heading
-  no_names (codes "exports")
-  no_names (codes "imports")
-  frames ← decls
-  empty (codes "inits")
-  f ← functions
+  names ← exports
+  imports
+  frames ← allocs (codes "decls")
+  starts ← inits
+  fs ← functions
   closing
   end
-  made (record { exports = []; labels = []; decls = frames; inits = []; funcs = f ∷ [] })
+  made (record { exports = names.0; labels = names.1; decls = frames; inits = starts; funcs = fs })

@@ -1,9 +1,4 @@
 pub mod Tree
-pub mod First
-pub mod Bytes
-pub mod Tokens
-pub mod Cutting
 pub mod Grammar
-pub mod FirstTests
-pub mod FirstText
 pub mod Reading
+pub mod Language

@@ -1,7 +1,9 @@
 ghost use Rattle.std.specs.Prelude.{◌≡◌};
 ghost use Rattle.alf_text.specs.declared.fault.Departure.TheVariants.{Memory};
+ghost use Rattle.alf_text.specs.Reading.{misfits_of};
 
-use crate::token::Token;
+use alf_tokens::{Kind, Token};
+use flow_base::Which;
 use std::alloc::{AllocError, AllocFailed};
 
 /// Where a text departs from the grammar first, or want of memory.
@@ -14,7 +16,9 @@ pub enum Departure<'a> {
     /// The number that begins here is outside its range.
     Number(usize),
     /// This word or number is none of those that the profile has at its place.
-    OutOfProfile(Token<'a>),
+    OutOfProfile(usize, &'a [u8]),
+    /// This quantity comes to this number, which is above its limit.
+    Limit(Which, u64),
     /// Memory ran out.
     Memory,
 }
@@ -33,4 +37,21 @@ impl<T: Drop> From<AllocFailed<T>> for Departure<'_> {
     fn from(_e: AllocFailed<T>) -> Self {
         Departure::Memory
     }
+}
+
+/// The departure of a token of another kind than is wanted.
+pub fn misfit(token: Token<'_>) -> Departure<'_>
+    ensures { result ≡ misfits_of token.entry.kind token.entry.left }
+{
+    match token.kind {
+        Kind::Long => Departure::Number(token.left),
+        _ => Departure::Syntax(token.left),
+    }
+}
+
+/// The departure of a word or a number that the grammar has not at its place.
+pub fn outside(token: Token<'_>) -> Departure<'_>
+    ensures { result ≡ Departure.OutOfProfile token.entry.left token.entry.text }
+{
+    Departure::OutOfProfile(token.left, token.text)
 }

@@ -1,21 +1,31 @@
-//! The text of ALF: programs, and what is read of a text.
+//! The text of ALF: programs, what a text spells, and where it departs from the grammar first.
 #![tactic(auto)]
 
 // Programs.
 mod program;
 
-// Tokens, and where a text departs from the grammar.
+// Where a text departs from the grammar.
 mod fault;
-mod lexer;
-mod token;
+mod text_fault;
+
+// Single tokens, and what is counted.
+mod counts;
+mod reader;
+mod words;
 
 // Reading by the grammar's rules.
-mod first;
-mod reader;
-mod rules;
+mod expressions;
+mod frames;
+mod functions;
+mod lists;
+mod names;
+mod numbers;
+mod programs;
+mod statements;
 
-pub use first::{FirstFault, first_texts, read_first};
+// What a text means.
+mod language;
+
+pub use language::{one_meaning, read};
 pub use program::{Alloc, Expr, Func, Init, Item, Num, Program, Stmt};
-
-#[cfg(test)]
-mod tests;
+pub use text_fault::TextFault;

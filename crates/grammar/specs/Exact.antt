@@ -4,7 +4,7 @@
 --   TakesSome s p      where it is spelled, the part takes some of the text
 use Rattle.std.proofs.Common.{◌≡◌, ℕ, zero, suc, ◌≤◌, ◌<◌, Bool, true, false, cond, List, [], ◌∷◌, Result, Ok, Err, Option, Some, None, inl, inr, refl, sym, ap, subst, arith}
 use Rattle.grammar.specs.Source.{Source, IsSource}
-use Rattle.grammar.specs.Form.{Form, and_then, one, made, fails, ◌>>=◌, InARow, in_a_row, many, AtMostOne, maybe, exactly}
+use Rattle.grammar.specs.Form.{Form, and_then, one, judged, made, fails, ◌>>=◌, InARow, in_a_row, many, AtMostOne, maybe, exactly}
 
 -- what a part says of the text from a position on
 abbrev pub Says : {P F A : Type 0} → Form P F A → P → Result (A × P) F → Type 0
@@ -48,6 +48,22 @@ module _ {P T F : Type 0} (s : Source P T) where
       holds = λ at. one_holds at (fit (s.first at)) refl;
       alone = one_alone;
       shrinks = λ at x. one_shrinks at (fit (s.first at)) x;
+    }
+
+  module _ {A : Type 0} (fit : P → Result (A × P) F) (later : (at : P) (x : A × P) → fit at ≡ Ok x → s.left x.1 ≤ s.left at) where
+    judged_holds : (at : P) (r : Result (A × P) F) → fit at ≡ r → Says (judged fit) at r
+    judged_holds at (Ok x) e = e
+    judged_holds at (Err f) e = e
+
+    judged_alone : (at : P) (r : Result (A × P) F) → Says (judged fit) at r → fit at ≡ r
+    judged_alone at (Ok x) h = h
+    judged_alone at (Err f) h = h
+
+    pub judged_exact : IsExact s (judged fit)
+    judged_exact = record {
+      holds = λ at. judged_holds at (fit at) refl;
+      alone = judged_alone;
+      shrinks = later;
     }
 
   module _ {A : Type 0} (a : A) where

@@ -1,6 +1,7 @@
 -- Parts of a grammar, and how they are put together.
 --   Form P F A        a part that spells values of type A, over positions of type P, with departures of type F
 --   one s fit         one token, which fits or is the departure
+--   judged fit        the same, where it also counts what was read before, and what is counted changes
 --   made a            nothing is read, and the value is a
 --   fails f           a departure that no token makes
 --   p >>= q           one part and then another, which may depend on the value of the first
@@ -29,6 +30,14 @@ one s fit = record {
   Spells = λ at x rest. (fit (s.first at) ≡ Ok x) × (rest ≡ s.after at);
   Departs = λ at f. fit (s.first at) ≡ Err f;
   reading = λ at. and_then (fit (s.first at)) (λ x. Ok (x, s.after at));
+}
+
+-- A part that is judged from the whole of its position, as where something is counted. It fits, and the text goes on behind it, or it is the departure.
+abbrev pub judged : {P F A : Type 0} → (P → Result (A × P) F) → Form P F A
+judged fit = record {
+  Spells = λ at x rest. fit at ≡ Ok (x, rest);
+  Departs = λ at f. fit at ≡ Err f;
+  reading = fit;
 }
 
 -- Nothing is read.

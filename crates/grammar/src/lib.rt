@@ -2,7 +2,7 @@
 //! reading gives.
 //!
 //! A part is a record of two relations and of the function that computes which of them holds. Parts
-//! are put together by seven combinators, and each combinator keeps that its two relations are what
+//! are put together by eight combinators, and each combinator keeps that its two relations are what
 //! reading gives. So every grammar written in them gives each text exactly one meaning: what it
 //! spells, or its first departure. "First" is said once, where one part follows another.
 //!

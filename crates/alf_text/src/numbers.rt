@@ -1,0 +1,111 @@
+//! Numbers with a size.
+
+ghost use Rattle.std.specs.Prelude.{◌≡◌, ◌≤◌, ◌-◌, ◌^◌, ◌%◌, IfOk, IfSome};
+ghost use Rattle.grammar.specs.Form.{Form, Gives, maybe};
+ghost use Rattle.alf_text.specs.Grammar.{alf, at_most, unsigned, minus, signed_bits, signed, num_tail, num};
+ghost use Rattle.alf_text.specs.Reading.{position, fault_of};
+
+use crate::Num;
+use crate::fault::Departure;
+use crate::reader::Reader;
+use crate::words::NumWord;
+
+// The greatest word of this size.
+fn greatest(size: u32) -> u64
+    requires { size ≤ 64 }
+    ensures { result ≡ 2 ^ size - 1 }
+{
+    ((1_u128 << size) - 1) as u64
+}
+
+// The word of this size that is so far below 0.
+fn negated(size: u32, distance: u64) -> u64
+    requires sized { size ≤ 64 }
+    requires near { distance ≤ 2 ^ (size - 1) }
+    ensures { result ≡ (2 ^ size - distance) % 2 ^ size }
+{
+    let all = 1_u128 << size;
+    ((all - u128::from(distance)) % all) as u64
+}
+
+impl<'a> Reader<'a> {
+    /// `{ dec_unsigned SIZE N }` behind its word.
+    #[tactic(auto, unfolding(crate::specs::Grammar::unsigned))]
+    pub fn unsigned(&mut self) -> Result<Num, Departure<'a>>
+        ensures { Gives fault_of (λ x. (x, position self.new)) result (unsigned.reading (position self.old)) }
+    {
+        let size = self.size()?;
+        let bits = self.at_most(greatest(size))?;
+        self.closing()?;
+        Ok(Num {
+            signed: false,
+            size,
+            bits,
+        })
+    }
+
+    // `{ minus N }`, for a size from 1 to 64.
+    #[tactic(auto, unfolding(crate::specs::Grammar::minus))]
+    fn minus(&mut self, size: u32) -> Result<u64, Departure<'a>>
+        requires { (1 ≤ size) × (size ≤ 64) }
+        ensures exact { Gives fault_of (λ x. (x, position self.new)) result ((minus size).reading (position self.old)) }
+        ensures near { IfOk result (λ distance. distance ≤ 2 ^ (size - 1)) }
+    {
+        self.begin(b"minus")?;
+        let distance = self.at_most(greatest(size - 1) + 1)?;
+        self.closing()?;
+        Ok(distance)
+    }
+
+    fn maybe_minus(&mut self, size: u32) -> Result<Option<u64>, Departure<'a>>
+        requires { (1 ≤ size) × (size ≤ 64) }
+        ensures exact { Gives fault_of (λ x. (x, position self.new)) result ((maybe alf (minus size)).reading (position self.old)) }
+        ensures near { IfOk result (λ found. IfSome found (λ distance. distance ≤ 2 ^ (size - 1))) }
+    {
+        if !self.at_open() {
+            return Ok(None);
+        }
+        let distance = self.minus(size)?;
+        Ok(Some(distance))
+    }
+
+    #[tactic(auto, unfolding(crate::specs::Grammar::signed_bits))]
+    fn signed_bits(&mut self, size: u32, minus: Option<u64>) -> Result<u64, Departure<'a>>
+        requires sized { (1 ≤ size) × (size ≤ 64) }
+        requires near { IfSome minus (λ distance. distance ≤ 2 ^ (size - 1)) }
+        ensures { Gives fault_of (λ x. (x, position self.new)) result ((signed_bits size minus).reading (position self.old)) }
+    {
+        match minus {
+            Some(distance) => Ok(negated(size, distance)),
+            None => self.at_most(greatest(size - 1)),
+        }
+    }
+
+    /// `{ dec_signed SIZE N }` or `{ dec_signed SIZE { minus N } }` behind its word.
+    #[tactic(auto, unfolding(crate::specs::Grammar::signed))]
+    pub fn signed(&mut self) -> Result<Num, Departure<'a>>
+        ensures { Gives fault_of (λ x. (x, position self.new)) result (signed.reading (position self.old)) }
+    {
+        let size = self.size()?;
+        let minus = self.maybe_minus(size)?;
+        let bits = self.signed_bits(size, minus)?;
+        self.closing()?;
+        Ok(Num {
+            signed: true,
+            size,
+            bits,
+        })
+    }
+
+    /// A number.
+    #[tactic(auto, unfolding(crate::specs::Grammar::num, crate::specs::Grammar::num_tail))]
+    pub fn num(&mut self) -> Result<Num, Departure<'a>>
+        ensures { Gives fault_of (λ x. (x, position self.new)) result (num.reading (position self.old)) }
+    {
+        self.opening()?;
+        match self.num_word()? {
+            NumWord::Unsigned => self.unsigned(),
+            NumWord::Signed => self.signed(),
+        }
+    }
+}

@@ -1,3 +1,4 @@
 pub mod Operators
 pub mod Exactness
 pub mod Meaning
+pub mod Printing

@@ -2,3 +2,5 @@ pub mod Tree
 pub mod Grammar
 pub mod Reading
 pub mod Language
+pub mod Canonical
+pub mod Printing

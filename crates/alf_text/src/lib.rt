@@ -26,6 +26,10 @@ mod statements;
 // What a text means.
 mod language;
 
+// Writing a program.
+mod printer;
+
 pub use language::{one_meaning, read};
+pub use printer::print;
 pub use program::{Alloc, Expr, Func, Init, Item, Num, Program, Stmt};
 pub use text_fault::TextFault;

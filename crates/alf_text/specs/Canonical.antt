@@ -47,6 +47,11 @@ braced blank w inner = opens blank ∷ a_word w ∷ (inner ++ closes ∷ [])
 abbrev pub listed : {A : Type 0} → List ℕ → (A → List Mark) → List A → List Mark
 listed w marks xs = braced space w (flat_map marks xs)
 
+-- nothing where there is none
+abbrev pub if_any : {A : Type 0} → (A → List Mark) → Option A → List Mark
+if_any marks None = []
+if_any marks (Some x) = marks x
+
 -- ---- names and numbers
 
 -- { fref 32 NAME } or { lref 32 NAME }
@@ -74,17 +79,18 @@ abbrev pub num_marks : Num → List Mark
 num_marks n = if n.signed then dec_signed_marks n.size n.bits else dec_unsigned_marks n.size n.bits
 
 abbrev pub label_marks : ℕ → List ℕ → List Mark
-label_marks blank n = braced blank (codes "label") (a_number 32 ∷ (ref_marks (codes "lref") n ++ dec_unsigned_marks 32 0))
+label_marks blank n = braced blank (codes "label") (a_number 32 ∷ ref_marks (codes "lref") n ++ dec_unsigned_marks 32 0)
 
-abbrev pub address_marks : List ℕ → ℕ → List Mark
-address_marks n offset = braced space (codes "addr") (a_number 32 ∷ (ref_marks (codes "fref") n ++ dec_unsigned_marks 32 offset))
+-- the address of a frame's byte: the frame and the offset
+abbrev pub address_marks : List ℕ × ℕ → List Mark
+address_marks at = braced space (codes "addr") (a_number 32 ∷ ref_marks (codes "fref") at.0 ++ dec_unsigned_marks 32 at.1)
 
 -- ---- expressions
 
 abbrev mutual
   pub term_marks : Term → List Mark
   term_marks (Number n) = num_marks n
-  term_marks (Address n offset) = address_marks n offset
+  term_marks (Address n offset) = address_marks (n, offset)
   term_marks (Loads size at) = braced space (codes "load") (a_number size ∷ term_marks at)
   term_marks (Applies op sizes operands) = braced space (spelling op) (map a_number sizes ++ terms_marks operands)
 
@@ -100,22 +106,13 @@ target_marks t = braced space (codes "target") (num_marks t.0 ++ label_marks spa
 abbrev pub default_marks : List ℕ → List Mark
 default_marks label = braced space (codes "default") (label_marks space label)
 
-abbrev pub result_marks : Option (List ℕ × ℕ) → List Mark
-result_marks None = []
-result_marks (Some at) = address_marks at.0 at.1
-
-abbrev pub value_marks : Option Term → List Mark
-value_marks None = []
-value_marks (Some t) = term_marks t
-
 abbrev pub act_marks : Act → List Mark
 act_marks Nothing = braced line_feed (codes "null") []
-act_marks (Stores at value) = braced line_feed (codes "store") (term_marks at ++ a_word (codes "with") ∷ term_marks value)
+act_marks (Stores at value) = braced line_feed (codes "store") (term_marks at ++ a_word (codes "with") ∷ [] ++ term_marks value)
 act_marks (Jumps label) = braced line_feed (codes "jump") (label_marks space label ++ a_word (codes "leaving") ∷ a_number 0 ∷ [])
-act_marks (Switches value targets others) =
-    braced line_feed (codes "switch") (term_marks value ++ (flat_map target_marks targets ++ default_marks others))
-act_marks (Calls label args result) = braced line_feed (codes "call") (label_marks space label ++ (flat_map term_marks args ++ a_word (codes "result") ∷ result_marks result))
-act_marks (Returns value) = braced line_feed (codes "return") (value_marks value)
+act_marks (Switches value targets others) = braced line_feed (codes "switch") (term_marks value ++ flat_map target_marks targets ++ default_marks others)
+act_marks (Calls label args result) = braced line_feed (codes "call") (label_marks space label ++ flat_map term_marks args ++ a_word (codes "result") ∷ [] ++ if_any address_marks result)
+act_marks (Returns value) = braced line_feed (codes "return") (if_any term_marks value)
 
 abbrev pub entry_marks : Entry → List Mark
 entry_marks (Labels n) = label_marks line_feed n
@@ -139,10 +136,10 @@ abbrev pub starts_marks : List Start → List Mark
 starts_marks starts = listed (codes "inits") start_marks starts
 
 abbrev pub scope_marks : Function → List Mark
-scope_marks f = braced space (codes "scope") (decls_marks f.decls ++ (starts_marks f.inits ++ listed (codes "stmts") entry_marks f.items))
+scope_marks f = braced space (codes "scope") (decls_marks f.decls ++ starts_marks f.inits ++ listed (codes "stmts") entry_marks f.items)
 
 abbrev pub function_marks : Function → List Mark
-function_marks f = braced line_feed (codes "func") (label_marks space f.name ++ (listed (codes "arg_decls") frame_marks f.args ++ scope_marks f))
+function_marks f = braced line_feed (codes "func") (label_marks space f.name ++ listed (codes "arg_decls") frame_marks f.args ++ scope_marks f)
 
 -- names in a row
 abbrev pub refs_marks : List ℕ → List ℕ → List (List ℕ) → List Mark
@@ -157,18 +154,18 @@ unit_marks = braced space (codes "least_addr_unit") (a_number 8 ∷ [])
 
 -- what each program begins with
 abbrev pub head_marks : List Mark
-head_marks = braced space (codes "macro_defs") [] ++ (unit_marks ++ a_word (codes "little_endian") ∷ [])
+head_marks = braced space (codes "macro_defs") [] ++ unit_marks ++ a_word (codes "little_endian") ∷ []
 
 abbrev pub globals_marks : Whole → List Mark
-globals_marks p = decls_marks p.decls ++ (starts_marks p.inits ++ listed (codes "funcs") function_marks p.funcs)
+globals_marks p = decls_marks p.decls ++ starts_marks p.inits ++ listed (codes "funcs") function_marks p.funcs
 
 -- what follows
 abbrev pub parts_marks : Whole → List Mark
-parts_marks p = names_marks (codes "exports") p.exports p.labels ++ (names_marks (codes "imports") [] [] ++ globals_marks p)
+parts_marks p = names_marks (codes "exports") p.exports p.labels ++ names_marks (codes "imports") [] [] ++ globals_marks p
 
 -- what stands behind the first brace
 abbrev pub body_marks : Whole → List Mark
-body_marks p = a_word (codes "alf") ∷ ((head_marks ++ parts_marks p) ++ closes ∷ [])
+body_marks p = a_word (codes "alf") ∷ (head_marks ++ parts_marks p ++ closes ∷ [])
 
 abbrev pub program_marks : Whole → List Mark
 program_marks p = opens space ∷ body_marks p

@@ -5,7 +5,7 @@ ghost use Rattle.std.specs.List.{flat_map};
 ghost use Rattle.std.specs.Option.{option_map};
 ghost use Rattle.alf_text.specs.Printing.{put, all_put};
 ghost use Rattle.alf_text.specs.Tree.{term_of, terms_of, act_of, item_of, frame_of, start_of, function_of, whole_of, Loads, Applies, Nothing, Stores, Jumps, Switches, Calls, Returns};
-ghost use Rattle.alf_text.specs.Canonical.{opens, closes, a_word, a_number, a_name, listed, ref_marks, is_negative, distance, signed_marks, dec_signed_marks, dec_unsigned_marks, num_marks, label_marks, address_marks, term_marks, target_marks, default_marks, result_marks, value_marks, act_marks, entry_marks, frame_marks, place_marks, start_marks, starts_marks, scope_marks, function_marks, refs_marks, names_marks, unit_marks, head_marks, globals_marks, parts_marks, body_marks, canonical_text};
+ghost use Rattle.alf_text.specs.Canonical.{opens, closes, a_word, a_number, a_name, listed, if_any, ref_marks, is_negative, distance, signed_marks, dec_signed_marks, dec_unsigned_marks, num_marks, label_marks, address_marks, term_marks, target_marks, default_marks, act_marks, entry_marks, frame_marks, place_marks, start_marks, starts_marks, scope_marks, function_marks, refs_marks, names_marks, unit_marks, head_marks, globals_marks, parts_marks, body_marks, canonical_text};
 
 use crate::program::{Alloc, Expr, Func, Init, Item, Num, Program, Stmt};
 use alf_ops::{Op, spelling};
@@ -155,7 +155,7 @@ fn put_label(out: &mut Vec<u8>, blank: u8, name: &Name) -> Result<(), AllocError
 }
 
 fn put_address(out: &mut Vec<u8>, frame: &Name, offset: u32) -> Result<(), AllocError>
-    ensures { OnOk result (out.new.items ≡ all_put out.old.items (address_marks frame.now offset)) }
+    ensures { OnOk result (out.new.items ≡ all_put out.old.items (address_marks (frame.now, offset))) }
 {
     open(out, b' ', b"addr")?;
     put_number(out, 32)?;
@@ -285,7 +285,7 @@ fn put_switch(out: &mut Vec<u8>, value: &Expr, targets: &[(Num, Name)], others: 
 }
 
 fn put_result(out: &mut Vec<u8>, result_at: &Option<(Name, u32)>) -> Result<(), AllocError>
-    ensures { OnOk result (out.new.items ≡ all_put out.old.items (result_marks result_at.now)) }
+    ensures { OnOk result (out.new.items ≡ all_put out.old.items (if_any address_marks result_at.now)) }
 {
     match result_at {
         Some((frame, offset)) => put_address(out, frame, *offset),
@@ -306,7 +306,7 @@ fn put_call(out: &mut Vec<u8>, label: &Name, args: &[Expr], result_at: &Option<(
 }
 
 fn put_value(out: &mut Vec<u8>, value: &Option<Expr>) -> Result<(), AllocError>
-    ensures { OnOk result (out.new.items ≡ all_put out.old.items (value_marks (option_map term_of value.now))) }
+    ensures { OnOk result (out.new.items ≡ all_put out.old.items (if_any term_marks (option_map term_of value.now))) }
 {
     match value {
         Some(expr) => put_expr(out, expr),

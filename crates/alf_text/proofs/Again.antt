@@ -2,6 +2,8 @@
 use Rattle.std.proofs.Common.{◌≡◌, ℕ, zero, suc, ◌+◌, ◌-◌, ◌*◌, ◌/◌, ◌%◌, ◌^◌, ◌≤◌, ◌<◌, Bool, true, false, ◌&&◌, ◌||◌, not, cond, leb, ltb, eqb, List, [], ◌∷◌, ◌++◌, map, Result, Ok, Err, Option, Some, None, refl, sym, ap, subst, ◌∙◌, arith, codes}
 use Rattle.std.specs.Prelude.{◌==◌, nat_le, nat_lt, decimal}
 use Rattle.std.specs.Str.{bytes_eq}
+use Rattle.std.specs.Option.{option_map}
+use Rattle.std.proofs.lemmas.List.Concat.{flat_map_single}
 use Rattle.std.proofs.Math.Pow.{pow_mono}
 use Rattle.std.proofs.lemmas.Bool.{leb-true, ltb-false, le-leb}
 use Rattle.std.proofs.lemmas.Bool.Decides.{nat_tests}
@@ -10,15 +12,27 @@ use Rattle.std.proofs.lemmas.Slice.Eq.{bytes_eq-Decides}
 use Rattle.flow_base.specs.Digits.{front_digits, number_of}
 use Rattle.flow_base.specs.declared.place.Which.{Which}
 use Rattle.flow_base.specs.declared.place.Which.TheVariants as whichs
+use Rattle.alf_ops.specs.declared.operator.Op.{Op}
+use Rattle.alf_ops.specs.declared.operator.Op.TheVariants.{Neg}
+use Rattle.alf_ops.specs.Names.{spelling, operators}
+use Rattle.alf_text.specs.declared.program.Num.{Num}
+use Rattle.alf_text.specs.declared.words.NumWord.{NumWord}
+use Rattle.alf_text.specs.declared.words.NumWord.TheVariants as num_words
+use Rattle.alf_text.specs.declared.words.ExprWord.{ExprWord}
+use Rattle.alf_text.specs.declared.words.ExprWord.TheVariants as expr_words
+use Rattle.alf_text.specs.declared.words.ItemWord.{ItemWord}
+use Rattle.alf_text.specs.declared.words.ItemWord.TheVariants as item_words
 use Rattle.grammar.specs.Form.{one, judged, made, ◌>>=◌, many, maybe, exactly}
 use Rattle.grammar.specs.Exact.{ok_is, ok_no_err}
 use Rattle.alf_tokens.specs.declared.token.Kind.{Kind}
 use Rattle.alf_tokens.specs.declared.token.Kind.TheVariants as kinds
 use Rattle.alf_tokens.specs.Tokens.{Lexeme, first, after, is_open, is_close, is_word, is_number, is_quoted}
 use Rattle.alf_tokens.specs.Printed.{Mark, unplaced, is_mark, is_separator, is_word_text, is_name_text, is_named_well}
-use Rattle.alf_text.specs.Grammar.{Fault, At, with_ahead, Rule, alf, misfit, outside, fits, or_outside, fits_word, fits_number, fits_name, number_within, or_number, fits_below, opening, closing, only, word, from_least, number_between, between, fixed, size, at_most, name, begin, ends_well, fits_close_after, closing_after, fits_empty, closing_empty, token, Passes, counted, one_function, one_frame, most_functions, most_frames, most_frame_bytes, most_bytes, or_bytes, bits, reference, references, offset, zero_offset, label_tail, label, alloc, allocs, address_tail, address, unsigned, minus, signed_bits, signed, num_word, num_tail, num, ref_place, init, inits}
-use Rattle.alf_text.specs.Tree.{Entry}
-use Rattle.alf_text.specs.Canonical.{space, line_feed, opens, closes, a_word, a_number, a_name, braced, listed, if_any, ref_marks, refs_marks, dec_signed_marks, dec_unsigned_marks, signed_marks, is_negative, distance, num_marks, label_marks, address_marks, frame_marks, place_marks, start_marks, starts_marks}
+use Rattle.alf_text.specs.Grammar.{Fault, At, with_ahead, Rule, alf, misfit, outside, fits, or_outside, fits_word, fits_number, fits_name, number_within, or_number, fits_below, opening, closing, only, word, from_least, number_between, between, fixed, size, at_most, name, begin, ends_well, fits_close_after, closing_after, fits_empty, closing_empty, token, Passes, counted, one_function, one_frame, most_functions, most_frames, most_frame_bytes, most_bytes, or_bytes, bits, reference, references, offset, zero_offset, label_tail, label, alloc, allocs, address_tail, address, unsigned, minus, signed_bits, signed, num_word, num_tail, num, ref_place, init, inits, row_word, operator_among, operator_word, expr_word, unsigned_term, signed_term, address_term, load, least_further, most_further, further, sizes, apply, expr_tail, nested, expr, whole_expr, targets_ahead, target, default_arm, switch, with_word, store, item_word, label_item, null, leaving, jump, result_word, call, returns, item_tail, item, stmts, scope, arg_decls, function_tail, function, functions, empty, addr_unit, macro_defs, little_endian, heading, exports, imports, program}
+use Rattle.alf_text.specs.Tree.{Term, Act, Nothing, Entry, Labels, Does}
+use Rattle.alf_text.specs.Tree as tree
+use Rattle.alf_text.specs.Canonical.{space, line_feed, opens, closes, a_word, a_number, a_name, braced, listed, if_any, ref_marks, refs_marks, dec_signed_marks, dec_unsigned_marks, signed_marks, is_negative, distance, num_marks, label_marks, address_marks, frame_marks, place_marks, start_marks, starts_marks, term_marks, target_marks, default_marks, act_marks, entry_marks, scope_marks, function_marks}
+use Rattle.alf_text.proofs.Printing.{terms-marks}
 use Rattle.alf_text.proofs.Decimals.{decimal_text, decimal_within}
 use Rattle.alf_text.proofs.Respelling.{Respells, Any, first_named, first_same, IsBlind, Begins, Ends, Named, Reprint, tokens, single_again, token_again, framing, knowing_again, more_again, then_again, paired_again, made_again, until_again, exactly_again, many_again, maybe_again}
 
@@ -374,3 +388,195 @@ unfolding signed
 signed_again = knowing_again (framing size_again) (λ s h.
     let k = size_at h.0 s h.1 h.2 in
     paired_again (maybe alf (minus s)) (signed_bits s) _ (then_again (signed_word_again s k.0 k.1) (λ b. then_again closing_again (λ _. made_again refl))))
+
+abbrev num_text : NumWord → List ℕ
+num_text num_words.Unsigned = codes "dec_unsigned"
+num_text num_words.Signed = codes "dec_signed"
+
+num_spelling : (t : List ℕ) (w : NumWord) → num_word t ≡ Some w → (is_word_text (num_text w) ≡ true) × (num_word (num_text w) ≡ Some w)
+num_spelling t num_words.Unsigned h = (refl, refl)
+num_spelling t num_words.Signed h = (refl, refl)
+
+num_tail_again : (w : NumWord) → Respells Any (num_tail w) (opens space ∷ a_word (num_text w) ∷ []) num_marks
+unfolding num_tail
+num_tail_again num_words.Unsigned = unsigned_again
+num_tail_again num_words.Signed = signed_again
+
+num_again : Respells Any num [] num_marks
+unfolding num
+num_again = then_again (opening_again space refl) (λ _. then_again (table_again num_word num_text num_spelling) num_tail_again)
+
+-- ---- initial values
+
+ref_place_again : Respells Any ref_place [] (λ p. place_marks p.0 p.1)
+unfolding ref_place
+ref_place_again = then_again (begin_again space (codes "ref") refl refl) (λ _. then_again name_again (λ n. then_again offset_again (λ o. then_again closing_again (λ _. made_again refl))))
+
+init_again : Respells Any init [] start_marks
+unfolding init
+init_again = then_again (begin_again line_feed (codes "init") refl refl) (λ _. then_again ref_place_again (λ p. then_again num_again (λ n. then_again closing_again (λ _. made_again refl))))
+
+inits_again : Respells Any inits [] starts_marks
+unfolding inits
+inits_again = listed_again (codes "inits") refl init_again (λ at x more. refl)
+
+-- ---- expressions
+
+abbrev expr_text : ExprWord → List ℕ
+expr_text expr_words.Unsigned = codes "dec_unsigned"
+expr_text expr_words.Signed = codes "dec_signed"
+expr_text expr_words.Address = codes "addr"
+expr_text expr_words.Load = codes "load"
+expr_text (expr_words.Apply op m n) = spelling op
+
+op_named : (op : Op) → (is_word_text (spelling op) ≡ true) × (expr_word (spelling op) ≡ Some (row_word op))
+unfolding operator_word
+op_named op = elim op as (λ (op : Op). (is_word_text (spelling op) ≡ true) × (expr_word (spelling op) ≡ Some (row_word op))) [ Neg ↦ (refl, refl) | _ ↦ (refl, refl) ]
+
+row_is : (o : Option Op) (op : Op) (m n : ℕ) → option_map row_word o ≡ Some (expr_words.Apply op m n) → row_word op ≡ expr_words.Apply op m n
+row_is None op m n h = absurd cc
+row_is (Some other) op m n h =
+    let e : row_word other ≡ expr_words.Apply op m n = cc in
+    let s : other ≡ op = cc in
+    ap row_word (sym s) ∙ e
+
+-- behind the words that are no operators
+no_operator : (t u v w : Bool) (o : Option ExprWord) (op : Op) (m n : ℕ)
+    → cond t (Some expr_words.Unsigned) (cond u (Some expr_words.Signed) (cond v (Some expr_words.Address) (cond w (Some expr_words.Load) o))) ≡ Some (expr_words.Apply op m n)
+    → o ≡ Some (expr_words.Apply op m n)
+no_operator true u v w o op m n h = absurd cc
+no_operator false true v w o op m n h = absurd cc
+no_operator false false true w o op m n h = absurd cc
+no_operator false false false true o op m n h = absurd cc
+no_operator false false false false o op m n h = h
+
+expr_spelling : (t : List ℕ) (w : ExprWord) → expr_word t ≡ Some w → (is_word_text (expr_text w) ≡ true) × (expr_word (expr_text w) ≡ Some w)
+unfolding operator_word
+expr_spelling t expr_words.Unsigned h = (refl, refl)
+expr_spelling t expr_words.Signed h = (refl, refl)
+expr_spelling t expr_words.Address h = (refl, refl)
+expr_spelling t expr_words.Load h = (refl, refl)
+expr_spelling t (expr_words.Apply op m n) h =
+    let r = row_is (operator_among operators t) op m n (no_operator _ _ _ _ (option_map row_word (operator_among operators t)) op m n h) in
+    ((op_named op).0, (op_named op).1 ∙ ap (λ (w : ExprWord). Some w) r)
+
+most_small : (op : Op) → most_further op < 2 ^ 64
+most_small op = elim op as (λ (op : Op). most_further op < 2 ^ 64) [ Neg ↦ omega arith | _ ↦ omega arith ]
+
+sizes_again : (op : Op) (count : ℕ) → Respells Any (sizes op count) [] (map a_number)
+unfolding sizes further
+sizes_again op count = then_again size_again (λ s. then_again (exactly_again (count - 1) (between_again (least_further op) (most_further op) 1 (most_small op)))
+    (λ ss. made_again (ap (λ (ms : List Mark). a_number s ∷ ms) (flat_map_single a_number ss))))
+
+module _ (inner : Rule Term) (h : Respells Any inner [] term_marks) where
+  expr_tail_again : (w : ExprWord) → Respells Any (expr_tail inner w) (opens space ∷ a_word (expr_text w) ∷ []) term_marks
+  unfolding expr_tail unsigned_term signed_term address_term load apply
+  expr_tail_again expr_words.Unsigned = more_again unsigned_again (λ n. made_again refl)
+  expr_tail_again expr_words.Signed = more_again signed_again (λ n. made_again refl)
+  expr_tail_again expr_words.Address = more_again address_tail_again (λ a. made_again refl)
+  expr_tail_again expr_words.Load = then_again (between_again 8 64 8 (omega arith)) (λ s. then_again h (λ t. then_again closing_again (λ _. made_again refl)))
+  expr_tail_again (expr_words.Apply op m n) = then_again (sizes_again op m) (λ ss. then_again (exactly_again n h) (λ es. then_again closing_again (λ _. made_again (rw (terms-marks es) refl))))
+
+  nested_again : Respells Any (nested inner) [] term_marks
+  unfolding nested
+  nested_again = then_again (opening_again space refl) (λ _. then_again (table_again expr_word expr_text expr_spelling) expr_tail_again)
+
+never_deep : (b : Bool) (f g : Fault) (e : Term) → cond {A = Result Term Fault} b (Err f) (Err g) ≡ Ok e → ⊥
+never_deep true f g e h = cc
+never_deep false f g e h = cc
+
+expr_again : (depth : ℕ) → Respells Any (expr depth) [] term_marks
+unfolding expr
+expr_again zero = record { again = λ at x rest n h. absurd (never_deep _ _ _ x h.0) }
+expr_again (suc depth) = nested_again (expr depth) (expr_again depth)
+
+whole_expr_again : Respells Any whole_expr [] term_marks
+unfolding whole_expr
+whole_expr_again = expr_again 64
+
+num_begins : (at : At) (n : Num) (more : List Lexeme) → alf.goes_on (with_ahead at (tokens (num_marks n) ++ more)) ≡ true
+num_begins at n more = by_sign n.signed
+  where
+    by_sign : (b : Bool) → alf.goes_on (with_ahead at (tokens (cond b (dec_signed_marks n.size n.bits) (dec_unsigned_marks n.size n.bits)) ++ more)) ≡ true
+    by_sign true = refl
+    by_sign false = refl
+
+term_begins : Begins alf term_marks
+term_begins at (tree.Number n) more = num_begins at n more
+term_begins at (tree.Address n o) more = refl
+term_begins at (tree.Loads s t) more = refl
+term_begins at (tree.Applies op ss ts) more = refl
+
+-- ---- items
+
+targets_blind : IsBlind targets_ahead
+targets_blind = record { blind = same }
+  where
+    same : (at : At) (us : List Lexeme) → targets_ahead.goes_on (with_ahead at us) ≡ targets_ahead.goes_on (with_ahead at (map unplaced us))
+    same at [] = refl
+    same at (u ∷ []) = refl
+    same at (u ∷ v ∷ us) = refl
+
+target_again : Respells Any target [] target_marks
+unfolding target
+target_again = then_again (begin_again space (codes "target") refl refl) (λ _. then_again num_again (λ n. then_again label_again (λ l. then_again closing_again (λ _. made_again refl))))
+
+default_again : Respells Any default_arm [] default_marks
+unfolding default_arm
+default_again = then_again (begin_again space (codes "default") refl refl) (λ _. then_again label_again (λ l. then_again closing_again (λ _. made_again refl)))
+
+abbrev item_text : ItemWord → List ℕ
+item_text item_words.Label = codes "label"
+item_text item_words.Null = codes "null"
+item_text item_words.Store = codes "store"
+item_text item_words.Jump = codes "jump"
+item_text item_words.Switch = codes "switch"
+item_text item_words.Call = codes "call"
+item_text item_words.Return = codes "return"
+
+item_spelling : (t : List ℕ) (w : ItemWord) → item_word t ≡ Some w → (is_word_text (item_text w) ≡ true) × (item_word (item_text w) ≡ Some w)
+item_spelling t w h = elim w as (λ (w : ItemWord). (is_word_text (item_text w) ≡ true) × (item_word (item_text w) ≡ Some w)) [ item_words.Label ↦ (refl, refl) | _ ↦ (refl, refl) ]
+
+item_tail_again : (w : ItemWord) → Respells Any (item_tail w) (opens line_feed ∷ a_word (item_text w) ∷ []) entry_marks
+unfolding item_tail label_item null store with_word jump leaving switch call result_word returns
+item_tail_again item_words.Label = more_again (label_tail_again line_feed) (λ n. made_again refl)
+item_tail_again item_words.Null = then_again closing_again (λ _. made_again refl)
+item_tail_again item_words.Store = then_again whole_expr_again (λ at. then_again (word_again (codes "with") refl) (λ _. then_again whole_expr_again (λ v. then_again closing_again (λ _. made_again refl))))
+item_tail_again item_words.Jump = then_again label_again (λ l. then_again (word_again (codes "leaving") refl) (λ _. then_again (fixed_again 0 (omega arith)) (λ _. then_again closing_again (λ _. made_again refl))))
+item_tail_again item_words.Switch = then_again whole_expr_again (λ v. until_again (many_again targets_blind target_again (λ at x more. refl)) (λ _. default_again) (λ l more at. refl) (λ ts l. then_again closing_again (λ _. made_again refl)))
+item_tail_again item_words.Call = then_again label_again (λ l. until_again (many_again alf_blind whole_expr_again term_begins) (λ _. word_again (codes "result") refl) (λ _ more at. refl)
+    (λ args _. until_again (maybe_again alf_blind address_again (λ at x more. refl)) (λ _. closing_again) (λ _ more at. refl) (λ to _. made_again refl)))
+item_tail_again item_words.Return = until_again (maybe_again alf_blind whole_expr_again term_begins) (λ _. closing_again) (λ _ more at. refl) (λ v _. made_again refl)
+
+item_again : Respells Any item [] entry_marks
+unfolding item
+item_again = then_again (opening_again line_feed refl) (λ _. then_again (table_again item_word item_text item_spelling) item_tail_again)
+
+act_begins : (at : At) (act : Act) (more : List Lexeme) → alf.goes_on (with_ahead at (tokens (act_marks act) ++ more)) ≡ true
+act_begins at act more = elim act as (λ (act : Act). alf.goes_on (with_ahead at (tokens (act_marks act) ++ more)) ≡ true) [ Nothing ↦ refl | _ ↦ refl ]
+
+item_begins : Begins alf entry_marks
+item_begins at (Labels n) more = refl
+item_begins at (Does act) more = act_begins at act more
+
+-- ---- functions
+
+stmts_again : Respells Any stmts [] (listed (codes "stmts") entry_marks)
+unfolding stmts
+stmts_again = then_again (begin_again space (codes "stmts") refl refl) (λ _. until_again (many_again alf_blind item_again item_begins) closing_after_again (λ _ more at. refl) (λ items _. made_again refl))
+
+scope_again : Respells Any scope [] (λ s. scope_marks s.0 s.1 s.2)
+unfolding scope
+scope_again = then_again (begin_again space (codes "scope") refl refl) (λ _. then_again (allocs_again (codes "decls") refl) (λ fs. then_again inits_again (λ ss. then_again stmts_again (λ items. then_again closing_again (λ _. made_again refl)))))
+
+function_tail_again : Respells Any function_tail (opens line_feed ∷ a_word (codes "func") ∷ []) function_marks
+unfolding function_tail arg_decls
+function_tail_again = then_again label_again (λ n. then_again (allocs_again (codes "arg_decls") refl) (λ fs. then_again scope_again (λ s. then_again closing_again (λ _. made_again refl))))
+
+function_again : Respells Any function [] function_marks
+unfolding function
+function_again = then_again one_function_again (λ _. then_again (word_again (codes "func") refl) (λ _. more_again function_tail_again (λ f. made_again refl)))
+
+functions_again : Respells Any functions [] (listed (codes "funcs") function_marks)
+unfolding functions
+functions_again = listed_again (codes "funcs") refl function_again (λ at x more. refl)

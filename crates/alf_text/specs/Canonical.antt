@@ -135,11 +135,11 @@ decls_marks frames = listed (codes "decls") frame_marks frames
 abbrev pub starts_marks : List Start → List Mark
 starts_marks starts = listed (codes "inits") start_marks starts
 
-abbrev pub scope_marks : Function → List Mark
-scope_marks f = braced space (codes "scope") (decls_marks f.decls ++ starts_marks f.inits ++ listed (codes "stmts") entry_marks f.items)
+abbrev pub scope_marks : List Frame → List Start → List Entry → List Mark
+scope_marks frames starts items = braced space (codes "scope") (decls_marks frames ++ starts_marks starts ++ listed (codes "stmts") entry_marks items)
 
 abbrev pub function_marks : Function → List Mark
-function_marks f = braced line_feed (codes "func") (label_marks space f.name ++ listed (codes "arg_decls") frame_marks f.args ++ scope_marks f)
+function_marks f = braced line_feed (codes "func") (label_marks space f.name ++ listed (codes "arg_decls") frame_marks f.args ++ scope_marks f.decls f.inits f.items)
 
 -- names in a row
 abbrev pub refs_marks : List ℕ → List ℕ → List (List ℕ) → List Mark

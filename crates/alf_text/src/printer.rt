@@ -420,7 +420,7 @@ fn put_inits(out: &mut Vec<u8>, inits: &[Init]) -> Result<(), AllocError>
 }
 
 fn put_scope(out: &mut Vec<u8>, func: &Func) -> Result<(), AllocError>
-    ensures { OnOk result (out.new.items ≡ all_put out.old.items (scope_marks (function_of func.now))) }
+    ensures { OnOk result (out.new.items ≡ all_put out.old.items (let f = function_of func.now in scope_marks f.decls f.inits f.items)) }
 {
     open(out, b' ', b"scope")?;
     put_allocs(out, b"decls", &func.decls)?;

@@ -1,5 +1,5 @@
 -- Each rule is spelled again by the canonical tokens of what it spelled.
-use Rattle.std.proofs.Common.{◌≡◌, ℕ, zero, suc, ◌+◌, ◌-◌, ◌*◌, ◌/◌, ◌%◌, ◌^◌, ◌≤◌, ◌<◌, Bool, true, false, ◌&&◌, ◌||◌, not, cond, leb, ltb, eqb, List, [], ◌∷◌, ◌++◌, map, Result, Ok, Err, Option, Some, None, refl, sym, ap, subst, ◌∙◌, arith, codes}
+use Rattle.std.proofs.Common.{◌≡◌, ℕ, zero, suc, ◌+◌, ◌-◌, ◌*◌, ◌/◌, ◌%◌, ◌^◌, ◌≤◌, ◌<◌, Bool, true, false, ◌&&◌, ◌||◌, not, cond, leb, ltb, eqb, List, [], ◌∷◌, ◌++◌, map, Result, Ok, Err, Option, Some, None, refl, sym, ap, subst, ◌∙◌, arith, codes, append_assoc}
 use Rattle.std.specs.Prelude.{◌==◌, nat_le, nat_lt, decimal}
 use Rattle.std.specs.Str.{bytes_eq}
 use Rattle.std.specs.Option.{option_map}
@@ -22,16 +22,16 @@ use Rattle.alf_text.specs.declared.words.ExprWord.{ExprWord}
 use Rattle.alf_text.specs.declared.words.ExprWord.TheVariants as expr_words
 use Rattle.alf_text.specs.declared.words.ItemWord.{ItemWord}
 use Rattle.alf_text.specs.declared.words.ItemWord.TheVariants as item_words
-use Rattle.grammar.specs.Form.{one, judged, made, ◌>>=◌, many, maybe, exactly}
+use Rattle.grammar.specs.Form.{one, judged, made, ◌>>=◌, ◌>>◌, many, maybe, exactly}
 use Rattle.grammar.specs.Exact.{ok_is, ok_no_err}
 use Rattle.alf_tokens.specs.declared.token.Kind.{Kind}
 use Rattle.alf_tokens.specs.declared.token.Kind.TheVariants as kinds
 use Rattle.alf_tokens.specs.Tokens.{Lexeme, first, after, is_open, is_close, is_word, is_number, is_quoted}
 use Rattle.alf_tokens.specs.Printed.{Mark, unplaced, is_mark, is_separator, is_word_text, is_name_text, is_named_well}
 use Rattle.alf_text.specs.Grammar.{Fault, At, with_ahead, Rule, alf, misfit, outside, fits, or_outside, fits_word, fits_number, fits_name, number_within, or_number, fits_below, opening, closing, only, word, from_least, number_between, between, fixed, size, at_most, name, begin, ends_well, fits_close_after, closing_after, fits_empty, closing_empty, token, Passes, counted, one_function, one_frame, most_functions, most_frames, most_frame_bytes, most_bytes, or_bytes, bits, reference, references, offset, zero_offset, label_tail, label, alloc, allocs, address_tail, address, unsigned, minus, signed_bits, signed, num_word, num_tail, num, ref_place, init, inits, row_word, operator_among, operator_word, expr_word, unsigned_term, signed_term, address_term, load, least_further, most_further, further, sizes, apply, expr_tail, nested, expr, whole_expr, targets_ahead, target, default_arm, switch, with_word, store, item_word, label_item, null, leaving, jump, result_word, call, returns, item_tail, item, stmts, scope, arg_decls, function_tail, function, functions, empty, addr_unit, macro_defs, little_endian, heading, exports, imports, program}
-use Rattle.alf_text.specs.Tree.{Term, Act, Nothing, Entry, Labels, Does}
+use Rattle.alf_text.specs.Tree.{Whole, Term, Act, Nothing, Entry, Labels, Does}
 use Rattle.alf_text.specs.Tree as tree
-use Rattle.alf_text.specs.Canonical.{space, line_feed, opens, closes, a_word, a_number, a_name, braced, listed, if_any, ref_marks, refs_marks, dec_signed_marks, dec_unsigned_marks, signed_marks, is_negative, distance, num_marks, label_marks, address_marks, frame_marks, place_marks, start_marks, starts_marks, term_marks, target_marks, default_marks, act_marks, entry_marks, scope_marks, function_marks}
+use Rattle.alf_text.specs.Canonical.{space, line_feed, opens, closes, a_word, a_number, a_name, braced, listed, if_any, ref_marks, refs_marks, dec_signed_marks, dec_unsigned_marks, signed_marks, is_negative, distance, num_marks, label_marks, address_marks, frame_marks, place_marks, start_marks, starts_marks, term_marks, target_marks, default_marks, act_marks, entry_marks, scope_marks, function_marks, unit_marks, head_marks, names_marks, program_marks}
 use Rattle.alf_text.proofs.Printing.{terms-marks}
 use Rattle.alf_text.proofs.Decimals.{decimal_text, decimal_within}
 use Rattle.alf_text.proofs.Respelling.{Respells, Any, first_named, first_same, IsBlind, Begins, Ends, Named, Reprint, tokens, single_again, token_again, framing, knowing_again, more_again, then_again, paired_again, made_again, until_again, exactly_again, many_again, maybe_again}
@@ -580,3 +580,45 @@ function_again = then_again one_function_again (λ _. then_again (word_again (co
 functions_again : Respells Any functions [] (listed (codes "funcs") function_marks)
 unfolding functions
 functions_again = listed_again (codes "funcs") refl function_again (λ at x more. refl)
+
+-- ---- programs
+
+empty_again : (w told : List ℕ) → is_word_text w ≡ true → Respells Any (empty w told) [] (λ _. braced space w [])
+unfolding empty
+empty_again w told is = then_again (begin_again space w refl is) (λ _. then_again (closing_empty_again told) (λ _. made_again refl))
+
+addr_unit_again : Respells Any addr_unit [] (λ _. unit_marks)
+unfolding addr_unit
+addr_unit_again = then_again (begin_again space (codes "least_addr_unit") refl refl) (λ _. then_again (fixed_again 8 (omega arith)) (λ _. then_again closing_again (λ _. made_again refl)))
+
+heading_again : Respells Any heading [] (λ _. head_marks)
+unfolding heading macro_defs little_endian
+heading_again = then_again (empty_again (codes "macro_defs") (codes "macro_defs") refl) (λ _. then_again addr_unit_again (λ _. then_again (word_again (codes "little_endian") refl) (λ _. made_again refl)))
+
+exports_again : Respells Any exports [] (λ names. names_marks (codes "exports") names.0 names.1)
+unfolding exports
+exports_again = then_again (begin_again space (codes "exports") refl refl) (λ _. then_again (references_again (codes "frefs") (codes "fref") refl refl)
+    (λ fs. then_again (references_again (codes "lrefs") (codes "lref") refl refl) (λ ls. then_again closing_again (λ _. made_again refl))))
+
+imports_again : Respells Any imports [] (λ _. names_marks (codes "imports") [] [])
+unfolding imports
+imports_again = then_again (begin_again space (codes "imports") refl refl) (λ _. then_again (empty_again (codes "frefs") (codes "imports") refl)
+    (λ _. then_again (empty_again (codes "lrefs") (codes "imports") refl) (λ _. then_again closing_again (λ _. made_again refl))))
+
+-- a program without the end of the text
+abbrev pub body : Rule Whole
+body = do
+  begin (codes "alf")
+  heading
+  names ← exports
+  imports
+  frames ← allocs (codes "decls")
+  starts ← inits
+  fs ← functions
+  closing
+  made (record { exports = names.0; labels = names.1; decls = frames; inits = starts; funcs = fs })
+
+pub body_again : Respells Any body [] program_marks
+body_again = then_again (begin_again space (codes "alf") refl refl) (λ _. then_again heading_again (λ _. then_again exports_again (λ names. then_again imports_again
+    (λ _. then_again (allocs_again (codes "decls") refl) (λ fs. then_again inits_again (λ ss. then_again functions_again (λ funcs. then_again closing_again
+    (λ _. made_again (simp append_assoc)))))))))

@@ -5,3 +5,4 @@ pub mod Printing
 pub mod Decimals
 pub mod Respelling
 pub mod Again
+pub mod CanonicalTexts

@@ -30,6 +30,6 @@ mod language;
 mod printer;
 
 pub use language::{one_meaning, read};
-pub use printer::print;
+pub use printer::{canonical_texts_are_read_back, print};
 pub use program::{Alloc, Expr, Func, Init, Item, Num, Program, Stmt};
 pub use text_fault::TextFault;

@@ -1,6 +1,7 @@
 pub mod Operators
 pub mod Exactness
 pub mod Meaning
+pub mod Spelled
 pub mod Printing
 pub mod Decimals
 pub mod Respelling

@@ -23,13 +23,15 @@ mod numbers;
 mod programs;
 mod statements;
 
-// What a text means.
+// What a text means, and what the definitions promise.
 mod language;
+mod laws;
 
 // Writing a program.
 mod printer;
 
 pub use language::{one_meaning, read};
-pub use printer::{canonical_texts_are_read_back, print};
+pub use laws::{canonical_texts_are_read_back, spelled_programs_are_written};
+pub use printer::print;
 pub use program::{Alloc, Expr, Func, Init, Item, Num, Program, Stmt};
 pub use text_fault::TextFault;

@@ -4,13 +4,13 @@ ghost use Rattle.std.specs.Prelude.{◌≡◌, ◌+◌, ◌-◌, ◌^◌, ◌<�
 ghost use Rattle.std.specs.List.{flat_map};
 ghost use Rattle.std.specs.Option.{option_map};
 ghost use Rattle.alf_text.specs.Printing.{put, all_put};
-ghost use Rattle.alf_text.specs.Tree.{Whole, term_of, terms_of, act_of, item_of, frame_of, start_of, function_of, whole_of, Loads, Applies, Nothing, Stores, Jumps, Switches, Calls, Returns};
+ghost use Rattle.alf_text.specs.Tree.{term_of, terms_of, act_of, item_of, frame_of, start_of, function_of, whole_of, Loads, Applies, Nothing, Stores, Jumps, Switches, Calls, Returns};
 ghost use Rattle.alf_text.specs.Language.{SpellsProgram, IsSpelled};
 ghost use Rattle.alf_text.specs.Canonical.{opens, closes, a_word, a_number, a_name, listed, if_any, ref_marks, is_negative, distance, signed_marks, dec_signed_marks, dec_unsigned_marks, num_marks, label_marks, address_marks, term_marks, target_marks, default_marks, act_marks, entry_marks, frame_marks, place_marks, start_marks, starts_marks, scope_marks, function_marks, refs_marks, names_marks, unit_marks, head_marks, globals_marks, parts_marks, body_marks, canonical_text};
 
+use crate::laws::canonical_texts_are_read_back;
 use crate::program::{Alloc, Expr, Func, Init, Item, Num, Program, Stmt};
 use alf_ops::{Op, spelling};
-use alf_tokens::{printed_texts_are_cut, texts_are_cut_one_way};
 use flow_base::Name;
 use itoa::Buffer;
 use std::alloc::{AllocError, Global};
@@ -536,22 +536,10 @@ pub fn print(alloc: Global, program: &Program) -> Result<Vec<u8>, AllocError>
     ensures spelled { IsSpelled (whole_of program.now)
         → IfOk result (λ text. SpellsProgram text.items (whole_of program.now)) }
 {
-    texts_are_cut_one_way();
-    printed_texts_are_cut();
+    canonical_texts_are_read_back();
     let mut out = Vec::new(alloc);
     out.push(b'{')?;
     put_body(&mut out, program)?;
     out.push(b'\n')?;
     Ok(out)
-}
-
-/// A program that some text spells is spelled by its canonical text too, and what is read of that
-/// text has the same canonical text.
-pub fn canonical_texts_are_read_back()
-    ensures spelled { (whole : Whole) → IsSpelled whole → SpellsProgram (canonical_text whole) whole }
-    ensures settled { (whole : Whole) → IsSpelled whole → (again : Whole) → SpellsProgram (canonical_text whole) again
-        → canonical_text again ≡ canonical_text whole }
-{
-    texts_are_cut_one_way();
-    printed_texts_are_cut();
 }

@@ -14,5 +14,6 @@ pub mod Search
 pub mod Resolved
 pub mod Cells
 pub mod ReportText
+pub mod FaultLines
 pub mod Answer
 pub mod Laws

@@ -3,14 +3,16 @@ ghost use Rattle.flow_base.specs.Outside.{Rose};
 ghost use Rattle.alf_text.specs.Tree.{item_of, names_of, whole_of};
 ghost use Rattle.alf_text.specs.First.{main_alone, IsFirst};
 ghost use Rattle.alf_text.specs.FirstText.{FirstText};
-ghost use Rattle.sweet_cli.specs.Words.{Command, command_of};
-ghost use Rattle.sweet_cli.specs.Answer.{TextAnswers, Answers};
+ghost use Rattle.sweet_cli.specs.Words.{Command, command_of, file_of};
+ghost use Rattle.sweet_cli.specs.Meant.{command_meant};
+ghost use Rattle.sweet_cli.specs.Answer.{TextAnswers, PrintAnswers, CommandAnswers, Answers};
 
 use crate::Status;
 use crate::analysis::report_of;
-use crate::command::read_command;
+use crate::command::{Command, read_command};
+use crate::fault_lines::fault_line;
 use crate::report_text::text_of;
-use alf_text::{FirstFault, Item, Program, first_texts, read_first};
+use alf_text::{FirstFault, Item, Program, first_texts, print, read, read_first};
 use flow_base::{ReadError, Shelf};
 use std::alloc::{AllocError, Global};
 
@@ -20,7 +22,7 @@ const MOST_BYTES: u64 = 1_048_576;
 #[derive(Drop)]
 pub struct Answer {
     pub status: Status,
-    pub text: String,
+    pub text: Vec<u8>,
 }
 
 /// The answer to the words.
@@ -29,27 +31,61 @@ pub fn words_answer<F: Shelf>(
     words: &[String],
     shelf: &mut F,
 ) -> Result<Answer, AllocError>
-    ensures answer { IfOk result (λ answer. Answers (map string_bytes words.now) (F.files shelf.old) answer.status (string_bytes answer.text)) }
+    ensures answer { IfOk result (λ answer. Answers (map string_bytes words.now) (F.files shelf.old) answer.status (answer.text.items)) }
     ensures read_failed { IfOk result (λ answer. answer.status ≡ Status.ReadFailed → Rose (F.faults shelf.old) (F.faults shelf.new)) }
     ensures name_kept { IfOk result (λ answer. answer.status ≡ Status.ReadFailed
-        → (command : Command) × (command_of (map string_bytes words.now) ≡ Some command) × (F.failed shelf.new ≡ Some command.file)) }
+        → (command : Command) × (command_of (map string_bytes words.now) ≡ Some command) × (F.failed shelf.new ≡ Some (file_of command))) }
     ensures no_other_read { IfOk result (λ answer. (answer.status ≡ Status.ReadFailed → ⊥) → F.failed shelf.new ≡ F.failed shelf.old) }
     ensures same_files { F.files shelf.new ≡ F.files shelf.old }
 {
     let Some(command) = read_command(words) else {
         return said(alloc, Status::Usage, "fault usage\n");
     };
-    match shelf.read(alloc, command.file, MOST_BYTES) {
-        Ok(bytes) => text_answer(alloc, &bytes, command.turns),
+    match shelf.read(alloc, command.file(), MOST_BYTES) {
+        Ok(bytes) => command_answer(alloc, command, &bytes),
         Err(ReadError::Failed) => said(alloc, Status::ReadFailed, "fault read program\n"),
         Err(ReadError::TooLong(_)) => said(alloc, Status::Source, "fault 13 limit bytes 1048577\n"),
         Err(ReadError::Memory) => Err(AllocError),
     }
 }
 
-// The answer to the bytes of a program.
+// The answer to the bytes that the command reads.
+fn command_answer(alloc: Global, command: Command<'_>, bytes: &[u8]) -> Result<Answer, AllocError>
+    ensures answer { IfOk result (λ answer. CommandAnswers (command_meant command.entry) bytes.now answer.status answer.text.items) }
+    ensures was_read { IfOk result (λ answer. answer.status ≡ Status.ReadFailed → ⊥) }
+{
+    match command {
+        Command::Analyse(_, turns) => text_answer(alloc, bytes, turns),
+        Command::Print(_) => print_answer(alloc, bytes),
+    }
+}
+
+// The answer to the bytes of a program that is printed.
+fn print_answer(alloc: Global, bytes: &[u8]) -> Result<Answer, AllocError>
+    ensures answer { IfOk result (λ answer. PrintAnswers bytes.now answer.status answer.text.items) }
+    ensures was_read { IfOk result (λ answer. answer.status ≡ Status.ReadFailed → ⊥) }
+{
+    match read(alloc, bytes) {
+        Ok(program) => {
+            let text = print(alloc, &program)?;
+            Ok(Answer {
+                status: Status::Done,
+                text,
+            })
+        }
+        Err(fault) => {
+            let text = fault_line(alloc, &fault)?;
+            Ok(Answer {
+                status: Status::Source,
+                text,
+            })
+        }
+    }
+}
+
+// The answer to the bytes of a program that is analysed.
 fn text_answer(alloc: Global, bytes: &[u8], turns: u32) -> Result<Answer, AllocError>
-    ensures answer { IfOk result (λ answer. TextAnswers bytes.now turns answer.status (string_bytes answer.text)) }
+    ensures answer { IfOk result (λ answer. TextAnswers bytes.now turns answer.status (answer.text.items)) }
     ensures was_read { IfOk result (λ answer. answer.status ≡ Status.ReadFailed → ⊥) }
 {
     match read_first(alloc, bytes) {
@@ -66,7 +102,7 @@ fn text_answer(alloc: Global, bytes: &[u8], turns: u32) -> Result<Answer, AllocE
 fn program_answer(alloc: Global, program: &Program, turns: u32) -> Result<Answer, AllocError>
     requires { IsFirst (whole_of program.now) }
     ensures answer { (bytes : List ℕ) → FirstText bytes (whole_of program.now)
-        → IfOk result (λ answer. TextAnswers bytes turns answer.status (string_bytes answer.text)) }
+        → IfOk result (λ answer. TextAnswers bytes turns answer.status (answer.text.items)) }
     ensures was_read { IfOk result (λ answer. answer.status ≡ Status.ReadFailed → ⊥) }
 {
     let report = report_of(alloc, &program.decls, items_of_main(program), turns)?;
@@ -76,7 +112,7 @@ fn program_answer(alloc: Global, program: &Program, turns: u32) -> Result<Answer
     let text = text_of(alloc, &report)?;
     Ok(Answer {
         status: Status::Done,
-        text,
+        text: text.into_bytes(),
     })
 }
 
@@ -90,8 +126,8 @@ fn items_of_main(program: &Program) -> &[Item]
 
 // A status with a text that is written already.
 fn said(alloc: Global, status: Status, text: &str) -> Result<Answer, AllocError>
-    ensures { IfOk result (λ answer. (answer.status ≡ status) × (string_bytes answer.text ≡ text.now)) }
+    ensures { IfOk result (λ answer. (answer.status ≡ status) × (answer.text.items ≡ text.now)) }
 {
-    let text = String::from_str(alloc, text)?;
+    let text = text.as_bytes().to_vec(alloc)?;
     Ok(Answer { status, text })
 }

@@ -1,12 +1,13 @@
 ghost use Rattle.sweet_cli.specs.Laws.{HaveOneStep, HaveOneRun, HaveOneAnswer};
 
-use alf_text::first_texts;
+use alf_text::{first_texts, one_meaning};
 
 /// Over told files the words have one answer, where no read fails. Does nothing when it is called.
 pub fn one_answer()
     ensures { HaveOneAnswer }
 {
     first_texts();
+    one_meaning();
 }
 
 /// A run has one continuation, and so a first text's program has one run at most that ends, with

@@ -23,8 +23,9 @@ mod operand;
 mod search;
 mod tally;
 
-// Facts, reports and their text.
+// Facts, reports and the lines of answers.
 mod fact;
+mod fault_lines;
 mod report;
 mod report_text;
 

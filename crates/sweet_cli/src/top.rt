@@ -1,12 +1,12 @@
 ghost use Rattle.std.specs.Prelude.{◌≡◌, List, ℕ, map, Some, string_bytes, IfSome};
 ghost use Rattle.flow_base.specs.Outside.{Rose, Appended, AppendedFront};
-ghost use Rattle.sweet_cli.specs.Words.{Command, command_of};
-ghost use Rattle.sweet_cli.specs.Answer.{Answers, IsWritten, PrintsSound};
+ghost use Rattle.sweet_cli.specs.Words.{Command, Analyse, Print, file_of, command_of};
+ghost use Rattle.sweet_cli.specs.Answer.{Answers, IsWritten, PrintsSound, PrintsSame};
 ghost use Rattle.sweet_cli.specs.declared.status.Status.{Status};
 
 use crate::Status;
 use crate::answer::words_answer;
-use alf_text::first_texts;
+use alf_text::{first_texts, printed_texts_are_read_back};
 use flow_base::{Shelf, Sink, WriteError};
 use std::alloc::Global;
 
@@ -20,13 +20,17 @@ pub fn run<F: Shelf, W: Sink>(alloc: Global, words: &[String], shelf: &mut F, ou
     ensures answer { IsWritten result → (text : List ℕ) × Answers (map string_bytes words.now) (F.files shelf.old) result text
         × Appended (W.taken out.old) (W.taken out.new) text }
 
-    // After `Done` the report that was printed is sound for the program that the told bytes spell.
-    ensures sound { result ≡ Status.Done → IfSome (F.files shelf.old) (λ files. IfSome (W.taken out.old) (λ before. IfSome (W.taken out.new)
-        (λ after. PrintsSound (map string_bytes words.now) files before after))) }
+    // After `Done` on `analyse` the report that was printed is sound for the program that the told bytes spell.
+    ensures sound { result ≡ Status.Done → (file : List ℕ) (turns : ℕ) → command_of (map string_bytes words.now) ≡ Some (Analyse file turns)
+        → IfSome (F.files shelf.old) (λ files. IfSome (W.taken out.old) (λ before. IfSome (W.taken out.new) (λ after. PrintsSound file files before after))) }
+
+    // After `Done` on `print` the text that was printed spells the program that the told bytes spell.
+    ensures same { result ≡ Status.Done → (file : List ℕ) → command_of (map string_bytes words.now) ≡ Some (Print file)
+        → IfSome (F.files shelf.old) (λ files. IfSome (W.taken out.old) (λ before. IfSome (W.taken out.new) (λ after. PrintsSame file files before after))) }
 
     ensures read_failed { result ≡ Status.ReadFailed → Rose (F.faults shelf.old) (F.faults shelf.new) }
     ensures name_kept { result ≡ Status.ReadFailed → (command : Command) × (command_of (map string_bytes words.now) ≡ Some command)
-        × (F.failed shelf.new ≡ Some command.file) }
+        × (F.failed shelf.new ≡ Some (file_of command)) }
 
     // No failed read goes untold: another answer that was written whole comes without one.
     ensures no_other_read { IsWritten result → (result ≡ Status.ReadFailed → ⊥) → F.failed shelf.new ≡ F.failed shelf.old }
@@ -39,17 +43,18 @@ pub fn run<F: Shelf, W: Sink>(alloc: Global, words: &[String], shelf: &mut F, ou
         × Answers (map string_bytes words.now) (F.files shelf.old) status text × AppendedFront (W.taken out.old) (W.taken out.new) text
         × (status ≡ Status.ReadFailed → Rose (F.faults shelf.old) (F.faults shelf.new))
         × (status ≡ Status.ReadFailed → (command : Command) × (command_of (map string_bytes words.now) ≡ Some command)
-        × (F.failed shelf.new ≡ Some command.file))
+        × (F.failed shelf.new ≡ Some (file_of command)))
         × ((status ≡ Status.ReadFailed → ⊥) → F.failed shelf.new ≡ F.failed shelf.old) }
 
     ensures nothing_written { result ≡ Status.Memory → W.taken out.new ≡ W.taken out.old }
 {
-    // Each program that is read is a first one, as `sound` needs it.
+    // What the texts of programs promise, as `sound` and `same` need it.
     first_texts();
+    printed_texts_are_read_back();
     let Ok(answer) = words_answer(alloc, words, shelf) else {
         return Status::Memory;
     };
-    match out.write_all(answer.text.as_bytes()) {
+    match out.write_all(&answer.text) {
         Ok(()) => answer.status,
         Err(WriteError::Failed) => Status::WriteFailed,
         Err(WriteError::Memory) => Status::Memory,

@@ -17,4 +17,6 @@ mod outside;
 #[cfg(test)]
 mod programs;
 #[cfg(test)]
+mod texts;
+#[cfg(test)]
 mod words;

@@ -13,9 +13,10 @@ returns-in_default-clause-answer g c =
 
 pub returns-in-Ok-clause-answer : goal.returns-in-Ok-clause-answer
 returns-in-Ok-clause-answer g c =
-    IfOk-weaker c.text_answer.result _ _
-    (λ a h. read (command_meant c.in-Some.command) c.in-Ok.bytes.items c.in-Some.ensures.meant (within_is c.in-Ok.bytes c.in-Ok.ensures.within) c.in-Ok.ensures.told
-    (subst (λ (x : List ℕ). TextAnswers x c.in-Some.command.turns a.status (string_bytes a.text)) c.deref.ensures.value h)) c.text_answer.ensures.answer
+    IfOk-weaker c.command_answer.result _ _
+    (λ a h. read (command_meant c.in-Some.command) c.in-Ok.bytes.items c.in-Some.ensures.meant (within_is c.in-Ok.bytes c.in-Ok.ensures.within)
+    (subst (λ (x : List ℕ). IfSome (g.F.Shelf.files c.args.shelf.now) (λ files. files x ≡ Some c.in-Ok.bytes.items)) c.file.ensures c.in-Ok.ensures.told)
+    (subst (λ (x : List ℕ). CommandAnswers (command_meant c.in-Some.command) x a.status a.text.items) c.deref.ensures.value h)) c.command_answer.ensures.answer
 
 pub returns-in-Err-Failed-clause-answer : goal.returns-in-Err-Failed-clause-answer
 returns-in-Err-Failed-clause-answer g c =

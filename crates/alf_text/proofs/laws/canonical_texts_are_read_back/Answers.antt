@@ -1,5 +1,5 @@
 use Rattle.alf_text.proofs.CanonicalTexts.{canonical_spells, canonical_settles}
-use Rattle.alf_text.proofs.printer.canonical_texts_are_read_back.Goals as goal
+use Rattle.alf_text.proofs.laws.canonical_texts_are_read_back.Goals as goal
 
 pub returns-clause-spelled : goal.returns-clause-spelled
 returns-clause-spelled c = canonical_spells c.texts_are_cut_one_way.ensures.cut c.texts_are_cut_one_way.ensures.one c.printed_texts_are_cut.ensures.cut c.printed_texts_are_cut.ensures.names

@@ -1,8 +1,11 @@
 -- Names of rows: where none is found, and tests that a table is right.
-use Rattle.std.proofs.Common.{◌≡◌, ◌≢◌, ◌↔◌, ℕ, List, [], ◌∷◌, All, AllPairs, IsNone, Some, Bool, true, false, not, ◌&&◌, length, arith, refl}
+use Rattle.std.proofs.Common.{◌≡◌, ◌≢◌, ◌↔◌, ℕ, List, [], ◌∷◌, All, AllPairs, IsNone, Some, Bool, true, false, not, ◌&&◌, length, arith, refl, map, ◌<◌, sym, ap, ◌∙◌, slice_index_or}
 use Rattle.std.specs.Prelude.{◌==◌}
 use Rattle.std.specs.Str.{bytes_eq}
-use Rattle.std.specs.List.{list_all}
+use Rattle.std.specs.List.{list_all, slice_get}
+use Rattle.std.proofs.lemmas.List.{get_or-map, length-map}
+use Rattle.std.proofs.lemmas.Option.{slice_get_within, get_or_from_slice_get}
+use Rattle.alf_ops.specs.declared.operator.Op.{Op}
 use Rattle.std.proofs.lemmas.Grind.{common_steps}
 use Rattle.std.proofs.lemmas.Bool.Decides.{not_from_Decides}
 use Rattle.std.proofs.lemmas.List.Elements.{All-cons, All-nil, All-head, All-tail}
@@ -10,7 +13,7 @@ use Rattle.std.proofs.lemmas.List.Kept.{AllPairs-cons}
 use Rattle.std.proofs.lemmas.Slice.Eq.{bytes_eq-Decides}
 use Rattle.alf_ops.specs.declared.table.OpRow.{OpRow}
 use Rattle.alf_ops.specs.Table.{layout_of, size_count, operands_by_layout}
-use Rattle.alf_ops.specs.Names.{operator_named, name_of, spelling, TellsOperator}
+use Rattle.alf_ops.specs.Names.{operator_named, name_of, operators, spelling, TellsOperator}
 
 by_test : {A : Type 0} (v : Bool) → (v ≡ true → A) → (v ≡ false → A) → A
 by_test true f g = f refl
@@ -70,3 +73,12 @@ told_rows (row ∷ rows) passed = All-cons TellsOperator row rows
       operands = grind (arith, common_steps);
     })
     (told_rows rows (grind (arith, common_steps)))
+
+-- the row at the place of an operator tells its name
+pub told_at : (rows : List OpRow) (i : ℕ) (d : OpRow) (op : Op) → map (λ row. row.op) rows ≡ operators → All TellsOperator rows → slice_get operators i ≡ Some op
+    → name_of (slice_index_or rows i d) ≡ spelling op
+told_at rows i d op order told at_place =
+    let e : slice_get (map (λ row. row.op) rows) i ≡ Some op = ap (λ (ops : List Op). slice_get ops i) order ∙ at_place in
+    let lt : i < length rows = omega (arith, slice_get_within (map (λ row. row.op) rows) i op e, length-map rows (λ row. row.op)) in
+    let is : (slice_index_or rows i d).op ≡ op = sym (get_or-map (λ (row : OpRow). row.op) rows i d op lt) ∙ get_or_from_slice_get (map (λ row. row.op) rows) i op op e in
+    (told i d lt).name ∙ ap spelling is

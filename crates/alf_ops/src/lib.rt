@@ -38,7 +38,7 @@ pub use loads::load_after;
 pub use operations::{apply, operand, shape};
 pub use operator::Op;
 pub use outcomes::apply_to_values;
-pub use table::{OPS, OpRow, find, rows};
+pub use table::{OPS, OpRow, find, rows, spelling};
 
 #[cfg(test)]
 mod tests;

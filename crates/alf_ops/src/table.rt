@@ -1,6 +1,6 @@
 //! The table of the operators' names.
 
-ghost use Rattle.std.specs.Prelude.{◌≡◌, ◌≢◌, ◌↔◌, map, All, AllPairs, IsNone};
+ghost use Rattle.std.specs.Prelude.{◌≡◌, ◌≢◌, ◌↔◌, ◌<◌, map, All, AllPairs, IsNone, slice_get, Some};
 ghost use Rattle.alf_ops.specs.Names.{operator_named, name_of, operators, spelling, TellsOperator};
 
 use crate::operator::Op;
@@ -86,4 +86,19 @@ pub fn rows() -> &'static [OpRow; 36]
     ensures found { (op : Op) → operator_named result.now (spelling op) ≡ Some op }
 {
     &OPS
+}
+
+// The place of an operator's row.
+fn place(op: Op) -> usize
+    ensures row { slice_get operators result ≡ Some op }
+    ensures within { result < 36 }
+{
+    op as usize
+}
+
+/// The word that stands for an operator. Takes no memory.
+pub fn spelling(op: Op) -> &'static str
+    ensures { result.now ≡ spelling op }
+{
+    rows()[place(op)].name
 }

@@ -4,3 +4,8 @@ pub mod Meaning
 pub mod Spelled
 pub mod FirstPrograms
 pub mod FirstMeaning
+pub mod Printing
+pub mod Decimals
+pub mod Respelling
+pub mod Again
+pub mod CanonicalTexts

@@ -6,3 +6,6 @@ pub mod Spelled
 pub mod First
 pub mod FirstTests
 pub mod FirstText
+pub mod Canonical
+pub mod CanonicalLaws
+pub mod Printing

@@ -27,6 +27,9 @@ mod statements;
 mod language;
 mod laws;
 
+// Writing a program.
+mod printer;
+
 // Texts whose program is `main` alone.
 mod first;
 #[cfg(test)]
@@ -34,6 +37,7 @@ mod first_tests;
 
 pub use first::{FirstFault, first_texts, read_first};
 pub use language::{one_meaning, read};
-pub use laws::spelled_programs_are_written;
+pub use laws::{canonical_texts_are_read_back, spelled_programs_are_written};
+pub use printer::print;
 pub use program::{Alloc, Expr, Func, Init, Item, Num, Program, Stmt};
 pub use text_fault::TextFault;

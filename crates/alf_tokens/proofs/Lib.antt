@@ -1,2 +1,4 @@
 pub mod Closing
+pub mod Names
 pub mod Pieces
+pub mod Printed

@@ -2,4 +2,5 @@ pub mod Bytes
 pub mod Tokens
 pub mod Cutting
 pub mod Ahead
+pub mod Printed
 pub mod Laws

@@ -6,7 +6,8 @@ use Rattle.flow_base.specs.Outside.{Appended}
 use Rattle.alf_text.specs.Tree.{Entry, Whole}
 use Rattle.alf_text.specs.First.{main_alone, IsFirst}
 use Rattle.alf_text.specs.FirstText.{FirstText}
-use Rattle.alf_text.specs.Canonical.{canonical_text, PrintedTextsAreReadBack}
+use Rattle.alf_text.specs.Canonical.{canonical_text}
+use Rattle.alf_text.specs.CanonicalLaws.{CanonicalTextsSpell}
 use Rattle.sweet_cli.specs.Words.{Command, Analyse, Print, file_of, command_of}
 use Rattle.sweet_cli.specs.Facts.{Findings, IsSound}
 use Rattle.sweet_cli.specs.ReportText.{report_text}
@@ -62,7 +63,7 @@ module _ (firsts : (bytes : List ℕ) (whole : Whole) → FirstText bytes whole 
       (subst (λ (c : Command). IfSome told (λ files. files (file_of c) ≡ Some bytes)) same held) w
 
 -- a text of a program that some text spells is read back
-module _ (back : PrintedTextsAreReadBack) where
+module _ (back : CanonicalTextsSpell) where
   reprinted : (told before after : _) (file bytes text : List ℕ) (status : Status) → PrintAnswers bytes status text → status ≡ Done
       → IfSome told (λ files. files file ≡ Some bytes) → Appended before after text
       → IfSome told (λ files. IfSome before (λ held. IfSome after (λ now. PrintsSame file files held now)))

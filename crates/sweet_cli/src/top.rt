@@ -6,7 +6,7 @@ ghost use Rattle.sweet_cli.specs.declared.status.Status.{Status};
 
 use crate::Status;
 use crate::answer::words_answer;
-use alf_text::{first_texts, printed_texts_are_read_back};
+use alf_text::{first_texts, canonical_texts_are_read_back};
 use flow_base::{Shelf, Sink, WriteError};
 use std::alloc::Global;
 
@@ -50,7 +50,7 @@ pub fn run<F: Shelf, W: Sink>(alloc: Global, words: &[String], shelf: &mut F, ou
 {
     // What the texts of programs promise, as `sound` and `same` need it.
     first_texts();
-    printed_texts_are_read_back();
+    canonical_texts_are_read_back();
     let Ok(answer) = words_answer(alloc, words, shelf) else {
         return Status::Memory;
     };

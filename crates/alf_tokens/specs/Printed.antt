@@ -1,0 +1,79 @@
+-- Texts that are printed from tokens.
+--   Mark                     a blank and the token behind it
+--   can_print kind text      a token of this kind that shows this text can be printed
+--   is_mark mark             the blank is a space or a line feed, and the token can be printed
+--   printed mark             the bytes of a mark
+--   text_of_marks marks      the text: the marks without the first blank, and a line feed at the end
+--   mark_token mark          the token of a mark, at no place in particular
+--   unplaced token           a token, without its place
+--   is_named_well token      where the token is a name, it can be printed
+use Rattle.std.specs.Prelude.{ℕ, List, [], ◌∷◌, ◌++◌, length, drop, Bool, false, ◌&&◌, ◌||◌, ◌==◌, not, nat_le, nat_lt, codes}
+use Rattle.std.specs.List.{list_all, flat_map}
+use Rattle.std.specs.Str.{bytes_eq}
+use Rattle.std.specs.Char.{is_ascii_digit, is_ascii_alphabetic}
+use Rattle.alf_tokens.specs.declared.token.Kind.{Kind}
+use Rattle.alf_tokens.specs.declared.token.Kind.TheVariants as kinds
+use Rattle.alf_tokens.specs.Bytes.{is_word_byte, is_name_byte}
+use Rattle.alf_tokens.specs.Tokens.{Lexeme, is_quoted}
+
+-- a blank and the token behind it
+pub record Mark : Type 0 where
+  pub blank : ℕ
+  pub kind : Kind
+  pub text : List ℕ
+
+-- ---- which tokens can be printed
+
+-- a letter, and then letters, digits and underscores
+abbrev pub is_word_text : List ℕ → Bool
+is_word_text [] = false
+is_word_text (b ∷ bs) = is_ascii_alphabetic b && list_all is_word_byte bs
+
+-- 1 to 20 digits
+abbrev pub is_number_text : List ℕ → Bool
+is_number_text text = nat_lt 0 (length text) && nat_le (length text) 20 && list_all is_ascii_digit text
+
+-- 1 to 64 bytes that may stand in a name
+abbrev pub is_name_text : List ℕ → Bool
+is_name_text text = nat_lt 0 (length text) && nat_le (length text) 64 && list_all is_name_byte text
+
+abbrev pub can_print : Kind → List ℕ → Bool
+can_print kinds.Open text = bytes_eq text (codes "{")
+can_print kinds.Close text = bytes_eq text (codes "}")
+can_print kinds.Word text = is_word_text text
+can_print kinds.Number text = is_number_text text
+can_print kinds.Quoted text = is_name_text text
+can_print _ text = false
+
+-- a space or a line feed
+abbrev pub is_separator : ℕ → Bool
+is_separator b = (b == 32) || (b == 10)
+
+abbrev pub is_mark : Mark → Bool
+is_mark m = is_separator m.blank && can_print m.kind m.text
+
+-- ---- their text
+
+-- the bytes of a token: those of a name stand between quotes
+abbrev pub bytes_of : Kind → List ℕ → List ℕ
+bytes_of kinds.Quoted text = 34 ∷ (text ++ 34 ∷ [])
+bytes_of kind text = text
+
+abbrev pub printed : Mark → List ℕ
+printed m = m.blank ∷ bytes_of m.kind m.text
+
+-- the text that the marks print
+abbrev pub text_of_marks : List Mark → List ℕ
+text_of_marks marks = drop 1 (flat_map printed marks) ++ 10 ∷ []
+
+-- ---- their tokens
+
+abbrev pub mark_token : Mark → Lexeme
+mark_token m = record { kind = m.kind; text = m.text; left = 0 }
+
+abbrev pub unplaced : Lexeme → Lexeme
+unplaced t = record { kind = t.kind; text = t.text; left = 0 }
+
+-- where the token is a name, it can be printed
+abbrev pub is_named_well : Lexeme → Bool
+is_named_well t = not (is_quoted t.kind) || is_name_text t.text

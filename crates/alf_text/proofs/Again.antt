@@ -1,15 +1,14 @@
 -- Each rule is spelled again by the canonical tokens of what it spelled.
-use Rattle.std.proofs.Common.{◌≡◌, ℕ, zero, suc, ◌+◌, ◌-◌, ◌*◌, ◌/◌, ◌%◌, ◌^◌, ◌≤◌, ◌<◌, Bool, true, false, ◌&&◌, ◌||◌, not, cond, leb, ltb, eqb, List, [], ◌∷◌, ◌++◌, map, Result, Ok, Err, Option, Some, None, refl, sym, ap, subst, ◌∙◌, arith, codes, append_assoc}
-use Rattle.std.specs.Prelude.{◌==◌, nat_le, nat_lt, decimal}
+use Rattle.std.proofs.Common.{◌≡◌, ℕ, zero, suc, ◌+◌, ◌-◌, ◌*◌, ◌/◌, ◌%◌, ◌^◌, ◌≤◌, ◌<◌, Bool, true, false, cond, leb, eqb, eq-eqb, List, [], ◌∷◌, ◌++◌, map, Result, Ok, Err, Option, Some, None, refl, sym, ap, subst, ◌∙◌, arith, codes, append_assoc}
+use Rattle.std.specs.Prelude.{nat_lt, decimal}
 use Rattle.std.specs.Str.{bytes_eq}
 use Rattle.std.specs.Option.{option_map}
 use Rattle.std.proofs.lemmas.List.Concat.{flat_map_single}
 use Rattle.std.proofs.Math.Pow.{pow_mono}
-use Rattle.std.proofs.lemmas.Bool.{leb-true, ltb-false, le-leb}
+use Rattle.std.proofs.lemmas.Bool.{ltb-false, le-leb}
 use Rattle.std.proofs.lemmas.Bool.Decides.{nat_tests}
 use Rattle.std.proofs.Math.Nat.{pow-succ', mod_self, mod-eq_of_lt}
 use Rattle.std.proofs.lemmas.Slice.Eq.{bytes_eq-Decides}
-use Rattle.flow_base.specs.Digits.{front_digits, number_of}
 use Rattle.flow_base.specs.declared.place.Which.{Which}
 use Rattle.flow_base.specs.declared.place.Which.TheVariants as whichs
 use Rattle.alf_ops.specs.declared.operator.Op.{Op}
@@ -22,32 +21,24 @@ use Rattle.alf_text.specs.declared.words.ExprWord.{ExprWord}
 use Rattle.alf_text.specs.declared.words.ExprWord.TheVariants as expr_words
 use Rattle.alf_text.specs.declared.words.ItemWord.{ItemWord}
 use Rattle.alf_text.specs.declared.words.ItemWord.TheVariants as item_words
-use Rattle.grammar.specs.Form.{one, judged, made, ◌>>=◌, ◌>>◌, many, maybe, exactly}
+use Rattle.grammar.specs.Form.{one, judged, made, ◌>>=◌, ◌>>◌, many, maybe}
 use Rattle.grammar.specs.Exact.{ok_is, ok_no_err}
-use Rattle.alf_tokens.specs.declared.token.Kind.{Kind}
 use Rattle.alf_tokens.specs.declared.token.Kind.TheVariants as kinds
-use Rattle.alf_tokens.specs.Tokens.{Lexeme, first, after, is_open, is_close, is_word, is_number, is_quoted}
+use Rattle.alf_tokens.specs.Tokens.{Lexeme, after, is_open, is_close, is_word, is_number, is_quoted}
 use Rattle.alf_tokens.specs.Printed.{Mark, unplaced, is_mark, is_separator, is_word_text, is_name_text, is_named_well}
-use Rattle.alf_text.specs.Grammar.{Fault, At, with_ahead, Rule, alf, misfit, outside, fits, or_outside, fits_word, fits_number, fits_name, number_within, or_number, fits_below, opening, closing, only, word, from_least, number_between, between, fixed, size, at_most, name, begin, ends_well, fits_close_after, closing_after, fits_empty, closing_empty, token, Passes, counted, one_function, one_frame, most_functions, most_frames, most_frame_bytes, most_bytes, or_bytes, bits, reference, references, offset, zero_offset, label_tail, label, alloc, allocs, address_tail, address, unsigned, minus, signed_bits, signed, num_word, num_tail, num, ref_place, init, inits, row_word, operator_among, operator_word, expr_word, unsigned_term, signed_term, address_term, load, least_further, most_further, further, sizes, apply, expr_tail, nested, expr, whole_expr, targets_ahead, target, default_arm, switch, with_word, store, item_word, label_item, null, leaving, jump, result_word, call, returns, item_tail, item, stmts, scope, arg_decls, function_tail, function, functions, empty, addr_unit, macro_defs, little_endian, heading, exports, imports, program}
+use Rattle.alf_text.specs.Grammar.{Fault, At, with_ahead, Rule, alf, misfit, outside, fits, or_outside, fits_word, fits_name, opening, closing, only, word, number_between, between, fixed, size, at_most, name, begin, ends_well, fits_close_after, closing_after, fits_empty, closing_empty, token, Passes, counted, one_function, one_frame, most_functions, most_frames, most_frame_bytes, most_bytes, or_bytes, bits, reference, references, offset, zero_offset, label_tail, label, alloc, allocs, address_tail, address, unsigned, minus, signed_bits, signed, num_word, num_tail, num, ref_place, init, inits, row_word, operator_among, operator_word, expr_word, unsigned_term, signed_term, address_term, load, least_further, most_further, further, sizes, apply, expr_tail, nested, expr, whole_expr, targets_ahead, target, default_arm, switch, with_word, store, item_word, label_item, null, leaving, jump, result_word, call, returns, item_tail, item, stmts, scope, arg_decls, function_tail, function, functions, empty, addr_unit, macro_defs, little_endian, heading, exports, imports}
 use Rattle.alf_text.specs.Tree.{Whole, Term, Act, Nothing, Entry, Labels, Does}
 use Rattle.alf_text.specs.Tree as tree
-use Rattle.alf_text.specs.Canonical.{space, line_feed, opens, closes, a_word, a_number, a_name, braced, listed, if_any, ref_marks, refs_marks, dec_signed_marks, dec_unsigned_marks, signed_marks, is_negative, distance, num_marks, label_marks, address_marks, frame_marks, place_marks, start_marks, starts_marks, term_marks, target_marks, default_marks, act_marks, entry_marks, scope_marks, function_marks, unit_marks, head_marks, names_marks, program_marks}
+use Rattle.alf_text.specs.Canonical.{space, line_feed, opens, closes, a_word, a_number, a_name, braced, listed, ref_marks, refs_marks, dec_signed_marks, dec_unsigned_marks, signed_marks, is_negative, distance, num_marks, label_marks, address_marks, frame_marks, place_marks, start_marks, starts_marks, term_marks, target_marks, default_marks, act_marks, entry_marks, scope_marks, function_marks, unit_marks, head_marks, names_marks, program_marks}
 use Rattle.alf_text.proofs.Printing.{terms-marks}
+use Rattle.alf_text.proofs.Spelled.{IsBetween, between_bounds, some_of, fits_some, size_fits, below_fits, at_most_fits}
 use Rattle.alf_text.proofs.Decimals.{decimal_text, decimal_within}
-use Rattle.alf_text.proofs.Respelling.{Respells, Any, first_named, first_same, IsBlind, Begins, Ends, Named, Reprint, tokens, single_again, token_again, framing, knowing_again, more_again, then_again, paired_again, made_again, until_again, exactly_again, many_again, maybe_again}
-
-by_test : {A : Type 0} (v : Bool) → (v ≡ true → A) → (v ≡ false → A) → A
-by_test true f g = f refl
-by_test false f g = g refl
+use Rattle.alf_text.proofs.Respelling.{Respells, Any, first_named, first_same, IsBlind, Begins, Named, Reprint, tokens, single_again, token_again, framing, knowing_again, more_again, then_again, paired_again, made_again, until_again, exactly_again, many_again, maybe_again}
 
 -- a test that was passed, and what it gave
 passed : {A : Type 0} (b : Bool) (r : Result A Fault) (f : Fault) (x : A) → cond b r (Err f) ≡ Ok x → (b ≡ true) × (r ≡ Ok x)
 passed true r f x h = (refl, h)
 passed false r f x h = ok_no_err x f h
-
-and_left : (a b : Bool) → a && b ≡ true → a ≡ true
-and_left true b h = refl
-and_left false b h = absurd cc
 
 -- ---- braces
 
@@ -69,15 +60,11 @@ closing_empty_again told = token_again {fit = fits_empty told} {mark = λ _. clo
 
 -- ---- words
 
-found : {A : Type 0} (t : Lexeme) (o : Option A) (x : A) → or_outside t o ≡ Ok x → o ≡ Some x
-found t (Some y) x h = ap (λ (y : _). Some y) (ok_is {F = Fault} y x h)
-found t None x h = ok_no_err x (outside t) h
-
 pub table_again : {W : Type 0} (table : List ℕ → Option W) (text : W → List ℕ) → ((t : List ℕ) (w : W) → table t ≡ Some w → (is_word_text (text w) ≡ true) × (table (text w) ≡ Some w))
     → Respells Any (one alf (fits_word table)) [] (λ w. a_word (text w) ∷ [])
 table_again table text h = token_again {mark = λ w. a_word (text w)} (λ t w n f.
     let p = passed (is_word t.kind) (or_outside t (table t.text)) (misfit t) w f in
-    let k = h t.text w (found t (table t.text) w p.1) in
+    let k = h t.text w (some_of t (table t.text) w p.1) in
     (rw k.0 refl, λ u e g. rw (e, g, k.1) refl))
 
 same_bytes : (w : List ℕ) → bytes_eq w w ≡ true
@@ -107,68 +94,33 @@ name_again = token_again {mark = a_name} (λ t x n h. named t x n (is_quoted t.k
 
 -- ---- numbers
 
-within_at : (most : ℕ) (ds : List ℕ) (v : ℕ) → number_within most ds ≡ Some v → v ≤ most
-within_at most [] v h = absurd cc
-within_at most (d ∷ ds) v h = at_test (leb (number_of (d ∷ ds)) most) refl h
-  where
-    at_test : (t : Bool) → leb (number_of (d ∷ ds)) most ≡ t → cond t (Some (number_of (d ∷ ds))) None ≡ Some v → v ≤ most
-    at_test true e h = let s : number_of (d ∷ ds) ≡ v = cc in rw (← s) (leb-true _ _ e)
-    at_test false e h = absurd cc
-
-least_at : (least step : ℕ) (o : Option ℕ) (v : ℕ) → from_least least step o ≡ Some v → (o ≡ Some v) × (nat_le least v && (v % step == 0) ≡ true)
-least_at least step None v h = absurd cc
-least_at least step (Some n) v h = at_test (nat_le least n && (n % step == 0)) refl h
-  where
-    at_test : (t : Bool) → nat_le least n && (n % step == 0) ≡ t → cond t (Some n) None ≡ Some v → (◌≡◌ {A = Option ℕ} (Some n) (Some v)) × (nat_le least v && (v % step == 0) ≡ true)
-    at_test true e h = let s : n ≡ v = cc in (h, subst (λ (v : ℕ). nat_le least v && (v % step == 0) ≡ true) s e)
-    at_test false e h = absurd cc
-
 -- a number between two is read again from its own digits
-between_at : (least most step : ℕ) (text : List ℕ) (v : ℕ) → v < 2 ^ 64 → number_between least most step text ≡ Some v
-    → (v ≤ most) × (nat_le least v && (v % step == 0) ≡ true) × (number_between least most step (decimal v) ≡ Some v)
-between_at least most step text v lt h =
-    let l = least_at least step (number_within most (front_digits text)) v h in
-    let le = within_at most (front_digits text) v l.0 in
-    (le, l.1, rw (decimal_within most v lt le, l.1) refl)
-
-between_most : (least most step : ℕ) (text : List ℕ) (v : ℕ) → number_between least most step text ≡ Some v → v ≤ most
-between_most least most step text v h = within_at most (front_digits text) v (least_at least step (number_within most (front_digits text)) v h).0
-
-between_spelled : (least most step : ℕ) (t : Lexeme) (v : ℕ) → fits_number (number_between least most step) t ≡ Ok v → number_between least most step t.text ≡ Some v
-between_spelled least most step t v h = let p = passed (is_number t.kind) (or_outside t (number_between least most step t.text)) (misfit t) v h in found t (number_between least most step t.text) v p.1
+between_own : (least most step v : ℕ) → v < 2 ^ 64 → IsBetween least most step v → number_between least most step (decimal v) ≡ Some v
+between_own least most step v lt b = let l : leb least v ≡ true = le-leb _ _ b.0 in let z : eqb (v % step) 0 ≡ true = eq-eqb _ _ b.2 in rw (decimal_within most v lt b.1, l, z) refl
 
 pub between_again : (least most step : ℕ) → most < 2 ^ 64 → Respells Any (between least most step) [] (λ v. a_number v ∷ [])
 unfolding between
 between_again least most step small = token_again {mark = a_number} (λ t v n h.
-    let s = between_spelled least most step t v h in
-    let lt : v < 2 ^ 64 = omega (arith, between_most least most step t.text v s, small) in
-    let b = between_at least most step t.text v lt s in
-    (rw (decimal_text v lt) refl, λ u k e. rw (k, e, b.2) refl))
+    let b = between_bounds least most step t.text v (fits_some (number_between least most step) t v h) in
+    let lt : v < 2 ^ 64 = omega (arith, b.1, small) in
+    (rw (decimal_text v lt) refl, λ u k e. rw (k, e, between_own least most step v lt b) refl))
 
 pub fixed_again : (n : ℕ) → n < 2 ^ 64 → Respells Any (fixed n) [] (λ _. a_number n ∷ [])
 unfolding fixed between
 fixed_again n small = then_again {mp = λ _. a_number n ∷ []} (token_again {mark = λ _. a_number n} (λ t v m h.
-    let s = between_spelled n n 1 t v h in
-    let le = between_most n n 1 t.text v s in
-    let b = between_at n n 1 t.text v (omega arith) s in
-    let least : n ≤ v = leb-true _ _ (and_left (leb n v) (v % 1 == 0) b.1) in
-    let e : v ≡ n = omega arith in
-    let q : number_between n n 1 (decimal n) ≡ Some v = subst (λ (m : ℕ). number_between n n 1 (decimal m) ≡ Some v) e b.2 in
+    let b = between_bounds n n 1 t.text v (fits_some (number_between n n 1) t v h) in
+    let e : v ≡ n = omega (arith, b.0, b.1) in
+    let q : number_between n n 1 (decimal n) ≡ Some v = subst (λ (m : ℕ). number_between n n 1 (decimal m) ≡ Some v) e (between_own n n 1 v (omega arith) b) in
     (rw (decimal_text n small) refl, λ u k g. rw (k, g, q) refl))) (λ _. made_again refl)
 
 pub size_again : Respells Any size [] (λ v. a_number v ∷ [])
 unfolding size
 size_again = between_again 1 64 1 (omega arith)
 
-numbered : (left : ℕ) (o : Option ℕ) (v : ℕ) → or_number left o ≡ Ok v → o ≡ Some v
-numbered left (Some n) v h = ap (λ (m : ℕ). Some m) (ok_is {F = Fault} n v h)
-numbered left None v h = ok_no_err v _ h
-
 pub at_most_again : (most : ℕ) → most < 2 ^ 64 → Respells Any (at_most most) [] (λ v. a_number v ∷ [])
 unfolding at_most
 at_most_again most small = token_again {mark = a_number} (λ t v n h.
-    let p = passed (is_number t.kind) (or_number t.left (number_within most (front_digits t.text))) (misfit t) v h in
-    let le = within_at most (front_digits t.text) v (numbered t.left (number_within most (front_digits t.text)) v p.1) in
+    let le = below_fits most t v h in
     let lt : v < 2 ^ 64 = omega arith in
     (rw (decimal_text v lt) refl, λ u k e. rw (k, e, decimal_within most v lt le) refl))
 
@@ -210,9 +162,12 @@ bytes_at at (Some n) v rest h = at_tests (nat_lt most_frame_bytes (n / 8)) (nat_
     at_tests false true e f h = ok_no_err (v, rest) _ h
     at_tests false false e f h =
         let r = ok_is {F = Fault} (n, with_bytes at (after at.ahead) n) (v, rest) h in
-        let s : n ≡ v = ap (λ (r : ℕ × At). r.0) r in
-        (ap (λ (m : ℕ). Some m) s, subst (λ (m : ℕ). nat_lt most_frame_bytes (m / 8) ≡ false) s e, subst (λ (m : ℕ). nat_lt at.bytes (m / 8) ≡ false) s f,
-          ap (with_bytes at (after at.ahead)) (sym s) ∙ ap (λ (r : ℕ × At). r.1) r)
+        let s : n ≡ v = ap (λ (r : ℕ × At). r.0) r in (
+          ap (λ (m : ℕ). Some m) s,
+          subst (λ (m : ℕ). nat_lt most_frame_bytes (m / 8) ≡ false) s e,
+          subst (λ (m : ℕ). nat_lt at.bytes (m / 8) ≡ false) s f,
+          ap (with_bytes at (after at.ahead)) (sym s) ∙ ap (λ (r : ℕ × At). r.1) r,
+        )
 
 bits_again : Respells Any bits [] (λ v. a_number v ∷ [])
 unfolding bits
@@ -222,8 +177,8 @@ bits_again = single_again {mark = a_number} (λ at v rest n h.
     let b = bytes_at at o v rest p.1 in
     let few : v / 8 ≤ 65536 = ltb-false _ _ b.1 in
     let lt : v < 2 ^ 64 = omega arith in
-    let own = between_at 1 (2 ^ 128 - 1) 8 (token at).text v lt b.0 in
-    (rw (decimal_text v lt) refl, ap (λ (at : At). at.ahead) (sym b.3), λ us k e. rw (k, e, own.2, b.1, b.2, ← b.3) refl))
+    let own = between_own 1 (2 ^ 128 - 1) 8 v lt (between_bounds 1 (2 ^ 128 - 1) 8 (token at).text v b.0) in
+    (rw (decimal_text v lt) refl, ap (λ (at : At). at.ahead) (sym b.3), λ us k e. rw (k, e, own, b.1, b.2, ← b.3) refl))
 
 -- ---- names, frames and labels
 
@@ -281,21 +236,13 @@ address_again = then_again (begin_again space (codes "addr") refl refl) (λ _. m
 
 -- ---- numbers
 
-size_at : (at : At) (s : ℕ) (rest : At) → size.Spells at s rest → (1 ≤ s) × (s ≤ 64)
-unfolding size between
-size_at at s rest h =
-    let n = between_spelled 1 64 1 (token at) s h.0 in
-    let most = between_most 1 64 1 (token at).text s n in
-    let b = between_at 1 64 1 (token at).text s (omega arith) n in
-    (leb-true _ _ (and_left (leb 1 s) _ b.1), most)
-
 power_at : (s : ℕ) → s ≤ 64 → 2 ^ s ≤ 2 ^ 64
 power_at s le = pow_mono {i = s} {j = 64} le
 
 unsigned_again : Respells Any unsigned (opens space ∷ a_word (codes "dec_unsigned") ∷ []) num_marks
 unfolding unsigned
 unsigned_again = knowing_again (framing size_again) (λ s h.
-    let k = size_at h.0 s h.1 h.2 in
+    let k = size_fits h.0 h.1 s h.2 in
     let p = power_at s k.1 in
     then_again (at_most_again (2 ^ s - 1) (omega (arith, p))) (λ n. then_again closing_again (λ _. made_again refl)))
 
@@ -309,10 +256,7 @@ minus_again s le =
 minus_at : (s : ℕ) (at : At) (n : ℕ) (rest : At) → (minus s).Spells at n rest → (n ≤ 2 ^ (s - 1)) × (with_ahead at rest.ahead ≡ rest)
 unfolding minus begin opening word at_most closing
 minus_at s at n rest h =
-    let t = token h.1 in
-    let p = passed (is_number t.kind) (or_number t.left (number_within (2 ^ (s - 1)) (front_digits t.text))) (misfit t) h.3.0 h.3.2.0 in
-    let le = within_at (2 ^ (s - 1)) (front_digits t.text) h.3.0 (numbered t.left (number_within (2 ^ (s - 1)) (front_digits t.text)) h.3.0 p.1) in
-    (rw h.3.3.3.0 le, rw (h.3.3.3.1, h.3.3.2.1, h.3.2.1, h.2.3.3.1, h.2.3.2.1, h.2.2.1) refl)
+    (rw h.3.3.3.0 (at_most_fits (2 ^ (s - 1)) h.1 h.3.1 h.3.0 h.3.2), rw (h.3.3.3.1, h.3.3.2.1, h.3.2.1, h.2.3.3.1, h.2.3.2.1, h.2.2.1) refl)
 
 double : (s : ℕ) → 1 ≤ s → 2 ^ s ≡ 2 * 2 ^ (s - 1)
 double zero h = absurd (omega arith)
@@ -366,9 +310,7 @@ module _ (s : ℕ) (least : 1 ≤ s) (most : s ≤ 64) where
   signed_at : (at : At) (m : Option ℕ) (mid : At) (b : ℕ) (rest : At) → Named at → (maybe alf (minus s)).Spells at m mid → (signed_bits s m).Spells mid b rest → Reprint Any signed_word at b rest [] (signed_marks s b)
   unfolding signed_bits at_most
   signed_at at None mid b rest n hm hb =
-      let t = token mid in
-      let p = passed (is_number t.kind) (or_number t.left (number_within (2 ^ (s - 1) - 1) (front_digits t.text))) (misfit t) b hb.0 in
-      let le = within_at (2 ^ (s - 1) - 1) (front_digits t.text) b (numbered t.left (number_within (2 ^ (s - 1) - 1) (front_digits t.text)) b p.1) in
+      let le = at_most_fits (2 ^ (s - 1) - 1) mid rest b hb in
       let some : 1 ≤ 2 ^ (s - 1) = pow_mono {i = 0} {j = s - 1} (omega arith) in
       not_negative at b rest (omega arith) (rw (hb.1, hm.1) refl) (rw (hb.1, hm.1) (first_named at.ahead n).1)
   signed_at at (Some zero) mid b rest n hm hb =
@@ -386,7 +328,7 @@ module _ (s : ℕ) (least : 1 ≤ s) (most : s ≤ 64) where
 signed_again : Respells Any signed (opens space ∷ a_word (codes "dec_signed") ∷ []) num_marks
 unfolding signed
 signed_again = knowing_again (framing size_again) (λ s h.
-    let k = size_at h.0 s h.1 h.2 in
+    let k = size_fits h.0 h.1 s h.2 in
     paired_again (maybe alf (minus s)) (signed_bits s) _ (then_again (signed_word_again s k.0 k.1) (λ b. then_again closing_again (λ _. made_again refl))))
 
 abbrev num_text : NumWord → List ℕ

@@ -3,7 +3,7 @@ use Rattle.std.proofs.Common.{◌≡◌, true, false, List, [], ◌∷◌, ◌++
 use Rattle.std.specs.List.{list_all}
 use Rattle.grammar.specs.Exact.{ok_is}
 use Rattle.alf_tokens.specs.declared.token.Kind.TheVariants as kinds
-use Rattle.alf_tokens.specs.Tokens.{Lexeme, first, after, nothing}
+use Rattle.alf_tokens.specs.Tokens.{Lexeme, after, nothing}
 use Rattle.alf_tokens.specs.Cutting.{tokens_of}
 use Rattle.alf_tokens.specs.Printed.{Mark, is_mark, unplaced, is_named_well}
 use Rattle.alf_tokens.specs.Laws.{EachTextIsCut, EachTextIsCutOneWay, EachPrintedTextIsCut, EachNameIsNamedWell}

@@ -2,15 +2,15 @@
 --   Named at                          the names that stand ahead can be printed
 --   Reprint fine p at x rest front marks   a part that was spelled has marks, which complete the front to these, and spell it again where what follows them is fine
 --   Respells fine p front marks       so for each value that the part spells
-use Rattle.std.proofs.Common.{◌≡◌, ℕ, zero, suc, Bool, true, false, ◌&&◌, List, [], ◌∷◌, ◌++◌, map, Result, Ok, Err, Option, Some, None, refl, sym, ap, subst, ◌∙◌, append_assoc}
+use Rattle.std.proofs.Common.{◌≡◌, ℕ, zero, suc, Bool, true, false, ◌&&◌, List, [], ◌∷◌, ◌++◌, map, Result, Ok, Option, Some, None, refl, sym, ap, subst, ◌∙◌, append_assoc}
 use Rattle.std.specs.List.{list_all, flat_map}
 use Rattle.std.proofs.lemmas.List.{append-nil, map-append}
 use Rattle.std.proofs.lemmas.List.Folds.{list_all-append}
 use Rattle.grammar.specs.Source.{Source}
-use Rattle.grammar.specs.Form.{Form, one, judged, made, ◌>>=◌, InARow, many, AtMostOne, maybe, exactly}
+use Rattle.grammar.specs.Form.{one, made, ◌>>=◌, InARow, many, AtMostOne, maybe, exactly}
 use Rattle.alf_tokens.specs.Tokens.{Lexeme, first, after}
 use Rattle.alf_tokens.specs.Printed.{Mark, is_mark, mark_token, unplaced, is_named_well}
-use Rattle.alf_text.specs.Grammar.{Fault, At, with_ahead, token, behind, Rule, alf}
+use Rattle.alf_text.specs.Grammar.{Fault, At, with_ahead, token, Rule, alf}
 use Rattle.alf_text.specs.Canonical.{if_any}
 
 abbrev pub Named : At → Type 0
@@ -52,7 +52,7 @@ first_same (u ∷ us) more m e =
 -- a part that is one token
 pub single_again : {A : Type 0} {p : Rule A} {mark : A → Mark}
     → ((at : At) (x : A) (rest : At) → is_named_well (token at) ≡ true → p.Spells at x rest → (is_mark (mark x) ≡ true) × (rest.ahead ≡ after at.ahead)
-        × ((us : List Lexeme) → (first us).kind ≡ (mark x).kind → (first us).text ≡ (mark x).text → p.Spells (with_ahead at us) x (with_ahead rest (after us))))
+    × ((us : List Lexeme) → (first us).kind ≡ (mark x).kind → (first us).text ≡ (mark x).text → p.Spells (with_ahead at us) x (with_ahead rest (after us))))
     → Respells Any p [] (λ x. mark x ∷ [])
 single_again {p = p} {mark = mark} h = record {
   again = λ at x rest n s.
@@ -156,10 +156,10 @@ until_again {p = p} {c = c} {q = q} {Fine = Fine} {front = front} {mp = mp} {mc 
       let f1 = front ++ mp x in
       let e = joined (c x) (q x) h.1 y h.3.1 z rest f1 (f1 ++ mc y) (marks z) (framed {p = c x} h.1 y h.3.1 f1 (mc y) b) d (λ more f. tt) in
       joined p (λ x. c x >>= q x) at x h.1 z rest front f1 (marks z) (framed {p = p} at x h.1 front (mp x) a) e
-        (λ more f.
-            let g : tokens (mc y) ++ (tokens d.own ++ more) ≡ tokens (b.own ++ d.own) ++ more
-            = ap (λ (ms : List Mark). tokens ms ++ (tokens d.own ++ more)) (sym b.makes) ∙ sym (append_assoc (tokens b.own) (tokens d.own) more) ∙ ap (λ (ts : List Lexeme). ts ++ more) (sym (map-append mark_token b.own d.own)) in
-            subst Fine g (fine y (tokens d.own ++ more)));
+      (λ more f.
+      let g : tokens (mc y) ++ (tokens d.own ++ more) ≡ tokens (b.own ++ d.own) ++ more
+      = ap (λ (ms : List Mark). tokens ms ++ (tokens d.own ++ more)) (sym b.makes) ∙ sym (append_assoc (tokens b.own) (tokens d.own) more) ∙ ap (λ (ts : List Lexeme). ts ++ more) (sym (map-append mark_token b.own d.own)) in
+      subst Fine g (fine y (tokens d.own ++ more)));
 }
 
 -- ---- several parts

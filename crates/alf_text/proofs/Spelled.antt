@@ -34,7 +34,7 @@ within most (d ∷ ds) n e =
     (λ t. absurd (let k : None ≡ Some n = rw t at e in cc))
 
 -- from the least on, and a multiple of the step
-abbrev IsBetween : ℕ → ℕ → ℕ → ℕ → Type 0
+abbrev pub IsBetween : ℕ → ℕ → ℕ → ℕ → Type 0
 IsBetween least most step n = (least ≤ n) × (n ≤ most) × (n % step ≡ 0)
 
 from_bounds : (least most step : ℕ) (o : Option ℕ) (n : ℕ) → ((m : ℕ) → o ≡ Some m → m ≤ most) → from_least least step o ≡ Some n → IsBetween least most step n
@@ -48,14 +48,14 @@ from_bounds least most step (Some m) n low e =
     subst (IsBetween least most step) same (l, low m refl, z))
     (λ t. absurd (let k : None ≡ Some n = rw t at e in cc))
 
-between_bounds : (least most step : ℕ) (text : List ℕ) (n : ℕ) → number_between least most step text ≡ Some n → IsBetween least most step n
+pub between_bounds : (least most step : ℕ) (text : List ℕ) (n : ℕ) → number_between least most step text ≡ Some n → IsBetween least most step n
 between_bounds least most step text n e = from_bounds least most step (number_within most (front_digits text)) n (within most (front_digits text)) e
 
-some_of : {A : Type 0} (t : Lexeme) (o : Option A) (x : A) → or_outside t o ≡ Ok x → o ≡ Some x
+pub some_of : {A : Type 0} (t : Lexeme) (o : Option A) (x : A) → or_outside t o ≡ Ok x → o ≡ Some x
 some_of t None x h = ok_no_err x (outside t) h
 some_of t (Some y) x h = ap (λ z. Some z) (ok_is {F = Fault} y x h)
 
-fits_some : {A : Type 0} (table : List ℕ → Option A) (t : Lexeme) (x : A) → fits_number table t ≡ Ok x → table t.text ≡ Some x
+pub fits_some : {A : Type 0} (table : List ℕ → Option A) (t : Lexeme) (x : A) → fits_number table t ≡ Ok x → table t.text ≡ Some x
 fits_some table t x e =
     by_test (is_number t.kind)
     (λ k. some_of t (table t.text) x (rw k at e))
@@ -65,11 +65,11 @@ between_fits : (least most step : ℕ) (at rest : At) (n : ℕ) → (between lea
 unfolding between
 between_fits least most step at rest n h = between_bounds least most step (token at).text n (fits_some (number_between least most step) (token at) n h.0)
 
-size_fits : (at rest : At) (n : ℕ) → size.Spells at n rest → (1 ≤ n) × (n ≤ 64)
+pub size_fits : (at rest : At) (n : ℕ) → size.Spells at n rest → (1 ≤ n) × (n ≤ 64)
 unfolding size
 size_fits at rest n h = let b = between_fits 1 64 1 at rest n h in (b.0, b.1)
 
-below_fits : (most : ℕ) (t : Lexeme) (n : ℕ) → fits_below most t ≡ Ok n → n ≤ most
+pub below_fits : (most : ℕ) (t : Lexeme) (n : ℕ) → fits_below most t ≡ Ok n → n ≤ most
 below_fits most t n e =
     by_test (is_number t.kind)
     (λ k. number_is (number_within most (front_digits t.text)) (within most (front_digits t.text) n) (rw k at e))
@@ -79,7 +79,7 @@ below_fits most t n e =
     number_is None low h = ok_no_err n (Number t.left) h
     number_is (Some m) low h = low (ap (λ (x : ℕ). Some x) (ok_is {F = Fault} m n h))
 
-at_most_fits : (most : ℕ) (at rest : At) (n : ℕ) → (at_most most).Spells at n rest → n ≤ most
+pub at_most_fits : (most : ℕ) (at rest : At) (n : ℕ) → (at_most most).Spells at n rest → n ≤ most
 unfolding at_most
 at_most_fits most at rest n h = below_fits most (token at) n h.0
 

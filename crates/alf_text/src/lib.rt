@@ -28,6 +28,7 @@ mod language;
 mod laws;
 
 // Writing a program.
+mod marks;
 mod printer;
 
 // Texts whose program is `main` alone.
@@ -41,3 +42,6 @@ pub use laws::{canonical_texts_are_read_back, spelled_programs_are_written};
 pub use printer::print;
 pub use program::{Alloc, Expr, Func, Init, Item, Num, Program, Stmt};
 pub use text_fault::TextFault;
+
+#[cfg(test)]
+mod printer_tests;

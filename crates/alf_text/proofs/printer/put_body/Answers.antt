@@ -1,4 +1,3 @@
-use Rattle.std.proofs.Common.{refl}
 use Rattle.std.proofs.lemmas.List.Sums.{fold-append}
 use Rattle.alf_text.proofs.printer.put_body.Goals as goal
 

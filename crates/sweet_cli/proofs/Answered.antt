@@ -1,8 +1,8 @@
 -- Lemmas on answers.
-use Rattle.std.proofs.Common.{◌≡◌, ◌≤◌, ℕ, List, ◌++◌, None, Some, IfSome, length, refl, ap, sym, ◌∙◌, subst, arith}
+use Rattle.std.proofs.Common.{◌≡◌, ◌≤◌, ℕ, List, ◌++◌, Option, None, Some, Ok, Err, IfSome, length, refl, ap, sym, ◌∙◌, subst, arith}
 use Rattle.std.specs.Prelude.{Vec, vec_len}
 use Rattle.std.specs.declared.alloc.Global.{Global}
-use Rattle.flow_base.specs.Outside.{Appended}
+use Rattle.flow_base.specs.Outside.{Files, Appended}
 use Rattle.alf_text.specs.Tree.{Entry, Whole}
 use Rattle.alf_text.specs.First.{main_alone, IsFirst}
 use Rattle.alf_text.specs.FirstText.{FirstText}
@@ -33,7 +33,7 @@ module _ (firsts : (bytes : List ℕ) (whole : Whole) → FirstText bytes whole 
   done_text {bytes = bytes} (done frames items findings text within) e =
       (frames, items, findings, text, sound_of_exact frames items findings (firsts bytes (main_alone frames items) text) within.exact, refl)
 
-  analysed : (told before after : _) (file : List ℕ) (turns : ℕ) (bytes text : List ℕ) (status : Status) → TextAnswers bytes turns status text → status ≡ Done
+  analysed : (told : Option Files) (before after : Option (List ℕ)) (file : List ℕ) (turns : ℕ) (bytes text : List ℕ) (status : Status) → TextAnswers bytes turns status text → status ≡ Done
       → IfSome told (λ files. files file ≡ Some bytes) → Appended before after text
       → IfSome told (λ files. IfSome before (λ held. IfSome after (λ now. PrintsSound file files held now)))
   analysed None before after file turns bytes text status a e t w = tt
@@ -52,7 +52,7 @@ module _ (firsts : (bytes : List ℕ) (whole : Whole) → FirstText bytes whole 
         shown = some_is w ∙ ap (λ (x : List ℕ). held ++ x) d.5;
       }
 
-  pub prints_sound : (words : List (List ℕ)) (told before after : _) (status : Status) (text file : List ℕ) (turns : ℕ) → Answers words told status text → Appended before after text
+  pub prints_sound : (words : List (List ℕ)) (told : Option Files) (before after : Option (List ℕ)) (status : Status) (text file : List ℕ) (turns : ℕ) → Answers words told status text → Appended before after text
       → status ≡ Done → command_of words ≡ Some (Analyse file turns) → IfSome told (λ files. IfSome before (λ held. IfSome after (λ now. PrintsSound file files held now)))
   prints_sound words told before after status text file turns (usage none) w e is = absurd (let k : Usage ≡ Done = e in cc)
   prints_sound words told before after status text file turns (unread command means) w e is = absurd (let k : ReadFailed ≡ Done = e in cc)
@@ -64,7 +64,7 @@ module _ (firsts : (bytes : List ℕ) (whole : Whole) → FirstText bytes whole 
 
 -- a text of a program that some text spells is read back
 module _ (back : CanonicalTextsSpell) where
-  reprinted : (told before after : _) (file bytes text : List ℕ) (status : Status) → PrintAnswers bytes status text → status ≡ Done
+  reprinted : (told : Option Files) (before after : Option (List ℕ)) (file bytes text : List ℕ) (status : Status) → PrintAnswers bytes status text → status ≡ Done
       → IfSome told (λ files. files file ≡ Some bytes) → Appended before after text
       → IfSome told (λ files. IfSome before (λ held. IfSome after (λ now. PrintsSame file files held now)))
   reprinted None before after file bytes text status a e t w = tt
@@ -74,7 +74,7 @@ module _ (back : CanonicalTextsSpell) where
   reprinted (Some files) (Some held) (Some now) file bytes text status (printed whole h) e t w =
       record { bytes = bytes; text = canonical_text whole; whole = whole; told = t; spelled = h; again = back whole (bytes, h); shown = some_is w }
 
-  pub prints_same : (words : List (List ℕ)) (told before after : _) (status : Status) (text file : List ℕ) → Answers words told status text → Appended before after text
+  pub prints_same : (words : List (List ℕ)) (told : Option Files) (before after : Option (List ℕ)) (status : Status) (text file : List ℕ) → Answers words told status text → Appended before after text
       → status ≡ Done → command_of words ≡ Some (Print file) → IfSome told (λ files. IfSome before (λ held. IfSome after (λ now. PrintsSame file files held now)))
   prints_same words told before after status text file (usage none) w e is = absurd (let k : Usage ≡ Done = e in cc)
   prints_same words told before after status text file (unread command means) w e is = absurd (let k : ReadFailed ≡ Done = e in cc)

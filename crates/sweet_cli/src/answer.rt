@@ -3,9 +3,9 @@ ghost use Rattle.flow_base.specs.Outside.{Rose};
 ghost use Rattle.alf_text.specs.Tree.{item_of, names_of, whole_of};
 ghost use Rattle.alf_text.specs.First.{main_alone, IsFirst};
 ghost use Rattle.alf_text.specs.FirstText.{FirstText};
-ghost use Rattle.sweet_cli.specs.Words.{Command, command_of, file_of};
+ghost use Rattle.sweet_cli.specs.Words.{Command as Meaning, command_of, file_of};
 ghost use Rattle.sweet_cli.specs.Meant.{command_meant};
-ghost use Rattle.sweet_cli.specs.Answer.{TextAnswers, PrintAnswers, CommandAnswers, Answers};
+ghost use Rattle.sweet_cli.specs.Answer.{TextAnswers, PrintAnswers, CommandAnswers, Answers, IsWritten};
 
 use crate::Status;
 use crate::analysis::report_of;
@@ -34,9 +34,10 @@ pub fn words_answer<F: Shelf>(
     ensures answer { IfOk result (λ answer. Answers (map string_bytes words.now) (F.files shelf.old) answer.status (answer.text.items)) }
     ensures read_failed { IfOk result (λ answer. answer.status ≡ Status.ReadFailed → Rose (F.faults shelf.old) (F.faults shelf.new)) }
     ensures name_kept { IfOk result (λ answer. answer.status ≡ Status.ReadFailed
-        → (command : Command) × (command_of (map string_bytes words.now) ≡ Some command) × (F.failed shelf.new ≡ Some (file_of command))) }
+        → (command : Meaning) × (command_of (map string_bytes words.now) ≡ Some command) × (F.failed shelf.new ≡ Some (file_of command))) }
     ensures no_other_read { IfOk result (λ answer. (answer.status ≡ Status.ReadFailed → ⊥) → F.failed shelf.new ≡ F.failed shelf.old) }
     ensures same_files { F.files shelf.new ≡ F.files shelf.old }
+    ensures written { IfOk result (λ answer. IsWritten answer.status) }
 {
     let Some(command) = read_command(words) else {
         return said(alloc, Status::Usage, "fault usage\n");
@@ -53,6 +54,7 @@ pub fn words_answer<F: Shelf>(
 fn command_answer(alloc: Global, command: Command<'_>, bytes: &[u8]) -> Result<Answer, AllocError>
     ensures answer { IfOk result (λ answer. CommandAnswers (command_meant command.entry) bytes.now answer.status answer.text.items) }
     ensures was_read { IfOk result (λ answer. answer.status ≡ Status.ReadFailed → ⊥) }
+    ensures written { IfOk result (λ answer. IsWritten answer.status) }
 {
     match command {
         Command::Analyse(_, turns) => text_answer(alloc, bytes, turns),
@@ -64,6 +66,7 @@ fn command_answer(alloc: Global, command: Command<'_>, bytes: &[u8]) -> Result<A
 fn print_answer(alloc: Global, bytes: &[u8]) -> Result<Answer, AllocError>
     ensures answer { IfOk result (λ answer. PrintAnswers bytes.now answer.status answer.text.items) }
     ensures was_read { IfOk result (λ answer. answer.status ≡ Status.ReadFailed → ⊥) }
+    ensures written { IfOk result (λ answer. IsWritten answer.status) }
 {
     match read(alloc, bytes) {
         Ok(program) => {
@@ -87,6 +90,7 @@ fn print_answer(alloc: Global, bytes: &[u8]) -> Result<Answer, AllocError>
 fn text_answer(alloc: Global, bytes: &[u8], turns: u32) -> Result<Answer, AllocError>
     ensures answer { IfOk result (λ answer. TextAnswers bytes.now turns answer.status (answer.text.items)) }
     ensures was_read { IfOk result (λ answer. answer.status ≡ Status.ReadFailed → ⊥) }
+    ensures written { IfOk result (λ answer. IsWritten answer.status) }
 {
     match read_first(alloc, bytes) {
         Ok(program) => {
@@ -104,6 +108,7 @@ fn program_answer(alloc: Global, program: &Program, turns: u32) -> Result<Answer
     ensures answer { (bytes : List ℕ) → FirstText bytes (whole_of program.now)
         → IfOk result (λ answer. TextAnswers bytes turns answer.status (answer.text.items)) }
     ensures was_read { IfOk result (λ answer. answer.status ≡ Status.ReadFailed → ⊥) }
+    ensures written { IfOk result (λ answer. IsWritten answer.status) }
 {
     let report = report_of(alloc, &program.decls, items_of_main(program), turns)?;
     let Some(report) = report else {

@@ -1,4 +1,4 @@
-use Rattle.std.proofs.Common.{List, ℕ, map, sym, subst}
+use Rattle.std.proofs.Common.{List, ℕ, map, ap, sym, ◌∙◌, subst}
 use Rattle.std.proofs.lemmas.Result.{IfOk-weaker}
 use Rattle.alf_text.specs.Tree.{Whole, item_of, names_of}
 use Rattle.alf_text.specs.FirstText.{FirstText}
@@ -20,5 +20,5 @@ pub returns-clause-answer : goal.returns-clause-answer
 returns-clause-answer c =
     λ bytes text.
     let within = rw c.in-Some.is at c.in_ok-report.ensures.done in
-    subst (λ (x : List ℕ). TextAnswers bytes c.args.turns Done x) (sym c.in_ok-text.ensures)
+    subst (λ (x : List ℕ). TextAnswers bytes c.args.turns Done x) (sym (ap (λ v. v.items) c.into_bytes.ensures.value ∙ c.in_ok-text.ensures))
     (done (names_of c.args.program.now.decls.items) (map item_of c.items_of_main.result.now) (findings_of c.in-Some.report) (subst (λ (x : Whole). FirstText bytes x) c.items_of_main.ensures text) within)

@@ -1,8 +1,8 @@
-use Rattle.std.proofs.Common.{subst, refl, map, string_bytes, List, ℕ}
+use Rattle.std.proofs.Common.{◌≡◌, ◌<◌, length, IsSomeAnd, subst, refl, map, string_bytes, List, ℕ, Some, IfSome}
 use Rattle.std.proofs.lemmas.Result.{IfOk-weaker}
 use Rattle.flow_base.specs.Read.{IsTooLongFor}
 use Rattle.sweet_cli.specs.Meant.{command_meant}
-use Rattle.sweet_cli.specs.Answer.{TextAnswers, Answers, usage, unread, too_long, read}
+use Rattle.sweet_cli.specs.Answer.{CommandAnswers, Answers, usage, unread, too_long, read}
 use Rattle.sweet_cli.proofs.Answered.{put, within_is}
 use Rattle.sweet_cli.proofs.answer.words_answer.Goals as goal
 
@@ -26,7 +26,8 @@ returns-in-Err-Failed-clause-answer g c =
 
 pub returns-in-Err-TooLong-clause-answer : goal.returns-in-Err-TooLong-clause-answer
 returns-in-Err-TooLong-clause-answer g c =
-    let long = subst (λ x. IsTooLongFor (g.F.Shelf.files c.args.shelf.now) c.in-Some.command.file.now 1048576 x) c.in-Err-TooLong.field-0-is c.in-Err-TooLong.ensures.too_long in
+    let long = subst (λ x. IsTooLongFor (g.F.Shelf.files c.args.shelf.now) c.file.result.now 1048576 x) c.in-Err-TooLong.field-0-is c.in-Err-TooLong.ensures.too_long in
+    let there = subst (λ (y : List ℕ). IfSome (g.F.Shelf.files c.args.shelf.now) (λ files. IsSomeAnd (files y) (λ bytes. 1048576 < length bytes))) c.file.ensures long.1 in
     IfOk-weaker c.said-in-Err-TooLong.result _ _
     (λ a h. put (Answers (map string_bytes c.args.words.now) (g.F.Shelf.files c.args.shelf.now)) _ _ _ _
-    (too_long (command_meant c.in-Some.command) c.in-Some.ensures.meant long.1) h) c.said-in-Err-TooLong.ensures
+    (too_long (command_meant c.in-Some.command) c.in-Some.ensures.meant there) h) c.said-in-Err-TooLong.ensures

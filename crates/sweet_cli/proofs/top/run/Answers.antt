@@ -1,7 +1,15 @@
 use Rattle.std.proofs.Common.{subst, map, string_bytes, List, ℕ}
 use Rattle.flow_base.specs.Outside.{Appended}
 use Rattle.sweet_cli.proofs.Answered.{prints_sound, prints_same}
+use Rattle.sweet_cli.specs.Answer.{IsWritten}
 use Rattle.sweet_cli.proofs.top.run.Goals as goal
+
+-- what is written whole is told by its own status
+pub returns-in-Ok-write_all-clause-write_failed : goal.returns-in-Ok-write_all-clause-write_failed
+returns-in-Ok-write_all-clause-write_failed g c = λ e. absurd (subst IsWritten e c.in-Ok.ensures.written)
+
+pub returns-in-Ok-write_all-clause-nothing_written : goal.returns-in-Ok-write_all-clause-nothing_written
+returns-in-Ok-write_all-clause-nothing_written g c = λ e. absurd (subst IsWritten e c.in-Ok.ensures.written)
 
 pub returns-in-Ok-write_all-clause-sound : goal.returns-in-Ok-write_all-clause-sound
 returns-in-Ok-write_all-clause-sound g c =

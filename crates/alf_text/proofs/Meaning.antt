@@ -1,13 +1,11 @@
 -- A text has one meaning, which reading its tokens gives.
-use Rattle.std.proofs.Common.{◌≡◌, ℕ, false, List, Result, Ok, Err, Option, Some, None, refl, sym, ap, subst, ◌∙◌}
-use Rattle.grammar.specs.Form.{Fails}
+use Rattle.std.proofs.Common.{◌≡◌, ℕ, false, List, Result, Ok, Err, refl, sym, ap, subst}
 use Rattle.grammar.specs.Exact.{Says}
-use Rattle.alf_tokens.specs.Tokens.{IsTokens}
 use Rattle.alf_tokens.specs.Cutting.{tokens_of}
 use Rattle.alf_tokens.specs.Laws.{EachTextIsCut, EachTextIsCutOneWay}
 use Rattle.alf_text.specs.Tree.{Whole}
 use Rattle.alf_text.specs.Grammar.{At, Fault, program}
-use Rattle.alf_text.specs.Language.{start, SpellsProgram, Departure, placed, Means, HasOneMeaning}
+use Rattle.alf_text.specs.Language.{start, Departure, placed, Means, HasOneMeaning}
 use Rattle.alf_text.proofs.Exactness.{program_exact}
 
 -- what reading gives, as it is told

@@ -4,7 +4,7 @@
 --   alf              positions as a source of tokens
 --   Rule A           a part of the grammar that spells values of type A
 --   fits, fits_word, fits_number, fits_name   one token, which fits its place or is the departure
-use Rattle.std.specs.Prelude.{ℕ, zero, suc, ◌+◌, ◌-◌, ◌*◌, ◌/◌, ◌%◌, ◌^◌, ◌&&◌, ◌==◌, List, [], ◌∷◌, length, Bool, true, false, Result, Ok, Err, Option, Some, None, nat_le, nat_lt, if◌then◌else◌, codes}
+use Rattle.std.specs.Prelude.{ℕ, zero, suc, ◌+◌, ◌-◌, ◌/◌, ◌%◌, ◌^◌, ◌&&◌, ◌==◌, List, [], ◌∷◌, length, Bool, true, false, Result, Ok, Err, Option, Some, None, nat_le, nat_lt, if◌then◌else◌, codes}
 use Rattle.std.specs.Option.{option_map}
 use Rattle.std.specs.Str.{bytes_eq}
 use Rattle.flow_base.specs.Digits.{front_digits, number_of}

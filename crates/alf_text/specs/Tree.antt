@@ -1,7 +1,7 @@
 -- Programs, without where they lie in memory.
 --   Term, Terms, Act, Item, Frame, Start, Function, Whole   an expression, expressions in a row, a statement, an item, a frame, an initial value, a function, a program
 --   term_of, act_of, item_of, frame_of, names_of, start_of, function_of, whole_of   what the code's values stand for
-use Rattle.std.specs.Prelude.{ℕ, List, [], ◌∷◌, map, Option, None, Some}
+use Rattle.std.specs.Prelude.{ℕ, List, [], ◌∷◌, map, Option}
 use Rattle.std.specs.Option.{option_map}
 use Rattle.alf_ops.specs.declared.operator.Op.{Op}
 use Rattle.alf_text.specs.declared.program.Num.{Num}

@@ -92,5 +92,9 @@ fn last_line_len(front: &[u8]) -> usize
     ensures count { result ≡ prefix_len (λ byte. not (is_line_feed byte)) (reverse front.now) }
     ensures within { result ≤ length front.now }
 {
-    front.iter().rev().take_while(|byte| **byte != b'\n').count()
+    front
+        .iter()
+        .rev()
+        .take_while(|byte| **byte != b'\n')
+        .count()
 }

@@ -164,7 +164,12 @@ impl<'a> Reader<'a> {
         if !token.kind.is_number() {
             return Err(misfit(token));
         }
-        match number_between(token.text, u64::from(least), u128::from(most), u64::from(step)) {
+        match number_between(
+            token.text,
+            u64::from(least),
+            u128::from(most),
+            u64::from(step),
+        ) {
             Some(number) => Ok(number as u32),
             None => Err(outside(token)),
         }

@@ -1,4 +1,4 @@
-use Rattle.std.proofs.Common.{◌≡◌, false, Ok, Err, Option, Some, None, IfSome, IsSomeAnd, refl, sym, ap, subst, ◌∙◌}
+use Rattle.std.proofs.Common.{◌≡◌, false, Ok, Err, Option, Some, None, IfSome, IsSomeAnd, sym, subst}
 use Rattle.grammar.specs.Form.{Fails}
 use Rattle.alf_tokens.specs.Cutting.{tokens_of}
 use Rattle.alf_text.specs.Tree.{whole_of}

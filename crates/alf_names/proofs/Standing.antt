@@ -1,12 +1,12 @@
 -- Where the first member stands that passes.
-use Rattle.std.proofs.Common.{◌≡◌, ◌+◌, ◌<◌, ℕ, suc, Bool, true, false, cond, ltb, List, [], ◌∷◌, map, length, drop, get_or, drop-cons, zero-add, Option, Some, None, refl, ap, ◌∙◌, subst, position, arith, IfSome, if◌then◌else◌}
+use Rattle.std.proofs.Common.{◌≡◌, ◌+◌, ◌<◌, ℕ, suc, Bool, true, false, cond, ltb, List, [], ◌∷◌, map, length, drop, get_or, drop-cons, zero-add, Option, Some, None, refl, ap, sym, ◌∙◌, subst, position, arith, IfSome, if◌then◌else◌}
 use Rattle.std.proofs.lemmas.List.{length-map}
 use Rattle.std.specs.Option.{option_map}
 use Rattle.std.specs.List.{position_or_len}
 use Rattle.std.proofs.lemmas.Bool.Decides.{nat_tests}
 use Rattle.alf_names.specs.Places.{place_of}
 
-by_test : {A : Type 0} (v : Bool) → (v ≡ true → A) → (v ≡ false → A) → A
+pub by_test : {A : Type 0} (v : Bool) → (v ≡ true → A) → (v ≡ false → A) → A
 by_test true if_true if_false = if_true refl
 by_test false if_true if_false = if_false refl
 
@@ -16,14 +16,24 @@ shifted n m =
     let same : ltb (1 + n) (suc m) ≡ ltb n m = grind (arith, nat_tests) in
     by_test (ltb n m) (λ e. rw (same, e) (ap Some (omega arith))) (λ e. rw (same, e) refl)
 
+-- std's word for the place
+pub position_place : {A : Type 0} (passes : A → Bool) (xs : List A) → position passes xs ≡ place_of passes xs
+position_place passes [] = refl
+position_place passes (x ∷ xs) =
+    by_test (passes x) (λ e. rw e (let low : ltb 0 (suc (length xs)) ≡ true = grind (arith, nat_tests) in rw low refl))
+    (λ e. rw e (shifted (position_or_len passes xs) (length xs) ∙ ap (option_map (λ k. k + 1)) (position_place passes xs)))
+
+-- a place among what members stand for
+pub place_of-map : {A B : Type 0} (f : A → B) (passes : B → Bool) (xs : List A) → place_of passes (map f xs) ≡ place_of (λ x. passes (f x)) xs
+place_of-map f passes [] = refl
+place_of-map f passes (x ∷ xs) = ap (λ (place : Option ℕ). if passes (f x) then Some 0 else option_map (λ k. k + 1) place) (place_of-map f passes xs)
+
 -- std's word for the place, over what the members stand for
 pub position_is : {A B : Type 0} (f : A → B) (passes : B → Bool) (xs : List A) → position (λ x. passes (f x)) xs ≡ place_of passes (map f xs)
-position_is f passes [] = refl
-position_is f passes (x ∷ xs) =
-    by_test (passes (f x)) (λ e. rw e (let low : ltb 0 (suc (length xs)) ≡ true = grind (arith, nat_tests) in rw low refl))
-    (λ e. rw e (shifted (position_or_len (λ x. passes (f x)) xs) (length xs) ∙ ap (option_map (λ k. k + 1)) (position_is f passes xs)))
+position_is f passes xs = position_place (λ x. passes (f x)) xs ∙ sym (place_of-map f passes xs)
 
-counted : (n : ℕ) (place : Option ℕ) → option_map (λ k. k + n) (option_map (λ k. k + 1) place) ≡ option_map (λ k. k + suc n) place
+-- a place counted from further back
+pub counted : (n : ℕ) (place : Option ℕ) → option_map (λ k. k + n) (option_map (λ k. k + 1) place) ≡ option_map (λ k. k + suc n) place
 counted n None = refl
 counted n (Some k) = ap Some (omega arith)
 

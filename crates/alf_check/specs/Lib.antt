@@ -1,0 +1,6 @@
+pub mod Blocks
+pub mod Resolved
+pub mod Numbers
+pub mod Numbered
+pub mod Cut
+pub mod Names

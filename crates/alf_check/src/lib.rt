@@ -1,0 +1,19 @@
+//! Programs with numbers in place of names.
+//!
+//! Frames, functions and blocks are numbered in the order of the text, from 0. The global frames
+//! come before those of the functions. A function's blocks are numbered by themselves.
+#![tactic(auto)]
+
+// What a numbered program is made of.
+mod rows;
+
+// Numbers of names.
+mod count;
+mod lookup;
+
+// Parts of blocks.
+mod endings;
+mod expressions;
+mod statements;
+
+pub use rows::{Act, Block, BlockEnd, FrameRow, FuncRow, InitRow, Term};

@@ -1,2 +1,3 @@
 pub mod Labelled
 pub mod Operands
+pub mod Cutting

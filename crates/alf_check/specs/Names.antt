@@ -9,5 +9,5 @@ abbrev pub numbers_of : Names → Numbers
 numbers_of names = record {
   frame = frame_number names.frames.now (Some names.owner);
   func = func_number (map function_of names.funcs.now);
-  block = block_number (map item_of names.labels.now);
+  block = block_number (map item_of names.labels);
 }

@@ -16,7 +16,7 @@ use Rattle.alf_check.specs.declared.rows.FrameRow.{FrameRow}
 use Rattle.alf_check.specs.declared.rows.InitRow.{InitRow}
 use Rattle.alf_check.specs.Blocks.{blocks_of}
 use Rattle.alf_check.specs.Resolved.{Tree, Trees, Number, Address, Loads, Applies, Last, With, Step, Nothing, Stores, End, Falls, Jumps, Switches, Calls, Returns, Stretch, Row, Resolved}
-use Rattle.alf_check.specs.Numbers.{Numbers, frame_rows, frame_number, func_number, numbers_in}
+use Rattle.alf_check.specs.Numbers.{Numbers, frame_rows, frame_number, func_number, numbers_with}
 
 abbrev mutual
   pub numbered_term : (List ℕ → ℕ) → Term → Tree
@@ -67,10 +67,10 @@ abbrev pub numbered_blocks : Numbers → ℕ → List (List Entry) → List Stre
 numbered_blocks numbers k [] = []
 numbered_blocks numbers k (block ∷ blocks) = numbered_block numbers (suc k) block ∷ numbered_blocks numbers (suc k) blocks
 
--- the blocks of functions, of which the first has this number
-abbrev pub blocks_from : Whole → ℕ → List Function → List (List Stretch)
-blocks_from whole k [] = []
-blocks_from whole k (func ∷ funcs) = numbered_blocks (numbers_in whole k func) 0 (blocks_of func.items) ∷ blocks_from whole (suc k) funcs
+-- the blocks of functions, of which the first has this number, among these frames and functions
+abbrev pub blocks_with : List FrameRow → List Function → ℕ → List Function → List (List Stretch)
+blocks_with rows all k [] = []
+blocks_with rows all k (func ∷ funcs) = numbered_blocks (numbers_with rows all k func) 0 (blocks_of func.items) ∷ blocks_with rows all (suc k) funcs
 
 -- what frames hold at first
 abbrev pub numbered_inits : (List ℕ → ℕ) → List Start → List InitRow
@@ -99,7 +99,7 @@ abbrev pub numbered : Whole → List ℕ → Resolved
 numbered whole root = record {
   frames = frame_rows whole;
   funcs = funcs_from (frame_rows whole) 0 whole.funcs;
-  blocks = blocks_from whole 0 whole.funcs;
+  blocks = blocks_with (frame_rows whole) whole.funcs 0 whole.funcs;
   inits = numbered_inits (frame_number (frame_rows whole) None) whole.inits;
   exports = map (frame_number (frame_rows whole) None) whole.exports;
   root = func_number whole.funcs root;

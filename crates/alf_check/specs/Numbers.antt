@@ -3,7 +3,7 @@
 --   frame_number rows owner name the number of the frame of this name that is global, or of the function of this number
 --   func_number funcs name       the number of the function of this name
 --   block_number items label     the number of the block in which the label stands
---   Numbers, numbers_in          what each name in a function stands for
+--   Numbers, numbers_with        what each name in a function stands for
 use Rattle.std.specs.Prelude.{ℕ, suc, ◌==◌, ◌&&◌, Bool, true, false, List, [], ◌∷◌, ◌++◌, map, Option, Some, None, is_some, unwrap_or}
 use Rattle.std.specs.Str.{bytes_eq}
 use Rattle.alf_text.specs.Tree.{Entry, Frame, Function, Whole}
@@ -51,10 +51,6 @@ pub record Numbers : Type 0 where
   pub func : List ℕ → ℕ
   pub block : List ℕ → ℕ
 
--- in function k
-abbrev pub numbers_in : Whole → ℕ → Function → Numbers
-numbers_in whole k func = record {
-  frame = frame_number (frame_rows whole) (Some k);
-  func = func_number whole.funcs;
-  block = block_number func.items;
-}
+-- in function k, with these frames and functions
+abbrev pub numbers_with : List FrameRow → List Function → ℕ → Function → Numbers
+numbers_with rows funcs k func = record { frame = frame_number rows (Some k); func = func_number funcs; block = block_number func.items }

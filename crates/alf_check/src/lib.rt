@@ -11,9 +11,19 @@ mod rows;
 mod count;
 mod lookup;
 
-// Parts of blocks.
+// Frames and functions.
+mod tables;
+
+// Blocks.
+mod body;
+mod cut;
 mod endings;
 mod expressions;
 mod statements;
 
+// Programs.
+mod numbering;
+mod program;
+
+pub use program::Checked;
 pub use rows::{Act, Block, BlockEnd, FrameRow, FuncRow, InitRow, Term};

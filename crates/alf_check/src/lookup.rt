@@ -10,15 +10,16 @@ use alf_text::Func;
 
 /// What stands for the names in a function: the frames of the program and the function's number,
 /// the functions, the labels, and for each item of the function the number of its block.
+#[derive(Drop)]
 pub struct Names<'a> {
     pub frames: &'a [FrameRow],
     pub owner: u32,
     pub funcs: &'a [Func],
-    pub labels: &'a Labels<'a>,
-    pub blocks: &'a [u32],
+    pub labels: Labels<'a>,
+    pub blocks: Vec<u32>,
     ghost few_frames: { length frames.now < 2 ^ 32 },
     ghost few_funcs: { length funcs.now < 2 ^ 32 },
-    ghost numbered: { blocks.now ≡ numbers_along 0 (map item_of labels.now) },
+    ghost numbered: { blocks.items ≡ numbers_along 0 (map item_of labels) },
 }
 
 impl<'a> Names<'a> {
@@ -43,7 +44,7 @@ impl<'a> Names<'a> {
     pub fn block(&self, label: &[u8]) -> u32
         ensures { result ≡ (numbers_of self.now).block label.now }
     {
-        block_number(self.labels, self.blocks, label)
+        block_number(&self.labels, &self.blocks, label)
     }
 }
 

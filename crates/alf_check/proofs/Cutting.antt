@@ -1,5 +1,5 @@
 -- Blocks, cut from the front on.
-use Rattle.std.proofs.Common.{◌≡◌, ◌≤◌, ◌<◌, ◌+◌, ℕ, List, [], ◌∷◌, ◌++◌, map, length, take, drop, refl, ap, sym, ◌∙◌, arith}
+use Rattle.std.proofs.Common.{◌≡◌, ◌≤◌, ◌<◌, ℕ, List, [], ◌∷◌, map, length, take, drop, refl, ap, sym, ◌∙◌, arith}
 use Rattle.std.proofs.lemmas.List.{take-map, drop-map, length-map}
 use Rattle.alf_text.specs.declared.program.Item.{Item}
 use Rattle.alf_text.specs.Tree.{Entry, item_of}

@@ -1,3 +1,4 @@
 pub mod Labelled
 pub mod Operands
 pub mod Cutting
+pub mod Whole

@@ -6,7 +6,7 @@
 --   numbered_blocks numbers k blocks     blocks, of which the first has this number
 --   numbered_func frame func       a function whose frames have these numbers
 --   numbered whole root            the program, which starts with the function of this name
-use Rattle.std.specs.Prelude.{ℕ, suc, ◌-◌, List, [], ◌∷◌, ◌++◌, map, length, Option, Some, None, slice_get}
+use Rattle.std.specs.Prelude.{ℕ, suc, ◌-◌, List, [], ◌∷◌, ◌++◌, map, length, Some, None, slice_get}
 use Rattle.std.specs.Option.{option_map, option_map_or}
 use Rattle.std.specs.List.{flat_map}
 use Rattle.alf_text.specs.declared.program.Num.{Num}

@@ -5,9 +5,8 @@
 --   Resolved           a program: its frames, its functions and the blocks of each, what global frames hold at first, the frames that it exports, and the function that it starts with
 --   Held               the same in the code's parts
 --   tree_of, step_of, end_of, block_of, row_of, resolved_of   what the code's values stand for
-use Rattle.std.specs.Prelude.{ℕ, List, [], ◌∷◌, map, Option, Vec}
+use Rattle.std.specs.Prelude.{ℕ, List, [], ◌∷◌, map, Option}
 use Rattle.std.specs.Option.{option_map}
-use Rattle.std.specs.declared.alloc.Global.{Global}
 use Rattle.alf_ops.specs.declared.operator.Op.{Op}
 use Rattle.alf_text.specs.declared.program.Num.{Num}
 use Rattle.alf_check.specs.declared.rows.FrameRow.{FrameRow}

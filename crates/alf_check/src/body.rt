@@ -1,4 +1,4 @@
-ghost use Rattle.std.specs.Prelude.{◌≡◌, map, IfOk};
+ghost use Rattle.std.specs.Prelude.{◌≡◌, ◌<◌, map, length, IfOk};
 ghost use Rattle.alf_text.specs.Tree.{item_of};
 ghost use Rattle.alf_check.specs.Blocks.{blocks_of};
 ghost use Rattle.alf_check.specs.Resolved.{block_of};
@@ -16,7 +16,8 @@ use std::alloc::{AllocError, Global};
 
 /// The blocks of the items.
 pub fn blocks(alloc: Global, names: &Names<'_>, items: &[Item]) -> Result<Vec<Block>, AllocError>
-    ensures { IfOk result (λ blocks. map block_of blocks.items ≡ numbered_blocks (numbers_of names.now) 0 (blocks_of (map item_of items.now))) }
+    ensures are { IfOk result (λ blocks. map block_of blocks.items ≡ numbered_blocks (numbers_of names.now) 0 (blocks_of (map item_of items.now))) }
+    ensures few { IfOk result (λ blocks. length blocks.items < 4294967295) }
 {
     let mut blocks = Vec::new(alloc);
     let mut number = 0;
@@ -32,12 +33,7 @@ pub fn blocks(alloc: Global, names: &Names<'_>, items: &[Item]) -> Result<Vec<Bl
 }
 
 // The block of these items, where the next one has this number.
-fn block(
-    alloc: Global,
-    names: &Names<'_>,
-    next: u32,
-    items: &[Item],
-) -> Result<Block, AllocError>
+fn block(alloc: Global, names: &Names<'_>, next: u32, items: &[Item]) -> Result<Block, AllocError>
     ensures { IfOk result (λ block. block_of block ≡ numbered_block (numbers_of names.now) next (map item_of items.now)) }
 {
     let stmts = acts(alloc, names, items)?;

@@ -4,7 +4,8 @@ use std::alloc::AllocError;
 
 /// The next number. There are fewer than `u32::MAX` members in a list.
 pub fn next_number(number: u32) -> Result<u32, AllocError>
-    ensures { IfOk result (λ next. next ≡ suc number) }
+    ensures next { IfOk result (λ next. next ≡ suc number) }
+    ensures few { IfOk result (λ next. next < 4294967295) }
 {
     if number >= u32::MAX - 1 {
         return Err(AllocError);

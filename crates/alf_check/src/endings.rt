@@ -29,12 +29,7 @@ pub fn end(
 }
 
 // What a block ends with that ends with this item.
-fn end_by(
-    alloc: Global,
-    names: &Names<'_>,
-    next: u32,
-    item: &Item,
-) -> Result<BlockEnd, AllocError>
+fn end_by(alloc: Global, names: &Names<'_>, next: u32, item: &Item) -> Result<BlockEnd, AllocError>
     ensures { IfOk result (λ end. end_of end ≡ end_by (numbers_of names.now) next (item_of item.now)) }
 {
     match item {
@@ -107,11 +102,7 @@ fn call(
 }
 
 // A return.
-fn returned(
-    alloc: Global,
-    names: &Names<'_>,
-    value: &Option<Expr>,
-) -> Result<BlockEnd, AllocError>
+fn returned(alloc: Global, names: &Names<'_>, value: &Option<Expr>) -> Result<BlockEnd, AllocError>
     ensures { IfOk result (λ end. end_of end ≡ end_by (numbers_of names.now) 0 (Does (text.Returns (option_map term_of value.now)))) }
 {
     match value {

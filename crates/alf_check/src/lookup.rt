@@ -76,8 +76,7 @@ fn seen_place(rows: &[FrameRow], viewer: Option<u32>, name: &[u8]) -> Option<usi
     ensures first { result ≡ place_of (is_seen_as viewer name.now) rows.now }
     ensures within { IfSome result (λ place. place < length rows.now) }
 {
-    rows.iter()
-        .position(|row| is_seen(viewer, row.owner) && row.name.bytes() == name)
+    rows.iter().position(|row| is_seen(viewer, row.owner) && row.name.bytes() == name)
 }
 
 // Whether a frame of this owner is seen from the function of this number, or from all of them.

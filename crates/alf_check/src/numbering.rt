@@ -1,4 +1,4 @@
-ghost use Rattle.std.specs.Prelude.{◌≡◌, ◌<◌, ◌^◌, Some, map, length, IfOk};
+ghost use Rattle.std.specs.Prelude.{◌≡◌, ◌<◌, ◌^◌, Some, map, length, All, IfOk};
 ghost use Rattle.alf_text.specs.Tree.{whole_of, function_of};
 ghost use Rattle.alf_check.specs.Blocks.{blocks_of};
 ghost use Rattle.alf_check.specs.Numbers.{numbers_with};
@@ -44,8 +44,9 @@ pub fn all_blocks(
 ) -> Result<Vec<Vec<Block>>, AllocError>
     requires rows { length rows.now < 2 ^ 32 }
     requires funcs { length funcs.now < 2 ^ 32 }
-    ensures { IfOk result (λ numbered. map (λ blocks. map block_of blocks.items) numbered.items
+    ensures are { IfOk result (λ numbered. map (λ blocks. map block_of blocks.items) numbered.items
         ≡ blocks_with rows.now (map function_of funcs.now) 0 (map function_of funcs.now)) }
+    ensures few { IfOk result (λ numbered. All (λ blocks. length blocks.items < 4294967295) numbered.items) }
 {
     let mut numbered = Vec::new(alloc);
     let mut number = 0;
@@ -69,8 +70,9 @@ fn func_blocks(
 ) -> Result<Vec<Block>, AllocError>
     requires rows { length rows.now < 2 ^ 32 }
     requires funcs { length funcs.now < 2 ^ 32 }
-    ensures { IfOk result (λ blocks. map block_of blocks.items
+    ensures are { IfOk result (λ blocks. map block_of blocks.items
         ≡ numbered_blocks (numbers_with rows.now (map function_of funcs.now) number (function_of func.now)) 0 (blocks_of (function_of func.now).items)) }
+    ensures few { IfOk result (λ blocks. length blocks.items < 4294967295) }
 {
     let labels = Labels::new(alloc, &func.items)?;
     let along = numbers_along(alloc, &func.items)?;

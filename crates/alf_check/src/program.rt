@@ -33,12 +33,12 @@ impl Model for Checked {
     ghost coded = { Prim.hlevel (codes, e.the_row.coded) };
 
     ghost view = { λ checked. record {
-        frames = checked.frames.items;
-        funcs = checked.funcs.items;
-        blocks = map (λ blocks. blocks.items) checked.blocks.items;
-        inits = checked.inits.items;
-        exports = checked.exports.items;
-        root = checked.root;
+      frames = checked.frames.items;
+      funcs = checked.funcs.items;
+      blocks = map (λ blocks. blocks.items) checked.blocks.items;
+      inits = checked.inits.items;
+      exports = checked.exports.items;
+      root = checked.root;
     } };
 
     ghost invariant = { λ checked. (length checked.funcs.items < 4294967295) × All (λ blocks. length blocks.items < 4294967295) checked.blocks.items };
@@ -108,11 +108,7 @@ impl Checked {
 }
 
 // The program with numbers in place of names, which starts with the function of this name.
-pub(crate) fn numbered(
-    alloc: Global,
-    program: &Program,
-    root: &[u8],
-) -> Result<Checked, AllocError>
+pub(crate) fn numbered(alloc: Global, program: &Program, root: &[u8]) -> Result<Checked, AllocError>
     ensures { IfOk result (λ checked. resolved_of checked ≡ numbered (whole_of program.now) root.now) }
 {
     few(&program.funcs)?;

@@ -11,5 +11,5 @@ term-returns-in_ok-from_slice-in-Apply t c =
     let frame = (numbers_of c.args.names.now).frame in
     let a = c.in-Apply in
     rw a.is (applies _ _ _
-        ∙ applied frame a.op a.sizes.items c.in_ok-from_slice-in-Apply.field-0.items (map term_of a.operands.items) (map tree_of c.in_ok-operands-in-Apply.operands.items) (search rules) (search rules)
-        ∙ ap (numbered_term frame) (sym (text_applies a.op a.sizes a.operands)))
+    ∙ applied frame a.op a.sizes.items c.in_ok-from_slice-in-Apply.field-0.items (map term_of a.operands.items) (map tree_of c.in_ok-operands-in-Apply.operands.items) (search rules) (search rules)
+    ∙ ap (numbered_term frame) (sym (text_applies a.op a.sizes a.operands)))

@@ -1,0 +1,7 @@
+pub mod Fault
+pub mod TermSizes
+pub mod Returns
+pub mod Duplicates
+pub mod Unknowns
+pub mod Sizes
+pub mod Faults

@@ -20,17 +20,21 @@ frame_duplicates taken others frames i frame =
 abbrev pub function_duplicates : List Function → ℕ → Function → List Fault
 function_duplicates funcs k func = when (not (is_exactly k (function_place funcs func.name))) (Duplicate func.name)
 
--- a target whose number an earlier one has, told by the number in digits
+-- a number that stands twice, told in digits
+abbrev pub number_twice : ℕ → Fault
+number_twice number = Duplicate (decimal number)
+
+-- a target whose number an earlier one has
 abbrev pub target_duplicates : List ℕ → List (Num × List ℕ) → List Fault
 target_duplicates earlier [] = []
-target_duplicates earlier (target ∷ targets) = when (list_any (λ number. number == target.0.bits) earlier) (Duplicate (decimal target.0.bits)) ++ target_duplicates (earlier ++ target.0.bits ∷ []) targets
+target_duplicates earlier (target ∷ targets) = when (list_any (λ number. number == target.0.bits) earlier) (number_twice target.0.bits) ++ target_duplicates (earlier ++ target.0.bits ∷ []) targets
 
 -- a label that an earlier item or any function has
-abbrev pub label_duplicates : Whole → Function → ℕ → List ℕ → List Fault
-label_duplicates whole func i label = when (not (is_exactly i (label_place func.items label)) || is_some (function_place whole.funcs label)) (Duplicate label)
+abbrev pub label_duplicates : List Function → List Entry → ℕ → List ℕ → List Fault
+label_duplicates funcs items i label = when (not (is_exactly i (label_place items label)) || is_some (function_place funcs label)) (Duplicate label)
 
 abbrev pub entry_duplicates : Whole → Function → ℕ → Entry → List Fault
-entry_duplicates whole func i (Labels label) = label_duplicates whole func i label
+entry_duplicates whole func i (Labels label) = label_duplicates whole.funcs func.items i label
 entry_duplicates whole func i (Does Nothing) = []
 entry_duplicates whole func i (Does (Stores at value)) = []
 entry_duplicates whole func i (Does (Jumps label)) = []

@@ -3,9 +3,11 @@
 --   agrees has_result return    a call with or without a result agrees with the return
 --   is_before p m k i           item m of function p stands before item i of function k in the text
 --   is_breach name return k p m item   the item, item m of function p, is a call of the function of this name that stands before its return in function k, and does not agree with it
-use Rattle.std.specs.Prelude.{ℕ, ◌+◌, ◌==◌, Bool, true, false, not, ◌&&◌, ◌||◌, nat_lt, List, [], ◌∷◌, Option, Some, None, is_some, if◌then◌else◌}
+use Rattle.std.specs.Prelude.{ℕ, ◌+◌, ◌==◌, Bool, true, false, not, ◌&&◌, ◌||◌, nat_lt, List, [], ◌∷◌, Option, Some, None, is_some, map}
+use Rattle.std.specs.Option.{option_or}
 use Rattle.std.specs.Str.{bytes_eq}
-use Rattle.alf_text.specs.Tree.{Term, Act, Nothing, Stores, Jumps, Switches, Calls, Returns, Entry, Labels, Does, Function}
+use Rattle.alf_text.specs.declared.program.Func.{Func}
+use Rattle.alf_text.specs.Tree.{function_of, Term, Act, Nothing, Stores, Jumps, Switches, Calls, Returns, Entry, Labels, Does, Function}
 use Rattle.alf_faults.specs.Fault.{any_from}
 use Rattle.alf_faults.specs.TermSizes.{return_size, is_bytes}
 use Rattle.alf_faults.specs.declared.returns.Return.{Return}
@@ -14,16 +16,20 @@ use Rattle.alf_faults.specs.declared.returns.Return.{Return}
 abbrev pub return_at : ℕ → Option Term → Return
 return_at i value = record { item = i; has_value = is_some value; size = return_size value }
 
+-- the return that the item is, if it is one
+abbrev pub return_of : ℕ → Entry → Option Return
+return_of i (Labels name) = None
+return_of i (Does Nothing) = None
+return_of i (Does (Stores at value)) = None
+return_of i (Does (Jumps label)) = None
+return_of i (Does (Switches value targets others)) = None
+return_of i (Does (Calls label args result)) = None
+return_of i (Does (Returns value)) = Some (return_at i value)
+
 -- the first return of these items, of which the first has number i
 abbrev pub first_return_from : ℕ → List Entry → Option Return
 first_return_from i [] = None
-first_return_from i (Labels name ∷ items) = first_return_from (i + 1) items
-first_return_from i (Does Nothing ∷ items) = first_return_from (i + 1) items
-first_return_from i (Does (Stores at value) ∷ items) = first_return_from (i + 1) items
-first_return_from i (Does (Jumps label) ∷ items) = first_return_from (i + 1) items
-first_return_from i (Does (Switches value targets others) ∷ items) = first_return_from (i + 1) items
-first_return_from i (Does (Calls label args result) ∷ items) = first_return_from (i + 1) items
-first_return_from i (Does (Returns value) ∷ items) = Some (return_at i value)
+first_return_from i (item ∷ items) = option_or (return_of i item) (first_return_from (i + 1) items)
 
 abbrev pub first_return : List Entry → Option Return
 first_return items = first_return_from 0 items
@@ -52,9 +58,16 @@ abbrev pub is_breach : List ℕ → Return → ℕ → ℕ → ℕ → Entry →
 is_breach name return k p m item = is_before p m k return.item && is_disagreeing name return item
 
 -- one of the items of function p is
-abbrev pub has_breach : List ℕ → Return → ℕ → ℕ → Function → Bool
-has_breach name return k p func = any_from (is_breach name return k p) 0 func.items
+abbrev pub has_breach : List ℕ → Return → ℕ → ℕ → List Entry → Bool
+has_breach name return k p items = any_from (is_breach name return k p) 0 items
+
+abbrev pub function_has_breach : List ℕ → Return → ℕ → ℕ → Function → Bool
+function_has_breach name return k p func = has_breach name return k p func.items
 
 -- a call that stands before the return of this name in function k does not agree with it
 abbrev pub is_breached : List Function → List ℕ → Return → ℕ → Bool
-is_breached funcs name return k = any_from (has_breach name return k) 0 funcs
+is_breached funcs name return k = any_from (function_has_breach name return k) 0 funcs
+
+-- the first return of each function
+abbrev pub returns_of : List Func → List (Option Return)
+returns_of funcs = map (λ func. first_return (function_of func).items) funcs

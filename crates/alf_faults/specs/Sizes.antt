@@ -3,7 +3,7 @@
 --   is_export_size bits              a frame of so many bits may be exported
 --   targets_fit size targets         there is a size, and each target has it
 --   arguments_fit frames args        the arguments are as many as the frames, each of its frame's size
---   call_fits whole k i label args result   a call that is item i of function k fits the function that it calls
+--   call_fits whole k i label args has_result   a call that is item i of function k fits the function that it calls
 --   return_fits whole k func i value        a return that is item i of the function, function k, fits the function's first return, and the calls before it fit
 --   entry_fits whole k func i item   the item keeps the size rules
 use Rattle.std.specs.Prelude.{ℕ, ◌+◌, ◌*◌, ◌%◌, ◌==◌, Bool, true, false, not, ◌&&◌, ◌||◌, nat_le, List, [], ◌∷◌, Option, Some, None, is_some, slice_get, if◌then◌else◌}
@@ -67,8 +67,8 @@ abbrev pub fits_place : List Function → Option ℕ → ℕ → ℕ → List Te
 fits_place funcs None k i args has_result = false
 fits_place funcs (Some p) k i args has_result = fits_function p (slice_get funcs p) k i args has_result
 
-abbrev pub call_fits : Whole → ℕ → ℕ → List ℕ → List Term → Option (List ℕ × ℕ) → Bool
-call_fits whole k i label args result = fits_place whole.funcs (function_place whole.funcs label) k i args (is_some result)
+abbrev pub call_fits : Whole → ℕ → ℕ → List ℕ → List Term → Bool → Bool
+call_fits whole k i label args has_result = fits_place whole.funcs (function_place whole.funcs label) k i args has_result
 
 -- item i of function k is this return of the first function of the name, and a call before it does not agree with it
 abbrev pub breaks_calls : Whole → ℕ → List ℕ → ℕ → Return → Bool
@@ -89,5 +89,5 @@ entry_fits whole k func i (Does Nothing) = true
 entry_fits whole k func i (Does (Stores at value)) = is_exactly 32 (term_size at) && is_bytes (term_size value)
 entry_fits whole k func i (Does (Jumps label)) = true
 entry_fits whole k func i (Does (Switches value targets others)) = targets_fit (term_size value) targets
-entry_fits whole k func i (Does (Calls label args result)) = call_fits whole k i label args result
+entry_fits whole k func i (Does (Calls label args result)) = call_fits whole k i label args (is_some result)
 entry_fits whole k func i (Does (Returns value)) = return_fits whole k func i value

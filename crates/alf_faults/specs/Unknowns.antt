@@ -3,12 +3,11 @@
 --   unknown_frame whole func name   it is not
 --   unknown_in whole func term      the frames in the expression that are not, from left to right
 --   unknown_function whole name     no function has the name
---   unknown_label func label        the label does not stand as an item of the function
+--   unknown_label items label       the label does not stand among the items
 --   entry_unknowns whole func item  what the item names, in the order of the text
 use Rattle.std.specs.Prelude.{ℕ, Bool, not, ◌||◌, List, [], ◌∷◌, ◌++◌, Option, Some, None, is_some}
-use Rattle.std.specs.List.{flat_map}
 use Rattle.alf_text.specs.declared.program.Num.{Num}
-use Rattle.alf_text.specs.Tree.{Term, Terms, Number, Address, Loads, Applies, Last, With, Act, Nothing, Stores, Jumps, Switches, Calls, Returns, Entry, Labels, Does, Frame, Function, Whole}
+use Rattle.alf_text.specs.Tree.{Term, Terms, Number, Address, Loads, Applies, Last, With, Act, Nothing, Stores, Jumps, Switches, Calls, Returns, Entry, Labels, Does, Frame, Function, Whole, terms_of}
 use Rattle.alf_names.specs.Places.{frame_place, function_place, label_place}
 use Rattle.alf_faults.specs.Fault.{Fault, Unknown, when}
 
@@ -34,13 +33,13 @@ abbrev mutual
 abbrev pub unknown_function : Whole → List ℕ → List Fault
 unknown_function whole name = when (not (is_some (function_place whole.funcs name))) (Unknown name)
 
-abbrev pub unknown_label : Function → List ℕ → List Fault
-unknown_label func label = when (not (is_some (label_place func.items label))) (Unknown label)
+abbrev pub unknown_label : List Entry → List ℕ → List Fault
+unknown_label items label = when (not (is_some (label_place items label))) (Unknown label)
 
 -- the labels of targets
-abbrev pub unknown_targets : Function → List (Num × List ℕ) → List Fault
-unknown_targets func [] = []
-unknown_targets func (target ∷ targets) = unknown_label func target.1 ++ unknown_targets func targets
+abbrev pub unknown_targets : List Entry → List (Num × List ℕ) → List Fault
+unknown_targets items [] = []
+unknown_targets items (target ∷ targets) = unknown_label items target.1 ++ unknown_targets items targets
 
 -- the frame that a call's result goes to
 abbrev pub unknown_result : Whole → Function → Option (List ℕ × ℕ) → List Fault
@@ -51,8 +50,8 @@ abbrev pub entry_unknowns : Whole → Function → Entry → List Fault
 entry_unknowns whole func (Labels label) = []
 entry_unknowns whole func (Does Nothing) = []
 entry_unknowns whole func (Does (Stores at value)) = unknown_in whole func at ++ unknown_in whole func value
-entry_unknowns whole func (Does (Jumps label)) = unknown_label func label
-entry_unknowns whole func (Does (Switches value targets others)) = unknown_in whole func value ++ (unknown_targets func targets ++ unknown_label func others)
-entry_unknowns whole func (Does (Calls label args result)) = unknown_function whole label ++ (flat_map (unknown_in whole func) args ++ unknown_result whole func result)
+entry_unknowns whole func (Does (Jumps label)) = unknown_label func.items label
+entry_unknowns whole func (Does (Switches value targets others)) = unknown_in whole func value ++ (unknown_targets func.items targets ++ unknown_label func.items others)
+entry_unknowns whole func (Does (Calls label args result)) = unknown_function whole label ++ (unknown_among whole func (terms_of args) ++ unknown_result whole func result)
 entry_unknowns whole func (Does (Returns None)) = []
 entry_unknowns whole func (Does (Returns (Some value))) = unknown_in whole func value

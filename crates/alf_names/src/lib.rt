@@ -7,4 +7,8 @@
 // Frames and functions.
 mod places;
 
+// Labels.
+mod label_table;
+
+pub use label_table::Labels;
 pub use places::{frame_named, function_named};

@@ -1,6 +1,7 @@
 //! What is looked up around an item.
 
 use crate::returns::Return;
+use alf_names::Labels;
 use alf_text::{Func, Program};
 
 /// A function of a program, and what its items are held against.
@@ -14,4 +15,6 @@ pub struct Scope<'s, 'a> {
     pub place: usize,
     /// The function's first return.
     pub first: Option<Return>,
+    /// The labels of the function.
+    pub labels: &'s Labels<'a>,
 }

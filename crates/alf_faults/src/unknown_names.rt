@@ -19,7 +19,7 @@ pub fn entry_unknown<'a>(
     labels: &Labels,
     item: &'a Item,
 ) -> Option<Found<'a>>
-    requires { labels.now ≡ (function_of func.now).items }
+    requires { labels.now ≡ func.now.items.items }
     ensures { option_map told result
         ≡ first_fault (entry_unknowns (whole_of program.now) (function_of func.now) (item_of item.now)) }
 {
@@ -69,7 +69,7 @@ fn unknown_in_switch<'a>(
 ) -> Option<Found<'a>>
     ensures { option_map told result ≡ first_fault
         (unknown_in (whole_of program.now) (function_of func.now) (term_of value.now)
-        ++ (unknown_targets labels.now targets.now ++ unknown_label labels.now others.now)) }
+        ++ (unknown_targets (map item_of labels.now) targets.now ++ unknown_label (map item_of labels.now) others.now)) }
 {
     if let Some(found) = unknown_in(program, func, value) {
         return Some(found);
@@ -116,7 +116,7 @@ pub fn unknown_function<'a>(program: &Program, name: &'a Name) -> Option<Found<'
 
 // The label, where it does not stand among the items.
 fn unknown_label<'a>(labels: &Labels, label: &'a Name) -> Option<Found<'a>>
-    ensures { option_map told result ≡ first_fault (unknown_label labels.now label.now) }
+    ensures { option_map told result ≡ first_fault (unknown_label (map item_of labels.now) label.now) }
 {
     if labels.find(label.bytes()).is_some() {
         None
@@ -128,7 +128,7 @@ fn unknown_label<'a>(labels: &Labels, label: &'a Name) -> Option<Found<'a>>
 // The first label of a target that does not stand among the items.
 #[tactic(auto, using(crate::proofs::FirstFaults::first_faults))]
 fn unknown_target<'a>(labels: &Labels, targets: &'a [(Num, Name)]) -> Option<Found<'a>>
-    ensures { option_map told result ≡ first_fault (unknown_targets labels.now targets.now) }
+    ensures { option_map told result ≡ first_fault (unknown_targets (map item_of labels.now) targets.now) }
 {
     for target in targets {
         if let Some(found) = unknown_label(labels, &target.1) {

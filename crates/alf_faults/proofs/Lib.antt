@@ -1,3 +1,3 @@
 pub mod Operands
-pub mod FirstFaults
+pub mod EarliestFaults
 pub mod Reading

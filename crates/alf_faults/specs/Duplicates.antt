@@ -27,7 +27,7 @@ number_twice number = Duplicate (decimal number)
 -- a target whose number an earlier one has
 abbrev pub target_duplicates : List ℕ → List (Num × List ℕ) → List Fault
 target_duplicates earlier [] = []
-target_duplicates earlier (target ∷ targets) = when (list_any (λ number. number == target.0.bits) earlier) (number_twice target.0.bits) ++ target_duplicates (earlier ++ target.0.bits ∷ []) targets
+target_duplicates earlier (target ∷ targets) = when (list_any (λ number. target.0.bits == number) earlier) (number_twice target.0.bits) ++ target_duplicates (earlier ++ target.0.bits ∷ []) targets
 
 -- a label that an earlier item or any function has
 abbrev pub label_duplicates : List Function → List Entry → ℕ → List ℕ → List Fault

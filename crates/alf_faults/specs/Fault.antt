@@ -5,7 +5,7 @@
 --   when test fault     the fault, where the test holds
 --   each_from gives i list   what the members give, one after the other, each with its place; the first has place i
 --   any_from test i list     a member passes the test at its place
---   first_fault faults  the first, if there is one
+--   earliest faults  the first, if there is one
 --   is_exactly n found  something was found, and it is n
 use Rattle.std.specs.Prelude.{ℕ, ◌+◌, ◌==◌, Bool, true, false, ◌||◌, List, [], ◌∷◌, ◌++◌, Option, Some, None}
 
@@ -31,9 +31,9 @@ any_from test i [] = false
 any_from test i (x ∷ xs) = test i x || any_from test (i + 1) xs
 
 -- the first fault, if there is one
-abbrev pub first_fault : List Fault → Option Fault
-first_fault [] = None
-first_fault (fault ∷ faults) = Some fault
+abbrev pub earliest : List Fault → Option Fault
+earliest [] = None
+earliest (fault ∷ faults) = Some fault
 
 -- something was found, and it is n
 abbrev pub is_exactly : ℕ → Option ℕ → Bool

@@ -36,14 +36,22 @@ start_faults frames start = start_faults_at start (frame_at frames (frame_place 
 abbrev pub entry_faults : Whole → ℕ → Function → ℕ → Entry → List Fault
 entry_faults whole k func i item = entry_duplicates whole func i item ++ (entry_unknowns whole func item ++ when (not (entry_fits whole k func i item)) (Size func.name (Some i)))
 
+-- the name and the frames of function k
+abbrev pub header_faults : Whole → ℕ → Function → List Fault
+header_faults whole k func =
+    function_duplicates whole.funcs k func ++ (each_from (frame_duplicates whole.decls [] func.args) 0 func.args
+    ++ (each_from (frame_duplicates whole.decls func.args func.decls) 0 func.decls ++ flat_map (start_faults func.decls) func.inits))
+
 -- function k
 abbrev pub function_faults : Whole → ℕ → Function → List Fault
-function_faults whole k func =
-    function_duplicates whole.funcs k func ++ (each_from (frame_duplicates whole.decls [] func.args) 0 func.args ++ (each_from (frame_duplicates whole.decls func.args func.decls) 0 func.decls
-    ++ (flat_map (start_faults func.decls) func.inits ++ each_from (entry_faults whole k func) 0 func.items)))
+function_faults whole k func = header_faults whole k func ++ each_from (entry_faults whole k func) 0 func.items
+
+-- what stands before the functions
+abbrev pub global_faults : Whole → List Fault
+global_faults whole =
+    flat_map (export_faults whole.decls) whole.exports ++ (flat_map (unknown_function whole) whole.labels
+    ++ (each_from (frame_duplicates [] [] whole.decls) 0 whole.decls ++ flat_map (start_faults whole.decls) whole.inits))
 
 -- the whole program
 abbrev pub faults_in : Whole → List Fault
-faults_in whole =
-    flat_map (export_faults whole.decls) whole.exports ++ (flat_map (unknown_function whole) whole.labels ++ (each_from (frame_duplicates [] [] whole.decls) 0 whole.decls
-    ++ (flat_map (start_faults whole.decls) whole.inits ++ each_from (function_faults whole) 0 whole.funcs)))
+faults_in whole = global_faults whole ++ each_from (function_faults whole) 0 whole.funcs

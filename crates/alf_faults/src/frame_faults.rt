@@ -4,7 +4,7 @@ ghost use Rattle.std.specs.Prelude.{◌≡◌, [], map};
 ghost use Rattle.std.specs.List.{flat_map};
 ghost use Rattle.std.specs.Option.{option_map};
 ghost use Rattle.alf_text.specs.Tree.{frame_of, start_of};
-ghost use Rattle.alf_faults.specs.Fault.{each_from, first_fault};
+ghost use Rattle.alf_faults.specs.Fault.{each_from, earliest};
 ghost use Rattle.alf_faults.specs.Found.{told};
 ghost use Rattle.alf_faults.specs.Duplicates.{frame_duplicates};
 ghost use Rattle.alf_faults.specs.Sizes.{is_export_size, start_fits};
@@ -21,7 +21,7 @@ pub fn repeated_frame<'a>(
     others: &[Alloc],
     frames: &'a [Alloc],
 ) -> Option<Found<'a>>
-    ensures { option_map told result ≡ first_fault (each_from
+    ensures { option_map told result ≡ earliest (each_from
         (frame_duplicates (map frame_of taken.now) (map frame_of others.now) (map frame_of frames.now))
         0 (map frame_of frames.now)) }
 {
@@ -38,10 +38,10 @@ pub fn repeated_frame<'a>(
 }
 
 /// The first export that is no frame, or has a size that may not be exported.
-#[tactic(auto, using(crate::proofs::FirstFaults::first_faults))]
+#[tactic(auto, using(crate::proofs::EarliestFaults::earliest_faults))]
 pub fn export_fault<'a>(frames: &[Alloc], exports: &'a [Name]) -> Option<Found<'a>>
     ensures { option_map told result
-        ≡ first_fault (flat_map (export_faults (map frame_of frames.now)) exports.now) }
+        ≡ earliest (flat_map (export_faults (map frame_of frames.now)) exports.now) }
 {
     for name in exports {
         if let Some(found) = export_fault_at(frames, name) {
@@ -54,7 +54,7 @@ pub fn export_fault<'a>(frames: &[Alloc], exports: &'a [Name]) -> Option<Found<'
 // The fault of one export.
 #[tactic(auto, using(crate::proofs::Reading::read_of))]
 fn export_fault_at<'a>(frames: &[Alloc], name: &'a Name) -> Option<Found<'a>>
-    ensures { option_map told result ≡ first_fault (export_faults (map frame_of frames.now) name.now) }
+    ensures { option_map told result ≡ earliest (export_faults (map frame_of frames.now) name.now) }
 {
     let Some(place) = frame_named(frames, name.bytes()) else {
         return Some(Found::Unknown(name));
@@ -74,10 +74,10 @@ fn is_export_size(bits: u32) -> bool
 }
 
 /// The first number that no frame holds at first, or that does not fit its frame.
-#[tactic(auto, using(crate::proofs::FirstFaults::first_faults))]
+#[tactic(auto, using(crate::proofs::EarliestFaults::earliest_faults))]
 pub fn start_fault<'a>(frames: &[Alloc], inits: &'a [Init]) -> Option<Found<'a>>
     ensures { option_map told result
-        ≡ first_fault (flat_map (start_faults (map frame_of frames.now)) (map start_of inits.now)) }
+        ≡ earliest (flat_map (start_faults (map frame_of frames.now)) (map start_of inits.now)) }
 {
     for init in inits {
         if let Some(found) = start_fault_at(frames, init) {
@@ -91,7 +91,7 @@ pub fn start_fault<'a>(frames: &[Alloc], inits: &'a [Init]) -> Option<Found<'a>>
 #[tactic(auto, using(crate::proofs::Reading::read_of))]
 fn start_fault_at<'a>(frames: &[Alloc], init: &'a Init) -> Option<Found<'a>>
     ensures { option_map told result
-        ≡ first_fault (start_faults (map frame_of frames.now) (start_of init.now)) }
+        ≡ earliest (start_faults (map frame_of frames.now) (start_of init.now)) }
 {
     let Some(place) = frame_named(frames, init.name.bytes()) else {
         return Some(Found::Unknown(&init.name));

@@ -1,24 +1,25 @@
 //! The first fault of a program's names and sizes.
 #![tactic(auto)]
 
-// What is found.
+// What is found, and what is told of it.
 mod found;
+mod item_fault;
 
-// Sizes of expressions and returns.
+// Sizes of expressions and returns, and what is looked up around an item.
 mod returns;
+mod scope;
 mod term_sizes;
 
-// What is looked up around an item.
-mod scope;
-
-// Faults by what they are of.
+// The rules, by what they are on.
 mod frame_faults;
+mod repeated_names;
+mod size_rules;
 mod unknown_names;
 
-pub use returns::Return;
-pub use returns::{first_return, first_returns, is_breached};
-pub use frame_faults::{repeated_frame, export_fault, start_fault};
-pub use found::Found;
-pub use unknown_names::{entry_unknown, unknown_function};
-pub use term_sizes::{term_size, return_size, is_bytes};
-pub use scope::Scope;
+// The walk through the text.
+mod first_faults;
+mod function_faults;
+
+pub use first_faults::first_fault;
+pub use item_fault::ItemFault;
+pub use term_sizes::term_size;

@@ -1,9 +1,10 @@
 //! Names that stand nowhere.
 
 ghost use Rattle.std.specs.Prelude.{◌≡◌, ◌++◌, map};
+ghost use Rattle.std.specs.List.{flat_map};
 ghost use Rattle.std.specs.Option.{option_map};
 ghost use Rattle.alf_text.specs.Tree.{term_of, terms_of, item_of, function_of, whole_of};
-ghost use Rattle.alf_faults.specs.Fault.{first_fault};
+ghost use Rattle.alf_faults.specs.Fault.{earliest};
 ghost use Rattle.alf_faults.specs.Found.{told};
 ghost use Rattle.alf_faults.specs.Unknowns.{is_frame, unknown_frame, unknown_in, unknown_among, unknown_function, unknown_label, unknown_targets, unknown_result, entry_unknowns};
 
@@ -21,7 +22,7 @@ pub fn entry_unknown<'a>(
 ) -> Option<Found<'a>>
     requires { labels.now ≡ func.now.items.items }
     ensures { option_map told result
-        ≡ first_fault (entry_unknowns (whole_of program.now) (function_of func.now) (item_of item.now)) }
+        ≡ earliest (entry_unknowns (whole_of program.now) (function_of func.now) (item_of item.now)) }
 {
     match item {
         Item::Label(_) => None,
@@ -40,14 +41,14 @@ pub fn entry_unknown<'a>(
 }
 
 // The first unknown frame of two expressions.
-#[tactic(auto, using(crate::proofs::FirstFaults::first_faults))]
+#[tactic(auto, using(crate::proofs::EarliestFaults::earliest_faults))]
 fn unknown_in_two<'a>(
     program: &Program,
     func: &Func,
     at: &'a Expr,
     value: &'a Expr,
 ) -> Option<Found<'a>>
-    ensures { option_map told result ≡ first_fault
+    ensures { option_map told result ≡ earliest
         (unknown_in (whole_of program.now) (function_of func.now) (term_of at.now)
         ++ unknown_in (whole_of program.now) (function_of func.now) (term_of value.now)) }
 {
@@ -58,7 +59,7 @@ fn unknown_in_two<'a>(
 }
 
 // The first unknown name of a switch.
-#[tactic(auto, using(crate::proofs::FirstFaults::first_faults))]
+#[tactic(auto, using(crate::proofs::EarliestFaults::earliest_faults))]
 fn unknown_in_switch<'a>(
     program: &Program,
     func: &Func,
@@ -67,7 +68,7 @@ fn unknown_in_switch<'a>(
     targets: &'a [(Num, Name)],
     others: &'a Name,
 ) -> Option<Found<'a>>
-    ensures { option_map told result ≡ first_fault
+    ensures { option_map told result ≡ earliest
         (unknown_in (whole_of program.now) (function_of func.now) (term_of value.now)
         ++ (unknown_targets (map item_of labels.now) targets.now ++ unknown_label (map item_of labels.now) others.now)) }
 {
@@ -81,7 +82,7 @@ fn unknown_in_switch<'a>(
 }
 
 // The first unknown name of a call.
-#[tactic(auto, using(crate::proofs::FirstFaults::first_faults))]
+#[tactic(auto, using(crate::proofs::EarliestFaults::earliest_faults))]
 fn unknown_in_call<'a>(
     program: &Program,
     func: &Func,
@@ -89,7 +90,7 @@ fn unknown_in_call<'a>(
     args: &'a [Expr],
     place: &'a Option<(Name, u32)>,
 ) -> Option<Found<'a>>
-    ensures { option_map told result ≡ first_fault
+    ensures { option_map told result ≡ earliest
         (unknown_function (whole_of program.now) label.now
         ++ (unknown_among (whole_of program.now) (function_of func.now) (terms_of (map term_of args.now))
         ++ unknown_result (whole_of program.now) (function_of func.now) place.now)) }
@@ -103,9 +104,23 @@ fn unknown_in_call<'a>(
     unknown_result(program, func, place)
 }
 
-/// The name, where no function has it.
-pub fn unknown_function<'a>(program: &Program, name: &'a Name) -> Option<Found<'a>>
-    ensures { option_map told result ≡ first_fault (unknown_function (whole_of program.now) name.now) }
+/// The first exported label that no function has.
+#[tactic(auto, using(crate::proofs::EarliestFaults::earliest_faults))]
+pub fn unknown_export(program: &Program) -> Option<Found<'_>>
+    ensures { option_map told result ≡ earliest
+        (flat_map (unknown_function (whole_of program.now)) (whole_of program.now).labels) }
+{
+    for name in &program.labels {
+        if let Some(found) = unknown_function(program, name) {
+            return Some(found);
+        }
+    }
+    None
+}
+
+// The name, where no function has it.
+fn unknown_function<'a>(program: &Program, name: &'a Name) -> Option<Found<'a>>
+    ensures { option_map told result ≡ earliest (unknown_function (whole_of program.now) name.now) }
 {
     if function_named(&program.funcs, name.bytes()).is_some() {
         None
@@ -116,7 +131,7 @@ pub fn unknown_function<'a>(program: &Program, name: &'a Name) -> Option<Found<'
 
 // The label, where it does not stand among the items.
 fn unknown_label<'a>(labels: &Labels, label: &'a Name) -> Option<Found<'a>>
-    ensures { option_map told result ≡ first_fault (unknown_label (map item_of labels.now) label.now) }
+    ensures { option_map told result ≡ earliest (unknown_label (map item_of labels.now) label.now) }
 {
     if labels.find(label.bytes()).is_some() {
         None
@@ -126,9 +141,9 @@ fn unknown_label<'a>(labels: &Labels, label: &'a Name) -> Option<Found<'a>>
 }
 
 // The first label of a target that does not stand among the items.
-#[tactic(auto, using(crate::proofs::FirstFaults::first_faults))]
+#[tactic(auto, using(crate::proofs::EarliestFaults::earliest_faults))]
 fn unknown_target<'a>(labels: &Labels, targets: &'a [(Num, Name)]) -> Option<Found<'a>>
-    ensures { option_map told result ≡ first_fault (unknown_targets (map item_of labels.now) targets.now) }
+    ensures { option_map told result ≡ earliest (unknown_targets (map item_of labels.now) targets.now) }
 {
     for target in targets {
         if let Some(found) = unknown_label(labels, &target.1) {
@@ -145,7 +160,7 @@ fn unknown_result<'a>(
     place: &'a Option<(Name, u32)>,
 ) -> Option<Found<'a>>
     ensures { option_map told result
-        ≡ first_fault (unknown_result (whole_of program.now) (function_of func.now) place.now) }
+        ≡ earliest (unknown_result (whole_of program.now) (function_of func.now) place.now) }
 {
     match place {
         Some(place) => unknown_frame(program, func, &place.0),
@@ -156,7 +171,7 @@ fn unknown_result<'a>(
 // The frame, where it is neither global nor an argument or a declaration of the function.
 fn unknown_frame<'a>(program: &Program, func: &Func, name: &'a Name) -> Option<Found<'a>>
     ensures { option_map told result
-        ≡ first_fault (unknown_frame (whole_of program.now) (function_of func.now) name.now) }
+        ≡ earliest (unknown_frame (whole_of program.now) (function_of func.now) name.now) }
 {
     if is_frame(program, func, name.bytes()) {
         None
@@ -178,7 +193,7 @@ fn is_frame(program: &Program, func: &Func, name: &[u8]) -> bool
 #[cycle(unknowns)]
 fn unknown_in<'a>(program: &Program, func: &Func, expr: &'a Expr) -> Option<Found<'a>>
     ensures { option_map told result
-        ≡ first_fault (unknown_in (whole_of program.now) (function_of func.now) (term_of expr.now)) }
+        ≡ earliest (unknown_in (whole_of program.now) (function_of func.now) (term_of expr.now)) }
 {
     match expr {
         Expr::Num(_) => None,
@@ -190,9 +205,9 @@ fn unknown_in<'a>(program: &Program, func: &Func, expr: &'a Expr) -> Option<Foun
 
 // The first unknown frame of expressions in a row.
 #[cycle(unknowns)]
-#[tactic(auto, using(crate::proofs::FirstFaults::first_faults))]
+#[tactic(auto, using(crate::proofs::EarliestFaults::earliest_faults))]
 fn unknown_among<'a>(program: &Program, func: &Func, operands: &'a [Expr]) -> Option<Found<'a>>
-    ensures { option_map told result ≡ first_fault
+    ensures { option_map told result ≡ earliest
         (unknown_among (whole_of program.now) (function_of func.now) (terms_of (map term_of operands.now))) }
 {
     for operand in operands {

@@ -23,3 +23,6 @@ mod function_faults;
 pub use first_faults::first_fault;
 pub use item_fault::ItemFault;
 pub use term_sizes::term_size;
+
+#[cfg(test)]
+mod tests;

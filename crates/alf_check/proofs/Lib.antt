@@ -2,3 +2,14 @@ pub mod Labelled
 pub mod Operands
 pub mod Cutting
 pub mod Whole
+pub mod Members
+pub mod KeptFaults
+pub mod KeptFrames
+pub mod KeptSeen
+pub mod KeptTerms
+pub mod KeptCuts
+pub mod KeptParts
+pub mod KeptReturns
+pub mod KeptCalls
+pub mod KeptBlocks
+pub mod Kept

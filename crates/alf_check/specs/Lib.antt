@@ -4,3 +4,6 @@ pub mod Numbers
 pub mod Numbered
 pub mod Cut
 pub mod Names
+pub mod Kept
+pub mod Spelled
+pub mod Laws

@@ -25,5 +25,9 @@ mod statements;
 mod numbering;
 mod program;
 
+// What the checks promise.
+mod laws;
+
+pub use laws::checked_programs_keep;
 pub use program::Checked;
 pub use rows::{Act, Block, BlockEnd, FrameRow, FuncRow, InitRow, Term};

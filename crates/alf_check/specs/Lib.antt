@@ -4,3 +4,4 @@ pub mod Numbers
 pub mod Numbered
 pub mod Cut
 pub mod Names
+pub mod Checking

@@ -25,5 +25,12 @@ mod statements;
 mod numbering;
 mod program;
 
+// Checks.
+mod calls;
+mod checking;
+mod fault;
+
+pub use checking::check;
+pub use fault::CheckFault;
 pub use program::Checked;
 pub use rows::{Act, Block, BlockEnd, FrameRow, FuncRow, InitRow, Term};

@@ -13,7 +13,7 @@ use Rattle.alf_check.specs.Numbered.{numbered_func, numbered_frames, numbered}
 use Rattle.alf_check.specs.Checking.{called_by, calls_in, Passes}
 use Rattle.alf_check.specs.Spelled.{EachFunction, ends_well, gives_bits}
 use Rattle.alf_check.specs.Kept.{OwnsFrame, IsGlobal, InitFits, IsRankedBy, KeepsFunction, IsKept}
-use Rattle.alf_check.proofs.Members.{at_front, all_images, joined, standing}
+use Rattle.alf_check.proofs.KeptMembers.{at_front, all_images, joined, standing}
 use Rattle.alf_check.proofs.KeptFaults.{IsSound, sound}
 use Rattle.alf_check.proofs.KeptFrames.{row_for}
 use Rattle.alf_check.proofs.KeptSeen.{global_init, global_export, arg_at, decl_at, own_init}

@@ -18,7 +18,7 @@ use Rattle.alf_check.specs.Numbers.{frame_rows, frame_number, block_number}
 use Rattle.alf_check.specs.Numbered.{numbered_term, numbered_func, steps_by, end_by, numbered}
 use Rattle.alf_check.specs.Spelled.{EachFunction, is_ending, ends_well, gives_bits}
 use Rattle.alf_check.specs.Kept.{HasSize, KeepsStep, KeepsEnd, KeepsBlock, SeesResult, IsBlockOf, blocks_at}
-use Rattle.alf_check.proofs.Members.{contained, no_member, placed, front_or_further, all_members, all_images, all_joined, standing, no_parts, when_not, exactly}
+use Rattle.alf_check.proofs.KeptMembers.{contained, no_member, placed, front_or_further, all_members, all_images, all_joined, standing, no_parts, when_not, exactly}
 use Rattle.alf_check.proofs.KeptFaults.{IsSound}
 use Rattle.alf_check.proofs.KeptFrames.{same_name}
 use Rattle.alf_check.proofs.KeptSeen.{sees, arg_at}

@@ -17,7 +17,7 @@ use Rattle.alf_check.specs.Numbers.{Numbers, frame_rows, frame_number}
 use Rattle.alf_check.specs.Numbered.{numbered_term, numbered_frames, end_by, numbered}
 use Rattle.alf_check.specs.Spelled.{EachFunction, gives_bits}
 use Rattle.alf_check.specs.Kept.{SeesFrame, ArgumentsFit, GivesSize, HasOneReturnSize, ResultFits, Gives, blocks_at}
-use Rattle.alf_check.proofs.Members.{contained, placed, at_front, further_on, no_parts, exactly}
+use Rattle.alf_check.proofs.KeptMembers.{contained, placed, at_front, further_on, no_parts, exactly}
 use Rattle.alf_check.proofs.KeptFaults.{IsSound}
 use Rattle.alf_check.proofs.KeptFrames.{row_for}
 use Rattle.alf_check.proofs.KeptSeen.{sees}

@@ -9,7 +9,7 @@ use Rattle.alf_names.proofs.Standing.{by_test}
 use Rattle.alf_check.specs.Blocks.{begins_between, joined, blocks_of}
 use Rattle.alf_check.specs.Numbers.{has_label, block_number}
 use Rattle.alf_check.specs.Spelled.{is_ending, ends_well}
-use Rattle.alf_check.proofs.Members.{contained, no_member, at_front, further_on, front_or_further, some_place, standing}
+use Rattle.alf_check.proofs.KeptMembers.{contained, no_member, at_front, further_on, front_or_further, some_place, standing}
 
 pub data IsCut : List Entry → List (List Entry) → Type 0 where
   one : {item : Entry} → IsCut (item ∷ []) ((item ∷ []) ∷ [])

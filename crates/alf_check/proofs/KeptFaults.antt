@@ -10,7 +10,7 @@ use Rattle.alf_faults.specs.Duplicates.{frame_duplicates, function_duplicates, e
 use Rattle.alf_faults.specs.Unknowns.{unknown_function, entry_unknowns}
 use Rattle.alf_faults.specs.Sizes.{entry_fits}
 use Rattle.alf_faults.specs.Faults.{export_faults, start_faults, entry_faults, header_faults, function_faults, global_faults, faults_in}
-use Rattle.alf_check.proofs.Members.{no_parts, when_not, none_each, none_joined}
+use Rattle.alf_check.proofs.KeptMembers.{no_parts, when_not, none_each, none_joined}
 
 pub record IsSoundItem (whole : Whole) (k : ℕ) (func : Function) (i : ℕ) (item : Entry) : Type 0 where
   pub named : entry_unknowns whole func item ≡ []

@@ -11,7 +11,7 @@ use Rattle.alf_faults.specs.Fault.{each_from, is_exactly, Duplicate}
 use Rattle.alf_faults.specs.Duplicates.{frame_duplicates}
 use Rattle.alf_check.specs.declared.rows.FrameRow.{FrameRow}
 use Rattle.alf_check.specs.Numbers.{rows_of, rows_from, frame_rows, is_seen, is_seen_as, frame_number}
-use Rattle.alf_check.proofs.Members.{contained, no_member, placed, mapped, some_place, standing, exactly, none_each, when_either}
+use Rattle.alf_check.proofs.KeptMembers.{contained, no_member, placed, mapped, some_place, standing, exactly, none_each, when_either}
 use Rattle.alf_check.proofs.KeptFaults.{IsSound}
 
 -- a frame's row

@@ -13,7 +13,7 @@ use Rattle.alf_check.specs.Resolved.{Stretch, Row, Falls}
 use Rattle.alf_check.specs.Numbers.{Numbers, frame_rows, frame_number, numbers_with}
 use Rattle.alf_check.specs.Numbered.{numbered_func, funcs_from, end_by, numbered_block, numbered_blocks, blocks_with, numbered}
 use Rattle.alf_check.specs.Kept.{blocks_at}
-use Rattle.alf_check.proofs.Members.{contained}
+use Rattle.alf_check.proofs.KeptMembers.{contained}
 use Rattle.alf_check.proofs.KeptCuts.{IsCut, cut, in_items, last_item}
 
 -- ---- lists whose members know their places

@@ -17,7 +17,7 @@ use Rattle.alf_check.specs.declared.rows.FrameRow.{FrameRow}
 use Rattle.alf_check.specs.Resolved.{Tree}
 use Rattle.alf_check.specs.Spelled.{gives_bits}
 use Rattle.alf_check.specs.Kept.{GivesSize, Gives}
-use Rattle.alf_check.proofs.Members.{none_any}
+use Rattle.alf_check.proofs.KeptMembers.{none_any}
 use Rattle.alf_check.proofs.KeptTerms.{both_sizes, some_bits}
 use Rattle.alf_check.proofs.KeptFrames.{its_name}
 use Rattle.alf_check.proofs.KeptFaults.{IsSound}

@@ -14,7 +14,7 @@ use Rattle.alf_check.specs.declared.rows.FrameRow.{FrameRow}
 use Rattle.alf_check.specs.Numbers.{rows_of, frame_rows, frame_number}
 use Rattle.alf_check.specs.Numbered.{numbered_frames}
 use Rattle.alf_check.specs.Kept.{SeesFrame, IsGlobal, InitFits}
-use Rattle.alf_check.proofs.Members.{contained, image, standing, when_not}
+use Rattle.alf_check.proofs.KeptMembers.{contained, image, standing, when_not}
 use Rattle.alf_check.proofs.KeptFaults.{IsSound}
 use Rattle.alf_check.proofs.KeptFrames.{row_for, same_name, owner_of, own_rows, own_owner, seen_rows, number_of_global, number_of_seen}
 

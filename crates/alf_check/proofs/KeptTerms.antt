@@ -15,7 +15,7 @@ use Rattle.alf_check.specs.declared.rows.FrameRow.{FrameRow}
 use Rattle.alf_check.specs.Numbered.{numbered_term, numbered_terms}
 use Rattle.alf_check.specs.Spelled.{has_bits}
 use Rattle.alf_check.specs.Kept.{SeesFrame, HasSize, HaveSizes, GivesSize}
-use Rattle.alf_check.proofs.Members.{no_parts, when_not, exactly}
+use Rattle.alf_check.proofs.KeptMembers.{no_parts, when_not, exactly}
 
 -- ---- sizes that are the same
 

@@ -2,7 +2,7 @@ pub mod Labelled
 pub mod Operands
 pub mod Cutting
 pub mod Whole
-pub mod Members
+pub mod KeptMembers
 pub mod KeptFaults
 pub mod KeptFrames
 pub mod KeptSeen
@@ -13,3 +13,4 @@ pub mod KeptReturns
 pub mod KeptCalls
 pub mod KeptBlocks
 pub mod Kept
+pub mod Called

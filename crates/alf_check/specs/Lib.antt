@@ -7,3 +7,4 @@ pub mod Names
 pub mod Kept
 pub mod Spelled
 pub mod Laws
+pub mod Checking

@@ -25,9 +25,14 @@ mod statements;
 mod numbering;
 mod program;
 
-// What the checks promise.
+// Checks, and what they promise.
+mod calls;
+mod checking;
+mod fault;
 mod laws;
 
+pub use checking::check;
+pub use fault::CheckFault;
 pub use laws::checked_programs_keep;
 pub use program::Checked;
 pub use rows::{Act, Block, BlockEnd, FrameRow, FuncRow, InitRow, Term};

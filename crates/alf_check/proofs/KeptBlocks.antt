@@ -16,9 +16,10 @@ use Rattle.alf_check.specs.Blocks.{blocks_of}
 use Rattle.alf_check.specs.Resolved.{Stretch, Calls, Nothing, Stores}
 use Rattle.alf_check.specs.Numbers.{frame_rows, frame_number, block_number}
 use Rattle.alf_check.specs.Numbered.{numbered_term, numbered_func, steps_by, end_by, numbered}
-use Rattle.alf_check.specs.Spelled.{EachFunction, is_ending, ends_well, gives_bits}
+use Rattle.alf_check.specs.Spelled.{is_ending}
+use Rattle.alf_check.specs.Spelled.{Each, FunctionIsWritten}
 use Rattle.alf_check.specs.Kept.{HasSize, KeepsStep, KeepsEnd, KeepsBlock, SeesResult, IsBlockOf, blocks_at}
-use Rattle.alf_check.proofs.KeptMembers.{contained, no_member, placed, front_or_further, all_members, all_images, all_joined, standing, no_parts, when_not, exactly}
+use Rattle.alf_check.proofs.KeptMembers.{of_each, contained, no_member, placed, front_or_further, all_members, all_images, all_joined, standing, no_parts, when_not, exactly}
 use Rattle.alf_check.proofs.KeptFaults.{IsSound}
 use Rattle.alf_check.proofs.KeptFrames.{same_name}
 use Rattle.alf_check.proofs.KeptSeen.{sees, arg_at}
@@ -26,7 +27,7 @@ use Rattle.alf_check.proofs.KeptTerms.{sized}
 use Rattle.alf_check.proofs.KeptCuts.{in_items, block_within, goes_on}
 use Rattle.alf_check.proofs.KeptParts.{numbers_at, row_of_function, length_blocks, block_at, last_among}
 use Rattle.alf_check.proofs.KeptReturns.{agreed}
-use Rattle.alf_check.proofs.KeptCalls.{each_function, fit, result_fits}
+use Rattle.alf_check.proofs.KeptCalls.{fit, result_fits}
 
 -- ---- what tests say
 
@@ -44,7 +45,7 @@ none_targets items (first ∷ targets) none target c =
     let parts = no_parts (unknown_label items first.1) (unknown_targets items targets) none in
     front_or_further first targets target c (λ same. subst (λ (z : Num × List ℕ). unknown_label items z.1 ≡ []) same parts.0) (none_targets items targets parts.1 target)
 
-module _ (whole : Whole) (root : List ℕ) (sound : IsSound whole) (ends : EachFunction (λ func. ends_well func.items ≡ true) whole.funcs) (bits : EachFunction (λ func. All (λ item. gives_bits item ≡ true) func.items) whole.funcs)
+module _ (whole : Whole) (root : List ℕ) (sound : IsSound whole) (written : Each FunctionIsWritten whole.funcs)
     (k : ℕ) (func : Function) (at : slice_get whole.funcs k ≡ Some func) where
   has_size : (t : Term) (size : ℕ) → unknown_in whole func t ≡ [] → term_size t ≡ Some size → HasSize (frame_rows whole) k size (numbered_term (frame_number (frame_rows whole) (Some k)) t)
   has_size t size none is = sized whole func (frame_rows whole) k (frame_number (frame_rows whole) (Some k)) (sees whole sound k func at) t size none is
@@ -95,7 +96,7 @@ module _ (whole : Whole) (root : List ℕ) (sound : IsSound whole) (ends : EachF
       let to : List ℕ × ℕ → ℕ × ℕ = λ at. (number at.0, at.1) in
       subst (λ (f : ℕ). KeepsEnd (numbered whole root) k (Calls f (map (numbered_term number) args) (option_map to result) next)) (sym (ap (λ (o : Option ℕ). unwrap_or o 0) found.2)) (
         (numbered_func (frame_number rows (Some p)) called, row_of_function whole root p called found.3, fit whole func rows k number (sees whole sound k func at) (Some p) (frame_number rows (Some p)) called.args args tests.0 operands.0 (arg_at whole sound p called found.3)),
-        result_fits whole root sound p called found.3 (each_function (λ func. All (λ item. gives_bits item ≡ true) func.items) whole.funcs p called bits found.3) result to
+        result_fits whole root sound p called found.3 (of_each FunctionIsWritten whole.funcs p called written found.3).items result to
             (λ r first. agreed whole sound k func i label args result at is p called found.3 (same_name called.name label found.4) r first tests.1),
         sees_result result operands.1,
         within,
@@ -121,7 +122,7 @@ module _ (whole : Whole) (root : List ℕ) (sound : IsSound whole) (ends : EachF
   keeps_block b block is =
       let here = block_at whole root k func at b block is in
       let last = last_among whole root k func b block here in
-      let well = each_function (λ func. ends_well func.items ≡ true) whole.funcs k func ends at in
+      let well = (of_each FunctionIsWritten whole.funcs k func written at).ends in
       let goes : is_ending here.last ≡ false → IsBlockOf (numbered whole root) k (suc b) =
       λ other. subst (λ (n : ℕ). suc b < n) (sym (length_blocks whole root k func at)) (goes_on here.cuts well b here.part here.last here.part_at here.last_at other)
       in

@@ -1,8 +1,6 @@
 -- Calls: their arguments, and what the functions that they call return.
-use Rattle.std.proofs.Common.{◌≡◌, ℕ, zero, suc, true, List, [], ◌∷◌, map, slice_get, All, Contains, Option, Some, None, is_some, option_map, unwrap_or, refl, ap, sym, ◌∙◌, subst}
+use Rattle.std.proofs.Common.{◌≡◌, ℕ, suc, true, List, [], ◌∷◌, map, slice_get, Contains, Option, Some, None, is_some, option_map, unwrap_or, refl, ap, sym, ◌∙◌, subst}
 use Rattle.std.proofs.lemmas.Bool.{false≢true, and_parts}
-use Rattle.std.proofs.lemmas.List.Elements.{All-contains}
-use Rattle.std.proofs.lemmas.Option.{none-some, same_Some}
 use Rattle.alf_text.specs.Tree.{Term, Frame, Entry, Labels, Does, Function, Whole, terms_of}
 use Rattle.alf_text.specs.Tree as text
 use Rattle.alf_faults.specs.Fault.{is_exactly}
@@ -15,20 +13,15 @@ use Rattle.alf_check.specs.declared.rows.FrameRow.{FrameRow}
 use Rattle.alf_check.specs.Resolved.{Tree, Stretch, Calls, Returns}
 use Rattle.alf_check.specs.Numbers.{Numbers, frame_rows, frame_number}
 use Rattle.alf_check.specs.Numbered.{numbered_term, numbered_frames, end_by, numbered}
-use Rattle.alf_check.specs.Spelled.{EachFunction, gives_bits}
+use Rattle.alf_check.specs.Spelled.{Each, EntryIsWritten}
 use Rattle.alf_check.specs.Kept.{SeesFrame, ArgumentsFit, GivesSize, HasOneReturnSize, ResultFits, Gives, blocks_at}
-use Rattle.alf_check.proofs.KeptMembers.{contained, placed, at_front, further_on, no_parts, exactly}
+use Rattle.alf_check.proofs.KeptMembers.{of_each, placed, at_front, further_on, no_parts, exactly}
 use Rattle.alf_check.proofs.KeptFaults.{IsSound}
 use Rattle.alf_check.proofs.KeptFrames.{row_for}
 use Rattle.alf_check.proofs.KeptSeen.{sees}
 use Rattle.alf_check.proofs.KeptTerms.{sized, gives_size}
 use Rattle.alf_check.proofs.KeptParts.{numbers_at, block_at, last_among}
 use Rattle.alf_check.proofs.KeptReturns.{IsReturned, first_from, returned, gives_to}
-
-pub each_function : (Holds : Function → Type 0) (funcs : List Function) (k : ℕ) (func : Function) → EachFunction Holds funcs → slice_get funcs k ≡ Some func → Holds func
-each_function Holds [] k func each at = absurd (none-some func at)
-each_function Holds (first ∷ funcs) zero func each at = subst Holds (same_Some first func at) each.0
-each_function Holds (first ∷ funcs) (suc k) func each at = each_function Holds funcs k func each.1 at
 
 -- ---- arguments
 
@@ -103,16 +96,14 @@ module _ (whole : Whole) (root : List ℕ) (sound : IsSound whole) (k : ℕ) (fu
   )
 
   -- where a call agrees with the first return, each return gives what its result takes
-  pub result_fits : All (λ item. gives_bits item ≡ true) func.items → (to : Option (List ℕ × ℕ)) (number : List ℕ × ℕ → ℕ × ℕ) → ((found : Return) → first_return func.items ≡ Some found → agrees (is_some to) found ≡ true)
+  pub result_fits : Each EntryIsWritten func.items → (to : Option (List ℕ × ℕ)) (number : List ℕ × ℕ → ℕ × ℕ) → ((found : Return) → first_return func.items ≡ Some found → agrees (is_some to) found ≡ true)
       → ResultFits (numbered whole root) k (option_map number to)
-  result_fits bits to number agree =
+  result_fits written to number agree =
       λ b block value is end.
       let r = return_at_block b block value is end in
       let g = returned whole sound k func r.item r.v at r.is in
       let f = first_from 0 func.items g.found g.first in
-      let has : (i : ℕ) (v : Option Term) → slice_get func.items i ≡ Some (Does (text.Returns v)) → gives_bits (Does (text.Returns v)) ≡ true =
-      λ i v e. All-contains (λ item. gives_bits item ≡ true) func.items (Does (text.Returns v)) bits (contained func.items i (Does (text.Returns v)) e)
-      in
       subst (Gives (frame_rows whole) k (option_map number to)) r.same
-      (gives_to (frame_rows whole) k number (numbered_term (frame_number (frame_rows whole) (Some k))) g.found.item g.size to f.value r.v (ap (λ (x : Return). x.size) (sym f.is) ∙ g.found_size) g.value_size (has f.place f.value f.at) (has r.item r.v r.is)
+      (gives_to (frame_rows whole) k number (numbered_term (frame_number (frame_rows whole) (Some k))) g.found.item g.size to f.value r.v (ap (λ (x : Return). x.size) (sym f.is) ∙ g.found_size) g.value_size (of_each EntryIsWritten func.items f.place (Does (text.Returns f.value)) written f.at)
+      (of_each EntryIsWritten func.items r.item (Does (text.Returns r.v)) written r.is)
       (ap (agrees (is_some to)) (sym f.is) ∙ agree g.found g.first) (subst (GivesSize (frame_rows whole) k g.size) (sym r.same) (gives_its_size value r g)))

@@ -5,6 +5,7 @@ use Rattle.std.proofs.lemmas.Option.{none-some, same_Some, slice_get-map, slice_
 use Rattle.std.proofs.lemmas.List.Elements.{All-nil, All-append, Contains-get_or, Contains-append_left, Contains-append_right}
 use Rattle.alf_names.specs.Places.{place_of}
 use Rattle.alf_names.proofs.Standing.{by_test}
+use Rattle.alf_check.specs.Spelled.{Each}
 use Rattle.alf_faults.specs.Fault.{Fault, when, each_from, any_from, is_exactly}
 
 -- ---- members and their places
@@ -32,6 +33,12 @@ front_or_further x xs y (suc k, low, is) front others = others (k, omega arith, 
 -- it holds of all if of each member
 pub all_members : {A : Type 0} (P : A → Type 0) (xs : List A) → ((x : A) → Contains xs x → P x) → All P xs
 all_members P xs each = λ k d low. each (get_or xs k d) (Contains-get_or xs k d low)
+
+-- it holds of a member if of each
+pub of_each : {A : Type 0} (Holds : A → Type 0) (xs : List A) (k : ℕ) (x : A) → Each Holds xs → slice_get xs k ≡ Some x → Holds x
+of_each Holds [] k x each at = absurd (none-some x at)
+of_each Holds (first ∷ xs) zero x each at = subst Holds (same_Some first x at) each.0
+of_each Holds (first ∷ xs) (suc k) x each at = of_each Holds xs k x each.1 at
 
 -- ---- images
 

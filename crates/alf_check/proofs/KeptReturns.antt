@@ -15,7 +15,7 @@ use Rattle.alf_faults.specs.Returns.{return_at, return_of, first_return, first_r
 use Rattle.alf_faults.specs.Sizes.{agrees_behind, breaks_calls, fits_return}
 use Rattle.alf_check.specs.declared.rows.FrameRow.{FrameRow}
 use Rattle.alf_check.specs.Resolved.{Tree}
-use Rattle.alf_check.specs.Spelled.{gives_bits}
+use Rattle.alf_check.specs.Spelled.{EntryIsWritten}
 use Rattle.alf_check.specs.Kept.{GivesSize, Gives}
 use Rattle.alf_check.proofs.KeptMembers.{none_any}
 use Rattle.alf_check.proofs.KeptTerms.{both_sizes, some_bits}
@@ -118,11 +118,11 @@ module _ (whole : Whole) (sound : IsSound whole) where
 -- ---- what a return gives
 
 module _ (rows : List FrameRow) (f : ℕ) (number : List ℕ × ℕ → ℕ × ℕ) (of : Term → Tree) (place size : ℕ) where
-  pub gives_to : (result : Option (List ℕ × ℕ)) (first value : Option Term) → return_size first ≡ Some size → return_size value ≡ Some size → gives_bits (Does (Returns first)) ≡ true → gives_bits (Does (Returns value)) ≡ true
+  pub gives_to : (result : Option (List ℕ × ℕ)) (first value : Option Term) → return_size first ≡ Some size → return_size value ≡ Some size → EntryIsWritten (Does (Returns first)) → EntryIsWritten (Does (Returns value))
       → agrees (is_some result) (return_at place first) ≡ true → GivesSize rows f size (option_map of value) → Gives rows f (option_map number result) (option_map of value)
-  gives_to None None None a b first_bits bits agree gives = tt
-  gives_to None None (Some v) a b first_bits bits agree gives = absurd (some_bits v bits (b ∙ sym a))
-  gives_to None (Some t) value a b first_bits bits agree gives = absurd (false≢true agree)
-  gives_to (Some to) None value a b first_bits bits agree gives = absurd (false≢true agree)
-  gives_to (Some to) (Some t) None a b first_bits bits agree gives = absurd (some_bits t first_bits (a ∙ sym b))
-  gives_to (Some to) (Some t) (Some v) a b first_bits bits agree gives = (size, gives, eqb-true (size % 8) 0 (ap is_bytes (sym a) ∙ agree))
+  gives_to None None None a b first_written written agree gives = tt
+  gives_to None None (Some v) a b first_written written agree gives = absurd (some_bits v written (b ∙ sym a))
+  gives_to None (Some t) value a b first_written written agree gives = absurd (false≢true agree)
+  gives_to (Some to) None value a b first_written written agree gives = absurd (false≢true agree)
+  gives_to (Some to) (Some t) None a b first_written written agree gives = absurd (some_bits t first_written (a ∙ sym b))
+  gives_to (Some to) (Some t) (Some v) a b first_written written agree gives = (size, gives, eqb-true (size % 8) 0 (ap is_bytes (sym a) ∙ agree))

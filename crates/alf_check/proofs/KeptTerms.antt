@@ -13,7 +13,7 @@ use Rattle.alf_faults.specs.TermSizes.{term_size, operands_fit, return_size, sam
 use Rattle.alf_faults.specs.Unknowns.{is_frame, unknown_in, unknown_among, entry_unknowns}
 use Rattle.alf_check.specs.declared.rows.FrameRow.{FrameRow}
 use Rattle.alf_check.specs.Numbered.{numbered_term, numbered_terms}
-use Rattle.alf_check.specs.Spelled.{has_bits}
+use Rattle.alf_check.specs.Spelled.{IsWritten}
 use Rattle.alf_check.specs.Kept.{SeesFrame, HasSize, HaveSizes, GivesSize}
 use Rattle.alf_check.proofs.KeptMembers.{no_parts, when_not, exactly}
 
@@ -76,12 +76,12 @@ result_some Truncation m n h e = is_size_some n (and_parts (is_size m) (is_size 
 result_some Field m n h e = omega arith
 result_some Choice m n h e = is_size_some m e
 
--- so has each expression, if it is no number and no load without bits
-pub some_bits : (t : Term) → has_bits t ≡ true → term_size t ≡ Some 0 → ⊥
-some_bits (Number n) e is = let some = leb-true 1 n.size e in let none = same_Some n.size 0 is in omega arith
-some_bits (Address name offset) e is = let none = same_Some {A = ℕ} 32 0 is in omega arith
-some_bits (Loads bits at) e is = let some = leb-true 1 bits e in let none = (cond_some (is_exactly 32 (term_size at)) bits 0 is).1 in omega arith
-some_bits (Applies op sizes operands) e is =
+-- so has each expression that is written
+pub some_bits : (t : Term) → IsWritten t → term_size t ≡ Some 0 → ⊥
+some_bits (Number n) written is = let some = written.0 in let none = same_Some n.size 0 is in omega arith
+some_bits (Address name offset) written is = let none = same_Some {A = ℕ} 32 0 is in omega arith
+some_bits (Loads bits at) written is = let some = written.0 in let none = (cond_some (is_exactly 32 (term_size at)) bits 0 is).1 in omega arith
+some_bits (Applies op sizes operands) written is =
     let layout = layout_of op in
     let m = slice_index sizes 0 in
     let n = slice_index sizes 1 in

@@ -1,0 +1,16 @@
+pub mod Labelled
+pub mod Operands
+pub mod Cutting
+pub mod Whole
+pub mod KeptMembers
+pub mod KeptFaults
+pub mod KeptFrames
+pub mod KeptSeen
+pub mod KeptTerms
+pub mod KeptCuts
+pub mod KeptParts
+pub mod KeptReturns
+pub mod KeptCalls
+pub mod KeptBlocks
+pub mod Kept
+pub mod Called

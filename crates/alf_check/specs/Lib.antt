@@ -1,0 +1,10 @@
+pub mod Blocks
+pub mod Resolved
+pub mod Numbers
+pub mod Numbered
+pub mod Cut
+pub mod Names
+pub mod Kept
+pub mod Spelled
+pub mod Laws
+pub mod Checking

@@ -1,0 +1,129 @@
+ghost use Rattle.std.specs.Prelude.{◌≡◌, ◌<◌, ℕ, List, [], Some, IsSome, map, length, IfOk, IfErr, OnOk};
+ghost use Rattle.alf_text.specs.Tree.{function_of, whole_of};
+ghost use Rattle.alf_names.specs.Places.{function_place};
+ghost use Rattle.alf_faults.specs.Fault.{earliest};
+ghost use Rattle.alf_faults.specs.Faults.{faults_in};
+ghost use Rattle.alf_faults.specs.Found.{fault_of};
+ghost use Rattle.call_cycles.specs.Calls.{CallsWithin, OnCycle, calls_of};
+ghost use Rattle.alf_check.specs.Resolved.{resolved_of};
+ghost use Rattle.alf_check.specs.Numbered.{numbered};
+ghost use Rattle.alf_check.specs.Checking.{Passes, IsTold, calls_among, calls_in, name_at};
+
+use crate::calls::calls_among;
+use crate::count::few;
+use crate::fault::CheckFault;
+use crate::program::{Checked, numbered};
+use alf_faults::{ItemFault, first_fault};
+use alf_names::function_named;
+use alf_text::{Func, Program};
+use call_cycles::{CallFault, call_ranks};
+use flow_base::Name;
+use std::alloc::{AllocError, Global};
+
+/// The program with numbers in place of names, which starts with the function of this name.
+///
+/// Names and sizes are checked first, in the order of the text, then recursion, and then that there
+/// is a function to start with. Whether calls are ever reached does not count.
+pub fn check(alloc: Global, program: Program, root: &str) -> Result<Checked, CheckFault>
+    ensures passes { IfOk result (λ checked. Passes (whole_of program) root.now) }
+    ensures numbered { IfOk result (λ checked. resolved_of checked ≡ numbered (whole_of program) root.now) }
+    ensures told { IfErr result (λ fault. IsTold (whole_of program) root.now fault) }
+{
+    let root = root.as_bytes();
+    if let Err(fault) = check_items(alloc, &program) {
+        return Err(fault);
+    }
+    if let Err(fault) = check_calls(alloc, &program) {
+        return Err(fault);
+    }
+    if let Err(fault) = check_root(alloc, &program, root) {
+        return Err(fault);
+    }
+    match numbered(alloc, &program, root) {
+        Ok(checked) => Ok(checked),
+        Err(_) => Err(CheckFault::Memory),
+    }
+}
+
+// That nothing is wrong with the names and the sizes.
+fn check_items(alloc: Global, program: &Program) -> Result<(), CheckFault>
+    ensures sound { OnOk result (faults_in (whole_of program.now) ≡ []) }
+    ensures told { IfErr result (λ fault. (root : List ℕ) → IsTold (whole_of program.now) root fault) }
+{
+    match first_fault(alloc, program) {
+        Ok(None) => Ok(()),
+        Ok(Some(ItemFault::Unknown(name))) => Err(CheckFault::UnknownName(name)),
+        Ok(Some(ItemFault::Duplicate(name))) => Err(CheckFault::DuplicateName(name)),
+        Ok(Some(ItemFault::Size(name, number))) => Err(CheckFault::Size(name, number)),
+        Err(_) => Err(CheckFault::Memory),
+    }
+}
+
+// That no calls lead from a function back to it.
+fn check_calls(alloc: Global, program: &Program) -> Result<(), CheckFault>
+    requires { faults_in (whole_of program.now) ≡ [] }
+    ensures falls { OnOk result ((f : ℕ) → OnCycle (calls_in (whole_of program.now)) f → ⊥) }
+    ensures told { IfErr result (λ fault. (root : List ℕ) → IsTold (whole_of program.now) root fault) }
+{
+    let funcs = program.funcs.as_slice();
+    let Ok(calls) = all_calls(alloc, funcs) else {
+        return Err(CheckFault::Memory);
+    };
+    let calls = calls.as_slice();
+    match call_ranks(alloc, calls) {
+        Ok(_) => Ok(()),
+        Err(CallFault::Cycle(path)) => match names_along(alloc, funcs, &path) {
+            Ok(names) => Err(CheckFault::Recursion(names)),
+            Err(_) => Err(CheckFault::Memory),
+        },
+        Err(CallFault::Memory) => Err(CheckFault::Memory),
+    }
+}
+
+// For each function those that it calls.
+fn all_calls(alloc: Global, funcs: &[Func]) -> Result<Vec<Vec<u32>>, AllocError>
+    ensures calls { IfOk result (λ calls. calls_of calls.items ≡ calls_among (map function_of funcs.now) (map function_of funcs.now)) }
+    ensures few { IfOk result (λ calls. length calls.items < 4294967295) }
+    ensures within { IfOk result (λ calls. CallsWithin (calls_of calls.items)) }
+{
+    few(funcs)?;
+    let calls = calls_among(alloc, funcs)?;
+    Ok(calls)
+}
+
+// The names of the functions of these numbers.
+fn names_along(alloc: Global, funcs: &[Func], path: &[u32]) -> Result<Vec<Name>, AllocError>
+    ensures { IfOk result (λ names. names.items ≡ map (name_at (map function_of funcs.now)) path.now) }
+{
+    let mut names = Vec::new(alloc);
+    for number in path {
+        names.push(Name::new(alloc, name_at(funcs, *number))?)?;
+    }
+    Ok(names)
+}
+
+// The name of the function of this number.
+fn name_at(funcs: &[Func], number: u32) -> &[u8]
+    ensures { result.now ≡ name_at (map function_of funcs.now) number }
+{
+    match funcs.get(number as usize) {
+        Some(func) => func.name.bytes(),
+        None => &[],
+    }
+}
+
+// That there is a function of this name.
+fn check_root(alloc: Global, program: &Program, root: &[u8]) -> Result<(), CheckFault>
+    requires sound { faults_in (whole_of program.now) ≡ [] }
+    requires falls { (f : ℕ) → OnCycle (calls_in (whole_of program.now)) f → ⊥ }
+    ensures starts { OnOk result (IsSome (function_place (whole_of program.now).funcs root.now)) }
+    ensures told { IfErr result (λ fault. IsTold (whole_of program.now) root.now fault) }
+{
+    match function_named(&program.funcs, root) {
+        Some(_) => Ok(()),
+        None => match Name::new(alloc, root) {
+            Ok(name) => Err(CheckFault::Root(name)),
+            Err(_) => Err(CheckFault::Memory),
+        },
+    }
+}

@@ -1,0 +1,86 @@
+ghost use Rattle.std.specs.Prelude.{◌≡◌, ◌<◌, ◌∷◌, map, length, IfOk};
+ghost use Rattle.alf_text.specs.Tree.{item_of};
+ghost use Rattle.alf_check.specs.Blocks.{begins_between, blocks_of, ends_block, is_label};
+ghost use Rattle.alf_check.specs.Cut.{first_length, number_behind, numbers_along};
+
+use crate::count::next_number;
+use alf_text::{Item, Stmt};
+use std::alloc::{AllocError, Global};
+
+/// The items of the first block, and those behind it.
+#[tactic(auto, using(crate::proofs::Cutting::split_within))]
+pub fn split_block(items: &[Item]) -> (&[Item], &[Item])
+    requires { 0 < length items.now }
+    ensures cut { blocks_of (map item_of items.now) ≡ map item_of result.0.now ∷ blocks_of (map item_of result.1.now) }
+    ensures shorter { length result.1.now < length items.now }
+{
+    items.split_at(first_length(items))
+}
+
+// How many items the first block has.
+fn first_length(items: &[Item]) -> usize
+    ensures { result ≡ first_length (map item_of items.now) }
+{
+    for at in 1..items.len() {
+        if begins_between(&items[at - 1], &items[at]) {
+            return at;
+        }
+    }
+    items.len()
+}
+
+/// For each item the number of its block.
+pub fn numbers_along(alloc: Global, items: &[Item]) -> Result<Vec<u32>, AllocError>
+    ensures { IfOk result (λ numbers. numbers.items ≡ numbers_along 0 (map item_of items.now)) }
+{
+    let mut numbers = Vec::new(alloc);
+    let mut number = 0;
+    let mut rest = items;
+    while let Some((item, others)) = rest.split_first() {
+        numbers.push(number)?;
+        number = number_behind(number, item, others)?;
+        rest = others;
+    }
+    Ok(numbers)
+}
+
+// The number of the block of the next item.
+fn number_behind(number: u32, item: &Item, others: &[Item]) -> Result<u32, AllocError>
+    ensures { IfOk result (λ behind. behind ≡ number_behind number (item_of item.now) (map item_of others.now)) }
+{
+    match others.first() {
+        Some(next) if begins_between(item, next) => next_number(number),
+        Some(_) => Ok(number),
+        None => Ok(number),
+    }
+}
+
+// Whether a block begins between the item and the next one.
+fn begins_between(item: &Item, next: &Item) -> bool
+    ensures { result ≡ begins_between (item_of item.now) (item_of next.now) }
+{
+    ends_block(item) || (is_label(next) && !is_label(item))
+}
+
+fn ends_block(item: &Item) -> bool
+    ensures { result ≡ ends_block (item_of item.now) }
+{
+    match item {
+        Item::Label(_) => false,
+        Item::Stmt(Stmt::Null) => false,
+        Item::Stmt(Stmt::Store(_, _)) => false,
+        Item::Stmt(Stmt::Jump(_)) => true,
+        Item::Stmt(Stmt::Switch(_, _, _)) => true,
+        Item::Stmt(Stmt::Call(_, _, _)) => true,
+        Item::Stmt(Stmt::Return(_)) => true,
+    }
+}
+
+fn is_label(item: &Item) -> bool
+    ensures { result ≡ is_label (item_of item.now) }
+{
+    match item {
+        Item::Label(_) => true,
+        Item::Stmt(_) => false,
+    }
+}

@@ -1,0 +1,42 @@
+ghost use Rattle.std.specs.Prelude.{◌≡◌, map, IfOk};
+ghost use Rattle.alf_text.specs.Tree.{term_of};
+ghost use Rattle.alf_check.specs.Resolved.{tree_of};
+ghost use Rattle.alf_check.specs.Numbered.{numbered_term};
+ghost use Rattle.alf_check.specs.Names.{numbers_of};
+
+use crate::lookup::Names;
+use crate::rows::Term;
+use alf_text::Expr;
+use std::alloc::{AllocError, Global};
+
+/// The expression, with the number of each frame.
+#[cycle(expressions)]
+pub fn term(alloc: Global, names: &Names<'_>, expr: &Expr) -> Result<Term, AllocError>
+    ensures { IfOk result (λ term. tree_of term ≡ numbered_term (numbers_of names.now).frame (term_of expr.now)) }
+{
+    match expr {
+        Expr::Num(num) => Ok(Term::Num(*num)),
+        Expr::Addr(frame, offset) => Ok(Term::Addr(names.frame(frame.bytes()), *offset)),
+        Expr::Load(size, at) => {
+            let at = term(alloc, names, at)?;
+            Ok(Term::Load(*size, Box::new(alloc, at)?))
+        }
+        Expr::Apply(op, sizes, operands) => {
+            let operands = terms(alloc, names, operands)?;
+            Ok(Term::Apply(*op, Vec::from_slice(alloc, sizes)?, operands))
+        }
+    }
+}
+
+/// The expressions in their order.
+#[cycle(expressions)]
+pub fn terms(alloc: Global, names: &Names<'_>, exprs: &[Expr]) -> Result<Vec<Term>, AllocError>
+    ensures { IfOk result (λ terms. map tree_of terms.items ≡ map (numbered_term (numbers_of names.now).frame) (map term_of exprs.now)) }
+{
+    let mut terms = Vec::new(alloc);
+    for expr in exprs {
+        let term = term(alloc, names, expr)?;
+        terms.push(term)?;
+    }
+    Ok(terms)
+}

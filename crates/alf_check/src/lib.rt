@@ -1,0 +1,38 @@
+//! Programs with numbers in place of names.
+//!
+//! Frames, functions and blocks are numbered in the order of the text, from 0. The global frames
+//! come before those of the functions. A function's blocks are numbered by themselves.
+#![tactic(auto)]
+
+// What a numbered program is made of.
+mod rows;
+
+// Numbers of names.
+mod count;
+mod lookup;
+
+// Frames and functions.
+mod tables;
+
+// Blocks.
+mod body;
+mod cut;
+mod endings;
+mod expressions;
+mod statements;
+
+// Programs.
+mod numbering;
+mod program;
+
+// Checks, and what they promise.
+mod calls;
+mod checking;
+mod fault;
+mod laws;
+
+pub use checking::check;
+pub use fault::CheckFault;
+pub use laws::checked_programs_keep;
+pub use program::Checked;
+pub use rows::{Act, Block, BlockEnd, FrameRow, FuncRow, InitRow, Term};

@@ -1,0 +1,9 @@
+pub mod Fault
+pub mod TermSizes
+pub mod Returns
+pub mod Duplicates
+pub mod Unknowns
+pub mod Sizes
+pub mod Faults
+pub mod Found
+pub mod Scope

@@ -31,5 +31,5 @@ pub operand_within : (op : Op) (sizes : List ℕ) (i n : ℕ) → operand_size o
 operand_within op sizes i n h =
     by_test (is_written_so (layout_of op) sizes)
     (λ e. let got : slice_get (operands_by_layout (layout_of op) (slice_index sizes 0) (slice_index sizes 1) (slice_index sizes 2)) i ≡ Some n = rw e at h in
-      omega (arith, slice_get_within (operands_by_layout (layout_of op) (slice_index sizes 0) (slice_index sizes 1) (slice_index sizes 2)) i n got, at_most_three (layout_of op) (slice_index sizes 0) (slice_index sizes 1) (slice_index sizes 2)))
+    omega (arith, slice_get_within (operands_by_layout (layout_of op) (slice_index sizes 0) (slice_index sizes 1) (slice_index sizes 2)) i n got, at_most_three (layout_of op) (slice_index sizes 0) (slice_index sizes 1) (slice_index sizes 2)))
     (λ e. absurd (let none : None ≡ Some n = rw e at h in cc))

@@ -83,10 +83,7 @@ fn header_fault<'a>(program: &Program, place: usize, func: &'a Func) -> Option<F
 
 // The first fault of the items.
 #[tactic(auto, using(crate::proofs::EarliestFaults::earliest_faults))]
-fn entries_fault<'a>(
-    alloc: Global,
-    scope: &Scope<'_, 'a>,
-) -> Result<Option<Found<'a>>, AllocError>
+fn entries_fault<'a>(alloc: Global, scope: &Scope<'_, 'a>) -> Result<Option<Found<'a>>, AllocError>
     requires { IsScope scope.now }
     ensures { IfOk result (λ found. option_map told found ≡ earliest (each_from
         (entry_faults (whole_of scope.now.program.now) scope.now.place (function_of scope.now.func.now))

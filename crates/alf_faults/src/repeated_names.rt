@@ -70,10 +70,7 @@ fn repeated_label<'a>(
 }
 
 // The first number of a target that an earlier target has.
-fn repeated_target(
-    alloc: Global,
-    targets: &[(Num, Name)],
-) -> Result<Option<Found<'_>>, AllocError>
+fn repeated_target(alloc: Global, targets: &[(Num, Name)]) -> Result<Option<Found<'_>>, AllocError>
     ensures { IfOk result (λ found. option_map told found ≡ earliest (target_duplicates [] targets.now)) }
 {
     let mut seen = IndexSet::new(alloc);

@@ -70,7 +70,13 @@ fn call_fits(scope: &Scope, place: usize, label: &Name, args: &[Expr], has_resul
         return false;
     };
     arguments_fit(&funcs[called].args, args)
-        && agrees_behind(called, scope.returns[called], scope.place, place, has_result)
+        && agrees_behind(
+            called,
+            scope.returns[called],
+            scope.place,
+            place,
+            has_result,
+        )
 }
 
 // Whether the arguments are as many as the frames, each of its frame's size.

@@ -15,12 +15,7 @@ fn shown(alloc: Global, fault: &Option<ItemFault>) -> Result<String, AllocError>
     }
 }
 
-fn told(
-    alloc: Global,
-    kind: &str,
-    name: &[u8],
-    number: Option<u32>,
-) -> Result<String, AllocError> {
+fn told(alloc: Global, kind: &str, name: &[u8], number: Option<u32>) -> Result<String, AllocError> {
     let Ok(name) = str::from_utf8(name) else {
         return Err(AllocError);
     };
@@ -31,12 +26,7 @@ fn told(
 }
 
 // Each sketch, behind these statements, has the fault that stands beside it.
-fn judge(
-    rt: &impl Abort,
-    alloc: Global,
-    before: &str,
-    cases: &[(&str, &str)],
-) -> Result<(), Fail> {
+fn judge(rt: &impl Abort, alloc: Global, before: &str, cases: &[(&str, &str)]) -> Result<(), Fail> {
     for (sketch, wanted) in cases {
         let text = format!(in alloc; "{before}{sketch}")?;
         let program = sketch::program(alloc, text.as_str())?;
@@ -109,11 +99,20 @@ fn each_frame_is_judged(rt: HostRuntime) -> Result<(), Fail> {
             ("export x; export y; global x 64; global y 24", "size y"),
             ("export x; global x 24; global x 32", "size x"),
             ("export x; global x 16; global x 24", "duplicate x"),
-            ("global x 8; global y 8; global z 8; global y 8; start q 0 8", "duplicate y"),
-            ("global x 32; start x 3 8; start x 0 32; start x 0 32", "none"),
+            (
+                "global x 8; global y 8; global z 8; global y 8; start q 0 8",
+                "duplicate y",
+            ),
+            (
+                "global x 32; start x 3 8; start x 0 32; start x 0 32",
+                "none",
+            ),
             ("global x 32; start x 4 8", "size x"),
             ("global x 32; start x 0 8; start x 0 4", "size x"),
-            ("global x 32; start x 0 8; start y 0 4; func f; func f", "unknown y"),
+            (
+                "global x 32; start x 0 8; start y 0 4; func f; func f",
+                "unknown y",
+            ),
         ],
     )
 }
@@ -129,12 +128,18 @@ fn each_function_is_judged(rt: HostRuntime) -> Result<(), Fail> {
             ("func f; arg a 8; decl b 8; hold b 0 8", "none"),
             ("func f; arg a 8; arg a 8; decl x 8", "duplicate a"),
             ("func f; arg a 8; decl b 8; decl a 8", "duplicate a"),
-            ("func f; decl b 8; decl a 8; decl b 8; hold q 0 8", "duplicate b"),
+            (
+                "func f; decl b 8; decl a 8; decl b 8; hold q 0 8",
+                "duplicate b",
+            ),
             ("func f; arg a 8; arg x 8", "duplicate x"),
             ("func f; decl x 8", "duplicate x"),
             ("func f; arg a 8; hold a 0 8", "unknown a"),
             ("func f; decl b 8; hold b 1 8; jump A", "size b"),
-            ("func f; arg a 8; decl b 8; store &a 8; store &b 8; store &c 8", "unknown c"),
+            (
+                "func f; arg a 8; decl b 8; store &a 8; store &b 8; store &c 8",
+                "unknown c",
+            ),
             ("func f; decl b 8; func g; store &b 8", "unknown b"),
             ("func f; label A; func g; jump A", "unknown A"),
             ("func f; jump A; label g; func g", "unknown A"),
@@ -143,7 +148,10 @@ fn each_function_is_judged(rt: HostRuntime) -> Result<(), Fail> {
             ("func f; null; return *x; func main; call f", "size main 0"),
             ("func main; into x f; func f; null; return *x", "none"),
             ("func main; call f; func f; null; return *x", "size f 1"),
-            ("func main; into x f; func f; null; null; return 4", "size f 2"),
+            (
+                "func main; into x f; func f; null; null; return 4",
+                "size f 2",
+            ),
             ("func main; call f; func f; jump A; return *x", "unknown A"),
         ],
     )

@@ -106,23 +106,31 @@ fn number(text: &str) -> u32 {
 }
 
 fn frame(alloc: Global, words: &mut SplitWhitespace) -> Result<Alloc, AllocError> {
-    Ok(Alloc { name: name(alloc, words)?, bits: number(word(words)) })
+    Ok(Alloc {
+        name: name(alloc, words)?,
+        bits: number(word(words)),
+    })
 }
 
 fn start(alloc: Global, words: &mut SplitWhitespace) -> Result<Init, AllocError> {
     let name = name(alloc, words)?;
     let offset = number(word(words));
-    Ok(Init { name, offset, num: zero(number(word(words))) })
+    Ok(Init {
+        name,
+        offset,
+        num: zero(number(word(words))),
+    })
 }
 
 fn zero(size: u32) -> Num {
-    Num { signed: false, size, bits: 0 }
+    Num {
+        signed: false,
+        size,
+        bits: 0,
+    }
 }
 
-fn targets(
-    alloc: Global,
-    words: &mut SplitWhitespace,
-) -> Result<Vec<(Num, Name)>, AllocError> {
+fn targets(alloc: Global, words: &mut SplitWhitespace) -> Result<Vec<(Num, Name)>, AllocError> {
     let mut targets = Vec::new(alloc);
     for text in words {
         targets.push(target(alloc, text)?)?;
@@ -133,7 +141,11 @@ fn targets(
 fn target(alloc: Global, text: &str) -> Result<(Num, Name), AllocError> {
     let (size, rest) = text.split_once(':').unwrap_or(("", ""));
     let (bits, label) = rest.split_once(':').unwrap_or(("", ""));
-    let num = Num { signed: false, size: number(size), bits: u64::from(number(bits)) };
+    let num = Num {
+        signed: false,
+        size: number(size),
+        bits: u64::from(number(bits)),
+    };
     Ok((num, Name::new(alloc, label.as_bytes())?))
 }
 

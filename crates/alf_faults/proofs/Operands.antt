@@ -1,11 +1,11 @@
 -- How many operands an operator has.
-use Rattle.std.proofs.Common.{◌≡◌, ◌<◌, ◌≤◌, ℕ, Bool, true, false, List, [], ◌∷◌, Option, Some, None, length, refl, arith, if◌then◌else◌}
+use Rattle.std.proofs.Common.{◌≡◌, ◌<◌, ◌≤◌, ℕ, Bool, true, false, List, Some, None, length, refl, arith}
 use Rattle.std.specs.List.{slice_get, slice_index}
 use Rattle.std.proofs.lemmas.Option.{slice_get_within}
 use Rattle.alf_ops.specs.declared.operator.Op.{Op}
 use Rattle.alf_ops.specs.declared.layout.Layout.{Layout}
 use Rattle.alf_ops.specs.declared.layout.Layout.TheVariants.{Unary, Sum, Carry, Joined, First, Second, Binary, Comparison, Extension, Truncation, Field, Choice}
-use Rattle.alf_ops.specs.Table.{layout_of, operands_by_layout, operand_by_layout, operand_size, is_written_so}
+use Rattle.alf_ops.specs.Table.{layout_of, operands_by_layout, operand_size, is_written_so}
 
 -- a row has at most three operands
 at_most_three : (layout : Layout) (m n h : ℕ) → length (operands_by_layout layout m n h) ≤ 3

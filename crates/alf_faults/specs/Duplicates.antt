@@ -3,11 +3,11 @@
 --   function_duplicates funcs k func               the function, function k, has a name that an earlier one has
 --   target_duplicates earlier targets              a target has the number of an earlier one
 --   entry_duplicates whole func i item             the item, item i of the function, is a label that an earlier item or a function has, or a switch with such targets
-use Rattle.std.specs.Prelude.{ℕ, ◌==◌, Bool, not, ◌||◌, List, [], ◌∷◌, ◌++◌, is_some}
+use Rattle.std.specs.Prelude.{ℕ, ◌==◌, not, ◌||◌, List, [], ◌∷◌, ◌++◌, is_some}
 use Rattle.std.specs.List.{list_any}
 use Rattle.std.specs.Fmt.{decimal}
 use Rattle.alf_text.specs.declared.program.Num.{Num}
-use Rattle.alf_text.specs.Tree.{Act, Nothing, Stores, Jumps, Switches, Calls, Returns, Entry, Labels, Does, Frame, Function, Whole}
+use Rattle.alf_text.specs.Tree.{Nothing, Stores, Jumps, Switches, Calls, Returns, Entry, Labels, Does, Frame, Function, Whole}
 use Rattle.alf_names.specs.Places.{frame_place, function_place, label_place}
 use Rattle.alf_faults.specs.Fault.{Fault, Duplicate, when, is_exactly}
 

@@ -5,5 +5,5 @@ pub mod Duplicates
 pub mod Unknowns
 pub mod Sizes
 pub mod Faults
-pub mod Found
-pub mod Scope
+pub mod Told
+pub mod Scopes

@@ -4,10 +4,9 @@
 --   return_size value             the size of what a return gives: 0 where it has no expression
 --   same_size a b                 there are both sizes, and they are the same
 --   is_bytes size                 there is a size, and it is a multiple of 8
-use Rattle.std.specs.Prelude.{ℕ, ◌+◌, ◌%◌, ◌==◌, Bool, true, false, ◌&&◌, List, [], ◌∷◌, Option, Some, None, is_none, if◌then◌else◌}
+use Rattle.std.specs.Prelude.{ℕ, ◌+◌, ◌%◌, ◌==◌, Bool, false, ◌&&◌, List, Option, Some, None, is_none, if◌then◌else◌}
 use Rattle.alf_ops.specs.declared.operator.Op.{Op}
 use Rattle.alf_ops.specs.Table.{result_size, operand_size}
-use Rattle.alf_text.specs.declared.program.Num.{Num}
 use Rattle.alf_text.specs.Tree.{Term, Terms, Number, Address, Loads, Applies, Last, With}
 use Rattle.alf_faults.specs.Fault.{is_exactly}
 

@@ -4,13 +4,13 @@ ghost use Rattle.std.specs.Prelude.{◌≡◌, IfOk};
 ghost use Rattle.std.specs.Option.{option_map};
 ghost use Rattle.alf_text.specs.Tree.{whole_of};
 ghost use Rattle.alf_faults.specs.Fault.{earliest};
-ghost use Rattle.alf_faults.specs.Found.{told, fault_of};
+ghost use Rattle.alf_faults.specs.Told.{told, fault_of};
 ghost use Rattle.alf_faults.specs.Faults.{global_faults, faults_in};
 
-use crate::found::Found;
+use crate::findings::Found;
 use crate::frame_faults::{export_fault, repeated_frame, start_fault};
 use crate::function_faults::functions_fault;
-use crate::item_fault::{ItemFault, owned};
+use crate::item_faults::{ItemFault, owned};
 use crate::unknown_names::unknown_export;
 use alf_text::Program;
 use std::alloc::{AllocError, Global};

@@ -5,12 +5,12 @@ ghost use Rattle.std.specs.List.{flat_map};
 ghost use Rattle.std.specs.Option.{option_map};
 ghost use Rattle.alf_text.specs.Tree.{frame_of, start_of};
 ghost use Rattle.alf_faults.specs.Fault.{each_from, earliest};
-ghost use Rattle.alf_faults.specs.Found.{told};
+ghost use Rattle.alf_faults.specs.Told.{told};
 ghost use Rattle.alf_faults.specs.Duplicates.{frame_duplicates};
 ghost use Rattle.alf_faults.specs.Sizes.{is_export_size, start_fits};
 ghost use Rattle.alf_faults.specs.Faults.{export_faults, start_faults};
 
-use crate::found::{Found, is_exactly};
+use crate::findings::{Found, is_exactly};
 use alf_names::frame_named;
 use alf_text::{Alloc, Init};
 use flow_base::Name;

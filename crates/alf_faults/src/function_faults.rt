@@ -4,16 +4,16 @@ ghost use Rattle.std.specs.Prelude.{◌≡◌, map, IfOk};
 ghost use Rattle.std.specs.Option.{option_map};
 ghost use Rattle.alf_text.specs.Tree.{item_of, function_of, whole_of};
 ghost use Rattle.alf_faults.specs.Fault.{earliest, each_from};
-ghost use Rattle.alf_faults.specs.Found.{told};
+ghost use Rattle.alf_faults.specs.Told.{told};
 ghost use Rattle.alf_faults.specs.Returns.{returns_of};
-ghost use Rattle.alf_faults.specs.Scope.{IsScope};
+ghost use Rattle.alf_faults.specs.Scopes.{IsScope};
 ghost use Rattle.alf_faults.specs.Faults.{entry_faults, header_faults, function_faults};
 
-use crate::found::Found;
+use crate::findings::Found;
 use crate::frame_faults::{repeated_frame, start_fault};
 use crate::repeated_names::{entry_repeated, repeated_function};
 use crate::returns::{Return, first_return, first_returns};
-use crate::scope::Scope;
+use crate::scopes::Scope;
 use crate::size_rules::entry_fits;
 use crate::unknown_names::entry_unknown;
 use alf_names::Labels;
@@ -83,10 +83,7 @@ fn header_fault<'a>(program: &Program, place: usize, func: &'a Func) -> Option<F
 
 // The first fault of the items.
 #[tactic(auto, using(crate::proofs::EarliestFaults::earliest_faults))]
-fn entries_fault<'a>(
-    alloc: Global,
-    scope: &Scope<'_, 'a>,
-) -> Result<Option<Found<'a>>, AllocError>
+fn entries_fault<'a>(alloc: Global, scope: &Scope<'_, 'a>) -> Result<Option<Found<'a>>, AllocError>
     requires { IsScope scope.now }
     ensures { IfOk result (λ found. option_map told found ≡ earliest (each_from
         (entry_faults (whole_of scope.now.program.now) scope.now.place (function_of scope.now.func.now))

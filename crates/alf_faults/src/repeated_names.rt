@@ -4,10 +4,10 @@ ghost use Rattle.std.specs.Prelude.{◌≡◌, [], map, IfOk};
 ghost use Rattle.std.specs.Option.{option_map};
 ghost use Rattle.alf_text.specs.Tree.{item_of, function_of, whole_of};
 ghost use Rattle.alf_faults.specs.Fault.{earliest};
-ghost use Rattle.alf_faults.specs.Found.{told};
+ghost use Rattle.alf_faults.specs.Told.{told};
 ghost use Rattle.alf_faults.specs.Duplicates.{function_duplicates, label_duplicates, target_duplicates, entry_duplicates};
 
-use crate::found::{Found, is_exactly};
+use crate::findings::{Found, is_exactly};
 use alf_names::{Labels, function_named};
 use alf_text::{Func, Item, Num, Program, Stmt};
 use flow_base::Name;
@@ -70,10 +70,7 @@ fn repeated_label<'a>(
 }
 
 // The first number of a target that an earlier target has.
-fn repeated_target(
-    alloc: Global,
-    targets: &[(Num, Name)],
-) -> Result<Option<Found<'_>>, AllocError>
+fn repeated_target(alloc: Global, targets: &[(Num, Name)]) -> Result<Option<Found<'_>>, AllocError>
     ensures { IfOk result (λ found. option_map told found ≡ earliest (target_duplicates [] targets.now)) }
 {
     let mut seen = IndexSet::new(alloc);

@@ -4,12 +4,12 @@ ghost use Rattle.std.specs.Prelude.{◌≡◌, map};
 ghost use Rattle.std.specs.Option.{option_map};
 ghost use Rattle.alf_text.specs.Tree.{frame_of, term_of, item_of, function_of, whole_of};
 ghost use Rattle.alf_faults.specs.Returns.{first_return, returns_of};
-ghost use Rattle.alf_faults.specs.Scope.{IsScope};
+ghost use Rattle.alf_faults.specs.Scopes.{IsScope};
 ghost use Rattle.alf_faults.specs.Sizes.{targets_have, targets_fit, arguments_fit, agrees_behind, call_fits, breaks_calls, return_fits, entry_fits};
 
-use crate::found::is_exactly;
+use crate::findings::is_exactly;
 use crate::returns::{Return, agrees, is_before, is_breached};
-use crate::scope::Scope;
+use crate::scopes::Scope;
 use crate::term_sizes::{is_bytes, is_size, return_size, same_size, term_size};
 use alf_names::function_named;
 use alf_text::{Alloc, Expr, Item, Num, Program, Stmt};
@@ -70,7 +70,13 @@ fn call_fits(scope: &Scope, place: usize, label: &Name, args: &[Expr], has_resul
         return false;
     };
     arguments_fit(&funcs[called].args, args)
-        && agrees_behind(called, scope.returns[called], scope.place, place, has_result)
+        && agrees_behind(
+            called,
+            scope.returns[called],
+            scope.place,
+            place,
+            has_result,
+        )
 }
 
 // Whether the arguments are as many as the frames, each of its frame's size.

@@ -1,11 +1,8 @@
 mod sketch;
 
 use crate::{ItemFault, first_fault};
-use alf_ops::Op;
-use sketch::Line::{Call, Jump, Label, Null, Return, Store, Switch};
-use sketch::Term::{Addr, Apply, Load, Word};
-use sketch::{Line, Part, Sketch, Term, program};
 use std::alloc::{AllocError, Global};
+use std::process::Abort;
 use std::test::Fail;
 
 // The fault's kind and name, and its number where it has one.
@@ -18,12 +15,7 @@ fn shown(alloc: Global, fault: &Option<ItemFault>) -> Result<String, AllocError>
     }
 }
 
-fn told(
-    alloc: Global,
-    kind: &str,
-    name: &[u8],
-    number: Option<u32>,
-) -> Result<String, AllocError> {
+fn told(alloc: Global, kind: &str, name: &[u8], number: Option<u32>) -> Result<String, AllocError> {
     let Ok(name) = str::from_utf8(name) else {
         return Err(AllocError);
     };
@@ -33,117 +25,134 @@ fn told(
     }
 }
 
-// What is wrong with the program of the sketch.
-fn fault_of(alloc: Global, sketch: Sketch) -> Result<String, AllocError> {
-    let program = program(alloc, sketch)?;
-    let fault = first_fault(alloc, &program)?;
-    shown(alloc, &fault)
-}
-
-const NOTHING: Sketch = Sketch { exports: &[], labels: &[], decls: &[], inits: &[], parts: &[] };
-
-const MAIN: Part = Part { name: "main", args: &[], decls: &[], inits: &[], lines: &[] };
-
-// The sum of two numbers of 32 and of so many bits, and a carry.
-const SUM: Term = Apply(Op::Add, &[32], &[Word(32, 1), Word(32, 1), Word(1, 0)]);
-const BAD_SUM: Term = Apply(Op::Add, &[32], &[Word(32, 1), Word(16, 1), Word(1, 0)]);
-const BAD_CARRY: Term = Apply(Op::Add, &[32], &[Word(32, 1), Word(32, 1), Word(32, 0)]);
-const NO_CARRY: Term = Apply(Op::Add, &[32], &[Word(32, 1), Word(32, 1)]);
-const X: Term = Load(32, &Addr("x"));
-
-// The lines of `main` over the global frames `x` of 32 bits and `flag` of 8, and its first fault.
-const LINES: [(&[Line], &str); 36] = [
-    (&[], "none"),
-    (&[Null, Store(Addr("x"), SUM), Return(None)], "none"),
-    (&[Return(Some(BAD_SUM))], "size main 0"),
-    (&[Null, Return(Some(BAD_CARRY))], "size main 1"),
-    (&[Return(Some(NO_CARRY))], "size main 0"),
-    (&[Store(Word(16, 0), SUM)], "size main 0"),
-    (&[Null, Store(Addr("x"), Word(12, 0))], "size main 1"),
-    (&[Store(Addr("x"), Load(32, &Word(16, 0)))], "size main 0"),
-    (&[Store(Addr("y"), Load(32, &Addr("z")))], "unknown y"),
-    (&[Null, Store(Addr("x"), Load(12, &Addr("z")))], "unknown z"),
-    (&[Store(Addr("x"), Apply(Op::Add, &[8], &[X, Load(32, &Addr("z"))]))], "unknown z"),
-    (&[Jump("A")], "unknown A"),
-    (&[Label("A"), Jump("A")], "none"),
-    (&[Label("A"), Label("A"), Label("A")], "duplicate A"),
-    (&[Label("A"), Null, Label("main")], "duplicate main"),
-    (&[Label("A"), Switch(X, &[(32, 1, "A"), (32, 2, "A")], "A")], "none"),
-    (&[Label("A"), Switch(X, &[(32, 1, "A"), (32, 1, "A")], "A")], "duplicate 1"),
-    (&[Label("A"), Switch(X, &[(32, 7, "A"), (8, 7, "B"), (32, 7, "A")], "A")], "duplicate 7"),
-    (&[Label("A"), Switch(X, &[(32, 1, "A"), (32, 2, "B")], "C")], "unknown B"),
-    (&[Label("A"), Switch(Load(32, &Addr("z")), &[(32, 2, "B")], "A")], "unknown z"),
-    (&[Label("A"), Switch(X, &[(32, 2, "A")], "C")], "unknown C"),
-    (&[Label("A"), Switch(X, &[(32, 1, "A"), (16, 2, "A")], "A")], "size main 1"),
-    (&[Switch(BAD_SUM, &[], "A"), Label("A")], "size main 0"),
-    (&[Call("f", &[X], None), Return(None)], "none"),
-    (&[Call("f", &[], None)], "size main 0"),
-    (&[Null, Call("f", &[X, X], None)], "size main 1"),
-    (&[Call("f", &[Word(16, 0)], None)], "size main 0"),
-    (&[Call("g", &[Load(32, &Addr("z"))], Some("y"))], "unknown g"),
-    (&[Call("f", &[Load(32, &Addr("z"))], Some("y"))], "unknown z"),
-    (&[Call("f", &[X], Some("y"))], "unknown y"),
-    (&[Call("f", &[X], Some("x"))], "size f 0"),
-    (&[Return(Some(SUM)), Null, Return(None)], "size main 2"),
-    (&[Return(Some(Word(8, 0))), Return(Some(Word(8, 1))), Return(Some(SUM))], "size main 2"),
-    (&[Call("main", &[], Some("x")), Return(None)], "size main 1"),
-    (&[Return(Some(SUM)), Call("main", &[], None)], "size main 1"),
-    (&[Return(Some(SUM)), Call("main", &[], Some("x"))], "none"),
-];
-
-const CALLS_F: &[Line] = &[Call("f", &[X], Some("x"))];
-
-// Whole programs, and their first faults.
-const WHOLES: [(Sketch, &str); 29] = [
-    (NOTHING, "none"),
-    (Sketch { exports: &["x"], decls: &[("x", 32)], ..NOTHING }, "none"),
-    (Sketch { exports: &["x", "y"], labels: &["f"], decls: &[("x", 32)], ..NOTHING }, "unknown y"),
-    (Sketch { exports: &["x"], labels: &["f"], decls: &[("x", 32)], ..NOTHING }, "unknown f"),
-    (Sketch { labels: &["main", "f"], parts: &[MAIN], ..NOTHING }, "unknown f"),
-    (Sketch { exports: &["x", "y"], decls: &[("x", 64), ("y", 24)], ..NOTHING }, "size y"),
-    (Sketch { exports: &["x"], decls: &[("x", 24), ("x", 32)], ..NOTHING }, "size x"),
-    (Sketch { exports: &["x"], decls: &[("x", 16), ("x", 24)], ..NOTHING }, "duplicate x"),
-    (Sketch { decls: &[("x", 8), ("y", 8), ("z", 8), ("y", 8)], ..NOTHING }, "duplicate y"),
-    (Sketch { decls: &[("x", 32)], inits: &[("x", 3, 8), ("x", 0, 32), ("x", 0, 32)], ..NOTHING }, "none"),
-    (Sketch { decls: &[("x", 32)], inits: &[("x", 4, 8)], ..NOTHING }, "size x"),
-    (Sketch { decls: &[("x", 32)], inits: &[("x", 0, 8), ("x", 0, 4)], ..NOTHING }, "size x"),
-    (Sketch { decls: &[("x", 32)], inits: &[("x", 0, 8), ("y", 0, 4)], ..NOTHING }, "unknown y"),
-    (Sketch { parts: &[MAIN, Part { name: "f", ..MAIN }, MAIN], ..NOTHING }, "duplicate main"),
-    (Sketch { parts: &[Part { args: &[("a", 8)], decls: &[("b", 8)], inits: &[("b", 0, 8)], ..MAIN }], ..NOTHING }, "none"),
-    (Sketch { parts: &[Part { args: &[("a", 8), ("a", 8)], ..MAIN }], ..NOTHING }, "duplicate a"),
-    (Sketch { parts: &[Part { args: &[("a", 8)], decls: &[("b", 8), ("a", 8)], ..MAIN }], ..NOTHING }, "duplicate a"),
-    (Sketch { parts: &[Part { decls: &[("b", 8), ("a", 8), ("b", 8)], ..MAIN }], ..NOTHING }, "duplicate b"),
-    (Sketch { decls: &[("x", 8)], parts: &[Part { args: &[("a", 8), ("x", 8)], ..MAIN }], ..NOTHING }, "duplicate x"),
-    (Sketch { decls: &[("x", 8)], parts: &[Part { decls: &[("x", 8)], ..MAIN }], ..NOTHING }, "duplicate x"),
-    (Sketch { parts: &[Part { args: &[("a", 8)], inits: &[("a", 0, 8)], ..MAIN }], ..NOTHING }, "unknown a"),
-    (Sketch { parts: &[Part { decls: &[("b", 8)], inits: &[("b", 1, 8)], ..MAIN }], ..NOTHING }, "size b"),
-    (Sketch { parts: &[Part { args: &[("a", 8)], lines: &[Store(Addr("a"), Word(8, 0)), Store(Addr("b"), Word(8, 0))], ..MAIN }], ..NOTHING }, "unknown b"),
-    (Sketch { parts: &[MAIN, Part { name: "f", lines: &[Jump("A"), Label("main")], ..MAIN }], ..NOTHING }, "unknown A"),
-    (Sketch { parts: &[Part { lines: &[Null, Label("f")], ..MAIN }, Part { name: "f", ..MAIN }], ..NOTHING }, "duplicate f"),
-    (Sketch { parts: &[Part { lines: &[Label("A")], ..MAIN }, Part { name: "f", lines: &[Jump("A")], ..MAIN }], ..NOTHING }, "unknown A"),
-    (Sketch { decls: &[("x", 32)], parts: &[Part { name: "f", args: &[("a", 32)], lines: &[Null, Return(Some(X))], ..MAIN }, Part { lines: CALLS_F, ..MAIN }], ..NOTHING }, "none"),
-    (Sketch { decls: &[("x", 32)], parts: &[Part { name: "f", args: &[("a", 32)], lines: &[Null, Return(None)], ..MAIN }, Part { lines: CALLS_F, ..MAIN }], ..NOTHING }, "size main 0"),
-    (Sketch { decls: &[("x", 32)], parts: &[Part { lines: CALLS_F, ..MAIN }, Part { name: "f", args: &[("a", 32)], lines: &[Null, Null, Return(Some(Word(4, 0)))], ..MAIN }], ..NOTHING }, "size f 2"),
-];
-
-#[test]
-fn each_place_is_judged(rt: HostRuntime) -> Result<(), Fail> {
-    let alloc = rt.alloc();
-    for (place, (sketch, wanted)) in WHOLES.iter().enumerate() {
-        let fault = fault_of(alloc, *sketch)?;
-        assert_eq!(rt; fault.as_str(), *wanted, "case {place}");
+// Each sketch, behind these statements, has the fault that stands beside it.
+fn judge(rt: &impl Abort, alloc: Global, before: &str, cases: &[(&str, &str)]) -> Result<(), Fail> {
+    for (sketch, wanted) in cases {
+        let text = format!(in alloc; "{before}{sketch}")?;
+        let program = sketch::program(alloc, text.as_str())?;
+        let fault = first_fault(alloc, &program)?;
+        let told = shown(alloc, &fault)?;
+        assert_eq!(rt; told.as_str(), *wanted, "{sketch}");
     }
     Ok(())
 }
 
 #[test]
 fn each_item_is_judged(rt: HostRuntime) -> Result<(), Fail> {
-    let alloc = rt.alloc();
-    for (place, (lines, wanted)) in LINES.iter().enumerate() {
-        let main = Part { lines, ..MAIN };
-        let called = Part { name: "f", args: &[("a", 32)], lines: &[Return(None)], ..MAIN };
-        let fault = fault_of(alloc, Sketch { decls: &[("x", 32), ("flag", 8)], parts: &[main, called], ..NOTHING })?;
-        assert_eq!(rt; fault.as_str(), *wanted, "case {place}");
-    }
-    Ok(())
+    judge(
+        &rt,
+        rt.alloc(),
+        "global x 32; global flag 8; func f; arg a 32; null; return; func main; ",
+        &[
+            ("", "none"),
+            ("null; store &x sum; return", "none"),
+            ("return short", "size main 0"),
+            ("null; return carry", "size main 1"),
+            ("store 16 sum", "size main 0"),
+            ("null; store &x 12", "size main 1"),
+            ("store &x wild", "size main 0"),
+            ("store &y *z", "unknown y"),
+            ("null; store &x *z", "unknown z"),
+            ("store 16 *z", "unknown z"),
+            ("jump A", "unknown A"),
+            ("label A; jump A", "none"),
+            ("jump A; label A; label A", "duplicate A"),
+            ("label A; null; label main", "duplicate main"),
+            ("label f", "duplicate f"),
+            ("label A; switch *x A 32:1:A 32:2:A", "none"),
+            ("label A; switch *x A 32:1:A 32:1:A", "duplicate 1"),
+            ("switch *z B 32:7:A 8:9:C 8:7:B; label A", "duplicate 7"),
+            ("label A; switch *x C 32:1:A 16:2:B", "unknown B"),
+            ("switch *z A 32:1:B; label A", "unknown z"),
+            ("label A; switch *x C 16:1:A", "unknown C"),
+            ("label A; switch *x A 32:1:A 16:2:A", "size main 1"),
+            ("switch short A; label A", "size main 0"),
+            ("call f *x; return", "none"),
+            ("call f", "size main 0"),
+            ("null; call f *x *x", "size main 1"),
+            ("call f 16", "size main 0"),
+            ("into y g *z", "unknown g"),
+            ("into y f *z", "unknown z"),
+            ("into y f 16", "unknown y"),
+            ("into x f *x", "size main 0"),
+            ("return sum; null; return", "size main 2"),
+            ("return 8; return 8; return sum", "size main 2"),
+            ("into x main; return", "size main 1"),
+            ("return sum; call main", "size main 1"),
+            ("return sum; into x main", "none"),
+        ],
+    )
+}
+
+#[test]
+fn each_frame_is_judged(rt: HostRuntime) -> Result<(), Fail> {
+    judge(
+        &rt,
+        rt.alloc(),
+        "",
+        &[
+            ("", "none"),
+            ("export x; global x 32", "none"),
+            ("export x; export y; lref f; global x 32", "unknown y"),
+            ("export x; lref f; global x 32", "unknown f"),
+            ("lref main; lref f; func main", "unknown f"),
+            ("export x; export y; global x 64; global y 24", "size y"),
+            ("export x; global x 24; global x 32", "size x"),
+            ("export x; global x 16; global x 24", "duplicate x"),
+            (
+                "global x 8; global y 8; global z 8; global y 8; start q 0 8",
+                "duplicate y",
+            ),
+            (
+                "global x 32; start x 3 8; start x 0 32; start x 0 32",
+                "none",
+            ),
+            ("global x 32; start x 4 8", "size x"),
+            ("global x 32; start x 0 8; start x 0 4", "size x"),
+            (
+                "global x 32; start x 0 8; start y 0 4; func f; func f",
+                "unknown y",
+            ),
+        ],
+    )
+}
+
+#[test]
+fn each_function_is_judged(rt: HostRuntime) -> Result<(), Fail> {
+    judge(
+        &rt,
+        rt.alloc(),
+        "global x 32; ",
+        &[
+            ("func main; func f; func main; arg x 8", "duplicate main"),
+            ("func f; arg a 8; decl b 8; hold b 0 8", "none"),
+            ("func f; arg a 8; arg a 8; decl x 8", "duplicate a"),
+            ("func f; arg a 8; decl b 8; decl a 8", "duplicate a"),
+            (
+                "func f; decl b 8; decl a 8; decl b 8; hold q 0 8",
+                "duplicate b",
+            ),
+            ("func f; arg a 8; arg x 8", "duplicate x"),
+            ("func f; decl x 8", "duplicate x"),
+            ("func f; arg a 8; hold a 0 8", "unknown a"),
+            ("func f; decl b 8; hold b 1 8; jump A", "size b"),
+            (
+                "func f; arg a 8; decl b 8; store &a 8; store &b 8; store &c 8",
+                "unknown c",
+            ),
+            ("func f; decl b 8; func g; store &b 8", "unknown b"),
+            ("func f; label A; func g; jump A", "unknown A"),
+            ("func f; jump A; label g; func g", "unknown A"),
+            ("func f; null; label g; func g", "duplicate g"),
+            ("func f; null; return *x; func main; into x f", "none"),
+            ("func f; null; return *x; func main; call f", "size main 0"),
+            ("func main; into x f; func f; null; return *x", "none"),
+            ("func main; call f; func f; null; return *x", "size f 1"),
+            (
+                "func main; into x f; func f; null; null; return 4",
+                "size f 2",
+            ),
+            ("func main; call f; func f; jump A; return *x", "unknown A"),
+        ],
+    )
 }

@@ -1,5 +1,4 @@
 use Rattle.std.proofs.Common.{◌≡◌, [], drop}
-use Rattle.indexmap.specs.IndexSet.{keys}
 use Rattle.alf_faults.specs.Fault.{earliest}
 use Rattle.alf_faults.specs.Duplicates.{target_duplicates}
 use Rattle.alf_faults.proofs.repeated_names.repeated_target.Given as goal

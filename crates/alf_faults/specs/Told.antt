@@ -1,13 +1,12 @@
 -- What a fault that was found stands for.
 --   told found       the fault
 --   fault_of fault   the fault, by names of its own
-use Rattle.std.specs.Prelude.{ℕ, List, Option}
 use Rattle.alf_faults.specs.Fault.{Fault, Duplicate, Unknown, Size}
 use Rattle.alf_faults.specs.Duplicates.{number_twice}
-use Rattle.alf_faults.specs.declared.found.Found.{Found}
-use Rattle.alf_faults.specs.declared.found.Found.TheVariants as found
-use Rattle.alf_faults.specs.declared.item_fault.ItemFault.{ItemFault}
-use Rattle.alf_faults.specs.declared.item_fault.ItemFault.TheVariants as owned
+use Rattle.alf_faults.specs.declared.findings.Found.{Found}
+use Rattle.alf_faults.specs.declared.findings.Found.TheVariants as found
+use Rattle.alf_faults.specs.declared.item_faults.ItemFault.{ItemFault}
+use Rattle.alf_faults.specs.declared.item_faults.ItemFault.TheVariants as owned
 
 abbrev pub told : Found → Fault
 told (found.Duplicate name) = Duplicate name.now

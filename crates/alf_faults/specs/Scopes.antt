@@ -3,7 +3,7 @@
 use Rattle.std.specs.Prelude.{◌≡◌}
 use Rattle.alf_text.specs.Tree.{function_of}
 use Rattle.alf_faults.specs.Returns.{first_return, returns_of}
-use Rattle.alf_faults.specs.declared.scope.Scope.{Scope}
+use Rattle.alf_faults.specs.declared.scopes.Scope.{Scope}
 
 pub record IsScope (scope : Scope) : Type 0 where
   pub returns : scope.returns.now ≡ returns_of scope.program.now.funcs.items

@@ -2,10 +2,10 @@
 
 ghost use Rattle.std.specs.Prelude.{◌≡◌, IfOk};
 ghost use Rattle.alf_faults.specs.Fault.{Duplicate};
-ghost use Rattle.alf_faults.specs.Found.{told, fault_of};
+ghost use Rattle.alf_faults.specs.Told.{told, fault_of};
 ghost use Rattle.alf_faults.specs.Duplicates.{number_twice};
 
-use crate::found::Found;
+use crate::findings::Found;
 use flow_base::Name;
 use std::alloc::{AllocError, Global};
 
@@ -33,7 +33,7 @@ pub fn owned(alloc: Global, found: Found) -> Result<ItemFault, AllocError>
         Found::Unknown(name) => Ok(ItemFault::Unknown(Name::new(alloc, name.bytes())?)),
         Found::Size(name, None) => Ok(ItemFault::Size(Name::new(alloc, name.bytes())?, None)),
         Found::Size(name, Some(place)) => {
-            // No function that fits a memory of today has an item that is not counted so.
+            // Items are numbered by 32 bits, and one behind those is told as want of memory.
             let Ok(number) = u32::try_from(place) else {
                 return Err(AllocError);
             };

@@ -2,7 +2,6 @@
 ghost use Rattle.std.specs.Prelude.{◌≡◌};
 ghost use Rattle.alf_faults.specs.Fault.{is_exactly as is_exactly_lem};
 
-
 use flow_base::Name;
 
 /// A fault, by names of the program.

@@ -20,7 +20,7 @@ or_first : (found : Option ℕ) (n : ℕ) → 0 < n → IfSome found (λ place. 
 or_first None n some low = some
 or_first (Some place) n some low = low
 
-number_low : (all : List Function) (name : List ℕ) → 0 < length all → func_number all name < length all
+pub number_low : (all : List Function) (name : List ℕ) → 0 < length all → func_number all name < length all
 number_low all name some = or_first (function_place all name) (length all) some (place_within _ all)
 
 called_low : (all : List Function) (item : Entry) (g : ℕ) → 0 < length all → Contains (called_by all item) g → g < length all

@@ -11,7 +11,7 @@ use Rattle.alf_check.specs.declared.rows.FrameRow.{FrameRow}
 use Rattle.alf_check.specs.Numbers.{frame_rows, frame_number, func_number}
 use Rattle.alf_check.specs.Numbered.{numbered_func, numbered_frames, numbered}
 use Rattle.alf_check.specs.Checking.{called_by, calls_in, Passes}
-use Rattle.alf_check.specs.Spelled.{FunctionIsWritten, WholeIsWritten}
+use Rattle.alf_text.specs.Spelled.{FunctionIsWritten, WholeIsWritten}
 use Rattle.alf_check.specs.Kept.{OwnsFrame, IsGlobal, InitFits, IsRankedBy, KeepsFunction, IsKept}
 use Rattle.alf_check.proofs.KeptMembers.{of_each, at_front, all_images, joined, standing}
 use Rattle.alf_check.proofs.KeptFaults.{IsSound, sound}

@@ -16,8 +16,8 @@ use Rattle.alf_check.specs.Blocks.{blocks_of}
 use Rattle.alf_check.specs.Resolved.{Stretch, Calls, Nothing, Stores}
 use Rattle.alf_check.specs.Numbers.{frame_rows, frame_number, block_number}
 use Rattle.alf_check.specs.Numbered.{numbered_term, numbered_func, steps_by, end_by, numbered}
-use Rattle.alf_check.specs.Spelled.{is_ending}
-use Rattle.alf_check.specs.Spelled.{Each, FunctionIsWritten}
+use Rattle.alf_text.specs.Grammar.{is_ending}
+use Rattle.alf_text.specs.Spelled.{Each, FunctionIsWritten}
 use Rattle.alf_check.specs.Kept.{HasSize, KeepsStep, KeepsEnd, KeepsBlock, SeesResult, IsBlockOf, blocks_at}
 use Rattle.alf_check.proofs.KeptMembers.{of_each, contained, no_member, placed, front_or_further, all_members, all_images, all_joined, standing, no_parts, when_not, exactly}
 use Rattle.alf_check.proofs.KeptFaults.{IsSound}

@@ -13,7 +13,7 @@ use Rattle.alf_check.specs.declared.rows.FrameRow.{FrameRow}
 use Rattle.alf_check.specs.Resolved.{Tree, Stretch, Calls, Returns}
 use Rattle.alf_check.specs.Numbers.{Numbers, frame_rows, frame_number}
 use Rattle.alf_check.specs.Numbered.{numbered_term, numbered_frames, end_by, numbered}
-use Rattle.alf_check.specs.Spelled.{Each, EntryIsWritten}
+use Rattle.alf_text.specs.Spelled.{Each, EntryIsWritten}
 use Rattle.alf_check.specs.Kept.{SeesFrame, ArgumentsFit, GivesSize, HasOneReturnSize, ResultFits, Gives, blocks_at}
 use Rattle.alf_check.proofs.KeptMembers.{of_each, placed, at_front, further_on, no_parts, exactly}
 use Rattle.alf_check.proofs.KeptFaults.{IsSound}

@@ -8,7 +8,7 @@ use Rattle.alf_names.specs.Places.{label_place, is_label_named}
 use Rattle.alf_names.proofs.Standing.{by_test}
 use Rattle.alf_check.specs.Blocks.{begins_between, joined, blocks_of}
 use Rattle.alf_check.specs.Numbers.{has_label, block_number}
-use Rattle.alf_check.specs.Spelled.{is_ending, ends_well}
+use Rattle.alf_text.specs.Grammar.{is_ending, ends_well}
 use Rattle.alf_check.proofs.KeptMembers.{contained, no_member, at_front, further_on, front_or_further, some_place, standing}
 
 pub data IsCut : List Entry → List (List Entry) → Type 0 where

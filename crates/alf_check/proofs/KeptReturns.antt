@@ -15,7 +15,7 @@ use Rattle.alf_faults.specs.Returns.{return_at, return_of, first_return, first_r
 use Rattle.alf_faults.specs.Sizes.{agrees_behind, breaks_calls, fits_return}
 use Rattle.alf_check.specs.declared.rows.FrameRow.{FrameRow}
 use Rattle.alf_check.specs.Resolved.{Tree}
-use Rattle.alf_check.specs.Spelled.{EntryIsWritten}
+use Rattle.alf_text.specs.Spelled.{EntryIsWritten}
 use Rattle.alf_check.specs.Kept.{GivesSize, Gives}
 use Rattle.alf_check.proofs.KeptMembers.{none_any}
 use Rattle.alf_check.proofs.KeptTerms.{both_sizes, some_bits}

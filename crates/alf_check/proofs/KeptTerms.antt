@@ -13,7 +13,7 @@ use Rattle.alf_faults.specs.TermSizes.{term_size, operands_fit, return_size, sam
 use Rattle.alf_faults.specs.Unknowns.{is_frame, unknown_in, unknown_among, entry_unknowns}
 use Rattle.alf_check.specs.declared.rows.FrameRow.{FrameRow}
 use Rattle.alf_check.specs.Numbered.{numbered_term, numbered_terms}
-use Rattle.alf_check.specs.Spelled.{IsWritten}
+use Rattle.alf_text.specs.Spelled.{IsWritten}
 use Rattle.alf_check.specs.Kept.{SeesFrame, HasSize, HaveSizes, GivesSize}
 use Rattle.alf_check.proofs.KeptMembers.{no_parts, when_not, exactly}
 

@@ -24,7 +24,7 @@ counted_at : (n : ℕ) (numbers : List ℕ) (place : Option ℕ) → option_map 
 counted_at n numbers None = refl
 counted_at n numbers (Some k) = ap Some (rw add-one refl)
 
-some_further : (place : Option ℕ) → is_some (option_map (λ k. k + 1) place) ≡ is_some place
+pub some_further : (place : Option ℕ) → is_some (option_map (λ k. k + 1) place) ≡ is_some place
 some_further None = refl
 some_further (Some k) = refl
 
@@ -41,7 +41,7 @@ joined_other label item (block ∷ blocks) e =
     rw e (ap (λ (b : Bool). if b then Some 0 else option_map (λ k. k + 1) (place_of (has_label label) blocks)) (some_further (label_place block label)))
 
 -- what is said of the place of a label in items and in blocks, where the first have these numbers
-abbrev Agree : ℕ → List ℕ → Option ℕ → Option ℕ → Type 0
+abbrev pub Agree : ℕ → List ℕ → Option ℕ → Option ℕ → Type 0
 Agree n numbers place block = option_map (λ k. get_or numbers k 0) place ≡ option_map (λ k. k + n) block
 
 -- with an item before them that is a block of its own
@@ -59,7 +59,7 @@ agree_joins n item label numbers place blocks h =
     (λ e. rw (e, joined_other label item blocks e) (counted_at n numbers place ∙ h))
 
 -- the number along the items, at the place of the label, is that of the first block that has it
-block_along : (items : List Entry) (n : ℕ) (label : List ℕ) → Agree n (numbers_along n items) (label_place items label) (place_of (has_label label) (blocks_of items))
+pub block_along : (items : List Entry) (n : ℕ) (label : List ℕ) → Agree n (numbers_along n items) (label_place items label) (place_of (has_label label) (blocks_of items))
 block_along [] n label = refl
 block_along (item ∷ []) n label = by_test (is_label_named label item) (λ e. rw e (ap Some (sym (zero-add n)))) (λ e. rw e refl)
 block_along (item ∷ next ∷ items) n label = pick (begins_between item next) (λ (m : ℕ). block_along (next ∷ items) m label)

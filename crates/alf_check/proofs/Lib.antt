@@ -2,6 +2,7 @@ pub mod Labelled
 pub mod Operands
 pub mod Cutting
 pub mod Whole
+pub mod Called
 pub mod KeptMembers
 pub mod KeptFaults
 pub mod KeptFrames
@@ -13,4 +14,3 @@ pub mod KeptReturns
 pub mod KeptCalls
 pub mod KeptBlocks
 pub mod Kept
-pub mod Called

@@ -11,7 +11,7 @@ use Rattle.alf_check.specs.Resolved.{Stretch, block_of, row_of, resolved_of}
 use Rattle.alf_check.specs.Numbers.{frame_rows, frame_number, func_number}
 use Rattle.alf_check.specs.Numbered.{funcs_from, blocks_with, numbered_inits, numbered}
 
-length_funcs : (rows : List FrameRow) (k : ℕ) (funcs : List Function) → length (funcs_from rows k funcs) ≡ length funcs
+pub length_funcs : (rows : List FrameRow) (k : ℕ) (funcs : List Function) → length (funcs_from rows k funcs) ≡ length funcs
 length_funcs rows k [] = refl
 length_funcs rows k (func ∷ funcs) = ap suc (length_funcs rows (suc k) funcs)
 

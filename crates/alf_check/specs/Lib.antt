@@ -4,7 +4,5 @@ pub mod Numbers
 pub mod Numbered
 pub mod Cut
 pub mod Names
-pub mod Kept
-pub mod Spelled
-pub mod Laws
 pub mod Checking
+pub mod Kept

@@ -1,10 +1,11 @@
 ghost use Rattle.std.specs.Prelude.{◌≡◌, ◌<◌, ℕ, List, [], Some, IsSome, map, length, IfOk, IfErr, OnOk};
 ghost use Rattle.alf_text.specs.Tree.{function_of, whole_of};
+ghost use Rattle.alf_text.specs.Language.{IsSpelled};
 ghost use Rattle.alf_names.specs.Places.{function_place};
 ghost use Rattle.alf_faults.specs.Fault.{earliest};
 ghost use Rattle.alf_faults.specs.Faults.{faults_in};
-ghost use Rattle.alf_faults.specs.Found.{fault_of};
-ghost use Rattle.call_cycles.specs.Calls.{CallsWithin, OnCycle, calls_of};
+ghost use Rattle.alf_faults.specs.Told.{fault_of};
+ghost use Rattle.call_cycles.specs.Calls.{CallsWithin, IsRanked, calls_of};
 ghost use Rattle.alf_check.specs.Resolved.{resolved_of};
 ghost use Rattle.alf_check.specs.Numbered.{numbered};
 ghost use Rattle.alf_check.specs.Checking.{Passes, IsTold, calls_among, calls_in, name_at};
@@ -15,7 +16,7 @@ use crate::fault::CheckFault;
 use crate::program::{Checked, numbered};
 use alf_faults::{ItemFault, first_fault};
 use alf_names::function_named;
-use alf_text::{Func, Program};
+use alf_text::{Func, Program, spelled_programs_are_written};
 use call_cycles::{CallFault, call_ranks};
 use flow_base::Name;
 use std::alloc::{AllocError, Global};
@@ -23,12 +24,16 @@ use std::alloc::{AllocError, Global};
 /// The program with numbers in place of names, which starts with the function of this name.
 ///
 /// Names and sizes are checked first, in the order of the text, then recursion, and then that there
-/// is a function to start with. Whether calls are ever reached does not count.
+/// is a function to start with. Whether calls are ever reached does not count. The program is one
+/// that some text spells, as one that was read is. Takes memory for the tables of names, the calls
+/// and the answer; the program is given up.
 pub fn check(alloc: Global, program: Program, root: &str) -> Result<Checked, CheckFault>
+    requires spelled { IsSpelled (whole_of program) }
     ensures passes { IfOk result (λ checked. Passes (whole_of program) root.now) }
     ensures numbered { IfOk result (λ checked. resolved_of checked ≡ numbered (whole_of program) root.now) }
     ensures told { IfErr result (λ fault. IsTold (whole_of program) root.now fault) }
 {
+    spelled_programs_are_written();
     let root = root.as_bytes();
     if let Err(fault) = check_items(alloc, &program) {
         return Err(fault);
@@ -62,7 +67,7 @@ fn check_items(alloc: Global, program: &Program) -> Result<(), CheckFault>
 // That no calls lead from a function back to it.
 fn check_calls(alloc: Global, program: &Program) -> Result<(), CheckFault>
     requires { faults_in (whole_of program.now) ≡ [] }
-    ensures falls { OnOk result ((f : ℕ) → OnCycle (calls_in (whole_of program.now)) f → ⊥) }
+    ensures ranked { OnOk result ((ranks : List ℕ) × IsRanked (calls_in (whole_of program.now)) ranks) }
     ensures told { IfErr result (λ fault. (root : List ℕ) → IsTold (whole_of program.now) root fault) }
 {
     let funcs = program.funcs.as_slice();
@@ -115,7 +120,7 @@ fn name_at(funcs: &[Func], number: u32) -> &[u8]
 // That there is a function of this name.
 fn check_root(alloc: Global, program: &Program, root: &[u8]) -> Result<(), CheckFault>
     requires sound { faults_in (whole_of program.now) ≡ [] }
-    requires falls { (f : ℕ) → OnCycle (calls_in (whole_of program.now)) f → ⊥ }
+    requires ranked { (ranks : List ℕ) × IsRanked (calls_in (whole_of program.now)) ranks }
     ensures starts { OnOk result (IsSome (function_place (whole_of program.now).funcs root.now)) }
     ensures told { IfErr result (λ fault. IsTold (whole_of program.now) root.now fault) }
 {

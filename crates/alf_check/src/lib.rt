@@ -25,14 +25,15 @@ mod statements;
 mod numbering;
 mod program;
 
-// Checks, and what they promise.
+// Checks.
 mod calls;
 mod checking;
 mod fault;
-mod laws;
 
 pub use checking::check;
 pub use fault::CheckFault;
-pub use laws::checked_programs_keep;
 pub use program::Checked;
 pub use rows::{Act, Block, BlockEnd, FrameRow, FuncRow, InitRow, Term};
+
+#[cfg(test)]
+mod tests;

@@ -1,6 +1,12 @@
-ghost use Rattle.std.specs.Prelude.{◌≡◌, ◌<◌, [], map, length, All, IfOk, slice_get, slice_index_or, Some};
+ghost use Rattle.std.specs.Prelude.{◌≡◌, ◌<◌, ℕ, List, [], map, length, All, IfOk, IsSome, slice_get, slice_index_or, Some};
 ghost use Rattle.std.specs.Coded.{codes};
 ghost use Rattle.alf_text.specs.Tree.{whole_of};
+ghost use Rattle.alf_text.specs.Spelled.{WholeIsWritten};
+ghost use Rattle.alf_names.specs.Places.{function_place};
+ghost use Rattle.alf_faults.specs.Faults.{faults_in};
+ghost use Rattle.call_cycles.specs.Calls.{IsRanked};
+ghost use Rattle.alf_check.specs.Checking.{calls_in};
+ghost use Rattle.alf_check.specs.Kept.{IsKept};
 ghost use Rattle.alf_check.specs.Numbered.{numbered};
 ghost use Rattle.alf_check.specs.Resolved.{Held, resolved_of, block_of};
 ghost use Rattle.alf_check.specs.contracts.rows.Term as e;
@@ -41,10 +47,28 @@ impl Model for Checked {
       root = checked.root;
     } };
 
-    ghost invariant = { λ checked. (length checked.funcs.items < 4294967295) × All (λ blocks. length blocks.items < 4294967295) checked.blocks.items };
+    ghost invariant = { λ checked. record {
+      few_funcs : length checked.funcs.items < 4294967295;
+      few_blocks : All (λ blocks. length blocks.items < 4294967295) checked.blocks.items;
+      kept : IsKept (resolved_of (record {
+        frames = checked.frames.items;
+        funcs = checked.funcs.items;
+        blocks = map (λ blocks. blocks.items) checked.blocks.items;
+        inits = checked.inits.items;
+        exports = checked.exports.items;
+        root = checked.root;
+      }));
+    } };
 }
 
 impl Checked {
+    /// What every checked program keeps.
+    pub fn keeps(&self)
+        ensures { IsKept (resolved_of self.now) }
+    {
+        let _root = self.root;
+    }
+
     /// The frames by their numbers.
     pub fn frames(&self) -> &[FrameRow]
         ensures { result.now ≡ self.now.frames }
@@ -69,7 +93,7 @@ impl Checked {
 
     /// How many blocks a function has.
     pub fn block_count(&self, func: u32) -> u32
-        requires { func < length self.now.blocks }
+        requires { func < length self.now.funcs }
         ensures { result ≡ length (slice_index_or self.now.blocks func []) }
     {
         self.blocks[func as usize].len() as u32
@@ -77,7 +101,7 @@ impl Checked {
 
     /// The block of this number in a function.
     pub fn block(&self, func: u32, block: u32) -> &Block
-        requires func { func < length self.now.blocks }
+        requires func { func < length self.now.funcs }
         requires block { block < length (slice_index_or self.now.blocks func []) }
         ensures { slice_get (slice_index_or self.now.blocks func []) block ≡ Some result.now }
     {
@@ -109,6 +133,10 @@ impl Checked {
 
 // The program with numbers in place of names, which starts with the function of this name.
 pub(crate) fn numbered(alloc: Global, program: &Program, root: &[u8]) -> Result<Checked, AllocError>
+    requires written { WholeIsWritten (whole_of program.now) }
+    requires sound { faults_in (whole_of program.now) ≡ [] }
+    requires ranked { (ranks : List ℕ) × IsRanked (calls_in (whole_of program.now)) ranks }
+    requires starts { IsSome (function_place (whole_of program.now).funcs root.now) }
     ensures { IfOk result (λ checked. resolved_of checked ≡ numbered (whole_of program.now) root.now) }
 {
     few(&program.funcs)?;

@@ -6,7 +6,7 @@ ghost use Rattle.sweet_cli.specs.declared.status.Status.{Status};
 
 use crate::Status;
 use crate::answer::words_answer;
-use alf_text::{first_texts, canonical_texts_are_read_back};
+use alf_text::{canonical_texts_are_read_back, first_texts};
 use flow_base::{Shelf, Sink, WriteError};
 use std::alloc::Global;
 

@@ -248,7 +248,8 @@ const TIGHT: &str = r#"/* every part */{alf{macro_defs}{least_addr_unit 08}littl
 {label 32{lref 32 "end"}{dec_unsigned 32 0}}{return{if 8{dec_unsigned 1 1}{dec_unsigned 8 1}{dec_unsigned 8 2}}}}}}
 {func{label 32{lref 32 "f"}{dec_unsigned 32 0}}{arg_decls}{scope{decls}{inits}{stmts{return}}}}}}"#;
 
-const CANONICAL: &str = r#"{ alf { macro_defs } { least_addr_unit 8 } little_endian { exports { frefs { fref 32 "g" } { fref 32 "h" } } { lrefs { lref 32 "main" } } } { imports { frefs } { lrefs } } { decls
+const CANONICAL: &str =
+    r#"{ alf { macro_defs } { least_addr_unit 8 } little_endian { exports { frefs { fref 32 "g" } { fref 32 "h" } } { lrefs { lref 32 "main" } } } { imports { frefs } { lrefs } } { decls
 { alloc 32 "g" 32 }
 { alloc 32 "h" 16 } } { inits
 { init { ref "g" { dec_unsigned 32 0 } } { dec_unsigned 32 7 } }
@@ -283,7 +284,11 @@ fn push_all(text: &mut String, parts: &[&str]) -> Result<(), AllocError> {
 fn push_address(text: &mut String, frame: &str) -> Result<(), AllocError> {
     push_all(
         text,
-        &["{ addr 32 { fref 32 \"", frame, "\" } { dec_unsigned 32 0 } }"],
+        &[
+            "{ addr 32 { fref 32 \"",
+            frame,
+            "\" } { dec_unsigned 32 0 } }",
+        ],
     )
 }
 
@@ -292,7 +297,11 @@ fn push_word(text: &mut String, word: &str) -> Result<(), AllocError> {
     if let Some(label) = word.strip_prefix("L:") {
         return push_all(
             text,
-            &["{ label 32 { lref 32 \"", label, "\" } { dec_unsigned 32 0 } }"],
+            &[
+                "{ label 32 { lref 32 \"",
+                label,
+                "\" } { dec_unsigned 32 0 } }",
+            ],
         );
     }
     if let Some(frame) = word.strip_prefix("A:") {
@@ -464,7 +473,8 @@ fn push_times(text: &mut String, part: &str, count: usize) -> Result<(), AllocEr
     Ok(())
 }
 
-const FUNCTION: &str = "{ func { label 32 { lref 32 \"main\" } { dec_unsigned 32 0 } } { arg_decls } { scope { decls } { inits } { stmts { return } } } } ";
+const FUNCTION: &str =
+    "{ func { label 32 { lref 32 \"main\" } { dec_unsigned 32 0 } } { arg_decls } { scope { decls } { inits } { stmts { return } } } } ";
 
 // So many frames of this text among the globals, and so many functions, which need not differ yet.
 fn counted_program(
@@ -489,30 +499,68 @@ fn a_limit_is_told_where_it_is_passed(rt: HostRuntime) -> Result<(), Fail> {
     // A frame, how many there are, how many functions, and the front of the answer.
     let cases = [
         ("{ alloc 32 \"x\" 8 } ", 256, 1, "{ alf"),
-        ("{ alloc 32 \"x\" 8 } ", 257, 1, "fault 13 limit frames 257\n"),
+        (
+            "{ alloc 32 \"x\" 8 } ",
+            257,
+            1,
+            "fault 13 limit frames 257\n",
+        ),
         ("", 0, 256, "{ alf"),
         ("", 0, 257, "fault 13 limit functions 257\n"),
-        ("{ alloc 32 \"x\" 8 } ", 257, 257, "fault 13 limit frames 257\n"),
+        (
+            "{ alloc 32 \"x\" 8 } ",
+            257,
+            257,
+            "fault 13 limit frames 257\n",
+        ),
         ("{ alloc 32 \"x\" 524288 } ", 1, 0, "{ alf"),
-        ("{ alloc 32 \"x\" 524296 } ", 1, 0, "fault 13 limit frame-bytes 65537\n"),
+        (
+            "{ alloc 32 \"x\" 524296 } ",
+            1,
+            0,
+            "fault 13 limit frame-bytes 65537\n",
+        ),
         ("{ alloc 32 \"x\" 524289 } ", 1, 0, "fault 12 profile 1 "),
         ("{ alloc 32 \"x\" 0 } ", 1, 0, "fault 12 profile 1 "),
-        ("{ alloc 32 \"x\" 99999999999999999992 } ", 1, 0, "fault 13 limit frame-bytes 65537\n"),
-        ("{ alloc 32 \"x\" 100000000000000000000 } ", 1, 0, "fault 11 number 1 "),
+        (
+            "{ alloc 32 \"x\" 99999999999999999992 } ",
+            1,
+            0,
+            "fault 13 limit frame-bytes 65537\n",
+        ),
+        (
+            "{ alloc 32 \"x\" 100000000000000000000 } ",
+            1,
+            0,
+            "fault 11 number 1 ",
+        ),
         ("{ alloc 32 \"x\" 524288 } ", 16, 0, "{ alf"),
-        ("{ alloc 32 \"x\" 524288 } ", 17, 0, "fault 13 limit all-bytes 1048577\n"),
+        (
+            "{ alloc 32 \"x\" 524288 } ",
+            17,
+            0,
+            "fault 13 limit all-bytes 1048577\n",
+        ),
     ];
     let alloc = rt.alloc();
     for (frame, frames, functions, wanted) in cases {
         let text = counted_program(alloc, frame, frames, functions)?;
         let (_, answer) = answer_of(alloc, "print a.alf", text.as_bytes())?;
-        assert!(rt; answer.starts_with(wanted.as_bytes()), "{frame} {frames} {functions}");
+        assert!(rt;
+            answer.starts_with(wanted.as_bytes()),
+            "{frame} {frames} {functions}"
+        );
     }
     Ok(())
 }
 
 // The program that returns a number below so many operators.
-fn nested_program(alloc: Global, front: &str, depth: usize, back: &str) -> Result<String, AllocError> {
+fn nested_program(
+    alloc: Global,
+    front: &str,
+    depth: usize,
+    back: &str,
+) -> Result<String, AllocError> {
     let mut text = String::from_str(alloc, HEAD)?;
     text.push_str("{ return ")?;
     push_times(&mut text, front, depth)?;
@@ -551,7 +599,10 @@ fn whole_texts_are_printed_or_depart(rt: HostRuntime) -> Result<(), Fail> {
         ("\n\n  { elf }", "fault 12 profile 3 5 \"elf\"\n"),
         ("{ alf\r\n\t\t}", "fault 10 syntax 2 3\n"),
         ("/* a\nb */ /* open", "fault 10 syntax 2 6\n"),
-        ("{ alf { macro_defs { } } }", "fault 12 profile 1 20 \"macro_defs\"\n"),
+        (
+            "{ alf { macro_defs { } } }",
+            "fault 12 profile 1 20 \"macro_defs\"\n",
+        ),
         (
             "{ alf { macro_defs } { least_addr_unit 8 } little_endian { exports { frefs } { lrefs } } { imports { frefs { fref 32 \"x\" } } { lrefs } } }",
             "fault 12 profile 1 108 \"imports\"\n",

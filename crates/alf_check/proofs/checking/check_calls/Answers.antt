@@ -2,7 +2,6 @@ use Rattle.std.proofs.Common.{◌≡◌, ℕ, List, Vec, subst, sym, rules}
 use Rattle.std.specs.declared.alloc.Global.{Global}
 use Rattle.alf_text.specs.Tree.{whole_of}
 use Rattle.call_cycles.specs.Calls.{CallsWithin, IsRanked, calls_of}
-use Rattle.call_cycles.proofs.Reaching.{ranks_rule_out}
 use Rattle.alf_check.specs.Checking.{calls_in}
 use Rattle.alf_check.proofs.checking.check_calls.Goals as goal
 
@@ -10,8 +9,7 @@ pub call_ranks-requires-clause-within : goal.call_ranks-requires-clause-within
 call_ranks-requires-clause-within c =
     subst (λ (rows : List (Vec ℕ Global)). CallsWithin (calls_of rows)) (sym c.as_slice-calls.ensures.value) c.in-Ok.ensures.within
 
-pub returns-in-Ok-call_ranks-clause-falls : goal.returns-in-Ok-call_ranks-clause-falls
-returns-in-Ok-call_ranks-clause-falls c =
+pub returns-in-Ok-call_ranks-clause-ranked : goal.returns-in-Ok-call_ranks-clause-ranked
+returns-in-Ok-call_ranks-clause-ranked c =
     let are : calls_of c.as_slice-calls.result.now ≡ calls_in (whole_of c.args.program.now) = search rules in
-    let ranked = subst (λ (calls : List (List ℕ)). IsRanked calls c.in-Ok-call_ranks.field-0.items) are c.in-Ok-call_ranks.ensures.ranked in
-    ranks_rule_out (calls_in (whole_of c.args.program.now)) c.in-Ok-call_ranks.field-0.items ranked
+    (c.in-Ok-call_ranks.field-0.items, subst (λ (calls : List (List ℕ)). IsRanked calls c.in-Ok-call_ranks.field-0.items) are c.in-Ok-call_ranks.ensures.ranked)

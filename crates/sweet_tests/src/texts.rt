@@ -8,7 +8,7 @@ use sweet_cli::Status;
 const HEAD: &str =
     "{ alf { macro_defs } { least_addr_unit 8 } little_endian { exports { frefs } { lrefs } } { imports { frefs } { lrefs } } { decls } { inits } { funcs { func { label 32 { lref 32 \"main\" } { dec_unsigned 32 0 } } { arg_decls } { scope { decls } { inits } { stmts ";
 
-const TAIL: &str = "} } } } } }";
+const TAIL: &str = "} } } } }";
 
 // Items of the function, behind what is due of them: `o` where they are read, else `s`, `n` or `p`
 // for syntax, number or profile at the caret. A caret at the end stands for the brace behind the

@@ -27,7 +27,11 @@ fn other_words_are_no_command(rt: HostRuntime) -> Result<(), Fail> {
         "analyse a.c",
         "analyse .c",
         "Analyse a.alf",
-        "print a.alf",
+        "print",
+        "print a.c",
+        "print -a.alf",
+        "print a.alf b.alf",
+        "print a.alf --turns 5",
         "a.alf analyse",
     ];
     for line in lines {

@@ -28,6 +28,6 @@ mod language;
 mod laws;
 
 pub use language::{one_meaning, read};
-pub use laws::spelled_programs_end_well;
+pub use laws::spelled_programs_are_written;
 pub use program::{Alloc, Expr, Func, Init, Item, Num, Program, Stmt};
 pub use text_fault::TextFault;

@@ -17,12 +17,12 @@ use std::alloc::{AllocError, Global};
 
 /// The first fault of a program's names and sizes, in text order, or None where there is none.
 ///
-/// The text goes through the exported frames and labels, the global frames, what these hold at first,
-/// and the functions, each through its name, its arguments, its declarations, what these hold at
-/// first, and its items. At one place a duplicate comes before unknown names, and these before a
+/// The text goes through the exported frames and labels, the global frames, what these hold at
+/// first, and the functions, each through its name, its arguments, its declarations, what these hold
+/// at first, and its items. At one place a duplicate comes before unknown names, and these before a
 /// size. It takes memory for a table of the labels of one function at a time, the numbers of one
-/// switch, one entry for each function, and the name. An item behind the 4,294,967,295th is told as
-/// want of memory.
+/// switch, one entry for each function, and the name. A fault at an item behind the 4,294,967,296th
+/// is told as want of memory.
 pub fn first_fault(alloc: Global, program: &Program) -> Result<Option<ItemFault>, AllocError>
     ensures first { IfOk result (λ found. option_map fault_of found
         ≡ earliest (faults_in (whole_of program.now))) }
@@ -36,7 +36,8 @@ pub fn first_fault(alloc: Global, program: &Program) -> Result<Option<ItemFault>
 // The same, by names of the program.
 #[tactic(auto, using(crate::proofs::EarliestFaults::earliest_faults))]
 fn first_found(alloc: Global, program: &Program) -> Result<Option<Found<'_>>, AllocError>
-    ensures { IfOk result (λ found. option_map told found ≡ earliest (faults_in (whole_of program.now))) }
+    ensures { IfOk result (λ found. option_map told found
+        ≡ earliest (faults_in (whole_of program.now))) }
 {
     if let Some(found) = global_fault(program) {
         return Ok(Some(found));

@@ -21,8 +21,8 @@ pub fn repeated_frame<'a>(
     others: &[Alloc],
     frames: &'a [Alloc],
 ) -> Option<Found<'a>>
-    ensures { option_map told result ≡ earliest (each_from
-        (frame_duplicates (map frame_of taken.now) (map frame_of others.now) (map frame_of frames.now))
+    ensures { option_map told result ≡ earliest (each_from (frame_duplicates
+        (map frame_of taken.now) (map frame_of others.now) (map frame_of frames.now))
         0 (map frame_of frames.now)) }
 {
     for (place, frame) in frames.iter().enumerate() {

@@ -85,8 +85,8 @@ fn header_fault<'a>(program: &Program, place: usize, func: &'a Func) -> Option<F
 #[tactic(auto, using(crate::proofs::EarliestFaults::earliest_faults))]
 fn entries_fault<'a>(alloc: Global, scope: &Scope<'_, 'a>) -> Result<Option<Found<'a>>, AllocError>
     requires { IsScope scope.now }
-    ensures { IfOk result (λ found. option_map told found ≡ earliest (each_from
-        (entry_faults (whole_of scope.now.program.now) scope.now.place (function_of scope.now.func.now))
+    ensures { IfOk result (λ found. option_map told found ≡ earliest (each_from (entry_faults
+        (whole_of scope.now.program.now) scope.now.place (function_of scope.now.func.now))
         0 (function_of scope.now.func.now).items)) }
 {
     for (at, item) in scope.func.items.iter().enumerate() {
@@ -106,8 +106,8 @@ fn entry_fault<'a>(
     item: &'a Item,
 ) -> Result<Option<Found<'a>>, AllocError>
     requires { IsScope scope.now }
-    ensures { IfOk result (λ found. option_map told found ≡ earliest
-        (entry_faults (whole_of scope.now.program.now) scope.now.place (function_of scope.now.func.now)
+    ensures { IfOk result (λ found. option_map told found ≡ earliest (entry_faults
+        (whole_of scope.now.program.now) scope.now.place (function_of scope.now.func.now)
         place (item_of item.now))) }
 {
     let (program, func, labels) = (scope.program, scope.func, scope.labels);

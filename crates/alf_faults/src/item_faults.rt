@@ -18,8 +18,8 @@ pub enum ItemFault {
     /// unsigned digits.
     Duplicate(Name),
     /// A size rule is broken: at the item of this number of the function of this name, where items
-    /// are counted from 0 and labels count too; or, with no number, at the frame of this name that is
-    /// exported or holds a number at first.
+    /// are counted from 0 and labels count too; or, with no number, at the frame of this name that
+    /// is exported or holds a number at first.
     Size(Name, Option<u32>),
 }
 

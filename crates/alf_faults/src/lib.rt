@@ -1,10 +1,11 @@
 //! The first fault of a program's names and sizes.
 //!
-//! `first_fault` goes through a program in the order of its text and tells the first name that stands
-//! twice or nowhere, or the first place that breaks a size rule. All faults of a program are defined
-//! as one list on the whole program, `faults_in`, and what is told is its head. No pass is quadratic
-//! in the number of items, labels or targets: labels are looked up in a table, and of frames and
-//! functions a program has few. Whether functions call one another in a circle is not judged here.
+//! `first_fault` goes through a program in the order of its text and tells the first name that
+//! stands twice or nowhere, or the first place that breaks a size rule. All faults of a program are
+//! defined as one list on the whole program, `faults_in`, and what is told is its head. No pass is
+//! quadratic in the number of items, labels or targets: labels are looked up in a table, and of
+//! frames and functions a program has few. Whether functions call one another in a circle is not
+//! judged here.
 #![tactic(auto)]
 
 // What is found, and what is told of it.

@@ -36,8 +36,8 @@ pub fn entry_repeated<'a>(
     item: &'a Item,
 ) -> Result<Option<Found<'a>>, AllocError>
     requires { labels.now ≡ func.now.items.items }
-    ensures { IfOk result (λ found. option_map told found
-        ≡ earliest (entry_duplicates (whole_of program.now) (function_of func.now) place (item_of item.now))) }
+    ensures { IfOk result (λ found. option_map told found ≡ earliest
+        (entry_duplicates (whole_of program.now) (function_of func.now) place (item_of item.now))) }
 {
     match item {
         Item::Label(label) => Ok(repeated_label(program, labels, place, label)),
@@ -71,7 +71,8 @@ fn repeated_label<'a>(
 
 // The first number of a target that an earlier target has.
 fn repeated_target(alloc: Global, targets: &[(Num, Name)]) -> Result<Option<Found<'_>>, AllocError>
-    ensures { IfOk result (λ found. option_map told found ≡ earliest (target_duplicates [] targets.now)) }
+    ensures { IfOk result (λ found. option_map told found
+        ≡ earliest (target_duplicates [] targets.now)) }
 {
     let mut seen = IndexSet::new(alloc);
     for target in targets {

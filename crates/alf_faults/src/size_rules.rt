@@ -128,8 +128,8 @@ fn return_fits(scope: &Scope, place: usize, value: &Option<Expr>) -> bool
     }
 }
 
-// Whether item `item` of function `place` is this return, the function is the first of its name, and
-// a call before it does not agree with it.
+// Whether item `item` of function `place` is this return, the function is the first of its name,
+// and a call before it does not agree with it.
 fn breaks_calls(program: &Program, place: usize, name: &Name, item: usize, first: Return) -> bool
     ensures { result ≡ breaks_calls (whole_of program.now) place name.now item first }
 {

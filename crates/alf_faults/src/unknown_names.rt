@@ -22,7 +22,8 @@ pub fn entry_unknown<'a>(
 ) -> Option<Found<'a>>
     requires { labels.now ≡ func.now.items.items }
     ensures { option_map told result
-        ≡ earliest (entry_unknowns (whole_of program.now) (function_of func.now) (item_of item.now)) }
+        ≡ earliest
+        (entry_unknowns (whole_of program.now) (function_of func.now) (item_of item.now)) }
 {
     match item {
         Item::Label(_) => None,
@@ -70,7 +71,8 @@ fn unknown_in_switch<'a>(
 ) -> Option<Found<'a>>
     ensures { option_map told result ≡ earliest
         (unknown_in (whole_of program.now) (function_of func.now) (term_of value.now)
-        ++ (unknown_targets (map item_of labels.now) targets.now ++ unknown_label (map item_of labels.now) others.now)) }
+        ++ (unknown_targets (map item_of labels.now) targets.now
+        ++ unknown_label (map item_of labels.now) others.now)) }
 {
     if let Some(found) = unknown_in(program, func, value) {
         return Some(found);
@@ -92,7 +94,8 @@ fn unknown_in_call<'a>(
 ) -> Option<Found<'a>>
     ensures { option_map told result ≡ earliest
         (unknown_function (whole_of program.now) label.now
-        ++ (unknown_among (whole_of program.now) (function_of func.now) (terms_of (map term_of args.now))
+        ++ (unknown_among
+        (whole_of program.now) (function_of func.now) (terms_of (map term_of args.now))
         ++ unknown_result (whole_of program.now) (function_of func.now) place.now)) }
 {
     if let Some(found) = unknown_function(program, label) {
@@ -143,7 +146,8 @@ fn unknown_label<'a>(labels: &Labels, label: &'a Name) -> Option<Found<'a>>
 // The first label of a target that does not stand among the items.
 #[tactic(auto, using(crate::proofs::EarliestFaults::earliest_faults))]
 fn unknown_target<'a>(labels: &Labels, targets: &'a [(Num, Name)]) -> Option<Found<'a>>
-    ensures { option_map told result ≡ earliest (unknown_targets (map item_of labels.now) targets.now) }
+    ensures { option_map told result
+        ≡ earliest (unknown_targets (map item_of labels.now) targets.now) }
 {
     for target in targets {
         if let Some(found) = unknown_label(labels, &target.1) {
@@ -207,8 +211,8 @@ fn unknown_in<'a>(program: &Program, func: &Func, expr: &'a Expr) -> Option<Foun
 #[cycle(unknowns)]
 #[tactic(auto, using(crate::proofs::EarliestFaults::earliest_faults))]
 fn unknown_among<'a>(program: &Program, func: &Func, operands: &'a [Expr]) -> Option<Found<'a>>
-    ensures { option_map told result ≡ earliest
-        (unknown_among (whole_of program.now) (function_of func.now) (terms_of (map term_of operands.now))) }
+    ensures { option_map told result ≡ earliest (unknown_among
+        (whole_of program.now) (function_of func.now) (terms_of (map term_of operands.now))) }
 {
     for operand in operands {
         if let Some(found) = unknown_in(program, func, operand) {

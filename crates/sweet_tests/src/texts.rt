@@ -321,9 +321,10 @@ fn push_word(text: &mut String, word: &str) -> Result<(), AllocError> {
 // The program with these items, and a caret where they have one.
 fn program_with(alloc: Global, items: &str) -> Result<String, AllocError> {
     let mut text = String::from_str(alloc, HEAD)?;
-    let mut behind = "";
-    for word in items.split(' ') {
-        text.push_str(behind)?;
+    for (at, word) in items.split(' ').enumerate() {
+        if at > 0 {
+            text.push_str(" ")?;
+        }
         match word.strip_prefix('^') {
             Some(rest) => {
                 text.push('^')?;
@@ -331,7 +332,6 @@ fn program_with(alloc: Global, items: &str) -> Result<String, AllocError> {
             }
             None => push_word(&mut text, word)?,
         }
-        behind = " ";
     }
     if !items.ends_with('^') {
         text.push_str(" ")?;
@@ -437,12 +437,9 @@ fn each_token_counts(rt: HostRuntime) -> Result<(), Fail> {
 
 // What is due of the program that returns at once, where it is cut behind this front.
 fn line_at_cut(alloc: Global, front: &str) -> Result<String, AllocError> {
-    let mut last = "";
-    let mut whole = "";
-    for (part, token) in front.split(' ').zip(RETURNS.split(' ')) {
-        last = part;
-        whole = token;
-    }
+    let number = front.split(' ').count().saturating_sub(1);
+    let last = front.split(' ').nth(number).unwrap_or("");
+    let whole = RETURNS.split(' ').nth(number).unwrap_or("");
     let start = front.len().saturating_sub(last.len()).saturating_add(1);
     let end = front.len().saturating_add(1);
     if last.is_empty() || last == whole {

@@ -272,6 +272,55 @@ const CANONICAL: &str =
 { return } } } } } }
 "#;
 
+// A canonical text with each operator, and one that returns twice.
+const OPERATORS: &str =
+    r#"{ alf { macro_defs } { least_addr_unit 8 } little_endian { exports { frefs } { lrefs } } { imports { frefs } { lrefs } } { decls } { inits } { funcs
+{ func { label 32 { lref 32 "main" } { dec_unsigned 32 0 } } { arg_decls } { scope { decls } { inits } { stmts
+{ return { neg 32 { dec_unsigned 32 0 } } }
+{ return { not 32 { dec_unsigned 32 0 } } }
+{ return { add 32 { dec_unsigned 32 0 } { dec_unsigned 32 1 } { dec_unsigned 32 2 } } }
+{ return { sub 32 { dec_unsigned 32 0 } { dec_unsigned 32 1 } { dec_unsigned 32 2 } } }
+{ return { c_add 32 { dec_unsigned 32 0 } { dec_unsigned 32 1 } { dec_unsigned 32 2 } } }
+{ return { c_sub 32 { dec_unsigned 32 0 } { dec_unsigned 32 1 } { dec_unsigned 32 2 } } }
+{ return { u_mul 32 16 { dec_unsigned 32 0 } { dec_unsigned 32 1 } } }
+{ return { s_mul 32 16 { dec_unsigned 32 0 } { dec_unsigned 32 1 } } }
+{ return { u_div 32 16 { dec_unsigned 32 0 } { dec_unsigned 32 1 } } }
+{ return { s_div 32 16 { dec_unsigned 32 0 } { dec_unsigned 32 1 } } }
+{ return { u_mod 32 16 { dec_unsigned 32 0 } { dec_unsigned 32 1 } } }
+{ return { s_mod 32 16 { dec_unsigned 32 0 } { dec_unsigned 32 1 } } }
+{ return { l_shift 32 16 { dec_unsigned 32 0 } { dec_unsigned 32 1 } } }
+{ return { r_shift 32 16 { dec_unsigned 32 0 } { dec_unsigned 32 1 } } }
+{ return { r_shift_a 32 16 { dec_unsigned 32 0 } { dec_unsigned 32 1 } } }
+{ return { and 32 { dec_unsigned 32 0 } { dec_unsigned 32 1 } } }
+{ return { or 32 { dec_unsigned 32 0 } { dec_unsigned 32 1 } } }
+{ return { xor 32 { dec_unsigned 32 0 } { dec_unsigned 32 1 } } }
+{ return { eq 32 { dec_unsigned 32 0 } { dec_unsigned 32 1 } } }
+{ return { neq 32 { dec_unsigned 32 0 } { dec_unsigned 32 1 } } }
+{ return { u_lt 32 { dec_unsigned 32 0 } { dec_unsigned 32 1 } } }
+{ return { u_le 32 { dec_unsigned 32 0 } { dec_unsigned 32 1 } } }
+{ return { u_gt 32 { dec_unsigned 32 0 } { dec_unsigned 32 1 } } }
+{ return { u_ge 32 { dec_unsigned 32 0 } { dec_unsigned 32 1 } } }
+{ return { s_lt 32 { dec_unsigned 32 0 } { dec_unsigned 32 1 } } }
+{ return { s_le 32 { dec_unsigned 32 0 } { dec_unsigned 32 1 } } }
+{ return { s_gt 32 { dec_unsigned 32 0 } { dec_unsigned 32 1 } } }
+{ return { s_ge 32 { dec_unsigned 32 0 } { dec_unsigned 32 1 } } }
+{ return { s_ext 32 16 { dec_unsigned 32 0 } } }
+{ return { z_ext 32 16 { dec_unsigned 32 0 } } }
+{ return { trunc 32 16 { dec_unsigned 32 0 } } }
+{ return { select 32 0 7 { dec_unsigned 32 0 } } }
+{ return { conc 32 16 { dec_unsigned 32 0 } { dec_unsigned 32 1 } } }
+{ return { if 32 { dec_unsigned 32 0 } { dec_unsigned 32 1 } { dec_unsigned 32 2 } } }
+{ return { rot_l 32 16 { dec_unsigned 32 0 } { dec_unsigned 32 1 } } }
+{ return { rot_r 32 16 { dec_unsigned 32 0 } { dec_unsigned 32 1 } } } } } } } }
+"#;
+
+const RETURNS_TWICE: &str =
+    r#"{ alf { macro_defs } { least_addr_unit 8 } little_endian { exports { frefs } { lrefs } } { imports { frefs } { lrefs } } { decls } { inits } { funcs
+{ func { label 32 { lref 32 "main" } { dec_unsigned 32 0 } } { arg_decls } { scope { decls } { inits } { stmts
+{ return { dec_signed 32 7 } }
+{ return { dec_signed 32 0 } } } } } } }
+"#;
+
 const NEW_TOKENS: [&str; 5] = ["{", "word", "7", "\"n\"", ""];
 
 fn push_all(text: &mut String, parts: &[&str]) -> Result<(), AllocError> {
@@ -563,7 +612,7 @@ fn nested_program(
     let mut text = String::from_str(alloc, HEAD)?;
     text.push_str("{ return ")?;
     push_times(&mut text, front, depth)?;
-    text.push_str("{ dec_unsigned 8 1 } ")?;
+    text.push_str("{ dec_unsigned 32 0 } ")?;
     push_times(&mut text, back, depth)?;
     push_all(&mut text, &["} ", TAIL])?;
     Ok(text)
@@ -572,8 +621,8 @@ fn nested_program(
 #[test]
 fn expressions_stand_in_one_another_up_to_64(rt: HostRuntime) -> Result<(), Fail> {
     let cases = [
-        ("{ neg 8 ", 63, "} ", "{ alf"),
-        ("{ neg 8 ", 64, "} ", "fault 13 limit depth 65\n"),
+        ("{ not 32 ", 63, "} ", "{ alf"),
+        ("{ not 32 ", 64, "} ", "fault 13 limit depth 65\n"),
         ("{ load 8 ", 63, "} ", "{ alf"),
         ("{ load 8 ", 64, "} ", "fault 13 limit depth 65\n"),
         ("{ add 8 ", 1000, "} ", "fault 13 limit depth 65\n"),
@@ -609,6 +658,8 @@ fn whole_texts_are_printed_or_depart(rt: HostRuntime) -> Result<(), Fail> {
         ("\u{e9}", "fault 10 syntax 1 1\n"),
         (TIGHT, CANONICAL),
         (CANONICAL, CANONICAL),
+        (OPERATORS, OPERATORS),
+        (RETURNS_TWICE, RETURNS_TWICE),
     ];
     for (text, wanted) in cases {
         let (_, answer) = answer_of(rt.alloc(), "print a.alf", text.as_bytes())?;

@@ -1,20 +1,23 @@
 -- Functions that are called are functions.
-use Rattle.std.proofs.Common.{◌≡◌, ◌<◌, ℕ, zero, suc, List, [], ◌∷◌, map, length, get_or, Option, Some, None, unwrap_or, IfSome, Contains, ⊎_elim, ap, arith}
+use Rattle.std.proofs.Common.{◌≡◌, ◌<◌, ℕ, zero, suc, List, [], ◌∷◌, map, length, get_or, Option, Some, None, unwrap_or, IfSome, Contains, ⊎_elim, ap, sym, arith}
 use Rattle.std.specs.List.{flat_map}
 use Rattle.std.proofs.lemmas.List.{length-map}
 use Rattle.std.proofs.lemmas.List.Elements.{Contains-append_cases}
-use Rattle.alf_text.specs.declared.program.Func.{Func}
-use Rattle.alf_text.specs.Tree.{function_of, Nothing, Stores, Jumps, Switches, Calls, Returns, Entry, Labels, Does, Function}
+use Rattle.alf_program.specs.declared.program.Func.{Func}
+use Rattle.alf_program.specs.Tree.{function_of, Nothing, Stores, Jumps, Switches, Calls, Returns, Entry, Labels, Does, Function}
 use Rattle.alf_names.specs.Places.{function_place}
-use Rattle.alf_names.proofs.Standing.{place_within}
+use Rattle.alf_names.specs.PlaceLaws.{place_within}
 use Rattle.call_cycles.specs.Calls.{CallsWithin}
-use Rattle.call_cycles.proofs.Reaching.{contains_cases}
-use Rattle.call_cycles.proofs.Ranking.{caller_low}
+use Rattle.call_cycles.specs.CallLaws.{caller_low}
 use Rattle.alf_check.specs.Numbers.{func_number}
 use Rattle.alf_check.specs.Checking.{called_by, calls_among, name_at}
 
 contains_none : (x : ℕ) → Contains [] x → ⊥
 contains_none x (k, low, e) = omega arith
+
+contains_only : (x y : ℕ) → Contains (x ∷ []) y → y ≡ x
+contains_only x y (zero, low, e) = sym e
+contains_only x y (suc k, low, e) = absurd (omega arith)
 
 or_first : (found : Option ℕ) (n : ℕ) → 0 < n → IfSome found (λ place. place < n) → unwrap_or found 0 < n
 or_first None n some low = some
@@ -30,7 +33,7 @@ called_low all (Does (Stores at value)) g some h = absurd (contains_none g h)
 called_low all (Does (Jumps label)) g some h = absurd (contains_none g h)
 called_low all (Does (Switches value targets others)) g some h = absurd (contains_none g h)
 called_low all (Does (Calls label args result)) g some h =
-    ⊎_elim (λ e. let low = number_low all label some in omega arith) (λ k. absurd (contains_none g k)) (contains_cases (func_number all label) [] g h)
+    let e = contains_only (func_number all label) g h in let low = number_low all label some in omega arith
 called_low all (Does (Returns value)) g some h = absurd (contains_none g h)
 
 row_low : (all : List Function) (items : List Entry) (g : ℕ) → 0 < length all → Contains (flat_map (called_by all) items) g → g < length all

@@ -3,14 +3,15 @@ use Rattle.std.proofs.Common.{◌≡◌, ◌<◌, ℕ, suc, true, List, [], ◌�
 use Rattle.std.specs.Str.{bytes_eq}
 use Rattle.std.proofs.lemmas.List.Elements.{All-append}
 use Rattle.std.proofs.lemmas.Option.{slice_get-map, slice_get_within, get_or_from_slice_get}
-use Rattle.alf_text.specs.Tree.{Entry, Labels, Does, Frame, Start, Function, Whole}
-use Rattle.alf_text.specs.Tree as text
+use Rattle.alf_program.specs.Tree.{Entry, Labels, Does, Frame, Start, Function, Whole}
+use Rattle.alf_program.specs.Tree as text
 use Rattle.call_cycles.specs.Calls.{IsRanked}
 use Rattle.alf_faults.specs.Sizes.{is_export_size}
 use Rattle.alf_check.specs.declared.rows.FrameRow.{FrameRow}
 use Rattle.alf_check.specs.Numbers.{frame_rows, frame_number, func_number}
 use Rattle.alf_check.specs.Numbered.{numbered_func, numbered_frames, numbered}
 use Rattle.alf_check.specs.Checking.{called_by, calls_in, Passes}
+use Rattle.alf_text.specs.Language.{IsSpelled}
 use Rattle.alf_text.specs.Spelled.{FunctionIsWritten, WholeIsWritten}
 use Rattle.alf_check.specs.Kept.{OwnsFrame, IsGlobal, InitFits, IsRankedBy, KeepsFunction, IsKept}
 use Rattle.alf_check.proofs.KeptMembers.{of_each, at_front, all_images, joined, standing}
@@ -62,12 +63,13 @@ module _ (whole : Whole) (root : List ℕ) (written : WholeIsWritten whole) (s :
       let number = func_number whole.funcs call.0 in
       r.falls k f (called_in k owner.0 owner.1 (Does (text.Calls call.0 call.1 call.2)) item f (subst (Contains (number ∷ [])) call.4 (at_front number [])))
 
-pub kept : (whole : Whole) (root ranks : List ℕ) → WholeIsWritten whole → Passes whole root → IsRanked (calls_in whole) ranks → IsKept (numbered whole root)
-kept whole root ranks written passes ranked =
+pub kept : (whole : Whole) (root ranks : List ℕ) → IsSpelled whole → WholeIsWritten whole → Passes whole root → IsRanked (calls_in whole) ranks → IsKept (numbered whole root)
+kept whole root ranks spelled written passes ranked =
     let s = sound whole passes.sound in
     let start = standing (λ func. bytes_eq func.name root) whole.funcs passes.starts in
     let low = slice_get_within whole.funcs start.0 start.1 start.3 in
     record {
+      checked = record { whole = whole; root = root; spelled = spelled; passes = passes; numbers = refl };
       root = subst (λ (n : ℕ). func_number whole.funcs root < n) (sym (length_funcs whole root)) (subst (λ (n : ℕ). n < length whole.funcs) (sym (ap (λ (o : Option ℕ). unwrap_or o 0) start.2)) low);
       one_each = length_all whole root ∙ sym (length_funcs whole root);
       functions = λ k row at. let f = function_at whole root k row at in subst (KeepsFunction (numbered whole root) k) f.2 (keeps_function whole root written s k f.0 f.1);

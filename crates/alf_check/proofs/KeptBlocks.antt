@@ -3,9 +3,9 @@ use Rattle.std.proofs.Common.{◌≡◌, ◌<◌, ◌%◌, ℕ, suc, true, false
 use Rattle.std.specs.Str.{bytes_eq}
 use Rattle.std.proofs.lemmas.Bool.{false≢true, and_parts}
 use Rattle.std.proofs.lemmas.List.Elements.{All-nil, All-cons}
-use Rattle.alf_text.specs.declared.program.Num.{Num}
-use Rattle.alf_text.specs.Tree.{Term, Entry, Labels, Does, Function, Whole, terms_of}
-use Rattle.alf_text.specs.Tree as text
+use Rattle.alf_program.specs.declared.program.Num.{Num}
+use Rattle.alf_program.specs.Tree.{Term, Entry, Labels, Does, Function, Whole, terms_of}
+use Rattle.alf_program.specs.Tree as text
 use Rattle.alf_names.specs.Places.{function_place, label_place}
 use Rattle.alf_faults.specs.Fault.{Unknown, is_exactly}
 use Rattle.alf_faults.specs.TermSizes.{term_size, is_bytes}

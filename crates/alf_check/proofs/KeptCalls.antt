@@ -1,8 +1,8 @@
 -- Calls: their arguments, and what the functions that they call return.
 use Rattle.std.proofs.Common.{◌≡◌, ℕ, suc, true, List, [], ◌∷◌, map, slice_get, Contains, Option, Some, None, is_some, option_map, unwrap_or, refl, ap, sym, ◌∙◌, subst}
 use Rattle.std.proofs.lemmas.Bool.{false≢true, and_parts}
-use Rattle.alf_text.specs.Tree.{Term, Frame, Entry, Labels, Does, Function, Whole, terms_of}
-use Rattle.alf_text.specs.Tree as text
+use Rattle.alf_program.specs.Tree.{Term, Frame, Entry, Labels, Does, Function, Whole, terms_of}
+use Rattle.alf_program.specs.Tree as text
 use Rattle.alf_faults.specs.Fault.{is_exactly}
 use Rattle.alf_faults.specs.TermSizes.{term_size}
 use Rattle.alf_faults.specs.Unknowns.{is_frame, unknown_in, unknown_among}

@@ -3,9 +3,9 @@
 use Rattle.std.proofs.Common.{◌≡◌, ◌-◌, ◌<◌, ℕ, zero, suc, true, false, List, [], ◌∷◌, length, slice_get, Contains, Option, Some, is_some, unwrap_or, refl, ap, sym, ◌∙◌, subst, arith}
 use Rattle.std.proofs.lemmas.Bool.{false≢true, both_ways}
 use Rattle.std.proofs.lemmas.Option.{none-some, same_Some, slice_get_within}
-use Rattle.alf_text.specs.Tree.{Entry}
+use Rattle.alf_program.specs.Tree.{Entry}
 use Rattle.alf_names.specs.Places.{label_place, is_label_named}
-use Rattle.alf_names.proofs.Standing.{by_test}
+use Rattle.alf_names.specs.PlaceLaws.{by_test}
 use Rattle.alf_check.specs.Blocks.{begins_between, joined, blocks_of}
 use Rattle.alf_check.specs.Numbers.{has_label, block_number}
 use Rattle.alf_text.specs.Grammar.{is_ending, ends_well}

@@ -3,7 +3,7 @@
 --   IsSoundFunction whole k func      no two functions have the name of function k, nor two frames that it sees one name, and its parts are sound
 --   IsSound whole                     no two global frames have one name, and the parts of the program are sound
 use Rattle.std.proofs.Common.{◌≡◌, ℕ, true, List, [], Contains, flat_map, slice_get, Some, zero-add, sym}
-use Rattle.alf_text.specs.Tree.{Entry, Start, Function, Whole}
+use Rattle.alf_program.specs.Tree.{Entry, Start, Function, Whole}
 use Rattle.alf_names.specs.Places.{function_place}
 use Rattle.alf_faults.specs.Fault.{Size, each_from, is_exactly, Duplicate}
 use Rattle.alf_faults.specs.Duplicates.{frame_duplicates, function_duplicates, entry_duplicates}

@@ -5,7 +5,7 @@ use Rattle.std.proofs.lemmas.Bool.{false≢true, not-false, or_parts, and_parts,
 use Rattle.std.proofs.lemmas.Option.{none-some, same_Some}
 use Rattle.std.proofs.lemmas.Slice.Eq.{bytes_eq-Decides}
 use Rattle.std.proofs.lemmas.List.Elements.{Contains-append_left, Contains-append_right, Contains-append_cases}
-use Rattle.alf_text.specs.Tree.{Frame, Function, Whole}
+use Rattle.alf_program.specs.Tree.{Frame, Function, Whole}
 use Rattle.alf_names.specs.Places.{frame_place}
 use Rattle.alf_faults.specs.Fault.{each_from, is_exactly, Duplicate}
 use Rattle.alf_faults.specs.Duplicates.{frame_duplicates}

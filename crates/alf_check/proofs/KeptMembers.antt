@@ -4,7 +4,7 @@ use Rattle.std.proofs.lemmas.Bool.{false≢true, or_parts}
 use Rattle.std.proofs.lemmas.Option.{none-some, same_Some, slice_get-map, slice_get_within, slice_get-get_or, get_or_from_slice_get}
 use Rattle.std.proofs.lemmas.List.Elements.{All-nil, All-append, Contains-get_or, Contains-append_left, Contains-append_right}
 use Rattle.alf_names.specs.Places.{place_of}
-use Rattle.alf_names.proofs.Standing.{by_test}
+use Rattle.alf_names.specs.PlaceLaws.{by_test}
 use Rattle.alf_text.specs.Spelled.{Each}
 use Rattle.alf_faults.specs.Fault.{Fault, when, each_from, any_from, is_exactly}
 

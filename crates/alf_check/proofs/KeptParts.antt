@@ -6,7 +6,7 @@ use Rattle.std.specs.Option.{option_map_or}
 use Rattle.std.proofs.lemmas.Bool.{cases_lt}
 use Rattle.std.proofs.lemmas.List.{get_or_past}
 use Rattle.std.proofs.lemmas.Option.{none-some, same_Some, slice_get-get_or, get_or_from_slice_get}
-use Rattle.alf_text.specs.Tree.{Entry, Function, Whole}
+use Rattle.alf_program.specs.Tree.{Entry, Function, Whole}
 use Rattle.alf_check.specs.declared.rows.FrameRow.{FrameRow}
 use Rattle.alf_check.specs.Blocks.{blocks_of}
 use Rattle.alf_check.specs.Resolved.{Stretch, Row, Falls}

@@ -5,9 +5,9 @@ use Rattle.std.specs.Str.{bytes_eq}
 use Rattle.std.proofs.lemmas.Bool.{false≢true, and_parts, and_from, or_cases, not-true, not-false, both_ways}
 use Rattle.std.proofs.lemmas.Bool.Decides.{nat_tests}
 use Rattle.std.proofs.lemmas.Option.{none-some, same_Some}
-use Rattle.alf_text.specs.Tree.{Term, Nothing, Stores, Jumps, Switches, Calls, Returns, Entry, Labels, Does, Function, Whole}
+use Rattle.alf_program.specs.Tree.{Term, Nothing, Stores, Jumps, Switches, Calls, Returns, Entry, Labels, Does, Function, Whole}
 use Rattle.alf_names.specs.Places.{function_place}
-use Rattle.alf_names.proofs.Standing.{by_test}
+use Rattle.alf_names.specs.PlaceLaws.{by_test}
 use Rattle.alf_faults.specs.declared.returns.Return.{Return}
 use Rattle.alf_faults.specs.Fault.{is_exactly}
 use Rattle.alf_faults.specs.TermSizes.{return_size, same_size, is_bytes}

@@ -3,9 +3,9 @@ use Rattle.std.proofs.Common.{◌≡◌, ◌+◌, ◌*◌, ◌%◌, ℕ, true, f
 use Rattle.std.specs.Str.{bytes_eq}
 use Rattle.std.proofs.lemmas.Bool.{and_parts, or_cases}
 use Rattle.std.proofs.lemmas.List.Elements.{Contains-append_left, Contains-append_right, Contains-append_cases}
-use Rattle.alf_text.specs.Tree.{Frame, Start, Function, Whole}
+use Rattle.alf_program.specs.Tree.{Frame, Start, Function, Whole}
 use Rattle.alf_names.specs.Places.{frame_place}
-use Rattle.alf_names.proofs.Standing.{by_test}
+use Rattle.alf_names.specs.PlaceLaws.{by_test}
 use Rattle.alf_faults.specs.Fault.{Fault, Size}
 use Rattle.alf_faults.specs.Unknowns.{is_frame}
 use Rattle.alf_faults.specs.Sizes.{start_fits, is_export_size}

@@ -6,8 +6,8 @@ use Rattle.alf_ops.specs.declared.operator.Op.{Op}
 use Rattle.alf_ops.specs.declared.layout.Layout.{Layout}
 use Rattle.alf_ops.specs.declared.layout.Layout.TheVariants.{Unary, Sum, Carry, Joined, First, Second, Binary, Comparison, Extension, Truncation, Field, Choice}
 use Rattle.alf_ops.specs.Table.{result_size, operand_size, operand_sizes, layout_of, size_count, is_size, is_typed, is_written_so, result_by_layout}
-use Rattle.alf_ops.proofs.Operands.{operands_end, operands_go_on}
-use Rattle.alf_text.specs.Tree.{Term, Terms, Number, Address, Loads, Applies, Last, With, Does, Returns, Function, Whole}
+use Rattle.alf_ops.specs.OperandLaws.{operands_end, operands_go_on}
+use Rattle.alf_program.specs.Tree.{Term, Terms, Number, Address, Loads, Applies, Last, With, Does, Returns, Function, Whole}
 use Rattle.alf_faults.specs.Fault.{Unknown, is_exactly}
 use Rattle.alf_faults.specs.TermSizes.{term_size, operands_fit, return_size, same_size}
 use Rattle.alf_faults.specs.Unknowns.{is_frame, unknown_in, unknown_among, entry_unknowns}

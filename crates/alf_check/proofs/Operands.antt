@@ -2,11 +2,11 @@
 use Rattle.std.proofs.Common.{◌≡◌, ℕ, List, [], ◌∷◌, map, refl, ap, sym, ◌∙◌, Vec}
 use Rattle.std.specs.declared.alloc.Global.{Global}
 use Rattle.alf_ops.specs.declared.operator.Op.{Op}
-use Rattle.alf_text.specs.declared.program.Expr.{Expr}
-use Rattle.alf_text.specs.declared.program.Expr.TheFolds.{fold-roll-Expr}
-use Rattle.alf_text.specs.declared.program.Expr.TheVariants as exprs
-use Rattle.alf_text.specs.Tree.{Term, term_of, terms_of, term_step}
-use Rattle.alf_text.specs.Tree as text
+use Rattle.alf_program.specs.declared.program.Expr.{Expr}
+use Rattle.alf_program.specs.declared.program.Expr.TheFolds.{fold-roll-Expr}
+use Rattle.alf_program.specs.declared.program.Expr.TheVariants as exprs
+use Rattle.alf_program.specs.Tree.{Term, term_of, terms_of, term_step}
+use Rattle.alf_program.specs.Tree as text
 use Rattle.alf_check.specs.declared.rows.Term.{Term as Numbered}
 use Rattle.alf_check.specs.declared.rows.Term.TheFolds.{fold-roll-Term}
 use Rattle.alf_check.specs.declared.rows.Term.TheVariants as terms

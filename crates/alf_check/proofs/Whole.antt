@@ -2,7 +2,7 @@
 use Rattle.std.proofs.Common.{◌≡◌, ℕ, suc, List, [], ◌∷◌, map, length, None, refl, ap, sym, ◌∙◌, Vec}
 use Rattle.std.specs.declared.alloc.Global.{Global}
 use Rattle.std.proofs.lemmas.List.{length-map}
-use Rattle.alf_text.specs.Tree.{Function, Whole}
+use Rattle.alf_program.specs.Tree.{Function, Whole}
 use Rattle.alf_check.specs.declared.rows.FrameRow.{FrameRow}
 use Rattle.alf_check.specs.declared.rows.InitRow.{InitRow}
 use Rattle.alf_check.specs.declared.rows.FuncRow.{FuncRow}

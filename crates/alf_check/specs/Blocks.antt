@@ -4,7 +4,7 @@
 --   begins_between item next   a block begins between two items that follow one another
 --   blocks_of items            the items, cut into blocks in the order of the text
 use Rattle.std.specs.Prelude.{Bool, true, false, not, ◌&&◌, ◌||◌, List, [], ◌∷◌, if◌then◌else◌}
-use Rattle.alf_text.specs.Tree.{Nothing, Stores, Jumps, Switches, Calls, Returns, Entry, Labels, Does}
+use Rattle.alf_program.specs.Tree.{Nothing, Stores, Jumps, Switches, Calls, Returns, Entry, Labels, Does}
 
 -- a block ends with a jump, a switch, a call or a return
 abbrev pub ends_block : Entry → Bool

@@ -7,7 +7,7 @@
 --   IsTold whole root fault   what the fault says is true, and nothing that is looked for before it is wrong
 use Rattle.std.specs.Prelude.{◌≡◌, ℕ, List, [], ◌∷◌, ⊤, map, None, Some, IsSome, slice_index_or}
 use Rattle.std.specs.List.{flat_map}
-use Rattle.alf_text.specs.Tree.{Nothing, Stores, Jumps, Switches, Calls, Returns, Entry, Labels, Does, Function, Whole}
+use Rattle.alf_program.specs.Tree.{Nothing, Stores, Jumps, Switches, Calls, Returns, Entry, Labels, Does, Function, Whole}
 use Rattle.alf_names.specs.Places.{function_place}
 use Rattle.alf_faults.specs.Fault.{Unknown, Duplicate, Size, earliest}
 use Rattle.alf_faults.specs.Faults.{faults_in}

@@ -3,7 +3,7 @@
 --   number_behind n item items  the number of the block of the item behind one of block n
 --   numbers_along n items       for each item the number of its block, where the first has this number
 use Rattle.std.specs.Prelude.{ℕ, suc, List, [], ◌∷◌, if◌then◌else◌}
-use Rattle.alf_text.specs.Tree.{Entry}
+use Rattle.alf_program.specs.Tree.{Entry}
 use Rattle.alf_check.specs.Blocks.{begins_between}
 
 -- how many items the first block has

@@ -11,13 +11,18 @@
 --   InitFits rows init           what a frame holds at first lies in it, in whole bytes
 --   KeepsFunction program k row  function k keeps these rules
 --   IsRankedBy program ranks     each call leads from a function of a higher rank to one of a lower rank
+--   IsChecked program            the program is one that some text spells and that passes the checks, with numbers in place of names
 --   IsKept program               the whole program does
 use Rattle.std.specs.Prelude.{◌≡◌, ◌<◌, ◌≤◌, ◌+◌, ◌*◌, ◌%◌, ◌⊎◌, ℕ, true, List, [], ◌∷◌, ◌++◌, length, All, Contains, Option, Some, None, slice_get, slice_index, slice_index_or}
 use Rattle.alf_ops.specs.Table.{result_size, operand_sizes}
+use Rattle.alf_program.specs.Tree.{Whole}
+use Rattle.alf_text.specs.Language.{IsSpelled}
 use Rattle.alf_faults.specs.Sizes.{is_export_size}
 use Rattle.alf_check.specs.declared.rows.FrameRow.{FrameRow}
 use Rattle.alf_check.specs.declared.rows.InitRow.{InitRow}
 use Rattle.alf_check.specs.Resolved.{Tree, Trees, Number, Address, Loads, Applies, Last, With, Step, Nothing, Stores, End, Falls, Jumps, Switches, Calls, Returns, Stretch, Row, Resolved}
+use Rattle.alf_check.specs.Numbered.{numbered}
+use Rattle.alf_check.specs.Checking.{Passes}
 
 -- ---- frames
 
@@ -129,8 +134,17 @@ abbrev pub IsRankedBy : Resolved → List ℕ → Type 0
 IsRankedBy program ranks = (k b f next : ℕ) (block : Stretch) (args : List Tree) (result : Option (ℕ × ℕ)) → slice_get (blocks_at program k) b ≡ Some block
     → block.end ≡ Calls f args result next → slice_index ranks f < slice_index ranks k
 
+-- the program is one that some text spells and that passes the checks, with numbers in place of names
+pub record IsChecked (program : Resolved) : Type 0 where
+  pub whole : Whole
+  pub root : List ℕ
+  pub spelled : IsSpelled whole
+  pub passes : Passes whole root
+  pub numbers : program ≡ numbered whole root
+
 -- what every checked program keeps
 pub record IsKept (program : Resolved) : Type 0 where
+  pub checked : IsChecked program
   pub root : program.root < length program.funcs
   pub one_each : length program.blocks ≡ length program.funcs
   pub functions : (k : ℕ) (row : Row) → slice_get program.funcs k ≡ Some row → KeepsFunction program k row

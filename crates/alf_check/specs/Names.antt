@@ -1,7 +1,7 @@
 -- What the code's names stand for.
 --   numbers_of names   the number of each name
 use Rattle.std.specs.Prelude.{map, Some}
-use Rattle.alf_text.specs.Tree.{item_of, function_of}
+use Rattle.alf_program.specs.Tree.{item_of, function_of}
 use Rattle.alf_check.specs.Numbers.{Numbers, frame_number, func_number, block_number}
 use Rattle.alf_check.specs.declared.lookup.Names.{Names}
 

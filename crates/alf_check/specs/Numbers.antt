@@ -6,7 +6,7 @@
 --   Numbers, numbers_with        what each name in a function stands for
 use Rattle.std.specs.Prelude.{ℕ, suc, ◌==◌, ◌&&◌, Bool, true, false, List, [], ◌∷◌, ◌++◌, map, Option, Some, None, is_some, unwrap_or}
 use Rattle.std.specs.Str.{bytes_eq}
-use Rattle.alf_text.specs.Tree.{Entry, Frame, Function, Whole}
+use Rattle.alf_program.specs.Tree.{Entry, Frame, Function, Whole}
 use Rattle.alf_names.specs.Places.{place_of, function_place, label_place}
 use Rattle.alf_check.specs.declared.rows.FrameRow.{FrameRow}
 use Rattle.alf_check.specs.Blocks.{blocks_of}

@@ -1,5 +1,5 @@
 ghost use Rattle.std.specs.Prelude.{◌≡◌, ◌<◌, map, length, IfOk};
-ghost use Rattle.alf_text.specs.Tree.{item_of};
+ghost use Rattle.alf_program.specs.Tree.{item_of};
 ghost use Rattle.alf_check.specs.Blocks.{blocks_of};
 ghost use Rattle.alf_check.specs.Resolved.{block_of};
 ghost use Rattle.alf_check.specs.Numbered.{numbered_block, numbered_blocks};
@@ -11,7 +11,7 @@ use crate::endings::end;
 use crate::lookup::Names;
 use crate::rows::Block;
 use crate::statements::acts;
-use alf_text::Item;
+use alf_program::Item;
 use std::alloc::{AllocError, Global};
 
 /// The blocks of the items.

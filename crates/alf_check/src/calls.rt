@@ -1,11 +1,11 @@
 ghost use Rattle.std.specs.Prelude.{◌≡◌, ◌<◌, ◌^◌, ◌++◌, map, length, IfOk, OnOk};
 ghost use Rattle.std.specs.List.{flat_map};
-ghost use Rattle.alf_text.specs.Tree.{function_of, item_of};
+ghost use Rattle.alf_program.specs.Tree.{function_of, item_of};
 ghost use Rattle.call_cycles.specs.Calls.{calls_of};
 ghost use Rattle.alf_check.specs.Checking.{called_by, calls_among};
 
 use crate::lookup::func_number;
-use alf_text::{Func, Item, Stmt};
+use alf_program::{Func, Item, Stmt};
 use std::alloc::{AllocError, Global};
 
 /// For each function those that it calls, in the order of the text.

@@ -1,5 +1,5 @@
 ghost use Rattle.std.specs.Prelude.{◌≡◌, ◌<◌, ℕ, List, [], Some, IsSome, map, length, IfOk, IfErr, OnOk};
-ghost use Rattle.alf_text.specs.Tree.{function_of, whole_of};
+ghost use Rattle.alf_program.specs.Tree.{function_of, whole_of};
 ghost use Rattle.alf_text.specs.Language.{IsSpelled};
 ghost use Rattle.alf_names.specs.Places.{function_place};
 ghost use Rattle.alf_faults.specs.Fault.{earliest};
@@ -16,8 +16,9 @@ use crate::fault::CheckFault;
 use crate::program::{Checked, numbered};
 use alf_faults::{ItemFault, first_fault};
 use alf_names::function_named;
-use alf_text::{Func, Program, spelled_programs_are_written};
-use call_cycles::{CallFault, call_ranks};
+use alf_program::{Func, Program};
+use alf_text::spelled_programs_are_written;
+use call_cycles::{CallFault, call_ranks, ranked_calls_have_no_cycle};
 use flow_base::Name;
 use std::alloc::{AllocError, Global};
 
@@ -34,6 +35,7 @@ pub fn check(alloc: Global, program: Program, root: &str) -> Result<Checked, Che
     ensures told { IfErr result (λ fault. IsTold (whole_of program) root.now fault) }
 {
     spelled_programs_are_written();
+    ranked_calls_have_no_cycle();
     let root = root.as_bytes();
     if let Err(fault) = check_items(alloc, &program) {
         return Err(fault);
@@ -124,6 +126,7 @@ fn check_root(alloc: Global, program: &Program, root: &[u8]) -> Result<(), Check
     ensures starts { OnOk result (IsSome (function_place (whole_of program.now).funcs root.now)) }
     ensures told { IfErr result (λ fault. IsTold (whole_of program.now) root.now fault) }
 {
+    ranked_calls_have_no_cycle();
     match function_named(&program.funcs, root) {
         Some(_) => Ok(()),
         None => match Name::new(alloc, root) {

@@ -1,10 +1,10 @@
 ghost use Rattle.std.specs.Prelude.{◌≡◌, ◌<◌, ◌∷◌, map, length, IfOk};
-ghost use Rattle.alf_text.specs.Tree.{item_of};
+ghost use Rattle.alf_program.specs.Tree.{item_of};
 ghost use Rattle.alf_check.specs.Blocks.{begins_between, blocks_of, ends_block, is_label};
 ghost use Rattle.alf_check.specs.Cut.{first_length, number_behind, numbers_along};
 
 use crate::count::next_number;
-use alf_text::{Item, Stmt};
+use alf_program::{Item, Stmt};
 use std::alloc::{AllocError, Global};
 
 /// The items of the first block, and those behind it.

@@ -1,7 +1,7 @@
 ghost use Rattle.std.specs.Prelude.{◌≡◌, map, IfOk};
 ghost use Rattle.std.specs.Option.{option_map};
-ghost use Rattle.alf_text.specs.Tree.{Does, item_of, term_of};
-ghost use Rattle.alf_text.specs.Tree as text;
+ghost use Rattle.alf_program.specs.Tree.{Does, item_of, term_of};
+ghost use Rattle.alf_program.specs.Tree as text;
 ghost use Rattle.alf_check.specs.Resolved.{Switches, end_of};
 ghost use Rattle.alf_check.specs.Numbered.{numbered_term, numbered_targets, numbered_end, end_by};
 ghost use Rattle.alf_check.specs.Names.{numbers_of};
@@ -9,7 +9,7 @@ ghost use Rattle.alf_check.specs.Names.{numbers_of};
 use crate::expressions::{term, terms};
 use crate::lookup::Names;
 use crate::rows::BlockEnd;
-use alf_text::{Expr, Item, Num, Stmt};
+use alf_program::{Expr, Item, Num, Stmt};
 use flow_base::Name;
 use std::alloc::{AllocError, Global};
 

@@ -1,12 +1,12 @@
 ghost use Rattle.std.specs.Prelude.{◌≡◌, map, IfOk};
-ghost use Rattle.alf_text.specs.Tree.{term_of};
+ghost use Rattle.alf_program.specs.Tree.{term_of};
 ghost use Rattle.alf_check.specs.Resolved.{tree_of};
 ghost use Rattle.alf_check.specs.Numbered.{numbered_term};
 ghost use Rattle.alf_check.specs.Names.{numbers_of};
 
 use crate::lookup::Names;
 use crate::rows::Term;
-use alf_text::Expr;
+use alf_program::Expr;
 use std::alloc::{AllocError, Global};
 
 /// The expression, with the number of each frame.

@@ -34,6 +34,3 @@ pub use checking::check;
 pub use fault::CheckFault;
 pub use program::Checked;
 pub use rows::{Act, Block, BlockEnd, FrameRow, FuncRow, InitRow, Term};
-
-#[cfg(test)]
-mod tests;

@@ -1,12 +1,12 @@
 ghost use Rattle.std.specs.Prelude.{◌≡◌, ◌<◌, ◌^◌, ℕ, map, length, IfSome};
 ghost use Rattle.alf_names.specs.Places.{place_of};
-ghost use Rattle.alf_text.specs.Tree.{item_of, function_of};
+ghost use Rattle.alf_program.specs.Tree.{item_of, function_of};
 ghost use Rattle.alf_check.specs.Cut.{numbers_along};
 ghost use Rattle.alf_check.specs.Numbers.{is_seen, is_seen_as, frame_number, func_number, block_number};
 
 use crate::rows::FrameRow;
 use alf_names::{Labels, function_named};
-use alf_text::Func;
+use alf_program::Func;
 
 /// What stands for the names in a function: the frames of the program and the function's number,
 /// the functions, the labels, and for each item of the function the number of its block.

@@ -1,5 +1,5 @@
 ghost use Rattle.std.specs.Prelude.{◌≡◌, ◌<◌, ◌^◌, Some, map, length, All, IfOk};
-ghost use Rattle.alf_text.specs.Tree.{whole_of, function_of};
+ghost use Rattle.alf_program.specs.Tree.{whole_of, function_of};
 ghost use Rattle.alf_check.specs.Blocks.{blocks_of};
 ghost use Rattle.alf_check.specs.Numbers.{numbers_with};
 ghost use Rattle.alf_check.specs.Numbered.{numbered_blocks, blocks_with, funcs_from};
@@ -12,7 +12,7 @@ use crate::lookup::Names;
 use crate::rows::{Block, FrameRow, FuncRow};
 use crate::tables::func_row;
 use alf_names::Labels;
-use alf_text::Func;
+use alf_program::Func;
 use std::alloc::{AllocError, Global};
 
 /// The functions in their order.

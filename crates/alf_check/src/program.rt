@@ -1,6 +1,7 @@
 ghost use Rattle.std.specs.Prelude.{◌≡◌, ◌<◌, ℕ, List, [], map, length, All, IfOk, IsSome, slice_get, slice_index_or, Some};
 ghost use Rattle.std.specs.Coded.{codes};
-ghost use Rattle.alf_text.specs.Tree.{whole_of};
+ghost use Rattle.alf_program.specs.Tree.{whole_of};
+ghost use Rattle.alf_text.specs.Language.{IsSpelled};
 ghost use Rattle.alf_text.specs.Spelled.{WholeIsWritten};
 ghost use Rattle.alf_names.specs.Places.{function_place};
 ghost use Rattle.alf_faults.specs.Faults.{faults_in};
@@ -16,7 +17,8 @@ use crate::lookup::func_number;
 use crate::numbering::{all_blocks, func_rows};
 use crate::rows::{Block, FrameRow, FuncRow, InitRow};
 use crate::tables::{frame_rows, global_numbers, init_rows};
-use alf_text::Program;
+use alf_program::Program;
+use call_cycles::ranked_calls_have_no_cycle;
 use std::alloc::{AllocError, Global};
 use std::marker::Model;
 
@@ -62,7 +64,7 @@ impl Model for Checked {
 }
 
 impl Checked {
-    /// What every checked program keeps.
+    /// What every checked program keeps, among it that some text spells it.
     pub fn keeps(&self)
         ensures { IsKept (resolved_of self.now) }
     {
@@ -133,12 +135,14 @@ impl Checked {
 
 // The program with numbers in place of names, which starts with the function of this name.
 pub(crate) fn numbered(alloc: Global, program: &Program, root: &[u8]) -> Result<Checked, AllocError>
+    requires spelled { IsSpelled (whole_of program.now) }
     requires written { WholeIsWritten (whole_of program.now) }
     requires sound { faults_in (whole_of program.now) ≡ [] }
     requires ranked { (ranks : List ℕ) × IsRanked (calls_in (whole_of program.now)) ranks }
     requires starts { IsSome (function_place (whole_of program.now).funcs root.now) }
     ensures { IfOk result (λ checked. resolved_of checked ≡ numbered (whole_of program.now) root.now) }
 {
+    ranked_calls_have_no_cycle();
     few(&program.funcs)?;
     let frames = frame_rows(alloc, program)?;
     let funcs = func_rows(alloc, &frames, &program.funcs)?;

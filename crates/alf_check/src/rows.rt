@@ -1,5 +1,5 @@
 use alf_ops::Op;
-use alf_text::Num;
+use alf_program::Num;
 use flow_base::Name;
 
 /// A frame: the number of the function that has it, or none where it is global, its name, and its

@@ -1,6 +1,6 @@
 ghost use Rattle.std.specs.Prelude.{◌≡◌, ◌++◌, map, IfOk, OnOk};
 ghost use Rattle.std.specs.List.{flat_map};
-ghost use Rattle.alf_text.specs.Tree.{item_of, term_of};
+ghost use Rattle.alf_program.specs.Tree.{item_of, term_of};
 ghost use Rattle.alf_check.specs.Resolved.{Stores, step_of};
 ghost use Rattle.alf_check.specs.Numbered.{numbered_term, steps_by};
 ghost use Rattle.alf_check.specs.Names.{numbers_of};
@@ -8,7 +8,7 @@ ghost use Rattle.alf_check.specs.Names.{numbers_of};
 use crate::expressions::term;
 use crate::lookup::Names;
 use crate::rows::Act;
-use alf_text::{Expr, Item, Stmt};
+use alf_program::{Expr, Item, Stmt};
 use std::alloc::{AllocError, Global};
 
 /// What control goes through at the items.

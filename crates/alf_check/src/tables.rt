@@ -1,5 +1,5 @@
 ghost use Rattle.std.specs.Prelude.{◌≡◌, ◌<◌, ◌^◌, ◌++◌, Some, map, length, Option, ℕ, IfOk, OnOk};
-ghost use Rattle.alf_text.specs.Tree.{frame_of, function_of, start_of, whole_of};
+ghost use Rattle.alf_program.specs.Tree.{frame_of, function_of, start_of, whole_of};
 ghost use Rattle.alf_check.specs.Numbers.{rows_of, rows_from, frame_rows, frame_number};
 ghost use Rattle.alf_check.specs.Numbered.{numbered_frames, numbered_func, numbered_inits};
 ghost use Rattle.alf_check.specs.Resolved.{row_of};
@@ -7,7 +7,7 @@ ghost use Rattle.alf_check.specs.Resolved.{row_of};
 use crate::count::{few, next_number};
 use crate::lookup::frame_number;
 use crate::rows::{FrameRow, FuncRow, InitRow};
-use alf_text::{Alloc, Func, Init, Program};
+use alf_program::{Alloc, Func, Init, Program};
 use flow_base::Name;
 use std::alloc::{AllocError, Global};
 

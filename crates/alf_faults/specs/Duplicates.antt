@@ -6,8 +6,8 @@
 use Rattle.std.specs.Prelude.{ℕ, ◌==◌, not, ◌||◌, List, [], ◌∷◌, ◌++◌, is_some}
 use Rattle.std.specs.List.{list_any}
 use Rattle.std.specs.Fmt.{decimal}
-use Rattle.alf_text.specs.declared.program.Num.{Num}
-use Rattle.alf_text.specs.Tree.{Nothing, Stores, Jumps, Switches, Calls, Returns, Entry, Labels, Does, Frame, Function, Whole}
+use Rattle.alf_program.specs.declared.program.Num.{Num}
+use Rattle.alf_program.specs.Tree.{Nothing, Stores, Jumps, Switches, Calls, Returns, Entry, Labels, Does, Frame, Function, Whole}
 use Rattle.alf_names.specs.Places.{frame_place, function_place, label_place}
 use Rattle.alf_faults.specs.Fault.{Fault, Duplicate, when, is_exactly}
 

@@ -4,7 +4,7 @@
 -- arguments, its declarations, what these hold at first, and its items. At one place a duplicate comes before unknown names, and these before a size.
 use Rattle.std.specs.Prelude.{ℕ, not, List, [], ◌∷◌, ◌++◌, Option, Some, None, slice_get}
 use Rattle.std.specs.List.{flat_map}
-use Rattle.alf_text.specs.Tree.{Entry, Frame, Start, Function, Whole}
+use Rattle.alf_program.specs.Tree.{Entry, Frame, Start, Function, Whole}
 use Rattle.alf_names.specs.Places.{frame_place}
 use Rattle.alf_faults.specs.Fault.{Fault, Unknown, Size, when, each_from}
 use Rattle.alf_faults.specs.Duplicates.{frame_duplicates, function_duplicates, entry_duplicates}

@@ -6,8 +6,8 @@
 use Rattle.std.specs.Prelude.{ℕ, ◌+◌, ◌==◌, Bool, true, false, not, ◌&&◌, ◌||◌, nat_lt, List, [], ◌∷◌, Option, Some, None, is_some, map}
 use Rattle.std.specs.Option.{option_or}
 use Rattle.std.specs.Str.{bytes_eq}
-use Rattle.alf_text.specs.declared.program.Func.{Func}
-use Rattle.alf_text.specs.Tree.{function_of, Term, Nothing, Stores, Jumps, Switches, Calls, Returns, Entry, Labels, Does, Function}
+use Rattle.alf_program.specs.declared.program.Func.{Func}
+use Rattle.alf_program.specs.Tree.{function_of, Term, Nothing, Stores, Jumps, Switches, Calls, Returns, Entry, Labels, Does, Function}
 use Rattle.alf_faults.specs.Fault.{any_from}
 use Rattle.alf_faults.specs.TermSizes.{return_size, is_bytes}
 use Rattle.alf_faults.specs.declared.returns.Return.{Return}

@@ -1,7 +1,7 @@
 -- What is looked up around an item.
 --   IsScope scope   the returns are those of the program, and the first return and the labels are the function's
 use Rattle.std.specs.Prelude.{◌≡◌}
-use Rattle.alf_text.specs.Tree.{function_of}
+use Rattle.alf_program.specs.Tree.{function_of}
 use Rattle.alf_faults.specs.Returns.{first_return, returns_of}
 use Rattle.alf_faults.specs.declared.scopes.Scope.{Scope}
 

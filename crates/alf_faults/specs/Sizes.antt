@@ -7,8 +7,8 @@
 --   return_fits whole k func i value        a return that is item i of the function, function k, fits the function's first return, and the calls before it fit
 --   entry_fits whole k func i item   the item keeps the size rules
 use Rattle.std.specs.Prelude.{ℕ, ◌+◌, ◌*◌, ◌%◌, ◌==◌, Bool, true, false, not, ◌&&◌, ◌||◌, nat_le, List, [], ◌∷◌, Option, Some, None, is_some, slice_get}
-use Rattle.alf_text.specs.declared.program.Num.{Num}
-use Rattle.alf_text.specs.Tree.{Term, Nothing, Stores, Jumps, Switches, Calls, Returns, Entry, Labels, Does, Frame, Start, Function, Whole}
+use Rattle.alf_program.specs.declared.program.Num.{Num}
+use Rattle.alf_program.specs.Tree.{Term, Nothing, Stores, Jumps, Switches, Calls, Returns, Entry, Labels, Does, Frame, Start, Function, Whole}
 use Rattle.alf_names.specs.Places.{function_place}
 use Rattle.alf_faults.specs.Fault.{is_exactly}
 use Rattle.alf_faults.specs.TermSizes.{same_size, is_bytes, term_size, return_size}

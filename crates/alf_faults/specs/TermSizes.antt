@@ -7,7 +7,7 @@
 use Rattle.std.specs.Prelude.{ℕ, ◌+◌, ◌%◌, ◌==◌, Bool, false, ◌&&◌, List, Option, Some, None, is_none, if◌then◌else◌}
 use Rattle.alf_ops.specs.declared.operator.Op.{Op}
 use Rattle.alf_ops.specs.Table.{result_size, operand_size}
-use Rattle.alf_text.specs.Tree.{Term, Terms, Number, Address, Loads, Applies, Last, With}
+use Rattle.alf_program.specs.Tree.{Term, Terms, Number, Address, Loads, Applies, Last, With}
 use Rattle.alf_faults.specs.Fault.{is_exactly}
 
 -- there are both sizes, and they are the same

@@ -2,7 +2,7 @@
 
 ghost use Rattle.std.specs.Prelude.{◌≡◌, IfOk};
 ghost use Rattle.std.specs.Option.{option_map};
-ghost use Rattle.alf_text.specs.Tree.{whole_of};
+ghost use Rattle.alf_program.specs.Tree.{whole_of};
 ghost use Rattle.alf_faults.specs.Fault.{earliest};
 ghost use Rattle.alf_faults.specs.Told.{told, fault_of};
 ghost use Rattle.alf_faults.specs.Faults.{global_faults, faults_in};
@@ -12,7 +12,7 @@ use crate::frame_faults::{export_fault, repeated_frame, start_fault};
 use crate::function_faults::functions_fault;
 use crate::item_faults::{ItemFault, owned};
 use crate::unknown_names::unknown_export;
-use alf_text::Program;
+use alf_program::Program;
 use std::alloc::{AllocError, Global};
 
 /// The first fault of a program's names and sizes, in text order, or None where there is none.

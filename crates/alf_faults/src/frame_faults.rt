@@ -3,7 +3,7 @@
 ghost use Rattle.std.specs.Prelude.{◌≡◌, [], map};
 ghost use Rattle.std.specs.List.{flat_map};
 ghost use Rattle.std.specs.Option.{option_map};
-ghost use Rattle.alf_text.specs.Tree.{frame_of, start_of};
+ghost use Rattle.alf_program.specs.Tree.{frame_of, start_of};
 ghost use Rattle.alf_faults.specs.Fault.{each_from, earliest};
 ghost use Rattle.alf_faults.specs.Told.{told};
 ghost use Rattle.alf_faults.specs.Duplicates.{frame_duplicates};
@@ -12,7 +12,7 @@ ghost use Rattle.alf_faults.specs.Faults.{export_faults, start_faults};
 
 use crate::findings::{Found, is_exactly};
 use alf_names::frame_named;
-use alf_text::{Alloc, Init};
+use alf_program::{Alloc, Init};
 use flow_base::Name;
 
 /// The first frame whose name is taken, or that one of the others or an earlier frame has.

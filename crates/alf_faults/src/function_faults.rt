@@ -2,7 +2,7 @@
 
 ghost use Rattle.std.specs.Prelude.{◌≡◌, map, IfOk};
 ghost use Rattle.std.specs.Option.{option_map};
-ghost use Rattle.alf_text.specs.Tree.{item_of, function_of, whole_of};
+ghost use Rattle.alf_program.specs.Tree.{item_of, function_of, whole_of};
 ghost use Rattle.alf_faults.specs.Fault.{earliest, each_from};
 ghost use Rattle.alf_faults.specs.Told.{told};
 ghost use Rattle.alf_faults.specs.Returns.{returns_of};
@@ -17,7 +17,7 @@ use crate::scopes::Scope;
 use crate::size_rules::entry_fits;
 use crate::unknown_names::entry_unknown;
 use alf_names::Labels;
-use alf_text::{Func, Item, Program};
+use alf_program::{Func, Item, Program};
 use std::alloc::{AllocError, Global};
 
 /// The first fault of the functions.

@@ -30,6 +30,3 @@ mod function_faults;
 pub use first_faults::first_fault;
 pub use item_faults::ItemFault;
 pub use term_sizes::term_size;
-
-#[cfg(test)]
-mod tests;

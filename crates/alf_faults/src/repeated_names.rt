@@ -2,14 +2,14 @@
 
 ghost use Rattle.std.specs.Prelude.{◌≡◌, [], map, IfOk};
 ghost use Rattle.std.specs.Option.{option_map};
-ghost use Rattle.alf_text.specs.Tree.{item_of, function_of, whole_of};
+ghost use Rattle.alf_program.specs.Tree.{item_of, function_of, whole_of};
 ghost use Rattle.alf_faults.specs.Fault.{earliest};
 ghost use Rattle.alf_faults.specs.Told.{told};
 ghost use Rattle.alf_faults.specs.Duplicates.{function_duplicates, label_duplicates, target_duplicates, entry_duplicates};
 
 use crate::findings::{Found, is_exactly};
 use alf_names::{Labels, function_named};
-use alf_text::{Func, Item, Num, Program, Stmt};
+use alf_program::{Func, Item, Num, Program, Stmt};
 use flow_base::Name;
 use indexmap::IndexSet;
 use std::alloc::{AllocError, Global};

@@ -1,11 +1,11 @@
 //! Returns of a function, and calls that must agree with the first of them.
 
 ghost use Rattle.std.specs.Prelude.{◌≡◌, map, IfOk};
-ghost use Rattle.alf_text.specs.Tree.{item_of, function_of};
+ghost use Rattle.alf_program.specs.Tree.{item_of, function_of};
 ghost use Rattle.alf_faults.specs.Returns.{return_of, first_return, returns_of, agrees, is_before, is_disagreeing, is_breach, has_breach, is_breached};
 
 use crate::term_sizes::{is_bytes, return_size};
-use alf_text::{Func, Item, Stmt};
+use alf_program::{Func, Item, Stmt};
 use std::alloc::{AllocError, Global};
 
 /// A return: its item's number, whether it has an expression, and the size of what it gives.

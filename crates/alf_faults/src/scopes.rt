@@ -2,7 +2,7 @@
 
 use crate::returns::Return;
 use alf_names::Labels;
-use alf_text::{Func, Program};
+use alf_program::{Func, Program};
 
 /// A function of a program, and what its items are held against.
 #[derive(Clone, Copy)]

@@ -2,7 +2,7 @@
 
 ghost use Rattle.std.specs.Prelude.{◌≡◌, map};
 ghost use Rattle.std.specs.Option.{option_map};
-ghost use Rattle.alf_text.specs.Tree.{frame_of, term_of, item_of, function_of, whole_of};
+ghost use Rattle.alf_program.specs.Tree.{frame_of, term_of, item_of, function_of, whole_of};
 ghost use Rattle.alf_faults.specs.Returns.{first_return, returns_of};
 ghost use Rattle.alf_faults.specs.Scopes.{IsScope};
 ghost use Rattle.alf_faults.specs.Sizes.{targets_have, targets_fit, arguments_fit, agrees_behind, call_fits, breaks_calls, return_fits, entry_fits};
@@ -12,7 +12,7 @@ use crate::returns::{Return, agrees, is_before, is_breached};
 use crate::scopes::Scope;
 use crate::term_sizes::{is_bytes, is_size, return_size, same_size, term_size};
 use alf_names::function_named;
-use alf_text::{Alloc, Expr, Item, Num, Program, Stmt};
+use alf_program::{Alloc, Expr, Item, Num, Program, Stmt};
 use flow_base::Name;
 
 /// Whether item `place` of the function keeps the size rules.

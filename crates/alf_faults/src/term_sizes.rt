@@ -2,12 +2,12 @@
 
 ghost use Rattle.std.specs.Prelude.{◌≡◌, map};
 ghost use Rattle.std.specs.Option.{option_map};
-ghost use Rattle.alf_text.specs.Tree.{term_of, terms_of};
+ghost use Rattle.alf_program.specs.Tree.{term_of, terms_of};
 ghost use Rattle.alf_faults.specs.Fault.{is_exactly};
 ghost use Rattle.alf_faults.specs.TermSizes.{term_size, operands_fit, same_size, is_bytes, return_size};
 
 use alf_ops::{Op, operand, shape};
-use alf_text::Expr;
+use alf_program::Expr;
 
 /// The size of the expression in bits, or None where it breaks a size rule.
 #[cycle(sizes)]

@@ -3,14 +3,14 @@
 ghost use Rattle.std.specs.Prelude.{◌≡◌, ◌++◌, map};
 ghost use Rattle.std.specs.List.{flat_map};
 ghost use Rattle.std.specs.Option.{option_map};
-ghost use Rattle.alf_text.specs.Tree.{term_of, terms_of, item_of, function_of, whole_of};
+ghost use Rattle.alf_program.specs.Tree.{term_of, terms_of, item_of, function_of, whole_of};
 ghost use Rattle.alf_faults.specs.Fault.{earliest};
 ghost use Rattle.alf_faults.specs.Told.{told};
 ghost use Rattle.alf_faults.specs.Unknowns.{is_frame, unknown_frame, unknown_in, unknown_among, unknown_function, unknown_label, unknown_targets, unknown_result, entry_unknowns};
 
 use crate::findings::Found;
 use alf_names::{Labels, frame_named, function_named};
-use alf_text::{Expr, Func, Item, Num, Program, Stmt};
+use alf_program::{Expr, Func, Item, Num, Program, Stmt};
 use flow_base::Name;
 
 /// The first name of an item that stands nowhere.

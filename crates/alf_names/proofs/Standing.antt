@@ -1,27 +1,9 @@
 -- Where the first member stands that passes.
-use Rattle.std.proofs.Common.{◌≡◌, ◌+◌, ◌<◌, ℕ, suc, Bool, true, false, cond, ltb, List, [], ◌∷◌, map, length, drop, get_or, drop-cons, zero-add, Option, Some, None, refl, ap, sym, ◌∙◌, subst, position, arith, IfSome, if◌then◌else◌}
+use Rattle.std.proofs.Common.{◌≡◌, ◌+◌, ◌<◌, ℕ, suc, Bool, List, [], ◌∷◌, map, length, drop, get_or, drop-cons, zero-add, Option, Some, refl, ap, sym, ◌∙◌, subst, position, IfSome, if◌then◌else◌}
 use Rattle.std.proofs.lemmas.List.{length-map}
 use Rattle.std.specs.Option.{option_map}
-use Rattle.std.specs.List.{position_or_len}
-use Rattle.std.proofs.lemmas.Bool.Decides.{nat_tests}
 use Rattle.alf_names.specs.Places.{place_of}
-
-pub by_test : {A : Type 0} (v : Bool) → (v ≡ true → A) → (v ≡ false → A) → A
-by_test true if_true if_false = if_true refl
-by_test false if_true if_false = if_false refl
-
--- one further back
-shifted : (n m : ℕ) → cond (ltb (1 + n) (suc m)) (Some (1 + n)) None ≡ option_map (λ k. k + 1) (cond (ltb n m) (Some n) None)
-shifted n m =
-    let same : ltb (1 + n) (suc m) ≡ ltb n m = grind (arith, nat_tests) in
-    by_test (ltb n m) (λ e. rw (same, e) (ap Some (omega arith))) (λ e. rw (same, e) refl)
-
--- std's word for the place
-pub position_place : {A : Type 0} (passes : A → Bool) (xs : List A) → position passes xs ≡ place_of passes xs
-position_place passes [] = refl
-position_place passes (x ∷ xs) =
-    by_test (passes x) (λ e. rw e (let low : ltb 0 (suc (length xs)) ≡ true = grind (arith, nat_tests) in rw low refl))
-    (λ e. rw e (shifted (position_or_len passes xs) (length xs) ∙ ap (option_map (λ k. k + 1)) (position_place passes xs)))
+use Rattle.alf_names.specs.PlaceLaws.{by_test, position_place, counted, place_within}
 
 -- a place among what members stand for
 pub place_of-map : {A B : Type 0} (f : A → B) (passes : B → Bool) (xs : List A) → place_of passes (map f xs) ≡ place_of (λ x. passes (f x)) xs
@@ -32,26 +14,12 @@ place_of-map f passes (x ∷ xs) = ap (λ (place : Option ℕ). if passes (f x) 
 pub position_is : {A B : Type 0} (f : A → B) (passes : B → Bool) (xs : List A) → position (λ x. passes (f x)) xs ≡ place_of passes (map f xs)
 position_is f passes xs = position_place (λ x. passes (f x)) xs ∙ sym (place_of-map f passes xs)
 
--- a place counted from further back
-pub counted : (n : ℕ) (place : Option ℕ) → option_map (λ k. k + n) (option_map (λ k. k + 1) place) ≡ option_map (λ k. k + suc n) place
-counted n None = refl
-counted n (Some k) = ap Some (omega arith)
-
 -- the place from a member on
 pub placed_at : {A : Type 0} (passes : A → Bool) (xs : List A) (n : ℕ) (x : A) → n < length xs → x ≡ get_or xs n x
     → option_map (λ k. k + n) (place_of passes (drop n xs)) ≡ (if passes x then Some n else option_map (λ k. k + suc n) (place_of passes (drop (suc n) xs)))
 placed_at passes xs n x low is =
     rw (drop-cons xs n x low, ← is)
     (by_test (passes x) (λ e. rw e (ap Some (zero-add n))) (λ e. rw e (counted n (place_of passes (drop (suc n) xs)))))
-
--- a place is below the length
-pub place_within : {A : Type 0} (passes : A → Bool) (xs : List A) → IfSome (place_of passes xs) (λ place. place < length xs)
-place_within passes [] = tt
-place_within passes (x ∷ xs) = by_test (passes x) (λ e. rw e (omega arith)) (λ e. rw e (further (place_of passes xs) (length xs) (place_within passes xs)))
-  where
-    further : (place : Option ℕ) (n : ℕ) → IfSome place (λ k. k < n) → IfSome (option_map (λ k. k + 1) place) (λ k. k < suc n)
-    further None n h = tt
-    further (Some k) n h = omega arith
 
 -- also where the members stand for others
 pub place_within_of : {A B : Type 0} (f : A → B) (passes : B → Bool) (xs : List A) (found : Option ℕ) → found ≡ place_of passes (map f xs) → IfSome found (λ place. place < length xs)

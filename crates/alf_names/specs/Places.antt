@@ -6,7 +6,7 @@
 use Rattle.std.specs.Prelude.{ℕ, ◌+◌, Bool, false, List, [], ◌∷◌, Option, Some, None, if◌then◌else◌}
 use Rattle.std.specs.Option.{option_map}
 use Rattle.std.specs.Str.{bytes_eq}
-use Rattle.alf_text.specs.Tree.{Entry, Labels, Does, Frame, Function}
+use Rattle.alf_program.specs.Tree.{Entry, Labels, Does, Frame, Function}
 
 -- the place of the first member that passes
 abbrev pub place_of : {A : Type 0} → (A → Bool) → List A → Option ℕ

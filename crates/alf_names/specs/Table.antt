@@ -5,7 +5,7 @@ use Rattle.std.specs.Prelude.{◌≡◌, ℕ, List, Option}
 use Rattle.std.specs.Str.{bytes_eq}
 use Rattle.indexmap.specs.IndexMap.{IndexMap, get_by}
 use denote.Ref.{Bor}
-use Rattle.alf_text.specs.Tree.{Entry}
+use Rattle.alf_program.specs.Tree.{Entry}
 use Rattle.alf_names.specs.Places.{label_place}
 
 -- what the table has under the name

@@ -1,12 +1,12 @@
 ghost use Rattle.std.specs.Prelude.{◌≡◌, ◌<◌, ℕ, Some, List, map, length, IfSome, IfOk, OnOk, if◌then◌else◌};
-ghost use Rattle.alf_text.specs.Tree.{item_of};
-ghost use Rattle.alf_text.specs.declared.program.Item.{Item};
-ghost use Rattle.alf_text.specs.contracts.program.Expr as e;
+ghost use Rattle.alf_program.specs.Tree.{item_of};
+ghost use Rattle.alf_program.specs.declared.program.Item.{Item};
+ghost use Rattle.alf_program.specs.contracts.program.Expr as e;
 ghost use Rattle.std.specs.Coded.{codes};
 ghost use Rattle.alf_names.specs.Places.{is_label_named, label_place};
 ghost use Rattle.alf_names.specs.Table.{found, IsTableOf};
 
-use alf_text::Item;
+use alf_program::Item;
 use indexmap::IndexMap;
 use std::alloc::{AllocError, Global};
 use std::marker::Model;

@@ -12,6 +12,3 @@ mod label_table;
 
 pub use label_table::Labels;
 pub use places::{frame_named, function_named};
-
-#[cfg(test)]
-mod tests;

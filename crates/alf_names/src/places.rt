@@ -1,8 +1,8 @@
 ghost use Rattle.std.specs.Prelude.{◌≡◌, ◌<◌, map, length, IfSome};
-ghost use Rattle.alf_text.specs.Tree.{frame_of, function_of};
+ghost use Rattle.alf_program.specs.Tree.{frame_of, function_of};
 ghost use Rattle.alf_names.specs.Places.{frame_place, function_place};
 
-use alf_text::{Alloc, Func};
+use alf_program::{Alloc, Func};
 
 /// The place of the first frame of this name. Takes no memory.
 pub fn frame_named(frames: &[Alloc], name: &[u8]) -> Option<usize>

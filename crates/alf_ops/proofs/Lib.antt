@@ -1,7 +1,6 @@
 pub mod Histories
 pub mod Modular
 pub mod NamedOperators
-pub mod Operands
 pub mod Rotations
 pub mod Values
 pub mod WordReadings

@@ -18,9 +18,6 @@ mod_small x m below = grind arith
 pub powers_rise : (m n : ℕ) → m ≤ n → 2 ^ m ≤ 2 ^ n
 powers_rise m n rise = pow_mono rise
 
-pub below_wide : (x size : ℕ) → x < 2 ^ 64 → 64 ≤ size → x < 2 ^ size
-below_wide x size below wide = let e : 2 ^ 64 ≤ 2 ^ size = pow_mono wide in omega arith
-
 pub word_negated : (size a : ℕ) → a < 2 ^ size → (2 ^ size - a) % 2 ^ size ≡ word size (neg_ℤ (pos a))
 word_negated size zero below = rw (sub-zero (2 ^ size), mod_self (2 ^ size), zero-mod (2 ^ size)) refl
 word_negated size (suc n) below = grind (arith, pow_pos size, mod_small)

@@ -1,4 +1,5 @@
 pub mod Names
+pub mod OperandLaws
 pub mod PointerLaws
 pub mod Pointers
 pub mod RunLaws

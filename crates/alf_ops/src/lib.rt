@@ -39,6 +39,3 @@ pub use operations::{apply, operand, shape};
 pub use operator::Op;
 pub use outcomes::apply_to_values;
 pub use table::{OPS, OpRow, find, rows, spelling};
-
-#[cfg(test)]
-mod tests;

@@ -14,7 +14,7 @@ use Rattle.flow_base.specs.declared.place.Which.TheVariants as whichs
 use Rattle.alf_ops.specs.declared.operator.Op.{Op}
 use Rattle.alf_ops.specs.declared.operator.Op.TheVariants.{Neg}
 use Rattle.alf_ops.specs.Names.{spelling, operators}
-use Rattle.alf_text.specs.declared.program.Num.{Num}
+use Rattle.alf_program.specs.declared.program.Num.{Num}
 use Rattle.alf_text.specs.declared.words.NumWord.{NumWord}
 use Rattle.alf_text.specs.declared.words.NumWord.TheVariants as num_words
 use Rattle.alf_text.specs.declared.words.ExprWord.{ExprWord}
@@ -27,10 +27,10 @@ use Rattle.alf_tokens.specs.declared.token.Kind.TheVariants as kinds
 use Rattle.alf_tokens.specs.Tokens.{Lexeme, after, is_open, is_close, is_word, is_number, is_quoted}
 use Rattle.alf_tokens.specs.Printed.{Mark, unplaced, is_mark, is_separator, is_word_text, is_name_text, is_named_well}
 use Rattle.alf_text.specs.Grammar.{Fault, At, with_ahead, Rule, alf, misfit, outside, fits, or_outside, fits_word, fits_name, opening, closing, only, word, number_between, between, fixed, size, at_most, name, begin, ends_well, fits_close_after, closing_after, fits_empty, closing_empty, token, Passes, counted, one_function, one_frame, most_functions, most_frames, most_frame_bytes, most_bytes, or_bytes, bits, reference, references, offset, zero_offset, label_tail, label, alloc, allocs, address_tail, address, unsigned, minus, signed_bits, signed, num_word, num_tail, num, ref_place, init, inits, row_word, operator_among, operator_word, expr_word, unsigned_term, signed_term, address_term, load, least_further, most_further, further, sizes, apply, expr_tail, nested, expr, whole_expr, targets_ahead, target, default_arm, switch, with_word, store, item_word, label_item, null, leaving, jump, result_word, call, returns, item_tail, item, stmts, scope, arg_decls, function_tail, function, functions, empty, addr_unit, macro_defs, little_endian, heading, exports, imports}
-use Rattle.alf_text.specs.Tree.{Whole, Term, Act, Nothing, Entry, Labels, Does}
-use Rattle.alf_text.specs.Tree as tree
-use Rattle.alf_text.specs.Canonical.{space, line_feed, opens, closes, a_word, a_number, a_name, braced, listed, ref_marks, refs_marks, dec_signed_marks, dec_unsigned_marks, signed_marks, is_negative, distance, num_marks, label_marks, address_marks, frame_marks, place_marks, start_marks, starts_marks, term_marks, target_marks, default_marks, act_marks, entry_marks, scope_marks, function_marks, unit_marks, head_marks, names_marks, program_marks}
-use Rattle.alf_text.proofs.Printing.{terms-marks}
+use Rattle.alf_program.specs.Tree.{Whole, Term, Act, Nothing, Entry, Labels, Does}
+use Rattle.alf_program.specs.Tree as tree
+use Rattle.alf_printer.specs.Canonical.{space, line_feed, opens, closes, a_word, a_number, a_name, braced, listed, ref_marks, refs_marks, dec_signed_marks, dec_unsigned_marks, signed_marks, is_negative, distance, num_marks, label_marks, address_marks, frame_marks, place_marks, start_marks, starts_marks, term_marks, target_marks, default_marks, act_marks, entry_marks, scope_marks, function_marks, unit_marks, head_marks, names_marks, program_marks}
+use Rattle.alf_printer.specs.CanonicalLaws.{terms-marks}
 use Rattle.alf_text.proofs.Spelled.{IsBetween, between_bounds, some_of, fits_some, size_fits, below_fits, at_most_fits}
 use Rattle.alf_text.proofs.Decimals.{decimal_text, decimal_within}
 use Rattle.alf_text.proofs.Respelling.{Respells, Any, first_named, first_same, IsBlind, Begins, Named, Reprint, tokens, single_again, token_again, framing, knowing_again, more_again, then_again, paired_again, made_again, until_again, exactly_again, many_again, maybe_again}

@@ -7,9 +7,9 @@ use Rattle.alf_tokens.specs.Tokens.{Lexeme, after, nothing}
 use Rattle.alf_tokens.specs.Cutting.{tokens_of}
 use Rattle.alf_tokens.specs.Printed.{Mark, is_mark, unplaced, is_named_well}
 use Rattle.alf_tokens.specs.Laws.{EachTextIsCut, EachTextIsCutOneWay, EachPrintedTextIsCut, EachNameIsNamedWell}
-use Rattle.alf_text.specs.Tree.{Whole}
+use Rattle.alf_program.specs.Tree.{Whole}
 use Rattle.alf_text.specs.Grammar.{At, with_ahead, end, program}
-use Rattle.alf_text.specs.Canonical.{program_marks, canonical_text}
+use Rattle.alf_printer.specs.Canonical.{program_marks, canonical_text}
 use Rattle.alf_text.specs.Language.{start, SpellsProgram, IsSpelled, Departure}
 use Rattle.alf_text.proofs.Respelling.{tokens}
 use Rattle.alf_text.proofs.Again.{body, body_again}

@@ -7,7 +7,7 @@ use Rattle.grammar.specs.Source.{IsSource}
 use Rattle.grammar.specs.Form.{and_then, one, made, ◌>>=◌, many, maybe}
 use Rattle.grammar.specs.Exact.{IsExact, TakesSome, ok_is, ok_no_err, one_exact, judged_exact, made_exact, bind_exact, bind_takes, many_exact, maybe_exact, exactly_exact}
 use Rattle.alf_tokens.specs.Tokens.{Lexeme, first, after, is_open, is_number}
-use Rattle.alf_text.specs.declared.program.Num.{Num}
+use Rattle.alf_program.specs.declared.program.Num.{Num}
 use Rattle.alf_text.specs.declared.words.NumWord.{NumWord}
 use Rattle.alf_text.specs.declared.words.NumWord.TheVariants as num_words
 use Rattle.alf_text.specs.declared.words.ExprWord.{ExprWord}
@@ -15,7 +15,7 @@ use Rattle.alf_text.specs.declared.words.ExprWord.TheVariants as expr_words
 use Rattle.alf_text.specs.declared.words.ItemWord.{ItemWord}
 use Rattle.alf_text.specs.declared.words.ItemWord.TheVariants as item_words
 use Rattle.alf_ops.specs.declared.operator.Op.{Op}
-use Rattle.alf_text.specs.Tree.{Term, Loads, Applies, Entry, Frame, Start, Function, terms_of}
+use Rattle.alf_program.specs.Tree.{Term, Loads, Applies, Entry, Frame, Start, Function, terms_of}
 use Rattle.alf_text.specs.Grammar.{Fault, Passes, At, Rule, alf, left, token, behind, misfit, opening, closing, end, word, between, fixed, size, at_most, name, begin, one_function, one_frame, most_functions, most_frames, most_frame_bytes, number_between, or_bytes, bits, reference, references, offset, zero_offset, label_tail, label, alloc, allocs, address_tail, address, unsigned, minus, signed_bits, signed, num_tail, num, ref_place, init, inits, unsigned_term, signed_term, address_term, load, further, sizes, apply, expr_tail, fits_word, expr_word, fits_too_deep, nested, expr, whole_expr, targets_ahead, target, default_arm, switch, with_word, store, label_item, null, leaving, jump, result_word, call, returns, item_tail, item, closing_after, stmts, scope, arg_decls, function_tail, function, functions, closing_empty, empty, addr_unit, macro_defs, little_endian, heading, exports, imports, program}
 
 length_after : (ts : List Lexeme) → length (after ts) ≤ length ts

@@ -4,7 +4,7 @@ use Rattle.grammar.specs.Form.{Fails}
 use Rattle.grammar.specs.Exact.{Says, ok_is, ok_no_err}
 use Rattle.alf_tokens.specs.Cutting.{tokens_of}
 use Rattle.alf_tokens.specs.Laws.{EachTextIsCut, EachTextIsCutOneWay}
-use Rattle.alf_text.specs.Tree.{Whole}
+use Rattle.alf_program.specs.Tree.{Whole}
 use Rattle.alf_text.specs.FirstTests.{is_first}
 use Rattle.alf_text.specs.FirstText.{without_limits, FirstText}
 use Rattle.alf_text.specs.Grammar.{At, Fault, program}

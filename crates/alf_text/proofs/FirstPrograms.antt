@@ -3,8 +3,8 @@ use Rattle.std.proofs.Common.{◌≡◌, ◌^◌, ℕ, Bool, true, false, not, L
 use Rattle.std.proofs.lemmas.Slice.Eq.{bytes_eq-Decides}
 use Rattle.std.proofs.lemmas.Bool.Decides.{Decides-eqb, Decides-ltb, Decides-not, Decides-and, Decides-or}
 use Rattle.alf_ops.specs.declared.operator.Op.TheVariants.{Add}
-use Rattle.alf_text.specs.declared.program.Num.{Num}
-use Rattle.alf_text.specs.Tree.{Term, Terms, Number, Address, Loads, Applies, Last, With, Nothing, Stores, Jumps, Switches, Calls, Returns, Entry, Labels, Does, Frame, Start, Function, Whole}
+use Rattle.alf_program.specs.declared.program.Num.{Num}
+use Rattle.alf_program.specs.Tree.{Term, Terms, Number, Address, Loads, Applies, Last, With, Nothing, Stores, Jumps, Switches, Calls, Returns, Entry, Labels, Does, Frame, Start, Function, Whole}
 use Rattle.alf_text.specs.First.{main_alone, cell_frame, IsWord, IsCell, IsCellLoad, IsLoadAndNumber, IsFirstTerm, IsFirstItem, EachTarget, Each, Among, Named, NamesDiffer, IsDeclared, AreDeclared, NamesFrames, HasNumber, TargetsDiffer, LabelsDiffer, IsApart, IsLed, EndsWell, IsFirst}
 use Rattle.alf_text.specs.FirstTests.{is_named, names_in, frames_fit, is_word, is_number, is_no_carry, is_cell, is_cell_load, is_sum, is_first_term, stands_among, has_number, targets_fit, item_fits, items_fit, is_none, is_main, is_main_alone, is_first}
 use Rattle.alf_text.specs.Grammar.{ends_well}

@@ -4,7 +4,6 @@ pub mod Meaning
 pub mod Spelled
 pub mod FirstPrograms
 pub mod FirstMeaning
-pub mod Printing
 pub mod Decimals
 pub mod Respelling
 pub mod Again

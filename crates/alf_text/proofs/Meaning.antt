@@ -3,7 +3,7 @@ use Rattle.std.proofs.Common.{◌≡◌, ℕ, false, List, Result, Ok, Err, refl
 use Rattle.grammar.specs.Exact.{Says}
 use Rattle.alf_tokens.specs.Cutting.{tokens_of}
 use Rattle.alf_tokens.specs.Laws.{EachTextIsCut, EachTextIsCutOneWay}
-use Rattle.alf_text.specs.Tree.{Whole}
+use Rattle.alf_program.specs.Tree.{Whole}
 use Rattle.alf_text.specs.Grammar.{At, Fault, program}
 use Rattle.alf_text.specs.Language.{start, Departure, placed, Means, HasOneMeaning}
 use Rattle.alf_text.proofs.Exactness.{program_exact}

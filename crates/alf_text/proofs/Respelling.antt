@@ -11,7 +11,7 @@ use Rattle.grammar.specs.Form.{one, made, ◌>>=◌, InARow, many, AtMostOne, ma
 use Rattle.alf_tokens.specs.Tokens.{Lexeme, first, after}
 use Rattle.alf_tokens.specs.Printed.{Mark, is_mark, mark_token, unplaced, is_named_well}
 use Rattle.alf_text.specs.Grammar.{Fault, At, with_ahead, token, Rule, alf}
-use Rattle.alf_text.specs.Canonical.{if_any}
+use Rattle.alf_printer.specs.Canonical.{if_any}
 
 abbrev pub Named : At → Type 0
 Named at = list_all is_named_well at.ahead ≡ true

@@ -8,14 +8,14 @@ use Rattle.flow_base.specs.Digits.{front_digits, number_of}
 use Rattle.grammar.specs.Form.{InARow, AtMostOne, exactly}
 use Rattle.grammar.specs.Exact.{ok_is, ok_no_err}
 use Rattle.alf_tokens.specs.Tokens.{Lexeme, is_number, is_open}
-use Rattle.alf_text.specs.declared.program.Num.{Num}
+use Rattle.alf_program.specs.declared.program.Num.{Num}
 use Rattle.alf_text.specs.declared.words.NumWord.{NumWord}
 use Rattle.alf_text.specs.declared.words.NumWord.TheVariants as num_words
 use Rattle.alf_text.specs.declared.words.ExprWord.{ExprWord}
 use Rattle.alf_text.specs.declared.words.ExprWord.TheVariants as expr_words
 use Rattle.alf_text.specs.declared.words.ItemWord.{ItemWord}
 use Rattle.alf_text.specs.declared.words.ItemWord.TheVariants as item_words
-use Rattle.alf_text.specs.Tree.{Term, Frame, Start, Entry, Does, Returns, Function, Whole, terms_of}
+use Rattle.alf_program.specs.Tree.{Term, Frame, Start, Entry, Does, Returns, Function, Whole, terms_of}
 use Rattle.alf_text.specs.Grammar.{Fault, Number, At, Rule, alf, token, misfit, outside, or_outside, or_number, fits_number, fits_below, number_within, number_between, from_least, between, size, at_most, most_frame_bytes, fits_bytes, or_bytes, bits, offset, alloc, allocs, address_tail, address, unsigned, signed_bits, signed, num_tail, num, ref_place, init, inits, unsigned_term, signed_term, address_term, load, apply, expr_tail, nested, expr, whole_expr, targets_ahead, target, switch, store, label_item, null, jump, call, returns, item_tail, item, closing_after, stmts, scope, arg_decls, function_tail, function, functions, program, ends_well}
 use Rattle.alf_text.specs.Spelled.{Each, NumIsWritten, IsWritten, AreWritten, ResultIsWritten, EntryIsWritten, FrameIsWritten, StartIsWritten, FunctionIsWritten, WholeIsWritten, SpelledProgramsAreWritten}
 

@@ -2,9 +2,9 @@
 --   CanonicalTextsSpell      the canonical text of each program that some text spells is a spelling of it
 --   CanonicalTextsSettle     printing what was read from a canonical text changes nothing
 use Rattle.std.specs.Prelude.{◌≡◌}
-use Rattle.alf_text.specs.Tree.{Whole}
+use Rattle.alf_program.specs.Tree.{Whole}
 use Rattle.alf_text.specs.Language.{SpellsProgram, IsSpelled}
-use Rattle.alf_text.specs.Canonical.{canonical_text}
+use Rattle.alf_printer.specs.Canonical.{canonical_text}
 
 abbrev pub CanonicalTextsSpell : Type 0
 CanonicalTextsSpell = (whole : Whole) → IsSpelled whole → SpellsProgram (canonical_text whole) whole

@@ -3,8 +3,8 @@
 --   IsFirst whole             such a program, whose frames, labels and items fit one another
 use Rattle.std.specs.Prelude.{◌≡◌, ◌≢◌, ◌<◌, ◌^◌, ℕ, false, List, [], ◌∷◌, map, codes, None, Some, ◌⊎◌}
 use Rattle.alf_ops.specs.declared.operator.Op.TheVariants.{Add}
-use Rattle.alf_text.specs.declared.program.Num.{Num}
-use Rattle.alf_text.specs.Tree.{Term, Terms, Number, Address, Loads, Applies, Last, With, Nothing, Stores, Jumps, Switches, Calls, Returns, Entry, Labels, Does, Frame, Whole}
+use Rattle.alf_program.specs.declared.program.Num.{Num}
+use Rattle.alf_program.specs.Tree.{Term, Terms, Number, Address, Loads, Applies, Last, With, Nothing, Stores, Jumps, Switches, Calls, Returns, Entry, Labels, Does, Frame, Whole}
 
 -- a frame of 32 bits
 abbrev pub cell_frame : List ℕ → Frame

@@ -3,7 +3,7 @@
 --   FirstText bytes whole   the bytes spell the program, which is `main` alone
 use Rattle.std.specs.Prelude.{ℕ, ◌-◌, ◌^◌, List}
 use Rattle.alf_tokens.specs.Tokens.{Lexeme, IsTokens}
-use Rattle.alf_text.specs.Tree.{Whole}
+use Rattle.alf_program.specs.Tree.{Whole}
 use Rattle.alf_text.specs.First.{IsFirst}
 use Rattle.alf_text.specs.Grammar.{At, program}
 

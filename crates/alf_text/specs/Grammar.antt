@@ -19,15 +19,15 @@ use Rattle.alf_ops.specs.Names.{spelling, operators}
 use Rattle.alf_tokens.specs.declared.token.Kind.{Kind}
 use Rattle.alf_tokens.specs.declared.token.Kind.TheVariants as kinds
 use Rattle.alf_tokens.specs.Tokens.{Lexeme, first, after, is_open, is_close, is_word, is_number, is_quoted, is_end}
-use Rattle.alf_text.specs.declared.program.Num.{Num}
+use Rattle.alf_program.specs.declared.program.Num.{Num}
 use Rattle.alf_text.specs.declared.words.NumWord.{NumWord}
 use Rattle.alf_text.specs.declared.words.NumWord.TheVariants as num_words
 use Rattle.alf_text.specs.declared.words.ExprWord.{ExprWord}
 use Rattle.alf_text.specs.declared.words.ExprWord.TheVariants as expr_words
 use Rattle.alf_text.specs.declared.words.ItemWord.{ItemWord}
 use Rattle.alf_text.specs.declared.words.ItemWord.TheVariants as item_words
-use Rattle.alf_text.specs.Tree.{Term, Address, Loads, Applies, Nothing, Stores, Jumps, Switches, Calls, Returns, Entry, Labels, Does, Frame, Start, Function, Whole, terms_of}
-use Rattle.alf_text.specs.Tree as tree
+use Rattle.alf_program.specs.Tree.{Term, Address, Loads, Applies, Nothing, Stores, Jumps, Switches, Calls, Returns, Entry, Labels, Does, Frame, Start, Function, Whole, terms_of}
+use Rattle.alf_program.specs.Tree as tree
 
 -- how a text departs from the grammar
 pub data Fault : Type 0 where

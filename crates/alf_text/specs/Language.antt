@@ -13,7 +13,7 @@ use Rattle.flow_base.specs.declared.place.Which.{Which}
 use Rattle.alf_tokens.specs.Tokens.{Lexeme, IsTokens}
 use Rattle.alf_text.specs.declared.text_fault.TextFault.{TextFault}
 use Rattle.alf_text.specs.declared.text_fault.TextFault.TheVariants as faults
-use Rattle.alf_text.specs.Tree.{Whole}
+use Rattle.alf_program.specs.Tree.{Whole}
 use Rattle.alf_text.specs.Grammar.{At, Fault, program, most_functions, most_frames, most_bytes}
 use Rattle.alf_text.specs.Grammar as grammar
 

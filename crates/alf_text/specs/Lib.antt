@@ -1,4 +1,5 @@
-pub mod Tree
+pub use Rattle.alf_program.specs.Tree
+pub use Rattle.alf_printer.specs.Canonical
 pub mod Grammar
 pub mod Reading
 pub mod Language
@@ -6,6 +7,4 @@ pub mod Spelled
 pub mod First
 pub mod FirstTests
 pub mod FirstText
-pub mod Canonical
 pub mod CanonicalLaws
-pub mod Printing

@@ -7,8 +7,8 @@
 --   WholeIsWritten whole         the same of the whole program
 --   SpelledProgramsAreWritten    each program that some text spells is such a program
 use Rattle.std.specs.Prelude.{◌≡◌, ◌<◌, ◌≤◌, ◌*◌, ◌^◌, ◌%◌, ℕ, true, List, [], ◌∷◌, Option, Some, None}
-use Rattle.alf_text.specs.declared.program.Num.{Num}
-use Rattle.alf_text.specs.Tree.{Term, Terms, Number, Address, Loads, Applies, Last, With, Nothing, Stores, Jumps, Switches, Calls, Returns, Entry, Labels, Does, Frame, Start, Function, Whole}
+use Rattle.alf_program.specs.declared.program.Num.{Num}
+use Rattle.alf_program.specs.Tree.{Term, Terms, Number, Address, Loads, Applies, Last, With, Nothing, Stores, Jumps, Switches, Calls, Returns, Entry, Labels, Does, Frame, Start, Function, Whole}
 use Rattle.alf_text.specs.Grammar.{ends_well, most_frame_bytes}
 use Rattle.alf_text.specs.Language.{IsSpelled}
 

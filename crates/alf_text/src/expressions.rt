@@ -2,17 +2,17 @@
 
 ghost use Rattle.std.specs.Prelude.{◌≡◌, ◌∷◌, map, IfOk, Result};
 ghost use Rattle.grammar.specs.Form.{Form, Gives, one, maybe, exactly};
-ghost use Rattle.alf_text.specs.Tree.{term_of};
+ghost use Rattle.alf_program.specs.Tree.{term_of};
 ghost use Rattle.std.specs.Option.{option_map};
 ghost use Rattle.alf_ops.specs.Table.{layout_of, size_count};
 ghost use Rattle.alf_text.specs.Grammar.{alf, fits_too_deep, operand_count, unsigned_term, signed_term, address_term, load, further, sizes, apply, expr_tail, nested, expr, whole_expr, least_further, most_further};
 ghost use Rattle.alf_text.specs.Reading.{position, fault_of};
 
-use crate::Expr;
 use crate::fault::{Departure, misfit};
 use crate::reader::Reader;
 use crate::words::ExprWord;
 use alf_ops::Op;
+use alf_program::Expr;
 use flow_base::Which;
 use std::alloc::{AllocError, Global};
 

@@ -1,7 +1,7 @@
 //! First texts: those whose program is `main` alone.
 
 ghost use Rattle.std.specs.Prelude.{◌≡◌, List, ℕ, map, IsSome, IfOk, IsErrOf};
-ghost use Rattle.alf_text.specs.Tree.{Whole, term_of, terms_of, item_of, frame_of, function_of, whole_of};
+ghost use Rattle.alf_program.specs.Tree.{Whole, term_of, terms_of, item_of, frame_of, function_of, whole_of};
 ghost use Rattle.alf_text.specs.Reading.{fault_of};
 ghost use Rattle.alf_text.specs.First.{IsFirst};
 ghost use Rattle.alf_text.specs.FirstTests.{is_named, names_in, frames_fit, is_word, is_number, is_no_carry, is_cell, is_cell_load, is_sum, is_first_term, is_labelled, stands_among, has_number, target_fits, targets_fit, item_fits, items_fit, is_main, is_main_alone, is_first};
@@ -10,8 +10,8 @@ ghost use Rattle.alf_text.specs.FirstText.{FirstText};
 use crate::fault::Departure;
 use crate::functions::ends_well;
 use crate::reader::{Counts, Reader};
-use crate::{Alloc, Expr, Func, Item, Num, Program, Stmt};
 use alf_ops::Op;
+use alf_program::{Alloc, Expr, Func, Item, Num, Program, Stmt};
 use alf_tokens::texts_are_cut_one_way;
 use flow_base::Name;
 use std::alloc::Global;

@@ -2,14 +2,14 @@
 
 ghost use Rattle.std.specs.Prelude.{◌≡◌, map};
 ghost use Rattle.grammar.specs.Form.{Form, Gives};
-ghost use Rattle.alf_text.specs.Tree.{frame_of, start_of};
+ghost use Rattle.alf_program.specs.Tree.{frame_of, start_of};
 ghost use Rattle.alf_text.specs.Grammar.{alloc, allocs, init, inits};
 ghost use Rattle.alf_text.specs.Reading.{position, fault_of};
 
 use crate::fault::Departure;
 use crate::lists::many;
 use crate::reader::Reader;
-use crate::{Alloc, Init};
+use alf_program::{Alloc, Init};
 
 impl<'a> Reader<'a> {
     /// `{ alloc 32 NAME BITS }`.

@@ -2,14 +2,14 @@
 
 ghost use Rattle.std.specs.Prelude.{◌≡◌, map};
 ghost use Rattle.grammar.specs.Form.{Form, Gives};
-ghost use Rattle.alf_text.specs.Tree.{frame_of, start_of, item_of, function_of};
+ghost use Rattle.alf_program.specs.Tree.{frame_of, start_of, item_of, function_of};
 ghost use Rattle.alf_text.specs.Grammar.{is_ending, ends_well, closing_after, stmts, scope, arg_decls, function_tail, function, functions};
 ghost use Rattle.alf_text.specs.Reading.{position, fault_of};
 
 use crate::fault::{Departure, misfit};
 use crate::lists::many;
 use crate::reader::Reader;
-use crate::{Alloc, Func, Init, Item, Stmt};
+use alf_program::{Alloc, Func, Init, Item, Stmt};
 
 fn is_ending(item: &Item) -> bool
     ensures { result ≡ is_ending (item_of item.now) }

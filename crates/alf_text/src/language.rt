@@ -2,14 +2,14 @@
 
 ghost use Rattle.std.specs.Prelude.{◌≡◌, ◌-◌, ◌≤◌, ℕ, not, List, length, take, filter, reverse, Ok, Err, IfOk, IfErr, IfSome, IsSomeAnd};
 ghost use Rattle.std.specs.List.{prefix_len};
-ghost use Rattle.alf_text.specs.Tree.{whole_of};
+ghost use Rattle.alf_program.specs.Tree.{whole_of};
 ghost use Rattle.alf_text.specs.Reading.{fault_of};
 ghost use Rattle.alf_text.specs.Language.{Means, HasOneMeaning, departure_of, placed, place_of, place_behind, is_line_feed};
 
-use crate::Program;
 use crate::fault::Departure;
 use crate::reader::{Counts, Reader};
 use crate::text_fault::TextFault;
+use alf_program::Program;
 use alf_tokens::texts_are_cut_one_way;
 use flow_base::{Name, Place};
 use std::alloc::Global;

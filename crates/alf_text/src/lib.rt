@@ -1,9 +1,6 @@
 //! The text of ALF: programs, what a text spells, and where it departs from the grammar first.
 #![tactic(auto)]
 
-// Programs.
-mod program;
-
 // Where a text departs from the grammar.
 mod fault;
 mod text_fault;
@@ -28,20 +25,14 @@ mod language;
 mod laws;
 
 // Writing a program.
-mod marks;
-mod printer;
+mod printing;
 
 // Texts whose program is `main` alone.
 mod first;
-#[cfg(test)]
-mod first_tests;
 
+pub use alf_program::{Alloc, Expr, Func, Init, Item, Num, Program, Stmt};
 pub use first::{FirstFault, first_texts, read_first};
 pub use language::{one_meaning, read};
 pub use laws::{canonical_texts_are_read_back, spelled_programs_are_written};
-pub use printer::print;
-pub use program::{Alloc, Expr, Func, Init, Item, Num, Program, Stmt};
+pub use printing::print;
 pub use text_fault::TextFault;
-
-#[cfg(test)]
-mod printer_tests;

@@ -2,13 +2,13 @@
 
 ghost use Rattle.std.specs.Prelude.{◌≡◌, ◌<◌, map, OnOk};
 ghost use Rattle.grammar.specs.Form.{Form, Gives, many};
-ghost use Rattle.alf_text.specs.Tree.{Term, Entry, Frame, Start, Function, term_of, item_of, frame_of, start_of, function_of};
+ghost use Rattle.alf_program.specs.Tree.{Term, Entry, Frame, Start, Function, term_of, item_of, frame_of, start_of, function_of};
 ghost use Rattle.alf_text.specs.Grammar.{Rule, alf, left, alloc, init, whole_expr, item, function};
 ghost use Rattle.alf_text.specs.Reading.{position, fault_of};
 
 use crate::fault::Departure;
 use crate::reader::Reader;
-use crate::{Alloc, Expr, Func, Init, Item};
+use alf_program::{Alloc, Expr, Func, Init, Item};
 
 /// What stands in lists, each part of which begins with a brace.
 pub trait Part<'a>: Sized + Drop {

@@ -5,10 +5,10 @@ ghost use Rattle.grammar.specs.Form.{Form, Gives, maybe};
 ghost use Rattle.alf_text.specs.Grammar.{alf, at_most, unsigned, minus, signed_bits, signed, num_tail, num};
 ghost use Rattle.alf_text.specs.Reading.{position, fault_of};
 
-use crate::Num;
 use crate::fault::Departure;
 use crate::reader::Reader;
 use crate::words::NumWord;
+use alf_program::Num;
 
 // The greatest word of this size.
 fn greatest(size: u32) -> u64

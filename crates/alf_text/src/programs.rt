@@ -2,13 +2,13 @@
 
 ghost use Rattle.std.specs.Prelude.{◌≡◌};
 ghost use Rattle.grammar.specs.Form.{Form, Gives};
-ghost use Rattle.alf_text.specs.Tree.{whole_of};
+ghost use Rattle.alf_program.specs.Tree.{whole_of};
 ghost use Rattle.alf_text.specs.Grammar.{closing_empty, empty, addr_unit, macro_defs, little_endian, heading, exports, imports, program};
 ghost use Rattle.alf_text.specs.Reading.{position, fault_of};
 
-use crate::Program;
 use crate::fault::{Departure, misfit};
 use crate::reader::Reader;
+use alf_program::Program;
 use flow_base::Name;
 
 impl<'a> Reader<'a> {

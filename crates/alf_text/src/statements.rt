@@ -2,7 +2,7 @@
 
 ghost use Rattle.std.specs.Prelude.{◌≡◌, ◌<◌, map, OnOk};
 ghost use Rattle.grammar.specs.Form.{Form, Gives, many};
-ghost use Rattle.alf_text.specs.Tree.{item_of};
+ghost use Rattle.alf_program.specs.Tree.{item_of};
 ghost use Rattle.alf_text.specs.Grammar.{left, target, targets_ahead, default_arm, switch, with_word, store, label_item, null, leaving, jump, result_word, call, returns, item_tail, item};
 ghost use Rattle.alf_text.specs.Reading.{position, fault_of};
 
@@ -10,7 +10,7 @@ use crate::fault::Departure;
 use crate::lists::many;
 use crate::reader::Reader;
 use crate::words::ItemWord;
-use crate::{Item, Num, Stmt};
+use alf_program::{Item, Num, Stmt};
 use flow_base::Name;
 
 impl<'a> Reader<'a> {

@@ -1,8 +1,7 @@
 -- Ranks, and the first function on a cycle.
-use Rattle.std.proofs.Common.{◌≡◌, ◌<◌, ℕ, List, [], get_or, length, Contains, inl, inr, sym, ◌∙◌, subst, arith}
-use Rattle.std.proofs.lemmas.Bool.{cases_lt}
-use Rattle.std.proofs.lemmas.List.{get_or_past}
+use Rattle.std.proofs.Common.{◌≡◌, ◌<◌, ℕ, List, get_or, length, sym, ◌∙◌, arith}
 use Rattle.call_cycles.specs.Calls.{Calls, directly, OnCycle, CallsWithin, IsCycle, IsFirstCycle, IsRanked}
+use Rattle.call_cycles.specs.CallLaws.{caller_low}
 use Rattle.call_cycles.specs.Search.{IsRankOf}
 use Rattle.call_cycles.proofs.Reaching.{calls_on, walked}
 use Rattle.call_cycles.proofs.Marks.{both, fewer, not_all}
@@ -27,20 +26,12 @@ module _ (calls : List (List ℕ)) where
   pub rank_low : (f rank : ℕ) → f < length calls → IsRankOf calls f rank → rank < length calls
   rank_low f rank inside r = let e = r.marking.long in let few = not_all r.marks f (omega arith) r.marking.clear in let a = r.counted in omega arith
 
-  -- a function that calls is one of them
-  pub caller_low : (f g : ℕ) → Calls calls f g → f < length calls
-  caller_low f g call =
-      elim (cases_lt f (length calls)) [
-        | inl low ↦ low
-        | inr past ↦ let none = subst (λ (xs : List ℕ). Contains xs g) (get_or_past calls f [] past) call in absurd (let inside : none.0 < 0 = none.1 in omega arith)
-      ]
-
   -- where each function has its rank, they are ranked
   pub all_ranked : (ranks : List ℕ) → CallsWithin calls → length ranks ≡ length calls → ((f : ℕ) → f < length calls → IsRankOf calls f (get_or ranks f 0)) → IsRanked calls ranks
   all_ranked ranks within long each = record {
     one_each = long;
     within = λ f inside. rank_low f _ inside (each f inside);
-    falls = λ f g call. rank_falls f g _ _ (each f (caller_low f g call)) (each g (within f g call)) call;
+    falls = λ f g call. rank_falls f g _ _ (each f (caller_low calls f g call)) (each g (within f g call)) call;
   }
 
   -- a cycle of a function, where each before it has a rank

@@ -19,6 +19,3 @@ mod laws;
 pub use fault::CallFault;
 pub use laws::ranked_calls_have_no_cycle;
 pub use ranks::call_ranks;
-
-#[cfg(test)]
-mod tests;

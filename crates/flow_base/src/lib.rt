@@ -34,6 +34,3 @@ pub use shelf::{ReadError, Shelf};
 pub use sink::{Sink, WriteError};
 pub use standard::StdSink;
 pub use sure::{SureShelf, SureSink};
-
-#[cfg(test)]
-mod tests;

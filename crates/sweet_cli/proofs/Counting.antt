@@ -3,7 +3,7 @@ use Rattle.std.proofs.Common.{◌≡◌, ◌<◌, ◌+◌, ◌==◌, ℕ, suc, B
 use Rattle.std.proofs.lemmas.List.Sums.{sum_by-cons}
 use Rattle.alf_ops.specs.declared.history.RunFault.{RunFault}
 use Rattle.alf_ops.specs.declared.history.RunFault.TheVariants.{Uninit}
-use Rattle.alf_text.specs.Tree.{Entry}
+use Rattle.alf_program.specs.Tree.{Entry}
 use Rattle.sweet_cli.specs.Nodes.{Node, entry, node_at, rank_of}
 use Rattle.sweet_cli.specs.Runs.{places_of, cost_of}
 use Rattle.sweet_cli.specs.Tally.{FaultsAt, IsCount, IsTally}

@@ -1,10 +1,10 @@
 -- Blocks, cut from the front on, and what they have in all.
 use Rattle.std.proofs.Common.{◌≡◌, ◌≤◌, ◌<◌, ◌+◌, ℕ, zero, suc, Bool, true, false, List, [], ◌∷◌, ◌++◌, ◌⊎◌, inl, inr, None, Some, slice_get, map, length, take, drop, drop-cons, get_or, add-one, refl, ap, sym, ◌∙◌, subst, append_assoc, append-nil, arith}
 use Rattle.std.proofs.lemmas.List.{take-map, drop-map, length-map}
-use Rattle.alf_text.specs.declared.program.Item.{Item}
-use Rattle.alf_text.specs.Tree.{Entry, item_of}
+use Rattle.alf_program.specs.declared.program.Item.{Item}
+use Rattle.alf_program.specs.Tree.{Entry, item_of}
 use Rattle.alf_text.specs.First.{Among}
-use Rattle.sweet_cli.specs.Blocks.{begins_between, joined, blocks_of}
+use Rattle.alf_check.specs.Blocks.{begins_between, joined, blocks_of}
 use Rattle.sweet_cli.specs.Cut.{first_length}
 
 pub by_test : {A : Type 0} (v : Bool) → (v ≡ true → A) → (v ≡ false → A) → A

@@ -2,10 +2,10 @@
 use Rattle.std.proofs.Common.{◌≡◌, ◌<◌, ◌+◌, ℕ, suc, false, List, length, ap, add-one, arith}
 use Rattle.std.proofs.lemmas.List.{length-map}
 use Rattle.std.proofs.lemmas.Option.{slice_get_within}
-use Rattle.alf_text.specs.declared.program.Alloc.{Alloc}
-use Rattle.alf_text.specs.declared.program.Num.{Num}
-use Rattle.alf_text.specs.Tree.{Term, Loads, Address, Jumps, Switches, Entry, Does, names_of}
-use Rattle.sweet_cli.specs.Blocks.{ends_block}
+use Rattle.alf_program.specs.declared.program.Alloc.{Alloc}
+use Rattle.alf_program.specs.declared.program.Num.{Num}
+use Rattle.alf_program.specs.Tree.{Term, Loads, Address, Jumps, Switches, Entry, Does, names_of}
+use Rattle.alf_check.specs.Blocks.{ends_block}
 use Rattle.sweet_cli.specs.Nodes.{EndsWith, StandsIn}
 use Rattle.sweet_cli.specs.Memory.{value_of}
 use Rattle.sweet_cli.specs.Runs.{jumps, falls}

@@ -1,8 +1,8 @@
 -- Stores in place of the items that they stand for.
 use Rattle.std.proofs.Common.{◌≡◌, ◌<◌, ◌+◌, ℕ, zero, suc, List, [], ◌∷◌, ◌++◌, ◌⊎◌, inl, inr, Option, None, Some, slice_get, get_or, map, drop, length, refl, ap, ◌∙◌, subst}
 use Rattle.std.specs.Prelude.{option_and_then}
-use Rattle.alf_text.specs.declared.program.Item.{Item}
-use Rattle.alf_text.specs.Tree.{Entry, item_of}
+use Rattle.alf_program.specs.declared.program.Item.{Item}
+use Rattle.alf_program.specs.Tree.{Entry, item_of}
 use Rattle.alf_text.specs.First.{Each}
 use Rattle.sweet_cli.specs.Memory.{History, executed_one, executed}
 use Rattle.sweet_cli.specs.Resolved.{put_executed, puts_executed, PutWithin, PutsWithin}

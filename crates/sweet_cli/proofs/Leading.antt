@@ -2,9 +2,9 @@
 use Rattle.std.proofs.Common.{◌≡◌, ◌<◌, ◌≤◌, ◌+◌, ◌-◌, ◌↔◌, ℕ, zero, suc, true, false, List, [], ◌∷◌, ◌++◌, ◌⊎◌, inl, inr, Option, None, Some, IfSome, slice_get, get_or, map, drop, Vec, Global, length, length-append, refl, ap, sym, ◌∙◌, subst, arith}
 use Rattle.std.proofs.lemmas.List.{length-map, map-append}
 use Rattle.std.proofs.lemmas.Option.{slice_get_within}
-use Rattle.alf_text.specs.declared.program.Num.{Num}
-use Rattle.alf_text.specs.Tree.{Term, Jumps, Switches, Returns, Entry, Does}
-use Rattle.sweet_cli.specs.Blocks.{ends_block}
+use Rattle.alf_program.specs.declared.program.Num.{Num}
+use Rattle.alf_program.specs.Tree.{Term, Jumps, Switches, Returns, Entry, Does}
+use Rattle.alf_check.specs.Blocks.{ends_block}
 use Rattle.sweet_cli.specs.Nodes.{Node, entry, at_block, node_at, rank_of, EndsWith, StandsIn, IsLabelOf, Leads, enters, returns, jumps, switches, falls}
 use Rattle.sweet_cli.specs.declared.blocks.Block.{Block}
 use Rattle.sweet_cli.specs.Cut.{block_meant}

@@ -2,7 +2,7 @@
 use Rattle.std.proofs.Common.{◌≡◌, ◌≢◌, ◌≤◌, ◌-◌, ℕ, zero, suc, List, Option, None, Some, get_or, length, refl, ap, sym, ◌∙◌, subst, arith}
 use Rattle.std.proofs.lemmas.Option.{slice_get-get_or, slice_get_within}
 use Rattle.alf_ops.specs.declared.history.RunFault.TheVariants.{Uninit}
-use Rattle.alf_text.specs.Tree.{Entry}
+use Rattle.alf_program.specs.Tree.{Entry}
 use Rattle.sweet_cli.specs.Nodes.{at_block, node_at}
 use Rattle.sweet_cli.specs.Memory.{History}
 use Rattle.sweet_cli.specs.Runs.{Executes, Steps, enters, faults, switches, switch_faults, onwards, over}

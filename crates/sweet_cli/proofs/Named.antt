@@ -1,8 +1,8 @@
 -- A program that is `main` alone is named by its frames and its items.
 use Rattle.std.proofs.Common.{◌≡◌, ℕ, List, [], ◌∷◌, map, get_or, refl, ap, sym, ◌∙◌}
-use Rattle.alf_text.specs.declared.program.Alloc.{Alloc}
-use Rattle.alf_text.specs.declared.program.Func.{Func}
-use Rattle.alf_text.specs.Tree.{Entry, Frame, Function, Whole, item_of, frame_of, names_of, function_of}
+use Rattle.alf_program.specs.declared.program.Alloc.{Alloc}
+use Rattle.alf_program.specs.declared.program.Func.{Func}
+use Rattle.alf_program.specs.Tree.{Entry, Frame, Function, Whole, item_of, frame_of, names_of, function_of}
 use Rattle.alf_text.specs.First.{cell_frame, main_alone}
 
 cell_names : (frames : List (List ℕ)) → map (λ (frame : Frame). frame.name) (map cell_frame frames) ≡ frames

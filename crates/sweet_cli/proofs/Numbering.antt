@@ -1,7 +1,7 @@
 -- What the search over the table of edges marks is the numbering of the nodes.
 use Rattle.std.proofs.Common.{◌≡◌, ◌<◌, ◌+◌, ℕ, zero, suc, Bool, true, false, List, [], ◌∷◌, inl, inr, Some, Vec, Global, length, map, refl, ap, sym, subst, arith}
 use Rattle.std.proofs.lemmas.List.{length-map}
-use Rattle.alf_text.specs.Tree.{Entry}
+use Rattle.alf_program.specs.Tree.{Entry}
 use Rattle.sweet_cli.specs.Nodes.{Node, node_at, rank_of, Leads, Reached, start, step, Ascends, OneOf, IsNumbering}
 use Rattle.sweet_cli.specs.Edges.{IsTable, rows_of}
 use Rattle.sweet_cli.specs.Search.{HasEdge, Reaches, begins, leads_on, IsClosed, IsMarked, IsMarking, marked_from}

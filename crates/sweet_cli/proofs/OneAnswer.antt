@@ -2,14 +2,14 @@
 use Rattle.std.proofs.Common.{◌≡◌, ◌≤◌, ◌<◌, ℕ, List, [], Result, Ok, Err, Option, None, Some, length, refl, ap, sym, ◌∙◌, subst, arith}
 use Rattle.std.specs.Prelude.{IsSomeAnd}
 use Rattle.flow_base.specs.Outside.{Files}
-use Rattle.alf_text.specs.Tree.{Entry, Whole}
+use Rattle.alf_program.specs.Tree.{Entry, Whole}
 use Rattle.alf_text.specs.First.{main_alone, IsFirst}
 use Rattle.alf_text.specs.FirstText.{FirstText}
 use Rattle.alf_text.specs.Language.{Departure, Means, HasOneMeaning}
 use Rattle.alf_text.specs.Canonical.{canonical_text}
 use Rattle.sweet_cli.specs.FaultLines.{fault_line}
 use Rattle.sweet_cli.specs.Words.{Command, Analyse, Print, file_of, command_of}
-use Rattle.sweet_cli.specs.Blocks.{blocks_of}
+use Rattle.alf_check.specs.Blocks.{blocks_of}
 use Rattle.sweet_cli.specs.Nodes.{entry}
 use Rattle.sweet_cli.specs.Runs.{RunsPast}
 use Rattle.sweet_cli.specs.Facts.{Findings, IsReportOf, IsReportWithin}

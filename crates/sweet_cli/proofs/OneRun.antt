@@ -1,9 +1,9 @@
 -- The items of a first text have one run and one numbering, so that what is exact for one is sound for all.
 use Rattle.std.proofs.Common.{◌≡◌, ◌<◌, ◌+◌, ◌==◌, ◌≢◌, ℕ, suc, false, inl, inr, List, [], ◌∷◌, ◌++◌, Option, None, Some, length, slice_get, length-append, append_assoc, refl, ap, sym, ◌∙◌, subst, arith, rules}
 use Rattle.alf_ops.specs.declared.history.RunFault.{RunFault}
-use Rattle.alf_text.specs.Tree.{Entry}
+use Rattle.alf_program.specs.Tree.{Entry}
 use Rattle.alf_text.specs.First.{main_alone, IsFirst}
-use Rattle.sweet_cli.specs.Blocks.{blocks_of}
+use Rattle.alf_check.specs.Blocks.{blocks_of}
 use Rattle.sweet_cli.specs.Nodes.{Node, entry, node_at, Reached, start, step, rank_of, Ascends, OneOf, IsNumbering}
 use Rattle.sweet_cli.specs.Memory.{History}
 use Rattle.sweet_cli.specs.Runs.{onwards, over, Runs, ends, goes_on, RunsPast, here, on, places_of, cost_of, last_of}

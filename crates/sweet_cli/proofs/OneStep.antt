@@ -1,9 +1,9 @@
 -- Where each label stands in one block, there is one step from a node with a history.
 use Rattle.std.proofs.Common.{◌≡◌, ◌==◌, ℕ, suc, true, false, List, [], ◌∷◌, inl, inr, Option, None, Some, refl, ap, sym, ◌∙◌, subst}
 use Rattle.alf_ops.specs.declared.history.RunFault.TheVariants.{Uninit}
-use Rattle.alf_text.specs.declared.program.Num.{Num}
-use Rattle.alf_text.specs.Tree.{Nothing, Stores, Jumps, Switches, Calls, Returns, Entry, Labels, Does}
-use Rattle.sweet_cli.specs.Blocks.{ends_block}
+use Rattle.alf_program.specs.declared.program.Num.{Num}
+use Rattle.alf_program.specs.Tree.{Nothing, Stores, Jumps, Switches, Calls, Returns, Entry, Labels, Does}
+use Rattle.alf_check.specs.Blocks.{ends_block}
 use Rattle.sweet_cli.specs.Nodes.{Node, entry, at_block, EndsWith, StandsIn, IsLabelOf, Leads}
 use Rattle.sweet_cli.specs.Nodes as edges
 use Rattle.sweet_cli.specs.Memory.{History, value_of, executed}

@@ -2,9 +2,9 @@
 use Rattle.std.proofs.Common.{◌≡◌, ◌≤◌, ◌<◌, ℕ, zero, suc, List, [], ◌∷◌, inl, inr, Option, Some, map, length, drop, get_or, sum, refl, ◌∙◌, arith}
 use Rattle.std.proofs.lemmas.Option.{slice_get_within}
 use Rattle.alf_ops.specs.declared.history.RunFault.{RunFault}
-use Rattle.alf_text.specs.Tree.{Entry}
+use Rattle.alf_program.specs.Tree.{Entry}
 use Rattle.alf_text.specs.First.{main_alone, IsFirst}
-use Rattle.sweet_cli.specs.Blocks.{blocks_of}
+use Rattle.alf_check.specs.Blocks.{blocks_of}
 use Rattle.sweet_cli.specs.Nodes.{Node, entry, node_at, rank_of, Leads, enters, jumps, switches, falls, Reached, start, step, OneOf, IsNumbering}
 use Rattle.sweet_cli.specs.Runs.{Runs}
 use Rattle.sweet_cli.specs.Edges.{FallsWithin}

@@ -1,10 +1,10 @@
 -- The blocks of a first program have codes.
 use Rattle.std.proofs.Common.{◌≡◌, ◌<◌, ℕ, zero, suc, List, [], ◌∷◌, ◌++◌, None, Some, slice_get, get_or, length, ap, sym, ◌∙◌, subst}
 use Rattle.std.proofs.lemmas.Option.{slice_get-get_or}
-use Rattle.alf_text.specs.declared.program.Num.{Num}
-use Rattle.alf_text.specs.Tree.{Nothing, Stores, Jumps, Switches, Calls, Returns, Entry, Labels, Does}
+use Rattle.alf_program.specs.declared.program.Num.{Num}
+use Rattle.alf_program.specs.Tree.{Nothing, Stores, Jumps, Switches, Calls, Returns, Entry, Labels, Does}
 use Rattle.alf_text.specs.First.{Among, Each, EachTarget, NamesFrames, IsFirstItem, IsLed, main_alone, IsFirst}
-use Rattle.sweet_cli.specs.Blocks.{blocks_of}
+use Rattle.alf_check.specs.Blocks.{blocks_of}
 use Rattle.sweet_cli.specs.Nodes.{EndsWith}
 use Rattle.sweet_cli.specs.Resolved.{Stands, IsLedIn, CanResolve}
 use Rattle.sweet_cli.proofs.Cutting.{some_is, flat, flat_blocks, all_some, block_ends, found_flat}

@@ -1,9 +1,9 @@
 -- What stands for the names of frames and for labels.
 use Rattle.std.proofs.Common.{◌≡◌, ◌<◌, ◌+◌, ◌==◌, ℕ, zero, suc, List, [], ◌∷◌, ◌++◌, inl, inr, get_or, take, drop, add-one, length, refl, sym, subst, arith}
 use Rattle.std.proofs.Math.Seq.{take-suc}
-use Rattle.alf_text.specs.declared.program.Alloc.{Alloc}
-use Rattle.alf_text.specs.declared.program.Num.{Num}
-use Rattle.alf_text.specs.Tree.{Entry, names_of}
+use Rattle.alf_program.specs.declared.program.Alloc.{Alloc}
+use Rattle.alf_program.specs.declared.program.Num.{Num}
+use Rattle.alf_program.specs.Tree.{Entry, names_of}
 use Rattle.alf_text.specs.First.{Named, EachTarget}
 use Rattle.sweet_cli.specs.Nodes.{StandsIn}
 use Rattle.sweet_cli.specs.Runs.{target_of}

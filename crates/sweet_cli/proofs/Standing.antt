@@ -2,10 +2,10 @@
 use Rattle.std.proofs.Common.{◌≡◌, ◌<◌, ◌+◌, ◌-◌, ℕ, zero, suc, true, false, List, [], ◌∷◌, ◌++◌, inl, inr, Option, None, Some, slice_get, get_or, map, option_map, length, length-append, refl, ap, sym, ◌∙◌, subst, arith}
 use Rattle.std.proofs.lemmas.List.{same_from_push, length-map}
 use Rattle.std.proofs.lemmas.Option.{slice_get-get_or, slice_get_within, slice_get-map}
-use Rattle.alf_text.specs.declared.program.Item.{Item}
-use Rattle.alf_text.specs.Tree.{Nothing, Stores, Jumps, Switches, Calls, Returns, Entry, Labels, Does, item_of}
+use Rattle.alf_program.specs.declared.program.Item.{Item}
+use Rattle.alf_program.specs.Tree.{Nothing, Stores, Jumps, Switches, Calls, Returns, Entry, Labels, Does, item_of}
 use Rattle.alf_text.specs.First.{Among, Each, LabelsDiffer, NamesDiffer, NamesFrames, IsFirstItem, IsLed, EndsWell, main_alone, IsFirst}
-use Rattle.sweet_cli.specs.Blocks.{ends_block, blocks_of}
+use Rattle.alf_check.specs.Blocks.{ends_block, blocks_of}
 use Rattle.sweet_cli.specs.Nodes.{EndsWith, StandsIn}
 use Rattle.sweet_cli.specs.declared.blocks.Block.{Block}
 use Rattle.sweet_cli.specs.Cut.{block_meant}

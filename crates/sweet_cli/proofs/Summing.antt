@@ -4,9 +4,9 @@ use Rattle.std.specs.Option.{option_map}
 use Rattle.std.proofs.lemmas.List.{length-map, get_or-map}
 use Rattle.alf_ops.specs.Words.{value}
 use Rattle.alf_ops.specs.declared.operator.Op.TheVariants.{Add}
-use Rattle.alf_text.specs.declared.program.Num.{Num}
-use Rattle.alf_text.specs.declared.program.Expr.{Expr}
-use Rattle.alf_text.specs.Tree.{Term, Number, Address, Loads, Applies, terms_of, term_of}
+use Rattle.alf_program.specs.declared.program.Num.{Num}
+use Rattle.alf_program.specs.declared.program.Expr.{Expr}
+use Rattle.alf_program.specs.Tree.{Term, Number, Address, Loads, Applies, terms_of, term_of}
 use Rattle.alf_text.specs.First.{IsWord, IsCellLoad, IsLoadAndNumber, IsDeclared, AreDeclared}
 use Rattle.sweet_cli.specs.Memory.{History, value_of, with_first}
 use Rattle.sweet_cli.specs.Resolved.{IsNumber, sum_value}

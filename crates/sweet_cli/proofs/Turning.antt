@@ -6,7 +6,7 @@ use Rattle.std.proofs.lemmas.Grind.{get_or_default_zero, get_or-set_at}
 use Rattle.std.proofs.lemmas.List.{get_or-replicate, length-replicate}
 use Rattle.alf_ops.specs.declared.history.RunFault.{RunFault}
 use Rattle.alf_ops.specs.declared.history.RunFault.TheVariants.{Uninit}
-use Rattle.alf_text.specs.Tree.{Entry}
+use Rattle.alf_program.specs.Tree.{Entry}
 use Rattle.sweet_cli.specs.Nodes.{Node, entry, at_block, node_at, rank_of}
 use Rattle.sweet_cli.specs.Memory.{History}
 use Rattle.sweet_cli.specs.Runs.{Steps, onwards, over, Runs, ends, goes_on, RunsPast, here, on, places_of, last_of}

@@ -6,16 +6,16 @@
 --   IsWritten status                      the text of such an answer was written whole
 --   PrintsSound file turns files before after   what a sink grew by is a report that is sound for the program in the file
 --   PrintsSame file files before after          what a sink grew by is a text that spells the program in the file
-use Rattle.std.specs.Prelude.{◌≡◌, ◌≤◌, ◌<◌, ℕ, List, [], ◌++◌, length, Result, Ok, Err, Option, None, Some, IfSome, IsSomeAnd, codes}
+use Rattle.std.specs.Prelude.{◌≡◌, ◌≤◌, ◌<◌, ℕ, List, [], ◌++◌, length, Ok, Err, Option, None, Some, IfSome, IsSomeAnd, codes}
 use Rattle.flow_base.specs.Outside.{Files}
-use Rattle.alf_text.specs.Tree.{Entry, Whole}
+use Rattle.alf_program.specs.Tree.{Entry, Whole}
 use Rattle.alf_text.specs.First.{main_alone}
 use Rattle.alf_text.specs.FirstText.{FirstText}
 use Rattle.alf_text.specs.Language.{Departure, Means, SpellsProgram}
 use Rattle.alf_text.specs.Canonical.{canonical_text}
 use Rattle.sweet_cli.specs.Words.{Command, Analyse, Print, file_of, command_of}
 use Rattle.sweet_cli.specs.FaultLines.{fault_line}
-use Rattle.sweet_cli.specs.Blocks.{blocks_of}
+use Rattle.alf_check.specs.Blocks.{blocks_of}
 use Rattle.sweet_cli.specs.Nodes.{entry}
 use Rattle.sweet_cli.specs.Runs.{RunsPast}
 use Rattle.sweet_cli.specs.Facts.{Findings, IsSound, IsReportWithin}

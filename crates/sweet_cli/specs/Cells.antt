@@ -4,7 +4,7 @@
 --   Did frames blocks at history cells move   what was done at the node of this rank
 use Rattle.std.specs.Prelude.{◌≡◌, ◌<◌, ℕ, Bool, true, false, List, length, Option, None, Some, get_or}
 use Rattle.alf_ops.specs.declared.history.RunFault.TheVariants.{Uninit}
-use Rattle.alf_text.specs.Tree.{Entry}
+use Rattle.alf_program.specs.Tree.{Entry}
 use Rattle.sweet_cli.specs.Nodes.{at_block, node_at}
 use Rattle.sweet_cli.specs.Memory.{History, newest}
 use Rattle.sweet_cli.specs.Runs.{Steps, onwards, over}

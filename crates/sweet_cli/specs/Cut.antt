@@ -2,8 +2,8 @@
 --   block_meant block     the items of the code's block
 --   first_length items    how many items the first block has
 use Rattle.std.specs.Prelude.{ℕ, suc, List, [], ◌∷◌, map, if◌then◌else◌}
-use Rattle.alf_text.specs.Tree.{Entry, item_of}
-use Rattle.sweet_cli.specs.Blocks.{begins_between}
+use Rattle.alf_program.specs.Tree.{Entry, item_of}
+use Rattle.alf_check.specs.Blocks.{begins_between}
 use Rattle.sweet_cli.specs.declared.blocks.Block.{Block}
 
 abbrev pub block_meant : Block → List Entry

@@ -9,9 +9,9 @@
 --   rows_of rows                           what the code's table stands for
 use Rattle.std.specs.Prelude.{◌≡◌, ◌<◌, ◌≤◌, ℕ, suc, false, List, [], ◌∷◌, ◌⊎◌, Option, Some, IfSome, Vec, map, length, slice_index_or}
 use Rattle.std.specs.declared.alloc.Global.{Global}
-use Rattle.alf_text.specs.declared.program.Num.{Num}
-use Rattle.alf_text.specs.Tree.{Entry}
-use Rattle.sweet_cli.specs.Blocks.{ends_block}
+use Rattle.alf_program.specs.declared.program.Num.{Num}
+use Rattle.alf_program.specs.Tree.{Entry}
+use Rattle.alf_check.specs.Blocks.{ends_block}
 use Rattle.sweet_cli.specs.Nodes.{Node, node_at, rank_of, EndsWith, StandsIn, Leads}
 
 -- the rank is one of these

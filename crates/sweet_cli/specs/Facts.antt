@@ -7,8 +7,8 @@
 --   IsReportWithin items turns findings   the same, and the run has no more nodes than the turns
 use Rattle.std.specs.Prelude.{◌≡◌, ◌≤◌, ◌==◌, ℕ, suc, List, [], ◌∷◌, ◌++◌, ◌⊎◌, length, if◌then◌else◌, Option, None, Some, IfSome, slice_get}
 use Rattle.alf_ops.specs.declared.history.RunFault.{RunFault}
-use Rattle.alf_text.specs.Tree.{Entry}
-use Rattle.sweet_cli.specs.Blocks.{blocks_of}
+use Rattle.alf_program.specs.Tree.{Entry}
+use Rattle.alf_check.specs.Blocks.{blocks_of}
 use Rattle.sweet_cli.specs.Nodes.{Node, entry, rank_of, IsNumbering}
 use Rattle.sweet_cli.specs.Runs.{Runs, places_of, cost_of, last_of}
 use Rattle.sweet_cli.specs.declared.fact.Fact.{Fact}

@@ -5,10 +5,10 @@
 use Rattle.std.specs.Prelude.{◌≡◌, ℕ, List, [], Option, Some}
 use Rattle.flow_base.specs.Outside.{Files}
 use Rattle.alf_ops.specs.declared.history.RunFault.{RunFault}
-use Rattle.alf_text.specs.Tree.{Entry}
+use Rattle.alf_program.specs.Tree.{Entry}
 use Rattle.alf_text.specs.First.{main_alone}
 use Rattle.alf_text.specs.FirstText.{FirstText}
-use Rattle.sweet_cli.specs.Blocks.{blocks_of}
+use Rattle.alf_check.specs.Blocks.{blocks_of}
 use Rattle.sweet_cli.specs.Nodes.{Node, entry}
 use Rattle.sweet_cli.specs.Memory.{History}
 use Rattle.sweet_cli.specs.Runs.{Step, Steps, Runs}

@@ -1,7 +1,6 @@
 pub mod Code
 pub mod Words
 pub mod Meant
-pub mod Blocks
 pub mod Nodes
 pub mod Memory
 pub mod Runs

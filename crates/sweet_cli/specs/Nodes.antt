@@ -4,10 +4,10 @@
 --   Reached blocks node         walks along edges lead from the entry to the node
 --   IsNumbering blocks nodes    the nodes by their numbers: those reached, the entry first, then by block
 use Rattle.std.specs.Prelude.{◌≡◌, ◌<◌, ℕ, zero, suc, false, List, [], ◌∷◌, ◌++◌, ◌⊎◌, Option, None, Some, slice_get}
-use Rattle.alf_text.specs.declared.program.Num.{Num}
-use Rattle.alf_text.specs.Tree.{Term, Jumps, Switches, Returns, Entry, Labels, Does}
+use Rattle.alf_program.specs.declared.program.Num.{Num}
+use Rattle.alf_program.specs.Tree.{Term, Jumps, Switches, Returns, Entry, Labels, Does}
 use Rattle.alf_text.specs.First.{Among}
-use Rattle.sweet_cli.specs.Blocks.{ends_block}
+use Rattle.alf_check.specs.Blocks.{ends_block}
 
 -- the entry of the function, or one of its blocks
 pub data Node : Type 0 where

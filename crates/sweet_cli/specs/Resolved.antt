@@ -21,10 +21,10 @@ use Rattle.std.specs.Prelude.{◌≡◌, ◌<◌, ◌+◌, ◌%◌, ◌^◌, ◌
 use Rattle.std.specs.Option.{option_map}
 use Rattle.alf_ops.specs.Words.{value}
 use Rattle.alf_ops.specs.declared.operator.Op.TheVariants.{Add}
-use Rattle.alf_text.specs.declared.program.Num.{Num}
-use Rattle.alf_text.specs.Tree.{Term, Terms, Number, Address, Loads, Applies, Nothing, Jumps, Stores, Switches, Calls, Returns, Entry, Labels, Does}
+use Rattle.alf_program.specs.declared.program.Num.{Num}
+use Rattle.alf_program.specs.Tree.{Term, Terms, Number, Address, Loads, Applies, Nothing, Jumps, Stores, Switches, Calls, Returns, Entry, Labels, Does}
 use Rattle.alf_text.specs.First.{IsWord, IsFirstItem, NamesFrames, Each, EachTarget}
-use Rattle.sweet_cli.specs.Blocks.{ends_block}
+use Rattle.alf_check.specs.Blocks.{ends_block}
 use Rattle.sweet_cli.specs.Nodes.{at_block, EndsWith, StandsIn}
 use Rattle.sweet_cli.specs.Memory.{History, newest, stored_in, value_of, values_of, executed}
 use Rattle.sweet_cli.specs.Runs.{Executes, Steps, onwards, target_of}

@@ -8,9 +8,9 @@
 use Rattle.std.specs.Prelude.{◌≡◌, ℕ, suc, false, not, ◌==◌, List, [], ◌∷◌, Option, None, Some, slice_get, count_by, if◌then◌else◌}
 use Rattle.alf_ops.specs.declared.history.RunFault.{RunFault}
 use Rattle.alf_ops.specs.declared.history.RunFault.TheVariants.{Uninit}
-use Rattle.alf_text.specs.declared.program.Num.{Num}
-use Rattle.alf_text.specs.Tree.{Term, Jumps, Switches, Returns, Entry, Does}
-use Rattle.sweet_cli.specs.Blocks.{ends_block}
+use Rattle.alf_program.specs.declared.program.Num.{Num}
+use Rattle.alf_program.specs.Tree.{Term, Jumps, Switches, Returns, Entry, Does}
+use Rattle.alf_check.specs.Blocks.{ends_block}
 use Rattle.sweet_cli.specs.Nodes.{Node, entry, at_block, EndsWith, StandsIn, rank_of}
 use Rattle.sweet_cli.specs.Memory.{History, value_of, executed}
 

@@ -1,7 +1,7 @@
 ghost use Rattle.std.specs.Prelude.{[], map, IfOk, IfNone, IfSome};
-ghost use Rattle.alf_text.specs.Tree.{item_of, names_of};
+ghost use Rattle.alf_program.specs.Tree.{item_of, names_of};
 ghost use Rattle.alf_text.specs.First.{main_alone, IsFirst};
-ghost use Rattle.sweet_cli.specs.Blocks.{blocks_of};
+ghost use Rattle.alf_check.specs.Blocks.{blocks_of};
 ghost use Rattle.sweet_cli.specs.Nodes.{entry};
 ghost use Rattle.sweet_cli.specs.Runs.{RunsPast};
 ghost use Rattle.sweet_cli.specs.Facts.{IsReportWithin, findings_of};
@@ -11,7 +11,7 @@ use crate::blocks::cut;
 use crate::findings::report;
 use crate::graph::kept_ranks;
 use crate::machine::tally;
-use alf_text::{Alloc, Item};
+use alf_program::{Alloc, Item};
 use std::alloc::{AllocError, Global};
 
 /// The report of the one run of the items over these frames. None where the run has more nodes than

@@ -1,6 +1,6 @@
 ghost use Rattle.std.specs.Prelude.{◌≡◌, List, ℕ, map, Some, string_bytes, IfOk};
 ghost use Rattle.flow_base.specs.Outside.{Rose};
-ghost use Rattle.alf_text.specs.Tree.{item_of, names_of, whole_of};
+ghost use Rattle.alf_program.specs.Tree.{item_of, names_of, whole_of};
 ghost use Rattle.alf_text.specs.First.{main_alone, IsFirst};
 ghost use Rattle.alf_text.specs.FirstText.{FirstText};
 ghost use Rattle.sweet_cli.specs.Words.{Command as Meaning, command_of, file_of};
@@ -12,7 +12,8 @@ use crate::analysis::report_of;
 use crate::command::{Command, read_command};
 use crate::fault_lines::fault_line;
 use crate::report_text::text_of;
-use alf_text::{FirstFault, Item, Program, first_texts, print, read, read_first};
+use alf_program::{Item, Program};
+use alf_text::{FirstFault, first_texts, print, read, read_first};
 use flow_base::{ReadError, Shelf};
 use std::alloc::{AllocError, Global};
 

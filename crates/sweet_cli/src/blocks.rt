@@ -1,9 +1,9 @@
 ghost use Rattle.std.specs.Prelude.{◌≡◌, map, IfOk};
-ghost use Rattle.alf_text.specs.Tree.{item_of};
-ghost use Rattle.sweet_cli.specs.Blocks.{begins_between, ends_block, is_label, blocks_of};
+ghost use Rattle.alf_program.specs.Tree.{item_of};
+ghost use Rattle.alf_check.specs.Blocks.{begins_between, ends_block, is_label, blocks_of};
 ghost use Rattle.sweet_cli.specs.Cut.{block_meant, first_length};
 
-use alf_text::{Item, Stmt};
+use alf_program::{Item, Stmt};
 use std::alloc::{AllocError, Global};
 
 /// Items that follow one another, of which control passes through all or none.

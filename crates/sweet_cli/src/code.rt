@@ -1,5 +1,5 @@
 ghost use Rattle.std.specs.Prelude.{◌≡◌, ◌<◌, ℕ, map, length, IfOk};
-ghost use Rattle.alf_text.specs.Tree.{item_of, names_of};
+ghost use Rattle.alf_program.specs.Tree.{item_of, names_of};
 ghost use Rattle.alf_text.specs.First.{IsFirstItem, NamesFrames, Each, EachTarget, IsWord};
 ghost use Rattle.sweet_cli.specs.Nodes.{EndsWith, StandsIn};
 ghost use Rattle.sweet_cli.specs.Cut.{block_meant};
@@ -9,7 +9,7 @@ ghost use Rattle.sweet_cli.specs.Resolved.{puts_executed, PutsWithin, Stands, Le
 use crate::blocks::Block;
 use crate::labels::block_of_label;
 use crate::operand::{Put, cell_of_load, put_of};
-use alf_text::{Alloc, Item, Num, Stmt};
+use alf_program::{Alloc, Item, Num, Stmt};
 use flow_base::Name;
 use std::alloc::{AllocError, Global};
 

@@ -1,12 +1,12 @@
 ghost use Rattle.std.specs.Prelude.{◌≡◌, ◌<◌, ◌⊎◌, ℕ, suc, [], ◌∷◌, map, length, IfOk, OnOk, ◌↔◌};
-ghost use Rattle.alf_text.specs.Tree.{item_of};
+ghost use Rattle.alf_program.specs.Tree.{item_of};
 ghost use Rattle.sweet_cli.specs.Nodes.{EndsWith};
 ghost use Rattle.sweet_cli.specs.Cut.{block_meant};
 ghost use Rattle.sweet_cli.specs.Edges.{IsIn, LabelsAreOne, FallsWithin, IsRankOf, IsTarget, IsRow, IsTable, rows_of};
 
 use crate::blocks::Block;
 use crate::labels::block_of_label;
-use alf_text::{Item, Num, Stmt};
+use alf_program::{Item, Num, Stmt};
 use flow_base::Name;
 use std::alloc::{AllocError, Global};
 

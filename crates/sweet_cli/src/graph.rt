@@ -1,14 +1,14 @@
 ghost use Rattle.std.specs.Prelude.{◌≡◌, List, ℕ, map, IfOk};
-ghost use Rattle.alf_text.specs.Tree.{item_of};
+ghost use Rattle.alf_program.specs.Tree.{item_of};
 ghost use Rattle.alf_text.specs.First.{main_alone, IsFirst};
-ghost use Rattle.sweet_cli.specs.Blocks.{blocks_of};
+ghost use Rattle.alf_check.specs.Blocks.{blocks_of};
 ghost use Rattle.sweet_cli.specs.Nodes.{node_at, IsNumbering};
 ghost use Rattle.sweet_cli.specs.Cut.{block_meant};
 
 use crate::blocks::Block;
 use crate::edges::edge_table;
 use crate::search::{marked, reached};
-use alf_text::Item;
+use alf_program::Item;
 use std::alloc::{AllocError, Global};
 
 /// The ranks of the nodes that are reached from the entry, in ascending order.

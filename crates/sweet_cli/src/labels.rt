@@ -1,11 +1,11 @@
 ghost use Rattle.std.specs.Prelude.{◌≡◌, ℕ, map, IfSome, IfNone, IsTrue, ◌↔◌};
-ghost use Rattle.alf_text.specs.Tree.{Labels, item_of};
+ghost use Rattle.alf_program.specs.Tree.{Labels, item_of};
 ghost use Rattle.alf_text.specs.First.{Among};
 ghost use Rattle.sweet_cli.specs.Nodes.{StandsIn};
 ghost use Rattle.sweet_cli.specs.Cut.{block_meant};
 
 use crate::blocks::Block;
-use alf_text::Item;
+use alf_program::Item;
 use flow_base::Name;
 
 /// The number of the first block in which the label stands.

@@ -1,8 +1,8 @@
 ghost use Rattle.std.specs.Prelude.{◌≡◌, ◌≤◌, ◌<◌, List, [], Option, map, length, IfOk, IfNone, IfSome};
 ghost use Rattle.alf_ops.specs.declared.history.RunFault.{RunFault};
-ghost use Rattle.alf_text.specs.Tree.{item_of, names_of};
+ghost use Rattle.alf_program.specs.Tree.{item_of, names_of};
 ghost use Rattle.alf_text.specs.First.{main_alone, IsFirst, NamesDiffer};
-ghost use Rattle.sweet_cli.specs.Blocks.{blocks_of};
+ghost use Rattle.alf_check.specs.Blocks.{blocks_of};
 ghost use Rattle.sweet_cli.specs.Nodes.{Node, entry};
 ghost use Rattle.sweet_cli.specs.Runs.{Runs, RunsPast};
 ghost use Rattle.sweet_cli.specs.Tally.{IsTally};
@@ -13,7 +13,7 @@ use crate::blocks::Block;
 use crate::code::{Code, codes};
 use crate::moves::{Move, step};
 use crate::tally::Tally;
-use alf_text::{Alloc, Item};
+use alf_program::{Alloc, Item};
 use std::alloc::{AllocError, Global};
 
 /// What is counted of the one run of the items. None where the run has more nodes than the turns.

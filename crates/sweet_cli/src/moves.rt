@@ -1,5 +1,5 @@
 ghost use Rattle.std.specs.Prelude.{◌≡◌, ◌≤◌, ◌<◌, ℕ, suc, List, Some, length};
-ghost use Rattle.alf_text.specs.Tree.{Entry};
+ghost use Rattle.alf_program.specs.Tree.{Entry};
 ghost use Rattle.alf_text.specs.First.{NamesDiffer};
 ghost use Rattle.sweet_cli.specs.Memory.{History};
 ghost use Rattle.sweet_cli.specs.Runs.{Executes};

@@ -1,10 +1,10 @@
 ghost use Rattle.std.specs.Prelude.{◌≡◌, ◌<◌, map, length, IfSome, IfNone, Some};
-ghost use Rattle.alf_text.specs.Tree.{Address, Loads, item_of, term_of, terms_of, names_of};
+ghost use Rattle.alf_program.specs.Tree.{Address, Loads, item_of, term_of, terms_of, names_of};
 ghost use Rattle.alf_text.specs.First.{IsFirstItem, IsFirstTerm, IsCell, IsCellLoad, IsLoadAndNumber, NamesFrames, IsDeclared, AreDeclared, Named};
 ghost use Rattle.sweet_cli.specs.Memory.{History, value_of, executed_one};
 ghost use Rattle.sweet_cli.specs.Resolved.{name_at, operand_value, OperandWithin, put_executed, PutWithin, IsNumber, sum_value};
 
-use alf_text::{Alloc, Expr, Item, Stmt};
+use alf_program::{Alloc, Expr, Item, Stmt};
 use flow_base::Name;
 
 /// A value that is stored. A cell is a frame by its index.

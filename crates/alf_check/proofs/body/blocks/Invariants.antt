@@ -1,5 +1,5 @@
 use Rattle.std.proofs.Common.{◌≡◌, ◌<◌, ◌++◌, map, length}
-use Rattle.alf_text.specs.Tree.{item_of}
+use Rattle.alf_program.specs.Tree.{item_of}
 use Rattle.alf_check.specs.Blocks.{blocks_of}
 use Rattle.alf_check.specs.Resolved.{block_of}
 use Rattle.alf_check.specs.Numbered.{numbered_blocks}

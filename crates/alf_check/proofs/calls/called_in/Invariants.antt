@@ -1,6 +1,6 @@
 use Rattle.std.proofs.Common.{◌≡◌, map, take}
 use Rattle.std.specs.List.{flat_map}
-use Rattle.alf_text.specs.Tree.{function_of, item_of}
+use Rattle.alf_program.specs.Tree.{function_of, item_of}
 use Rattle.alf_check.specs.Checking.{called_by}
 use Rattle.alf_check.proofs.calls.called_in.Given as goal
 

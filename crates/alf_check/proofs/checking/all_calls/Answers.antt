@@ -1,5 +1,5 @@
 use Rattle.std.proofs.Common.{List, ℕ, map, subst, sym}
-use Rattle.alf_text.specs.Tree.{function_of}
+use Rattle.alf_program.specs.Tree.{function_of}
 use Rattle.call_cycles.specs.Calls.{CallsWithin}
 use Rattle.alf_check.proofs.Called.{calls_within}
 use Rattle.alf_check.proofs.checking.all_calls.Goals as goal

@@ -1,6 +1,5 @@
 use Rattle.std.proofs.Common.{rules}
-use Rattle.alf_text.specs.Tree.{whole_of}
-use Rattle.call_cycles.proofs.Reaching.{ranks_rule_out}
+use Rattle.alf_program.specs.Tree.{whole_of}
 use Rattle.alf_check.specs.Checking.{calls_in}
 use Rattle.alf_check.proofs.checking.check.Goals as goal
 
@@ -12,7 +11,7 @@ returns-in-Ok-clause-passes c =
     let ranked = c.in_default-check_calls.ensures.ranked in
     record {
       sound = c.in_default.ensures.sound;
-      falls = ranks_rule_out (calls_in (whole_of c.args.program)) ranked.0 ranked.1;
+      falls = c.ranked_calls_have_no_cycle.ensures (calls_in (whole_of c.args.program)) ranked.0 ranked.1;
       starts = search rules;
     }
 

@@ -1,6 +1,6 @@
 use Rattle.std.proofs.Common.{◌≡◌, ℕ, List, Vec, subst, sym, rules}
 use Rattle.std.specs.declared.alloc.Global.{Global}
-use Rattle.alf_text.specs.Tree.{whole_of}
+use Rattle.alf_program.specs.Tree.{whole_of}
 use Rattle.call_cycles.specs.Calls.{CallsWithin, IsRanked, calls_of}
 use Rattle.alf_check.specs.Checking.{calls_in}
 use Rattle.alf_check.proofs.checking.check_calls.Goals as goal

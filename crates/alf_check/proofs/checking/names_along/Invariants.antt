@@ -1,5 +1,5 @@
 use Rattle.std.proofs.Common.{◌≡◌, map, take}
-use Rattle.alf_text.specs.Tree.{function_of}
+use Rattle.alf_program.specs.Tree.{function_of}
 use Rattle.alf_check.specs.Checking.{name_at}
 use Rattle.alf_check.proofs.checking.names_along.Given as goal
 

@@ -1,5 +1,5 @@
 use Rattle.std.proofs.Common.{◌≡◌, ◌++◌, map, length}
-use Rattle.alf_text.specs.Tree.{item_of}
+use Rattle.alf_program.specs.Tree.{item_of}
 use Rattle.alf_check.specs.Cut.{numbers_along}
 use Rattle.alf_check.proofs.cut.numbers_along.Given as goal
 

@@ -1,5 +1,5 @@
 use Rattle.std.proofs.Common.{◌∙◌, ap, sym, map, rules}
-use Rattle.alf_text.specs.Tree.{term_of}
+use Rattle.alf_program.specs.Tree.{term_of}
 use Rattle.alf_check.specs.Resolved.{tree_of}
 use Rattle.alf_check.specs.Numbered.{numbered_term}
 use Rattle.alf_check.specs.Names.{numbers_of}

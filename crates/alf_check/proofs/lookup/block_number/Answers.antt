@@ -1,5 +1,5 @@
 use Rattle.std.proofs.Common.{◌∙◌, ℕ, List, ap, map, get_or}
-use Rattle.alf_text.specs.Tree.{item_of}
+use Rattle.alf_program.specs.Tree.{item_of}
 use Rattle.alf_check.proofs.Labelled.{block_at, block_none}
 use Rattle.alf_check.proofs.lookup.block_number.Goals as goal
 

@@ -1,7 +1,7 @@
 use Rattle.std.proofs.Common.{◌∙◌, rules, tests}
 use Rattle.std.proofs.lemmas.Iterator.{YieldsList-from_slice}
 use Rattle.std.proofs.lemmas.Iterator.Search.{position_from_yields_List}
-use Rattle.alf_names.proofs.Standing.{position_place}
+use Rattle.alf_names.specs.PlaceLaws.{position_place}
 use Rattle.alf_check.specs.Numbers.{is_seen_as}
 use Rattle.alf_check.proofs.lookup.seen_place.Goals as goal
 

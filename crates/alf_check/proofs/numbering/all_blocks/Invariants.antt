@@ -1,5 +1,5 @@
 use Rattle.std.proofs.Common.{◌≡◌, ◌<◌, ◌++◌, map, length, All}
-use Rattle.alf_text.specs.Tree.{function_of}
+use Rattle.alf_program.specs.Tree.{function_of}
 use Rattle.alf_check.specs.Resolved.{block_of}
 use Rattle.alf_check.specs.Numbered.{blocks_with}
 use Rattle.alf_check.proofs.numbering.all_blocks.Given as goal

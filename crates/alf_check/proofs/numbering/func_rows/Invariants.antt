@@ -1,5 +1,5 @@
 use Rattle.std.proofs.Common.{◌≡◌, ◌++◌, map, length}
-use Rattle.alf_text.specs.Tree.{function_of}
+use Rattle.alf_program.specs.Tree.{function_of}
 use Rattle.alf_check.specs.Resolved.{row_of}
 use Rattle.alf_check.specs.Numbered.{funcs_from}
 use Rattle.alf_check.proofs.numbering.func_rows.Given as goal

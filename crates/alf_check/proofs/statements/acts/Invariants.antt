@@ -1,6 +1,6 @@
 use Rattle.std.proofs.Common.{◌≡◌, map, take}
 use Rattle.std.specs.List.{flat_map}
-use Rattle.alf_text.specs.Tree.{item_of}
+use Rattle.alf_program.specs.Tree.{item_of}
 use Rattle.alf_check.specs.Resolved.{step_of}
 use Rattle.alf_check.specs.Numbered.{steps_by}
 use Rattle.alf_check.specs.Names.{numbers_of}

@@ -1,5 +1,5 @@
 use Rattle.std.proofs.Common.{◌≡◌, map, take}
-use Rattle.alf_text.specs.Tree.{start_of}
+use Rattle.alf_program.specs.Tree.{start_of}
 use Rattle.alf_check.specs.Numbers.{frame_number}
 use Rattle.alf_check.specs.Numbered.{numbered_inits}
 use Rattle.alf_check.proofs.tables.init_rows.Given as goal

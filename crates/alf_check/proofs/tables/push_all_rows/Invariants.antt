@@ -1,5 +1,5 @@
 use Rattle.std.proofs.Common.{◌≡◌, ◌++◌, map, length}
-use Rattle.alf_text.specs.Tree.{function_of}
+use Rattle.alf_program.specs.Tree.{function_of}
 use Rattle.alf_check.specs.Numbers.{rows_from}
 use Rattle.alf_check.proofs.tables.push_all_rows.Given as goal
 

@@ -1,5 +1,5 @@
 use Rattle.std.proofs.Common.{◌≡◌, ◌++◌, Some, map, take}
-use Rattle.alf_text.specs.Tree.{frame_of}
+use Rattle.alf_program.specs.Tree.{frame_of}
 use Rattle.alf_check.specs.Numbers.{frame_number}
 use Rattle.alf_check.specs.Numbered.{numbered_frames}
 use Rattle.alf_check.proofs.tables.push_numbers.Given as goal

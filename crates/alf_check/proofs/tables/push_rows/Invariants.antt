@@ -1,5 +1,5 @@
 use Rattle.std.proofs.Common.{◌≡◌, ◌++◌, map, take}
-use Rattle.alf_text.specs.Tree.{frame_of}
+use Rattle.alf_program.specs.Tree.{frame_of}
 use Rattle.alf_check.specs.Numbers.{rows_of}
 use Rattle.alf_check.proofs.tables.push_rows.Given as goal
 

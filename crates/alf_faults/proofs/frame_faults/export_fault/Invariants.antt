@@ -1,6 +1,6 @@
 use Rattle.std.proofs.Common.{◌≡◌, map, drop}
 use Rattle.std.specs.List.{flat_map}
-use Rattle.alf_text.specs.Tree.{frame_of}
+use Rattle.alf_program.specs.Tree.{frame_of}
 use Rattle.alf_faults.specs.Fault.{earliest}
 use Rattle.alf_faults.specs.Faults.{export_faults}
 use Rattle.alf_faults.proofs.frame_faults.export_fault.Given as goal

@@ -1,5 +1,5 @@
 use Rattle.std.proofs.Common.{◌≡◌, map, drop}
-use Rattle.alf_text.specs.Tree.{frame_of}
+use Rattle.alf_program.specs.Tree.{frame_of}
 use Rattle.alf_faults.specs.Fault.{each_from, earliest}
 use Rattle.alf_faults.specs.Duplicates.{frame_duplicates}
 use Rattle.alf_faults.proofs.frame_faults.repeated_frame.Given as goal

@@ -1,5 +1,5 @@
 use Rattle.std.proofs.Common.{map, ◌∙◌}
-use Rattle.alf_text.specs.Tree.{frame_of, start_of}
+use Rattle.alf_program.specs.Tree.{frame_of, start_of}
 use Rattle.alf_faults.specs.Told.{told}
 use Rattle.alf_faults.specs.Faults.{start_faults}
 use Rattle.alf_faults.proofs.Reading.{walk_found, walk_passed}

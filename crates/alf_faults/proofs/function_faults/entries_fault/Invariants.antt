@@ -1,5 +1,5 @@
 use Rattle.std.proofs.Common.{◌≡◌, map, drop}
-use Rattle.alf_text.specs.Tree.{item_of, function_of, whole_of}
+use Rattle.alf_program.specs.Tree.{item_of, function_of, whole_of}
 use Rattle.alf_faults.specs.Fault.{earliest, each_from}
 use Rattle.alf_faults.specs.Faults.{entry_faults}
 use Rattle.alf_faults.proofs.function_faults.entries_fault.Given as goal

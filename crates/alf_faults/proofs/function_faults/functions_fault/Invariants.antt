@@ -1,5 +1,5 @@
 use Rattle.std.proofs.Common.{◌≡◌, map, drop}
-use Rattle.alf_text.specs.Tree.{function_of, whole_of}
+use Rattle.alf_program.specs.Tree.{function_of, whole_of}
 use Rattle.alf_faults.specs.Fault.{earliest, each_from}
 use Rattle.alf_faults.specs.Faults.{function_faults}
 use Rattle.alf_faults.proofs.function_faults.functions_fault.Given as goal

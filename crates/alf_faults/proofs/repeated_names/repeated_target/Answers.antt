@@ -1,7 +1,7 @@
 use Rattle.std.proofs.Common.{◌≡◌, ◌+◌, ◌<◌, ◌++◌, ◌∙◌, ℕ, Bool, true, false, not, List, [], ◌∷◌, length, get_or, drop, sym, refl, nat_eq, if◌then◌else◌}
 use Rattle.std.specs.List.{list_any}
 use Rattle.std.proofs.lemmas.List.{at_drop_more}
-use Rattle.alf_text.specs.declared.program.Num.{Num}
+use Rattle.alf_program.specs.declared.program.Num.{Num}
 use Rattle.alf_faults.specs.Fault.{earliest}
 use Rattle.alf_faults.specs.Duplicates.{target_duplicates}
 use Rattle.alf_faults.proofs.repeated_names.repeated_target.Goals as goal

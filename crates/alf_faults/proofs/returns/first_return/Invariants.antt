@@ -1,5 +1,5 @@
 use Rattle.std.proofs.Common.{◌≡◌, map, drop}
-use Rattle.alf_text.specs.Tree.{item_of}
+use Rattle.alf_program.specs.Tree.{item_of}
 use Rattle.alf_faults.specs.Returns.{first_return_from}
 use Rattle.alf_faults.proofs.returns.first_return.Given as goal
 

@@ -1,5 +1,5 @@
 use Rattle.std.proofs.Common.{◌≡◌, map, drop}
-use Rattle.alf_text.specs.Tree.{item_of}
+use Rattle.alf_program.specs.Tree.{item_of}
 use Rattle.alf_faults.specs.Fault.{any_from}
 use Rattle.alf_faults.specs.Returns.{is_breach}
 use Rattle.alf_faults.proofs.returns.has_breach.Given as goal

@@ -1,5 +1,5 @@
 use Rattle.std.proofs.Common.{◌≡◌, map, drop}
-use Rattle.alf_text.specs.Tree.{function_of}
+use Rattle.alf_program.specs.Tree.{function_of}
 use Rattle.alf_faults.specs.Fault.{any_from}
 use Rattle.alf_faults.specs.Returns.{function_has_breach}
 use Rattle.alf_faults.proofs.returns.is_breached.Given as goal

@@ -1,5 +1,5 @@
 use Rattle.std.proofs.Common.{◌≡◌, map, drop}
-use Rattle.alf_text.specs.Tree.{frame_of, term_of}
+use Rattle.alf_program.specs.Tree.{frame_of, term_of}
 use Rattle.alf_faults.specs.Sizes.{arguments_fit}
 use Rattle.alf_faults.proofs.size_rules.arguments_fit.Given as goal
 

@@ -1,5 +1,5 @@
 use Rattle.std.proofs.Common.{◌≡◌, ◌≤◌, map, drop}
-use Rattle.alf_text.specs.Tree.{term_of, terms_of}
+use Rattle.alf_program.specs.Tree.{term_of, terms_of}
 use Rattle.alf_faults.specs.TermSizes.{operands_fit}
 use Rattle.alf_faults.proofs.term_sizes.+sizes.Given as goal
 

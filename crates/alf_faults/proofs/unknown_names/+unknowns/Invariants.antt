@@ -1,5 +1,5 @@
 use Rattle.std.proofs.Common.{◌≡◌, map, drop}
-use Rattle.alf_text.specs.Tree.{term_of, terms_of, whole_of, function_of}
+use Rattle.alf_program.specs.Tree.{term_of, terms_of, whole_of, function_of}
 use Rattle.alf_faults.specs.Fault.{earliest}
 use Rattle.alf_faults.specs.Unknowns.{unknown_among}
 use Rattle.alf_faults.proofs.unknown_names.+unknowns.Given as goal

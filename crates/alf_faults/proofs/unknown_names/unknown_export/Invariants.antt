@@ -1,6 +1,6 @@
 use Rattle.std.proofs.Common.{◌≡◌, drop}
 use Rattle.std.specs.List.{flat_map}
-use Rattle.alf_text.specs.Tree.{whole_of}
+use Rattle.alf_program.specs.Tree.{whole_of}
 use Rattle.alf_faults.specs.Fault.{earliest}
 use Rattle.alf_faults.specs.Unknowns.{unknown_function}
 use Rattle.alf_faults.proofs.unknown_names.unknown_export.Given as goal

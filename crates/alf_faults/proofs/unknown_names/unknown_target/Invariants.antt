@@ -1,5 +1,5 @@
 use Rattle.std.proofs.Common.{◌≡◌, map, drop}
-use Rattle.alf_text.specs.Tree.{item_of}
+use Rattle.alf_program.specs.Tree.{item_of}
 use Rattle.alf_faults.specs.Fault.{earliest}
 use Rattle.alf_faults.specs.Unknowns.{unknown_targets}
 use Rattle.alf_faults.proofs.unknown_names.unknown_target.Given as goal

@@ -1,5 +1,5 @@
 use Rattle.std.proofs.Common.{◌≡◌, ◌-◌, ◌<◌, ◌∙◌, suc, ap, sym, arith, length, map, Option, ℕ, cond, Some}
-use Rattle.alf_text.specs.Tree.{item_of}
+use Rattle.alf_program.specs.Tree.{item_of}
 use Rattle.alf_names.specs.Places.{is_label_named}
 use Rattle.alf_names.proofs.Standing.{placed_at}
 use Rattle.std.proofs.lemmas.List.{get_or-map, length-map}

@@ -1,6 +1,6 @@
 use Rattle.std.proofs.Common.{◌≡◌, ◌+◌, ℕ, List, map, drop}
 use Rattle.std.specs.Option.{option_map}
-use Rattle.alf_text.specs.Tree.{item_of}
+use Rattle.alf_program.specs.Tree.{item_of}
 use Rattle.alf_names.specs.Places.{label_place}
 use Rattle.alf_names.specs.Table.{found}
 use Rattle.alf_names.proofs.label_table.table_of.Given as goal

@@ -1,9 +1,9 @@
 use denote.Enum.Declared.{tag_of}
-use Rattle.std.proofs.Common.{◌≡◌, ◌<◌, refl, Some, lit<}
+use Rattle.std.proofs.Common.{◌≡◌, refl, Some}
 use Rattle.std.specs.List.{slice_get}
 use Rattle.alf_ops.specs.contracts.operator.Op.{the_type}
 use Rattle.alf_ops.specs.declared.operator.Op.{Op}
-use Rattle.alf_ops.specs.declared.operator.Op.TheVariants.{Neg, Not, Add, Sub, CAdd, CSub, UMul, SMul, UDiv, SDiv, UMod, SMod, LShift, RShift, RShiftA, And, Or, Xor, Eq, Neq, ULt, ULe, UGt, UGe, SLt, SLe, SGt, SGe, SExt, ZExt, Trunc, Select, Conc, If, RotL, RotR}
+use Rattle.alf_ops.specs.declared.operator.Op.TheVariants.{Neg}
 use Rattle.alf_ops.specs.Names.{operators}
 use Rattle.alf_ops.proofs.table.place.Goals as goal
 

@@ -1,5 +1,5 @@
 use Rattle.std.proofs.Common.{◌≡◌, length, map}
-use Rattle.alf_text.specs.Tree.{frame_of}
+use Rattle.alf_program.specs.Tree.{frame_of}
 use Rattle.alf_text.specs.FirstTests.{frames_fit}
 use Rattle.alf_text.proofs.first.frames_fit.Given as goal
 

@@ -1,5 +1,5 @@
 use Rattle.std.proofs.Common.{◌≡◌, length, map}
-use Rattle.alf_text.specs.Tree.{frame_of}
+use Rattle.alf_program.specs.Tree.{frame_of}
 use Rattle.alf_text.specs.FirstTests.{is_named, names_in}
 use Rattle.alf_text.proofs.first.is_named.Given as goal
 

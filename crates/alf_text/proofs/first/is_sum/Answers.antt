@@ -1,6 +1,6 @@
 use Rattle.std.proofs.Common.{◌≡◌, ◌≢◌, ℕ, false, List, [], ◌∷◌, length, map, refl, sym, arith}
-use Rattle.alf_text.specs.declared.program.Expr.{Expr}
-use Rattle.alf_text.specs.Tree.{term_of, terms_of}
+use Rattle.alf_program.specs.declared.program.Expr.{Expr}
+use Rattle.alf_program.specs.Tree.{term_of, terms_of}
 use Rattle.alf_text.specs.FirstTests.{is_sum}
 use Rattle.alf_text.proofs.first.is_sum.Goals as goal
 

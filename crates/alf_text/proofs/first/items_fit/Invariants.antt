@@ -1,5 +1,5 @@
 use Rattle.std.proofs.Common.{◌≡◌, length, map}
-use Rattle.alf_text.specs.Tree.{frame_of, item_of}
+use Rattle.alf_program.specs.Tree.{frame_of, item_of}
 use Rattle.alf_text.specs.FirstTests.{names_in, items_fit}
 use Rattle.alf_text.proofs.first.items_fit.Given as goal
 

@@ -1,5 +1,5 @@
 use Rattle.std.proofs.Common.{◌≡◌, length, map}
-use Rattle.alf_text.specs.Tree.{item_of}
+use Rattle.alf_program.specs.Tree.{item_of}
 use Rattle.alf_text.specs.FirstTests.{stands_among}
 use Rattle.alf_text.proofs.first.stands_among.Given as goal
 

@@ -1,7 +1,7 @@
 use Rattle.std.proofs.Common.{◌≡◌, suc, ◌-◌, List, [], ◌∷◌, length, map, Some, refl, ◌∙◌, arith}
 use Rattle.std.specs.List.{slice_get}
-use Rattle.alf_text.specs.declared.program.Item.{Item}
-use Rattle.alf_text.specs.Tree.{item_of}
+use Rattle.alf_program.specs.declared.program.Item.{Item}
+use Rattle.alf_program.specs.Tree.{item_of}
 use Rattle.alf_text.specs.Grammar.{ends_well, is_ending}
 use Rattle.alf_text.proofs.functions.ends_well.Goals as goal
 

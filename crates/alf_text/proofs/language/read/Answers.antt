@@ -1,7 +1,7 @@
 use Rattle.std.proofs.Common.{◌≡◌, false, Ok, Err, Option, Some, None, IfSome, IsSomeAnd, sym, subst}
 use Rattle.grammar.specs.Form.{Fails}
 use Rattle.alf_tokens.specs.Cutting.{tokens_of}
-use Rattle.alf_text.specs.Tree.{whole_of}
+use Rattle.alf_program.specs.Tree.{whole_of}
 use Rattle.alf_text.specs.Grammar.{At, Fault, program}
 use Rattle.alf_text.specs.Reading.{position, fault_of}
 use Rattle.alf_text.specs.Language.{start, Departure, departure_of, placed, Means}

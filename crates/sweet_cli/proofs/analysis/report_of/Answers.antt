@@ -1,6 +1,6 @@
 use Rattle.std.proofs.Common.{rules, map, ◌≡◌, ℕ, List, subst}
-use Rattle.alf_text.specs.Tree.{item_of, names_of}
-use Rattle.sweet_cli.specs.Blocks.{blocks_of}
+use Rattle.alf_program.specs.Tree.{item_of, names_of}
+use Rattle.alf_check.specs.Blocks.{blocks_of}
 use Rattle.sweet_cli.specs.Nodes.{node_at, IsNumbering}
 use Rattle.sweet_cli.specs.Facts.{findings_of}
 use Rattle.sweet_cli.proofs.Reported.{kept_low, reported}

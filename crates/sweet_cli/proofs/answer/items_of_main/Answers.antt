@@ -1,7 +1,7 @@
 use Rattle.std.proofs.Common.{◌≡◌, List, map, ap, ◌∙◌}
-use Rattle.alf_text.specs.declared.program.Item.{Item}
-use Rattle.alf_text.specs.declared.program.Func.{Func}
-use Rattle.alf_text.specs.Tree.{Whole, item_of}
+use Rattle.alf_program.specs.declared.program.Item.{Item}
+use Rattle.alf_program.specs.declared.program.Func.{Func}
+use Rattle.alf_program.specs.Tree.{Whole, item_of}
 use Rattle.sweet_cli.proofs.Named.{names_are, items_are}
 use Rattle.sweet_cli.proofs.answer.items_of_main.Goals as goal
 

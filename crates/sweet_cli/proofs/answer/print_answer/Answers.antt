@@ -1,5 +1,5 @@
 use Rattle.std.proofs.Common.{◌≡◌, List, ℕ, Err, Option, Some, None, IfSome, IsSomeAnd, sym, subst}
-use Rattle.alf_text.specs.Tree.{whole_of}
+use Rattle.alf_program.specs.Tree.{whole_of}
 use Rattle.alf_text.specs.Language.{Departure, Means, departure_of}
 use Rattle.sweet_cli.specs.FaultLines.{fault_line}
 use Rattle.sweet_cli.specs.Answer.{PrintAnswers, departed, printed}

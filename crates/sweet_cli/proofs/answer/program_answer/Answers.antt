@@ -1,6 +1,6 @@
 use Rattle.std.proofs.Common.{List, ℕ, map, ap, sym, ◌∙◌, subst}
 use Rattle.std.proofs.lemmas.Result.{IfOk-weaker}
-use Rattle.alf_text.specs.Tree.{Whole, item_of, names_of}
+use Rattle.alf_program.specs.Tree.{Whole, item_of, names_of}
 use Rattle.alf_text.specs.FirstText.{FirstText}
 use Rattle.sweet_cli.specs.Facts.{findings_of}
 use Rattle.sweet_cli.specs.Answer.{TextAnswers, left, done}

@@ -1,6 +1,6 @@
 use Rattle.std.proofs.Common.{ap, Err}
 use Rattle.std.proofs.lemmas.Result.{IfOk-weaker}
-use Rattle.alf_text.specs.Tree.{whole_of}
+use Rattle.alf_program.specs.Tree.{whole_of}
 use Rattle.sweet_cli.specs.Answer.{TextAnswers, not_first}
 use Rattle.sweet_cli.proofs.Answered.{put}
 use Rattle.sweet_cli.proofs.answer.text_answer.Goals as goal

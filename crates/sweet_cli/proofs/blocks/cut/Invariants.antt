@@ -1,6 +1,6 @@
 use Rattle.std.proofs.Common.{◌≡◌, map, ◌++◌, length}
-use Rattle.alf_text.specs.Tree.{item_of}
-use Rattle.sweet_cli.specs.Blocks.{blocks_of}
+use Rattle.alf_program.specs.Tree.{item_of}
+use Rattle.alf_check.specs.Blocks.{blocks_of}
 use Rattle.sweet_cli.specs.Cut.{block_meant}
 use Rattle.sweet_cli.proofs.blocks.cut.Given as goal
 

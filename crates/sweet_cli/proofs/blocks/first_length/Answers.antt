@@ -1,6 +1,6 @@
 use Rattle.std.proofs.Common.{◌≡◌, ◌≤◌, ◌+◌, ◌-◌, ℕ, zero, suc, List, [], ◌∷◌, length, map, drop, arith, ap, refl}
-use Rattle.alf_text.specs.declared.program.Item.{Item}
-use Rattle.alf_text.specs.Tree.{item_of}
+use Rattle.alf_program.specs.declared.program.Item.{Item}
+use Rattle.alf_program.specs.Tree.{item_of}
 use Rattle.sweet_cli.specs.Cut.{first_length}
 use Rattle.sweet_cli.proofs.blocks.first_length.Goals as goal
 

@@ -1,5 +1,5 @@
 use Rattle.std.proofs.Common.{◌≡◌, map, ◌+◌, ◌-◌, drop}
-use Rattle.alf_text.specs.Tree.{item_of}
+use Rattle.alf_program.specs.Tree.{item_of}
 use Rattle.sweet_cli.specs.Cut.{first_length}
 use Rattle.sweet_cli.proofs.blocks.first_length.Given as goal
 

@@ -1,6 +1,6 @@
 use Rattle.std.proofs.Common.{arith, ◌≡◌, ◌++◌, ◌∷◌, [], ℕ, List, Some, slice_get, inl, inr, length-append, map, subst, sym, ◌∙◌}
 use Rattle.std.proofs.lemmas.Grind.{common_steps}
-use Rattle.alf_text.specs.Tree.{names_of}
+use Rattle.alf_program.specs.Tree.{names_of}
 use Rattle.sweet_cli.specs.Cut.{block_meant}
 use Rattle.sweet_cli.specs.Resolved.{IsCodeOf}
 use Rattle.sweet_cli.specs.declared.code.Code.{Code}

@@ -1,5 +1,5 @@
 use Rattle.std.proofs.Common.{◌≡◌, ℕ, Some, slice_get, map, length}
-use Rattle.alf_text.specs.Tree.{names_of}
+use Rattle.alf_program.specs.Tree.{names_of}
 use Rattle.sweet_cli.specs.Cut.{block_meant}
 use Rattle.sweet_cli.specs.declared.code.Code.{Code}
 use Rattle.sweet_cli.specs.Resolved.{IsCodeOf}

@@ -1,9 +1,9 @@
 use Rattle.std.proofs.Common.{rules, ◌≡◌, ℕ, List, false, map, subst}
-use Rattle.alf_text.specs.Tree.{Entry, Jumps, Switches, Does, item_of, term_of}
-use Rattle.sweet_cli.specs.Blocks.{ends_block}
+use Rattle.alf_program.specs.Tree.{Entry, Jumps, Switches, Does, item_of, term_of}
+use Rattle.alf_check.specs.Blocks.{ends_block}
 use Rattle.sweet_cli.specs.Nodes.{EndsWith}
 use Rattle.sweet_cli.specs.Cut.{block_meant}
-use Rattle.alf_text.specs.declared.program.Num.{Num}
+use Rattle.alf_program.specs.declared.program.Num.{Num}
 use Rattle.sweet_cli.specs.Resolved.{AreTargets}
 use Rattle.sweet_cli.proofs.Ending.{falls_on, jumps_on, choice_is}
 use Rattle.sweet_cli.proofs.code.end_behind.Goals as goal

@@ -1,6 +1,6 @@
 use Rattle.std.proofs.Common.{arith, ◌≡◌, ◌++◌, ◌∷◌, [], ◌∙◌, ap, sym}
 use Rattle.std.proofs.lemmas.Grind.{common_steps}
-use Rattle.alf_text.specs.Tree.{item_of, names_of}
+use Rattle.alf_program.specs.Tree.{item_of, names_of}
 use Rattle.alf_text.specs.First.{IsFirstItem, NamesFrames}
 use Rattle.sweet_cli.specs.Memory.{executed_one}
 use Rattle.sweet_cli.proofs.Executing.{next_item, within_push, stored_on}

@@ -1,6 +1,6 @@
 use Rattle.std.proofs.Common.{◌≡◌, length, map, drop}
 use Rattle.std.specs.Prelude.{option_and_then}
-use Rattle.alf_text.specs.Tree.{item_of, names_of}
+use Rattle.alf_program.specs.Tree.{item_of, names_of}
 use Rattle.alf_text.specs.First.{IsFirstItem, NamesFrames, Each}
 use Rattle.sweet_cli.specs.Memory.{History, executed}
 use Rattle.sweet_cli.specs.Resolved.{puts_executed, PutsWithin}

@@ -1,8 +1,8 @@
 use Rattle.std.proofs.Common.{rules, ◌≡◌, ◌∷◌, ◌+◌, [], ◌↔◌, ℕ, false, suc, map, List, ap, sym, ◌∙◌, subst}
-use Rattle.alf_text.specs.declared.program.Num.{Num}
+use Rattle.alf_program.specs.declared.program.Num.{Num}
 use Rattle.std.proofs.lemmas.Result.{IfOk-weaker}
-use Rattle.alf_text.specs.Tree.{Entry, Jumps, Switches, Does, item_of, term_of}
-use Rattle.sweet_cli.specs.Blocks.{ends_block}
+use Rattle.alf_program.specs.Tree.{Entry, Jumps, Switches, Does, item_of, term_of}
+use Rattle.alf_check.specs.Blocks.{ends_block}
 use Rattle.sweet_cli.specs.Nodes.{EndsWith}
 use Rattle.sweet_cli.specs.Cut.{block_meant}
 use Rattle.sweet_cli.specs.Edges.{IsIn, IsTarget, IsRow}

@@ -1,8 +1,8 @@
 use Rattle.std.proofs.Common.{◌≡◌, ◌<◌, ℕ, List, Bool, Vec, Global, length, map, sym, subst}
 use Rattle.std.proofs.lemmas.List.{length-map}
 use Rattle.std.proofs.lemmas.Result.{IfOk-weaker}
-use Rattle.alf_text.specs.Tree.{Entry, item_of}
-use Rattle.sweet_cli.specs.Blocks.{blocks_of}
+use Rattle.alf_program.specs.Tree.{Entry, item_of}
+use Rattle.alf_check.specs.Blocks.{blocks_of}
 use Rattle.sweet_cli.specs.Nodes.{node_at, IsNumbering}
 use Rattle.sweet_cli.specs.Cut.{block_meant}
 use Rattle.sweet_cli.specs.Edges.{LabelsAreOne, FallsWithin, IsTable, rows_of}

@@ -1,5 +1,5 @@
 use Rattle.std.proofs.Common.{map, ◌↔◌, drop}
-use Rattle.alf_text.specs.Tree.{Labels, item_of}
+use Rattle.alf_program.specs.Tree.{Labels, item_of}
 use Rattle.alf_text.specs.First.{Among}
 use Rattle.sweet_cli.proofs.labels.has_label.Given as goal
 

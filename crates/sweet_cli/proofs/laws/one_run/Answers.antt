@@ -1,4 +1,4 @@
-use Rattle.sweet_cli.specs.Blocks.{blocks_of}
+use Rattle.alf_check.specs.Blocks.{blocks_of}
 use Rattle.sweet_cli.proofs.Standing.{labels_one}
 use Rattle.sweet_cli.proofs.OneStep.{steps_one}
 use Rattle.sweet_cli.proofs.OneRun.{runs_one}

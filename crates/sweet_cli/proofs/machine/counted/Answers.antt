@@ -1,7 +1,7 @@
 use Rattle.std.proofs.Common.{arith, rules, ◌≡◌, ◌<◌, ◌≤◌, ◌+◌, ◌++◌, None, Fits, w64, map, length, take, drop, replicate, sym}
 use Rattle.std.proofs.lemmas.Grind.{common_steps}
 use Rattle.std.proofs.lemmas.List.{length-map}
-use Rattle.alf_text.specs.Tree.{names_of}
+use Rattle.alf_program.specs.Tree.{names_of}
 use Rattle.sweet_cli.specs.Cut.{block_meant}
 use Rattle.sweet_cli.proofs.Turning.{did_as, none_yet, turns_used, goes_onwards, ends_here, faults_here}
 use Rattle.sweet_cli.proofs.machine.counted.Goals as goal

@@ -1,5 +1,5 @@
 use Rattle.std.proofs.Common.{◌≤◌, map, length}
-use Rattle.alf_text.specs.Tree.{names_of}
+use Rattle.alf_program.specs.Tree.{names_of}
 use Rattle.sweet_cli.specs.Cut.{block_meant}
 use Rattle.sweet_cli.proofs.Turning.{SoFar}
 use Rattle.sweet_cli.proofs.machine.counted.Given as goal

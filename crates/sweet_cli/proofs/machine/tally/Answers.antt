@@ -1,6 +1,6 @@
 use Rattle.std.proofs.Common.{arith, List, map, length, ap, sym, subst}
 use Rattle.std.proofs.lemmas.List.{length-map}
-use Rattle.alf_text.specs.Tree.{Entry, item_of, names_of}
+use Rattle.alf_program.specs.Tree.{Entry, item_of, names_of}
 use Rattle.sweet_cli.specs.Cut.{block_meant}
 use Rattle.sweet_cli.specs.Resolved.{CanResolve}
 use Rattle.sweet_cli.proofs.Standing.{kept, some_blocks}

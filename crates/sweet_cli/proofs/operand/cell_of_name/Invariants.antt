@@ -1,5 +1,5 @@
 use Rattle.std.proofs.Common.{drop}
-use Rattle.alf_text.specs.Tree.{names_of}
+use Rattle.alf_program.specs.Tree.{names_of}
 use Rattle.alf_text.specs.First.{Named}
 use Rattle.sweet_cli.proofs.operand.cell_of_name.Given as goal
 

@@ -1,6 +1,6 @@
 use Rattle.std.proofs.Common.{List, ap, map, ◌∙◌}
-use Rattle.alf_text.specs.declared.program.Item.{Item}
-use Rattle.alf_text.specs.Tree.{item_of}
+use Rattle.alf_program.specs.declared.program.Item.{Item}
+use Rattle.alf_program.specs.Tree.{item_of}
 use Rattle.alf_names.specs.Places.{label_place, is_label_named}
 use Rattle.alf_names.proofs.Standing.{place_within_of}
 use Rattle.alf_names.proofs.label_table.Labels.find.Goals as goal

@@ -2,7 +2,7 @@ use Rattle.std.proofs.Common.{◌≡◌, ◌++◌, ◌∷◌, [], map}
 use Rattle.std.proofs.lemmas.Result.{err_from_is_err_and}
 use Rattle.std.proofs.lemmas.List.{map_push}
 use Rattle.grammar.specs.Rows.{count_starts, count_goes_on, count_fails, count_ends}
-use Rattle.alf_text.specs.Tree.{term_of}
+use Rattle.alf_program.specs.Tree.{term_of}
 use Rattle.alf_text.specs.Grammar.{expr}
 use Rattle.alf_text.specs.Reading.{position, fault_of}
 use Rattle.alf_text.proofs.reader.Reader.+expr.Goals as goal

@@ -1,6 +1,6 @@
 use Rattle.std.proofs.Common.{◌+◌, ◌*◌, map}
 use Rattle.grammar.specs.Rows.{CountSoFar}
-use Rattle.alf_text.specs.Tree.{term_of}
+use Rattle.alf_program.specs.Tree.{term_of}
 use Rattle.alf_text.specs.Grammar.{expr}
 use Rattle.alf_text.specs.Reading.{position}
 use Rattle.alf_text.proofs.reader.Reader.+expr.Given as goal

@@ -1,0 +1,16 @@
+//! Tests of `flow_base`, `alf_ops` and `call_cycles`. Without tests this library is empty.
+#![tactic(auto)]
+
+// Files and sinks, names and digits.
+#[cfg(test)]
+mod outside;
+
+// Operators and their values, loads and stores.
+#[cfg(test)]
+mod operators;
+#[cfg(test)]
+mod values;
+
+// Cycles of calls.
+#[cfg(test)]
+mod cycles;

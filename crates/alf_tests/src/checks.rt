@@ -159,7 +159,7 @@ fn along(alloc: Global, names: &[Name]) -> Result<String, AllocError> {
 }
 
 // The items of `main` and functions behind it, the root, and what is told: `passes`, or the fault.
-static CASES: [(&str, &str, &str); 26] = [
+static CASES: [(&str, &str, &str); 27] = [
     ("{ return }", "main", "passes"),
     ("@A { null } =own =shared !leaf ^A", "leaf", "passes"),
     (
@@ -174,6 +174,7 @@ static CASES: [(&str, &str, &str); 26] = [
     ),
     ("!gone { return }", "main", "unknown gone"),
     ("^gone", "main", "unknown gone"),
+    ("=other { return }", "main", "unknown other"),
     ("{ null } =other { return }", "main", "unknown other"),
     ("@A ^A /a ^A", "main", "unknown A"),
     ("@A { null } @A { return }", "main", "duplicate A"),

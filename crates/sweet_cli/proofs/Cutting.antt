@@ -1,11 +1,8 @@
--- Blocks, cut from the front on, and what they have in all.
-use Rattle.std.proofs.Common.{◌≡◌, ◌≤◌, ◌<◌, ◌+◌, ℕ, zero, suc, Bool, true, false, List, [], ◌∷◌, ◌++◌, ◌⊎◌, inl, inr, None, Some, slice_get, map, length, take, drop, drop-cons, get_or, add-one, refl, ap, sym, ◌∙◌, subst, append_assoc, append-nil, arith}
-use Rattle.std.proofs.lemmas.List.{take-map, drop-map, length-map}
-use Rattle.alf_program.specs.declared.program.Item.{Item}
-use Rattle.alf_program.specs.Tree.{Entry, item_of}
+-- What blocks have in all.
+use Rattle.std.proofs.Common.{◌≡◌, ◌<◌, ◌+◌, ℕ, zero, suc, Bool, true, false, List, [], ◌∷◌, ◌++◌, ◌⊎◌, inl, inr, None, Some, slice_get, length, drop, drop-cons, get_or, add-one, refl, ap, sym, ◌∙◌, subst, append_assoc, append-nil, arith}
+use Rattle.alf_program.specs.Tree.{Entry}
 use Rattle.alf_text.specs.First.{Among}
 use Rattle.alf_check.specs.Blocks.{begins_between, joined, blocks_of}
-use Rattle.sweet_cli.specs.Cut.{first_length}
 
 pub by_test : {A : Type 0} (v : Bool) → (v ≡ true → A) → (v ≡ false → A) → A
 by_test true if_true if_false = if_true refl
@@ -17,36 +14,6 @@ some_is h = cc
 -- the first of those that are left
 pub front : {A : Type 0} (xs : List A) (n : ℕ) (d : A) → n < length xs → drop n xs ≡ get_or xs n d ∷ drop (n + 1) xs
 front xs n d low = rw add-one (drop-cons xs n d low)
-
--- the first block has the items up to its length
-pub first_cut : (items : List Entry) → 0 < length items → blocks_of items ≡ take (first_length items) items ∷ blocks_of (drop (first_length items) items)
-first_cut [] h = absurd (omega arith)
-first_cut (item ∷ []) h = refl
-first_cut (item ∷ next ∷ items) h =
-    by_test (begins_between item next) (λ e. rw e refl)
-    (λ e. rw e (ap (λ (x : List (List Entry)). joined item x) (first_cut (next ∷ items) (omega arith))))
-
--- behind the blocks that are done stands the first block of the rest
-pub next_block : (done : List (List Entry)) (rest : List Item) (n : ℕ) → 0 < length rest → n ≡ first_length (map item_of rest)
-    → done ++ blocks_of (map item_of rest) ≡ (done ++ map item_of (take n rest) ∷ []) ++ blocks_of (map item_of (drop n rest))
-next_block done rest n some long =
-    let more : 0 < length (map item_of rest) = simp length-map (omega arith) in
-    let whole : blocks_of (map item_of rest) ≡ map item_of (take n rest) ∷ blocks_of (map item_of (drop n rest)) =
-    first_cut (map item_of rest) more ∙ ap (λ (k : ℕ). take k (map item_of rest) ∷ blocks_of (drop k (map item_of rest))) (sym long)
-    ∙ ap (λ (x : List Entry). x ∷ blocks_of (drop n (map item_of rest))) (take-map item_of n rest)
-    ∙ ap (λ (x : List Entry). map item_of (take n rest) ∷ blocks_of x) (drop-map item_of n rest) in
-    ap (λ (x : List (List Entry)). done ++ x) whole ∙ sym (append_assoc done (map item_of (take n rest) ∷ []) (blocks_of (map item_of (drop n rest))))
-
-pub first_length_some : (items : List Entry) → 0 < length items → 0 < first_length items
-first_length_some [] h = absurd (omega arith)
-first_length_some (item ∷ []) h = omega arith
-first_length_some (item ∷ next ∷ items) h = by_test (begins_between item next) (λ e. rw e (omega arith)) (λ e. rw e (omega arith))
-
-pub first_length_within : (items : List Entry) → first_length items ≤ length items
-first_length_within [] = omega arith
-first_length_within (item ∷ []) = omega arith
-first_length_within (item ∷ next ∷ items) =
-    by_test (begins_between item next) (λ e. rw e (omega arith)) (λ e. let more = first_length_within (next ∷ items) in rw e (omega arith))
 
 -- the items of all blocks
 abbrev pub flat : List (List Entry) → List Entry
@@ -82,7 +49,13 @@ all_some (item ∷ next ∷ items) =
     by_test (begins_between item next) (λ e. rw e (all_some (next ∷ items))) (λ e. rw e (some_joined item (blocks_of (next ∷ items)) (all_some (next ∷ items))))
 
 pub blocks_some : (items : List Entry) → 0 < length items → 0 < length (blocks_of items)
-blocks_some items h = rw (first_cut items h) (omega arith)
+blocks_some [] h = absurd (omega arith)
+blocks_some (item ∷ []) h = omega arith
+blocks_some (item ∷ next ∷ items) h = by_test (begins_between item next) (λ e. rw e (omega arith)) (λ e. rw e (more (blocks_of (next ∷ items))))
+  where
+    more : (blocks : List (List Entry)) → 0 < length (joined item blocks)
+    more [] = omega arith
+    more (block ∷ blocks) = omega arith
 
 -- a list that is not empty ends with an item
 pub record Ends (items : List Entry) : Type 0 where

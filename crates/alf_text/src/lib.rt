@@ -1,38 +1,7 @@
 //! The text of ALF: programs, what a text spells, and where it departs from the grammar first.
 #![tactic(auto)]
 
-// Where a text departs from the grammar.
-mod fault;
 mod text_fault;
 
-// Single tokens, and what is counted.
-mod counts;
-mod reader;
-mod words;
-
-// Reading by the grammar's rules.
-mod expressions;
-mod frames;
-mod functions;
-mod lists;
-mod names;
-mod numbers;
-mod programs;
-mod statements;
-
-// What a text means, and what the definitions promise.
-mod language;
-mod laws;
-
-// Writing a program.
-mod printing;
-
-// Texts whose program is `main` alone.
-mod first;
-
 pub use alf_program::{Alloc, Expr, Func, Init, Item, Num, Program, Stmt};
-pub use first::{FirstFault, first_texts, read_first};
-pub use language::{one_meaning, read};
-pub use laws::{canonical_texts_are_read_back, spelled_programs_are_written};
-pub use printing::print;
 pub use text_fault::TextFault;

@@ -1,12 +1,6 @@
 //! What the definitions promise, as functions that do nothing when they are called.
 
-ghost use Rattle.alf_tokens.specs.Laws.{EachTextIsCut, EachTextIsCutOneWay, EachPrintedTextIsCut, EachNameIsNamedWell};
-
-/// Each text has its tokens, which cutting gives, and no others.
-pub fn texts_are_cut_one_way()
-    ensures cut { EachTextIsCut }
-    ensures one { EachTextIsCutOneWay }
-{}
+ghost use Rattle.alf_tokens.specs.Laws.{EachPrintedTextIsCut, EachNameIsNamedWell};
 
 /// Printed tokens are cut again, and the names of each text can be printed.
 pub fn printed_texts_are_cut()

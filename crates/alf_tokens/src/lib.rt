@@ -17,5 +17,5 @@ mod cursor;
 mod laws;
 
 pub use cursor::Cursor;
-pub use laws::{printed_texts_are_cut, texts_are_cut_one_way};
+pub use laws::printed_texts_are_cut;
 pub use token::{Kind, Token};

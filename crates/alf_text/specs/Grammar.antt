@@ -399,7 +399,7 @@ abbrev pub operator_among : List Op → List ℕ → Option Op
 operator_among [] w = None
 operator_among (op ∷ ops) w = if bytes_eq (spelling op) w then Some op else operator_among ops w
 
-abbrev pub operator_named : List ℕ → Option Op
+unfoldable pub operator_named : List ℕ → Option Op
 operator_named w = operator_among operators w
 
 -- how many operands an operator has

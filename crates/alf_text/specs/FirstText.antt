@@ -3,7 +3,7 @@
 --   FirstText bytes whole   the bytes spell the program, which is `main` alone
 use Rattle.std.specs.Prelude.{ℕ, ◌-◌, ◌^◌, List}
 use Rattle.alf_tokens.specs.Tokens.{tokens_of}
-use Rattle.alf_program.specs.Tree.{Whole}
+use Rattle.alf_program.specs.Tree.{WholeProgram}
 use Rattle.alf_text.specs.First.{IsFirst}
 use Rattle.alf_text.specs.Grammar.{Place, program}
 
@@ -12,7 +12,7 @@ abbrev pub without_limits : List ℕ → Place
 without_limits bytes = record { ahead = tokens_of bytes; room = record { functions = 2 ^ 64 - 1; frames = 2 ^ 64 - 1; bytes = 2 ^ 64 - 1 } }
 
 -- the bytes are a spelling of the program, and it is `main` alone
-pub record FirstText (bytes : List ℕ) (whole : Whole) : Type 0 where
+pub record FirstText (bytes : List ℕ) (whole : WholeProgram) : Type 0 where
   pub rest : Place
   pub spelled : program.form.Spells (without_limits bytes) whole rest
   pub first : IsFirst whole

@@ -2,7 +2,7 @@
 
 ghost use Rattle.std.specs.Prelude.{◌≡◌, ◌∷◌, ◌≤◌, map, IfOk, Result};
 ghost use Rattle.grammar.specs.Rule.{maybe, exactly};
-ghost use Rattle.alf_program.specs.Tree.{term_of};
+ghost use Rattle.alf_program.specs.Tree.{expression_of};
 ghost use Rattle.std.specs.Option.{option_map};
 ghost use Rattle.alf_ops.specs.Table.{layout_of, size_count};
 ghost use Rattle.alf_ops.specs.Names.{TellsOperator};
@@ -44,7 +44,7 @@ fn most_further(op: Op) -> u128
 impl<'a> Reader<'a> {
     #[tactic(auto, unfolding(crate::specs::Grammar::unsigned_term))]
     fn unsigned_term(&mut self) -> Result<Expr, Departure<'a>>
-        ensures { Reads unsigned_term term_of result self.old self.new }
+        ensures { Reads unsigned_term expression_of result self.old self.new }
     {
         let num = self.unsigned()?;
         Ok(Expr::Num(num))
@@ -52,7 +52,7 @@ impl<'a> Reader<'a> {
 
     #[tactic(auto, unfolding(crate::specs::Grammar::signed_term))]
     fn signed_term(&mut self) -> Result<Expr, Departure<'a>>
-        ensures { Reads signed_term term_of result self.old self.new }
+        ensures { Reads signed_term expression_of result self.old self.new }
     {
         let num = self.signed()?;
         Ok(Expr::Num(num))
@@ -60,7 +60,7 @@ impl<'a> Reader<'a> {
 
     #[tactic(auto, unfolding(crate::specs::Grammar::address_term))]
     fn address_term(&mut self) -> Result<Expr, Departure<'a>>
-        ensures { Reads address_term term_of result self.old self.new }
+        ensures { Reads address_term expression_of result self.old self.new }
     {
         let (name, offset) = self.address_tail()?;
         Ok(Expr::Addr(name, offset))
@@ -68,7 +68,7 @@ impl<'a> Reader<'a> {
 
     // The departure where no further expression may stand in another.
     fn too_deep(&mut self) -> Departure<'a>
-        ensures { Reads (one fits_too_deep) term_of (Result.Err result) self.old self.new }
+        ensures { Reads (one fits_too_deep) expression_of (Result.Err result) self.old self.new }
     {
         match self.token() {
             Ok(token) if token.kind == Kind::Open => {
@@ -113,7 +113,7 @@ impl<'a> Reader<'a> {
     #[cycle(expr)]
     #[tactic(auto, using(crate::proofs::Depths::expr_none, crate::proofs::Depths::expr_more))]
     pub fn expr(&mut self, depth: u32) -> Result<Expr, Departure<'a>>
-        ensures { Reads (expr depth) term_of result self.old self.new }
+        ensures { Reads (expr depth) expression_of result self.old self.new }
     {
         if depth == 0 {
             Err(self.too_deep())
@@ -125,7 +125,7 @@ impl<'a> Reader<'a> {
     #[cycle(expr)]
     #[tactic(auto, unfolding(crate::specs::Grammar::nested, crate::specs::Grammar::expr_tail))]
     fn nested(&mut self, depth: u32) -> Result<Expr, Departure<'a>>
-        ensures { Reads (nested (expr depth)) term_of result self.old self.new }
+        ensures { Reads (nested (expr depth)) expression_of result self.old self.new }
     {
         self.opening()?;
         let word = self.some_word()?;
@@ -145,7 +145,7 @@ impl<'a> Reader<'a> {
     #[cycle(expr)]
     #[tactic(auto, unfolding(crate::specs::Grammar::operator, crate::specs::Grammar::unknown))]
     fn operator(&mut self, word: Token<'a>, depth: u32) -> Result<Expr, Departure<'a>>
-        ensures { Reads (operator (expr depth) (lexeme word.entry) (operator_named word.entry.text.now)) term_of result self.old self.new }
+        ensures { Reads (operator (expr depth) (lexeme word.entry) (operator_named word.entry.text.now)) expression_of result self.old self.new }
     {
         match operator_row(word.text) {
             Some(row) => self.apply(row, depth),
@@ -156,7 +156,7 @@ impl<'a> Reader<'a> {
     #[cycle(expr)]
     #[tactic(auto, unfolding(crate::specs::Grammar::load))]
     fn load(&mut self, depth: u32) -> Result<Expr, Departure<'a>>
-        ensures { Reads (load (expr depth)) term_of result self.old self.new }
+        ensures { Reads (load (expr depth)) expression_of result self.old self.new }
     {
         let size = self.between(8, 64, 8)? as u32;
         let at = self.expr(depth)?;
@@ -168,7 +168,7 @@ impl<'a> Reader<'a> {
     #[tactic(auto, unfolding(crate::specs::Grammar::apply))]
     fn apply(&mut self, row: &OpRow, depth: u32) -> Result<Expr, Departure<'a>>
         requires { TellsOperator row.now }
-        ensures { Reads (apply (expr depth) row.now.op) term_of result self.old self.new }
+        ensures { Reads (apply (expr depth) row.now.op) expression_of result self.old self.new }
     {
         let sizes = self.sizes(row.op, row.sizes)?;
         let operands = self.operands(u32::from(row.operands), depth)?;
@@ -178,7 +178,7 @@ impl<'a> Reader<'a> {
 
     #[cycle(expr)]
     fn operands(&mut self, count: u32, depth: u32) -> Result<Vec<Expr>, Departure<'a>>
-        ensures { Reads (exactly count (expr depth)) (λ x. map term_of x.items) result self.old self.new }
+        ensures { Reads (exactly count (expr depth)) (λ x. map expression_of x.items) result self.old self.new }
     {
         let mut operands = Vec::new(self.alloc);
         for _ in 0..count {
@@ -190,7 +190,7 @@ impl<'a> Reader<'a> {
     /// An expression that stands in no other.
     #[tactic(auto, unfolding(crate::specs::Grammar::whole_expr))]
     pub fn whole_expr(&mut self) -> Result<Expr, Departure<'a>>
-        ensures { Reads whole_expr term_of result self.old self.new }
+        ensures { Reads whole_expr expression_of result self.old self.new }
     {
         let expr = self.expr(MOST_DEPTH)?;
         Ok(expr)
@@ -198,7 +198,7 @@ impl<'a> Reader<'a> {
 
     /// An expression that stands in no other, where a brace opens.
     pub fn maybe_expr(&mut self) -> Result<Option<Expr>, Departure<'a>>
-        ensures { Reads (maybe opens whole_expr) (option_map term_of) result self.old self.new }
+        ensures { Reads (maybe opens whole_expr) (option_map expression_of) result self.old self.new }
     {
         if !self.at_open() {
             return Ok(None);

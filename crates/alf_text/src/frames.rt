@@ -1,7 +1,7 @@
 //! Frames and their initial values.
 
 ghost use Rattle.std.specs.Prelude.{◌≡◌, map};
-ghost use Rattle.alf_program.specs.Tree.{frame_of, start_of};
+ghost use Rattle.alf_program.specs.Tree.{allocation_of, initial_of};
 ghost use Rattle.alf_text.specs.Grammar.{alloc, allocs, init, inits};
 ghost use Rattle.alf_text.specs.Reading.{position, Reads};
 
@@ -15,7 +15,7 @@ impl<'a> Reader<'a> {
     /// `{ alloc 32 NAME BITS }`.
     #[tactic(auto, unfolding(crate::specs::Grammar::alloc))]
     pub fn alloc(&mut self) -> Result<Alloc, Departure<'a>>
-        ensures { Reads alloc frame_of result self.old self.new }
+        ensures { Reads alloc allocation_of result self.old self.new }
     {
         self.opening()?;
         self.one_frame()?;
@@ -30,7 +30,7 @@ impl<'a> Reader<'a> {
     /// `{ LIST ALLOC* }`.
     #[tactic(auto, unfolding(crate::specs::Grammar::allocs))]
     pub fn allocs(&mut self, list: &[u8]) -> Result<Vec<Alloc>, Departure<'a>>
-        ensures { Reads (allocs list.now) (λ x. map frame_of x.items) result self.old self.new }
+        ensures { Reads (allocs list.now) (λ x. map allocation_of x.items) result self.old self.new }
     {
         self.begin(list)?;
         let allocs = many(self.alloc, &Allocs, self)?;
@@ -41,7 +41,7 @@ impl<'a> Reader<'a> {
     /// `{ init { ref NAME OFFSET } NUM }`.
     #[tactic(auto, unfolding(crate::specs::Grammar::init))]
     pub fn init(&mut self) -> Result<Init, Departure<'a>>
-        ensures { Reads init start_of result self.old self.new }
+        ensures { Reads init initial_of result self.old self.new }
     {
         self.begin(b"init")?;
         let (name, offset) = self.ref_place()?;
@@ -53,7 +53,7 @@ impl<'a> Reader<'a> {
     /// `{ inits INIT* }`.
     #[tactic(auto, unfolding(crate::specs::Grammar::inits))]
     pub fn inits(&mut self) -> Result<Vec<Init>, Departure<'a>>
-        ensures { Reads inits (λ x. map start_of x.items) result self.old self.new }
+        ensures { Reads inits (λ x. map initial_of x.items) result self.old self.new }
     {
         self.begin(b"inits")?;
         let inits = many(self.alloc, &Inits, self)?;

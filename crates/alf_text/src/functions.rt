@@ -1,7 +1,7 @@
 //! Functions.
 
 ghost use Rattle.std.specs.Prelude.{◌≡◌, map};
-ghost use Rattle.alf_program.specs.Tree.{frame_of, start_of, item_of, function_of};
+ghost use Rattle.alf_program.specs.Tree.{allocation_of, initial_of, item_of, function_of};
 ghost use Rattle.alf_text.specs.Grammar.{is_ending, ends_well, closing_after, stmts, scope, arg_decls, function_tail, function, functions};
 ghost use Rattle.alf_text.specs.Reading.{position, Reads};
 
@@ -61,7 +61,7 @@ impl<'a> Reader<'a> {
 
     #[tactic(auto, unfolding(crate::specs::Grammar::scope))]
     fn scope(&mut self) -> Result<(Vec<Alloc>, Vec<Init>, Vec<Item>), Departure<'a>>
-        ensures { Reads scope (λ x. (map frame_of x.0.items, map start_of x.1.items, map item_of x.2.items)) result self.old self.new }
+        ensures { Reads scope (λ x. (map allocation_of x.0.items, map initial_of x.1.items, map item_of x.2.items)) result self.old self.new }
     {
         self.begin(b"scope")?;
         let decls = self.allocs(b"decls")?;
@@ -73,7 +73,7 @@ impl<'a> Reader<'a> {
 
     #[tactic(auto, unfolding(crate::specs::Grammar::arg_decls))]
     fn arg_decls(&mut self) -> Result<Vec<Alloc>, Departure<'a>>
-        ensures { Reads arg_decls (λ x. map frame_of x.items) result self.old self.new }
+        ensures { Reads arg_decls (λ x. map allocation_of x.items) result self.old self.new }
     {
         let args = self.allocs(b"arg_decls")?;
         Ok(args)

@@ -2,7 +2,7 @@
 
 ghost use Rattle.std.specs.Prelude.{◌≡◌, ℕ, List, None};
 ghost use Rattle.alf_program.specs.declared.program.Num.{Num};
-ghost use Rattle.alf_program.specs.Tree.{Term, Entry, Frame, Start, Function, term_of, item_of, frame_of, start_of, function_of};
+ghost use Rattle.alf_program.specs.Tree.{NamedExpression, BodyItem, Allocation, InitialValue, Function, expression_of, item_of, allocation_of, initial_of, function_of};
 ghost use Rattle.alf_text.specs.Grammar.{opens, opens_target, alloc, init, whole_expr, item, function, target, reference};
 ghost use Rattle.alf_text.specs.Reading.{alf, fault_of};
 
@@ -23,9 +23,9 @@ impl<'a> Part<Reader<'a>> for Allocs {
 
     ghost reading = { alf };
 
-    ghost Seen = { Frame };
+    ghost Seen = { Allocation };
 
-    ghost view = { frame_of };
+    ghost view = { allocation_of };
 
     ghost goes_on = { λ _. opens };
 
@@ -55,9 +55,9 @@ impl<'a> Part<Reader<'a>> for Inits {
 
     ghost reading = { alf };
 
-    ghost Seen = { Start };
+    ghost Seen = { InitialValue };
 
-    ghost view = { start_of };
+    ghost view = { initial_of };
 
     ghost goes_on = { λ _. opens };
 
@@ -87,9 +87,9 @@ impl<'a> Part<Reader<'a>> for Exprs {
 
     ghost reading = { alf };
 
-    ghost Seen = { Term };
+    ghost Seen = { NamedExpression };
 
-    ghost view = { term_of };
+    ghost view = { expression_of };
 
     ghost goes_on = { λ _. opens };
 
@@ -119,7 +119,7 @@ impl<'a> Part<Reader<'a>> for Items {
 
     ghost reading = { alf };
 
-    ghost Seen = { Entry };
+    ghost Seen = { BodyItem };
 
     ghost view = { item_of };
 

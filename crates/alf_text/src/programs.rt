@@ -1,7 +1,7 @@
-//! Whole programs.
+//! WholeProgram programs.
 
 ghost use Rattle.std.specs.Prelude.{◌≡◌};
-ghost use Rattle.alf_program.specs.Tree.{whole_of};
+ghost use Rattle.alf_program.specs.Tree.{program_of};
 ghost use Rattle.alf_text.specs.Grammar.{closing_empty, empty, addr_unit, macro_defs, little_endian, heading, exports, imports, program};
 ghost use Rattle.alf_text.specs.Reading.{position, Reads};
 
@@ -98,7 +98,7 @@ impl<'a> Reader<'a> {
     /// A whole text.
     #[tactic(auto, unfolding(crate::specs::Grammar::program))]
     pub fn program(&mut self) -> Result<Program, Departure<'a>>
-        ensures { Reads program whole_of result self.old self.new }
+        ensures { Reads program program_of result self.old self.new }
     {
         self.begin(b"alf")?;
         self.heading()?;

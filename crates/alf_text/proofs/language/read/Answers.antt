@@ -2,7 +2,7 @@
 use Rattle.std.proofs.Common.{◌≡◌, Ok, Err, Option, Some, None, IfSome, IsSomeAnd, sym, subst}
 use Rattle.flow_base.specs.declared.place.Place as places
 use Rattle.grammar.specs.Form.{Fails}
-use Rattle.alf_program.specs.Tree.{whole_of}
+use Rattle.alf_program.specs.Tree.{program_of}
 use Rattle.alf_text.specs.Grammar.{Departure, Fault, Place, program}
 use Rattle.alf_text.specs.Reading.{position, fault_of}
 use Rattle.alf_text.specs.Language.{start, departure_of, placed, Means}
@@ -11,9 +11,9 @@ use Rattle.alf_text.proofs.language.read.Goals as goal
 
 pub returns-in-Ok-clause-spelled : goal.returns-in-Ok-clause-spelled
 returns-in-Ok-clause-spelled c =
-    let e : program.form.reading (start c.args.bytes.now) ≡ Ok (whole_of c.in-Ok.program, position c.program.new.self)
-    = subst (λ (p : Place). program.form.reading p ≡ Ok (whole_of c.in-Ok.program, position c.program.new.self)) c.new-reader.ensures c.in-Ok.ensures in
-    read_means c.args.bytes.now (Ok (whole_of c.in-Ok.program, position c.program.new.self)) e
+    let e : program.form.reading (start c.args.bytes.now) ≡ Ok (program_of c.in-Ok.program, position c.program.new.self)
+    = subst (λ (p : Place). program.form.reading p ≡ Ok (program_of c.in-Ok.program, position c.program.new.self)) c.new-reader.ensures c.in-Ok.ensures in
+    read_means c.args.bytes.now (Ok (program_of c.in-Ok.program, position c.program.new.self)) e
 
 pub returns-in-Err-clause-departs : goal.returns-in-Err-clause-departs
 returns-in-Err-clause-departs c =

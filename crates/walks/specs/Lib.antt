@@ -1,0 +1,7 @@
+pub mod Walks
+pub mod Tables
+pub mod Marks
+pub mod ListLaws
+pub mod WalkLaws
+pub mod MarkLaws
+pub mod Searching

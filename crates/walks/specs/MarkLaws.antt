@@ -1,9 +1,9 @@
 -- What follows from the definitions on marks.
---   by_mark          a node is marked or not, and both never both
+--   by_mark          a node is marked or not, both never both, and unmarked_is without a mark where it is not
 --   marked_low       a marked node is one of the marks
 --   marked_kept      one more mark keeps the others, marked_new is one, and marked_either marks no other
 --   none_marked      where marks are made, none is marked
---   marked_most      where marks are kept no fewer are marked, marked_more more where there is a new one
+--   marked_most      where marks are kept no fewer are marked, marked_more more where there is a new one, and marked_some not 0 where there is one
 --   barred_or_not    where each walk is barred, none goes past the marks
 --   barred_by_one    where one node alone is marked, it lies on each walk that is barred
 --   spread_closed    marks that are closed under edges stay closed where marks spread
@@ -22,6 +22,10 @@ by_mark marks n if_marked if_not = by_test (get_or marks n false) if_marked (λ 
 -- and not both
 pub both : (marks : List Bool) (n : ℕ) → get_or marks n false ≡ false → IsMarked marks n → ⊥
 both marks n clear is = let e : false ≡ true = sym clear ∙ is in cc
+
+-- a node that is not marked has no mark
+pub unmarked_is : (marks : List Bool) (n : ℕ) → (IsMarked marks n → ⊥) → get_or marks n false ≡ false
+unmarked_is marks n other = by_test (get_or marks n false) (λ is. absurd (other is)) (λ clear. clear)
 
 -- a marked node is one of the marks
 pub marked_low : (marks : List Bool) (n : ℕ) → IsMarked marks n → n < length marks
@@ -91,6 +95,13 @@ marked_more old new m long kept clear is =
     (λ n marked. elim (marked_either old m n marked) [ inl a ↦ kept n a | inr e ↦ subst (λ (k : ℕ). IsMarked new k) (sym e) is ])
     in
     omega arith
+
+-- where one is marked, the count is not 0
+pub marked_some : (marks : List Bool) (n : ℕ) → IsMarked marks n → 0 < marked_count marks
+marked_some [] n is = absurd (let e : false ≡ true = is in cc)
+marked_some (true ∷ marks) n is = omega (arith, counted marks)
+marked_some (false ∷ marks) zero is = absurd (let e : false ≡ true = is in cc)
+marked_some (false ∷ marks) (suc n) is = let some = marked_some marks n is in omega (arith, uncounted marks)
 
 -- where each walk is barred, none goes past the marks
 pub barred_or_not : (Leads : ℕ → ℕ → Type 0) (marks : List Bool) (a b : ℕ) → IsBarred Leads marks a b → ReachesPast Leads marks a b → ⊥

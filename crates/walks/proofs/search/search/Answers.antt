@@ -6,7 +6,7 @@ use Rattle.std.specs.Option.{option_copied}
 use Rattle.walks.specs.Tables.{rows_of}
 use Rattle.walks.specs.ListLaws.{last_is, last_none}
 use Rattle.walks.specs.Searching.{IsSearch}
-use Rattle.walks.proofs.Rows.{rows_long}
+use Rattle.walks.specs.TableLaws.{rows_long}
 use Rattle.walks.proofs.Spreading.{search_first, stands_low, search_on, search_back, search_over, on_falls, back_falls}
 use Rattle.walks.proofs.search.search.Goals as goal
 

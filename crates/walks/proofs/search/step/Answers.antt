@@ -1,5 +1,5 @@
 -- What is left to show of `step`.
-use Rattle.walks.proofs.Rows.{row_low}
+use Rattle.walks.specs.TableLaws.{row_low}
 use Rattle.std.proofs.Common.{arith}
 use Rattle.walks.proofs.search.step.Goals as goal
 

@@ -1,7 +1,7 @@
 -- What is left to show of `is_closed`.
 use Rattle.std.proofs.Common.{◌≡◌, false, true, refl, ◌<◌, ℕ, List, [], All, length, get_or, below_more, sym, ◌∙◌, subst, arith}
 use Rattle.walks.specs.Tables.{rows_of}
-use Rattle.walks.proofs.Rows.{row_is, row_low, rows_closed}
+use Rattle.walks.specs.TableLaws.{row_is, row_low, rows_closed}
 use Rattle.walks.proofs.table.is_closed.Goals as goal
 
 pub loop-row-preserved : goal.loop-row-preserved

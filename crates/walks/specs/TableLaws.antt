@@ -1,10 +1,13 @@
 -- The rows of the code's table.
+--   rows_long     as many as the code's table has
+--   rows_closed   where each row lies below their count, each node has a row
+--   row_is        a row of the code is the table's, row_edge an edge leads to each node of it, and row_low each node of it has a row
 use Rattle.std.proofs.Common.{◌≡◌, ◌<◌, ℕ, List, [], Vec, Global, get_or, length, Contains, All, inl, inr, ap, sym, ◌∙◌, subst, arith}
 use Rattle.std.proofs.lemmas.Bool.{cases_lt}
 use Rattle.std.proofs.lemmas.List.{length-map, get_or-map, get_or_past}
 use Rattle.std.proofs.lemmas.List.Elements.{Contains-get_or, All-contains}
 use Rattle.lists.specs.Members.{no_member}
-use Rattle.walks.specs.Tables.{IsClosed, rows_of}
+use Rattle.walks.specs.Tables.{HasEdge, IsClosed, rows_of}
 
 -- as many as the code's table has
 pub rows_long : (rows : List (Vec ℕ Global)) → length (rows_of rows) ≡ length rows
@@ -22,9 +25,13 @@ module _ (rows : List (Vec ℕ Global)) (n : ℕ) (v : Vec ℕ Global) (row : Li
   pub row_is : get_or (rows_of rows) n [] ≡ row
   row_is = get_or-map (λ (x : Vec ℕ Global). x.items) rows n v [] inside ∙ ap (λ (x : Vec ℕ Global). x.items) (sym is_v) ∙ sym is_row
 
-  -- each node of it is one of the table
+  -- an edge leads to each node of it
+  pub row_edge : (k d : ℕ) → k < length row → HasEdge (rows_of rows) n (get_or row k d)
+  row_edge k d low = subst (λ (xs : List ℕ). Contains xs (get_or row k d)) (sym row_is) (Contains-get_or row k d low)
+
+  -- so each node of it has a row
   pub row_low : IsClosed (rows_of rows) → (k d : ℕ) → k < length row → get_or row k d < length rows
   row_low closed k d low =
-      let there = closed n (get_or row k d) (subst (λ (xs : List ℕ). Contains xs (get_or row k d)) (sym row_is) (Contains-get_or row k d low)) in
+      let there = closed n (get_or row k d) (row_edge k d low) in
       let long = rows_long rows in
       omega arith

@@ -13,7 +13,8 @@ use Rattle.grammar.specs.Rule.{token, judge, refuse, value, spend, weaken, ◌>>
 use Rattle.grammar.specs.Rule as rules
 use Rattle.alf_ops.specs.declared.operator.Op.{Op}
 use Rattle.alf_ops.specs.declared.operator.Op.TheVariants.{Select}
-use Rattle.alf_ops.specs.Table.{layout_of, size_count, operands_by_layout}
+use Rattle.alf_ops.specs.Layouts.{size_count, operands_by_layout}
+use Rattle.alf_ops.specs.Table.{layout_of}
 use Rattle.alf_ops.specs.Names.{spelling, operators}
 use Rattle.alf_tokens.specs.declared.token.Kind.{Kind}
 use Rattle.alf_tokens.specs.declared.token.Kind.TheVariants as kinds

@@ -4,7 +4,8 @@ ghost use Rattle.std.specs.Prelude.{◌≡◌, ◌∷◌, ◌≤◌, map, IfOk, 
 ghost use Rattle.grammar.specs.Rule.{maybe, exactly};
 ghost use Rattle.alf_program.specs.Tree.{expression_of};
 ghost use Rattle.std.specs.Option.{option_map};
-ghost use Rattle.alf_ops.specs.Table.{layout_of, size_count};
+ghost use Rattle.alf_ops.specs.Layouts.{size_count};
+ghost use Rattle.alf_ops.specs.Table.{layout_of};
 ghost use Rattle.alf_ops.specs.Names.{TellsOperator};
 ghost use Rattle.alf_text.specs.Grammar.{one, opens, fits_too_deep, operand_count, operator, operator_named, unsigned_term, signed_term, address_term, load, further, sizes, apply, expr_tail, nested, expr, whole_expr, least_further, most_further};
 ghost use Rattle.alf_tokens.specs.Ahead.{lexeme};

@@ -6,7 +6,7 @@ ghost use Rattle.alf_text.specs.Grammar.{alloc, allocs, init, inits};
 ghost use Rattle.alf_text.specs.Reading.{position, Reads};
 
 use crate::fault::Departure;
-use crate::lists::{Allocs, Inits};
+use crate::parts::{Allocs, Inits};
 use crate::reader::Reader;
 use alf_program::{Alloc, Init};
 use grammar::many;

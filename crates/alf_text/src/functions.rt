@@ -6,7 +6,7 @@ ghost use Rattle.alf_text.specs.Grammar.{is_ending, ends_well, closing_after, st
 ghost use Rattle.alf_text.specs.Reading.{position, Reads};
 
 use crate::fault::{Departure, misfit};
-use crate::lists::{Funcs, Items};
+use crate::parts::{Funcs, Items};
 use crate::reader::Reader;
 use alf_program::{Alloc, Func, Init, Item, Stmt};
 use alf_tokens::Kind;

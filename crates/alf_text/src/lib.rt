@@ -14,9 +14,9 @@ mod words;
 mod expressions;
 mod frames;
 mod functions;
-mod lists;
 mod names;
 mod numbers;
+mod parts;
 mod programs;
 mod statements;
 

@@ -6,7 +6,7 @@ ghost use Rattle.alf_text.specs.Grammar.{opens, reference, references, offset, z
 ghost use Rattle.alf_text.specs.Reading.{position, Reads};
 
 use crate::fault::Departure;
-use crate::lists::References;
+use crate::parts::References;
 use crate::reader::Reader;
 use flow_base::Name;
 use grammar::many;

@@ -7,7 +7,7 @@ ghost use Rattle.alf_text.specs.Grammar.{opens_target, target, default_arm, swit
 ghost use Rattle.alf_text.specs.Reading.{position, Reads};
 
 use crate::fault::{Departure, outside};
-use crate::lists::{Exprs, Targets};
+use crate::parts::{Exprs, Targets};
 use crate::reader::Reader;
 use alf_program::{Item, Num, Stmt};
 use flow_base::Name;

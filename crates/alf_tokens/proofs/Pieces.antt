@@ -1,7 +1,8 @@
 -- What is known of the piece that some bytes begin with, and of the tokens by their first piece.
---   IsCut p bytes   the piece takes some of the bytes, and no more; a name has its quotes, and can be printed
+--   IsCut p bytes   the piece takes some of the bytes, and no more, and shows these bytes; a name has its quotes, and can be printed
 use Rattle.std.proofs.Common.{◌≡◌, ℕ, zero, suc, ◌+◌, ◌-◌, ◌≤◌, ◌<◌, Bool, true, false, cond, ◌&&◌, not, ltb, leb, List, [], ◌∷◌, ◌++◌, length, take, drop, filter, Option, Some, None, refl, sym, ap, subst, ◌∙◌, arith}
-use Rattle.std.specs.List.{prefix_len, list_all}
+use Rattle.std.specs.List.{prefix_len, list_all, flat_map}
+use Rattle.std.proofs.lemmas.Bool.{eqb-true}
 use Rattle.std.specs.Char.{is_ascii_digit, is_ascii_alphabetic}
 use Rattle.std.proofs.lemmas.List.{length-drop, length-take-le, take-take}
 use Rattle.std.proofs.lemmas.List.Sums.{prefix_len-le-length}
@@ -10,8 +11,8 @@ use Rattle.std.specs.Prelude.{◌==◌}
 use Rattle.alf_tokens.specs.declared.token.Kind.{Kind}
 use Rattle.alf_tokens.specs.declared.token.Kind.TheVariants as kinds
 use Rattle.alf_tokens.specs.Bytes.{is_blank, is_word_byte, is_name_byte, begins_with, to_close, closes, one_more}
-use Rattle.alf_tokens.specs.Tokens.{Lexeme, name_piece, closed_piece, comment_piece, number_piece, piece, text_of, lexeme_of, cut, is_numeral, is_token, shown, tokens_from}
-use Rattle.alf_tokens.specs.Printed.{is_name_text, is_named_well}
+use Rattle.alf_tokens.specs.Tokens.{Lexeme, pieces_of, name_piece, closed_piece, comment_piece, number_piece, piece, text_of, lexeme_of, cut, is_numeral, is_token, shown, tokens_from}
+use Rattle.alf_tokens.specs.Printed.{is_name_text, bytes_of, piece_bytes, is_named_well}
 
 pub and_left : (a b : Bool) → a && b ≡ true → a ≡ true
 and_left true b h = refl
@@ -82,15 +83,23 @@ pub record IsCut (p : Kind × ℕ) (bytes : List ℕ) : Type 0 where
   pub fits : p.1 ≤ length bytes
   pub quotes : p.0 ≡ kinds.Quoted → 2 ≤ p.1
   pub named : is_named_well (lexeme_of p bytes) ≡ true
+  pub whole : bytes_of p.0 (text_of p.0 (take p.1 bytes)) ≡ take p.1 bytes
 
-one_byte : (kind : Kind) (b : ℕ) (bs : List ℕ) → (kind ≡ kinds.Quoted → ⊥) → ((n : ℕ) → is_named_well (lexeme_of (kind, n) (b ∷ bs)) ≡ true) → IsCut (kind, 1) (b ∷ bs)
-one_byte kind b bs other named = record { takes = omega arith; fits = omega arith; quotes = λ e. absurd (other e); named = named 1 }
+one_byte : (kind : Kind) (b : ℕ) (bs : List ℕ) → (kind ≡ kinds.Quoted → ⊥) → is_named_well (lexeme_of (kind, 1) (b ∷ bs)) ≡ true → bytes_of kind (text_of kind (b ∷ [])) ≡ b ∷ [] → IsCut (kind, 1) (b ∷ bs)
+one_byte kind b bs other named whole = record { takes = omega arith; fits = omega arith; quotes = λ e. absurd (other e); named = named; whole = whole }
 
 all_bytes : (b : ℕ) (bs : List ℕ) → IsCut (kinds.Broken, length (b ∷ bs)) (b ∷ bs)
-all_bytes b bs = record { takes = omega arith; fits = omega arith; quotes = λ e. absurd cc; named = refl }
+all_bytes b bs = record { takes = omega arith; fits = omega arith; quotes = λ e. absurd cc; named = refl; whole = refl }
 
-name_cut : (b : ℕ) (bs : List ℕ) → IsCut (name_piece bs (length (b ∷ bs))) (b ∷ bs)
-name_cut b bs = by_test (λ p. IsCut p (b ∷ bs)) (ltb 0 l && leb l 64 && begins_with 34 (drop l bs)) (kinds.Quoted, l + 2) (kinds.Broken, length (b ∷ bs)) whole (λ _. all_bytes b bs)
+-- the byte after a run
+one_more_byte : (l c : ℕ) (bs : List ℕ) → begins_with c (drop l bs) ≡ true → take (suc l) bs ≡ take l bs ++ c ∷ []
+one_more_byte zero c [] h = absurd cc
+one_more_byte zero c (b ∷ bs) h = ap (λ (x : ℕ). x ∷ []) (eqb-true b c h)
+one_more_byte (suc l) c [] h = absurd cc
+one_more_byte (suc l) c (b ∷ bs) h = ap (λ (xs : List ℕ). b ∷ xs) (one_more_byte l c bs h)
+
+name_cut : (b : ℕ) (bs : List ℕ) → b == 34 ≡ true → IsCut (name_piece bs (length (b ∷ bs))) (b ∷ bs)
+name_cut b bs quote = by_test (λ p. IsCut p (b ∷ bs)) (ltb 0 l && leb l 64 && begins_with 34 (drop l bs)) (kinds.Quoted, l + 2) (kinds.Broken, length (b ∷ bs)) whole (λ _. all_bytes b bs)
   where
     l : ℕ
     l = prefix_len is_name_byte bs
@@ -100,7 +109,16 @@ name_cut b bs = by_test (λ p. IsCut p (b ∷ bs)) (ltb 0 l && leb l 64 && begin
         let fits : l + 2 ≤ length (b ∷ bs) = omega (arith, begins_within 34 l bs (and_right (ltb 0 l && leb l 64) (begins_with 34 (drop l bs)) h)) in
         let few = and_left (ltb 0 l && leb l 64) (begins_with 34 (drop l bs)) h in
         let len = length-prefix_len is_name_byte bs in
-        record { takes = omega arith; fits = fits; quotes = λ e. omega arith; named = rw (name_inside b bs l fits, len, few) (run_passes is_name_byte bs) }
+        let inside = name_inside b bs l fits in
+        let two : l + 2 ≡ suc (suc l) = omega arith in
+        let last = one_more_byte l 34 bs (and_right (ltb 0 l && leb l 64) (begins_with 34 (drop l bs)) h) in
+        record {
+          takes = omega arith;
+          fits = fits;
+          quotes = λ e. omega arith;
+          named = rw (inside, len, few) (run_passes is_name_byte bs);
+          whole = ap (λ (text : List ℕ). 34 ∷ (text ++ 34 ∷ [])) inside ∙ rw (two, last, eqb-true b 34 quote) refl;
+        }
 
 comment_cut : (b : ℕ) (bs : List ℕ) → IsCut (comment_piece bs (length (b ∷ bs))) (b ∷ bs)
 comment_cut b bs = by_test (λ p. IsCut p (b ∷ bs)) (begins_with 42 bs) (closed_piece (to_close (drop 1 bs)) (length (b ∷ bs))) (kinds.Broken, length (b ∷ bs))
@@ -113,6 +131,7 @@ comment_cut b bs = by_test (λ p. IsCut p (b ∷ bs)) (begins_with 42 bs) (close
       fits = omega (arith, close_within (drop 1 bs) n e, length-drop 1 bs, begins_within 42 0 bs h);
       quotes = λ e. absurd cc;
       named = refl;
+      whole = refl;
     }
 
 -- a run of bytes of which the first is one
@@ -124,22 +143,22 @@ number_cut b bs h =
     let n = prefix_len is_ascii_digit (b ∷ bs) in
     let some = run_some is_ascii_digit b bs h in
     let fits = prefix_len-le-length is_ascii_digit (b ∷ bs) in
-    by_test (λ p. IsCut p (b ∷ bs)) (leb n 20) (kinds.Number, n) (kinds.Long, n) (λ _. record { takes = some; fits = fits; quotes = λ e. absurd cc; named = refl })
-    (λ _. record { takes = some; fits = fits; quotes = λ e. absurd cc; named = refl })
+    by_test (λ p. IsCut p (b ∷ bs)) (leb n 20) (kinds.Number, n) (kinds.Long, n) (λ _. record { takes = some; fits = fits; quotes = λ e. absurd cc; named = refl; whole = refl })
+    (λ _. record { takes = some; fits = fits; quotes = λ e. absurd cc; named = refl; whole = refl })
 
 word_cut : (b : ℕ) (bs : List ℕ) → is_ascii_alphabetic b ≡ true → IsCut (kinds.Word, prefix_len is_word_byte (b ∷ bs)) (b ∷ bs)
 word_cut b bs h =
     let w : is_word_byte b ≡ true = rw h refl in
-    record { takes = run_some is_word_byte b bs w; fits = prefix_len-le-length is_word_byte (b ∷ bs); quotes = λ e. absurd cc; named = refl }
+    record { takes = run_some is_word_byte b bs w; fits = prefix_len-le-length is_word_byte (b ∷ bs); quotes = λ e. absurd cc; named = refl; whole = refl }
 
 pub piece_cut : (numbered : Bool) (b : ℕ) (bs : List ℕ) → IsCut (piece numbered (b ∷ bs)) (b ∷ bs)
 unfolding piece
 piece_cut numbered b bs =
     let cuts : Kind × ℕ → Type 0 = λ p. IsCut p (b ∷ bs) in
-    by_test cuts (is_blank b) _ _ (λ _. one_byte kinds.White b bs (λ e. cc) (λ n. refl)) (λ _.
-    by_test cuts (b == 123) _ _ (λ _. one_byte kinds.Open b bs (λ e. cc) (λ n. refl)) (λ _.
-    by_test cuts (b == 125) _ _ (λ _. one_byte kinds.Close b bs (λ e. cc) (λ n. refl)) (λ _.
-    by_test cuts (b == 34) _ _ (λ _. name_cut b bs) (λ _.
+    by_test cuts (is_blank b) _ _ (λ _. one_byte kinds.White b bs (λ e. cc) refl refl) (λ _.
+    by_test cuts (b == 123) _ _ (λ _. one_byte kinds.Open b bs (λ e. cc) refl refl) (λ _.
+    by_test cuts (b == 125) _ _ (λ _. one_byte kinds.Close b bs (λ e. cc) refl refl) (λ _.
+    by_test cuts (b == 34) _ _ (name_cut b bs) (λ _.
     by_test cuts (b == 47) _ _ (λ _. comment_cut b bs) (λ _.
     by_test cuts (is_ascii_digit b) _ _ (number_cut b bs) (λ _.
     by_test cuts (is_ascii_alphabetic b && not numbered) _ _ (λ h. word_cut b bs (and_left (is_ascii_alphabetic b) (not numbered) h)) (λ _. all_bytes b bs)))))))
@@ -161,6 +180,24 @@ cut_enough (suc n) (suc m) numbered (b ∷ bs) ln lm =
     let p = piece numbered (b ∷ bs) in
     let h = piece_cut numbered b bs in
     ap (λ (ts : List Lexeme). lexeme_of p (b ∷ bs) ∷ ts) (cut_enough n m (is_numeral p.0) (drop p.1 (b ∷ bs)) (rest_fits n p b bs h ln) (rest_fits m p b bs h lm))
+
+split_again : (n : ℕ) (xs : List ℕ) → take n xs ++ drop n xs ≡ xs
+split_again zero xs = refl
+split_again (suc n) [] = refl
+split_again (suc n) (x ∷ xs) = ap (λ (ys : List ℕ). x ∷ ys) (split_again n xs)
+
+-- the pieces in a row are the bytes
+in_a_row : (n : ℕ) (numbered : Bool) (bytes : List ℕ) → length bytes ≤ n → flat_map piece_bytes (cut n numbered bytes) ≡ bytes
+in_a_row zero numbered [] le = refl
+in_a_row zero numbered (b ∷ bs) le = absurd (omega arith)
+in_a_row (suc n) numbered [] le = refl
+in_a_row (suc n) numbered (b ∷ bs) le =
+    let p = piece numbered (b ∷ bs) in
+    let h = piece_cut numbered b bs in
+    rw (h.whole, in_a_row n (is_numeral p.0) (drop p.1 (b ∷ bs)) (rest_fits n p b bs h le)) (split_again p.1 (b ∷ bs))
+
+pub pieces_are_the_text : (bytes : List ℕ) → flat_map piece_bytes (pieces_of bytes) ≡ bytes
+pieces_are_the_text bytes = in_a_row (length bytes) false bytes (omega arith)
 
 -- the tokens, by the first piece
 pub tokens_step : (numbered : Bool) (b : ℕ) (bs : List ℕ) (p : Kind × ℕ) → piece numbered (b ∷ bs) ≡ p

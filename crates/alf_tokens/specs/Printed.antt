@@ -2,6 +2,7 @@
 --   Mark                     a blank and the token after it
 --   can_print kind text      a token of this kind that shows this text can be printed
 --   is_mark mark             the blank is a space or a line feed, and the token can be printed
+--   piece_bytes piece        the bytes of a piece of a text
 --   printed mark             the bytes of a mark
 --   text_of_marks marks      the text: the marks without the first blank, and a line feed at the end
 --   tokens_before more marks the tokens that the marks print, and then these
@@ -57,6 +58,10 @@ is_mark m = is_separator m.blank && can_print m.kind m.text
 abbrev pub bytes_of : Kind → List ℕ → List ℕ
 bytes_of kinds.Quoted text = 34 ∷ (text ++ 34 ∷ [])
 bytes_of kind text = text
+
+-- the bytes of a piece
+abbrev pub piece_bytes : Lexeme → List ℕ
+piece_bytes t = bytes_of t.kind t.text
 
 abbrev pub printed : Mark → List ℕ
 printed m = m.blank ∷ bytes_of m.kind m.text

@@ -86,6 +86,10 @@ cut zero numbered bytes = []
 cut (suc n) numbered [] = []
 cut (suc n) numbered (b ∷ bs) = lexeme_of (piece numbered (b ∷ bs)) (b ∷ bs) ∷ cut n (is_numeral (piece numbered (b ∷ bs)).0) (drop (piece numbered (b ∷ bs)).1 (b ∷ bs))
 
+-- the pieces of a text
+abbrev pub pieces_of : List ℕ → List Lexeme
+pieces_of bytes = cut (length bytes) false bytes
+
 abbrev pub is_token : Lexeme → Bool
 is_token t = not (is_kind kinds.White t.kind)
 

@@ -10,6 +10,6 @@
 //! here once, for readers of any text.
 #![tactic(auto)]
 
-mod lists;
+mod parts;
 
-pub use lists::{Part, many};
+pub use parts::{Part, many};

@@ -1,5 +1,5 @@
 -- The grammar, rule by rule. Each rule is exact by its type.
---   Departure P, Fault   how a text departs from the grammar; a fault tells its place by how many bytes of the text are left there
+--   DepartureAt P, Fault   how a text departs from the grammar; a fault tells its place by how many bytes of the text are left there
 --   Place            where a text is read from: the tokens ahead, and what there may still be of what is counted
 --   Rule some A      a part of the grammar that spells values of type A, and takes some of the text where some is true
 --   fits, fits_word, fits_number, fits_name   one token, which fits its place or is the departure
@@ -24,19 +24,19 @@ use Rattle.alf_program.specs.Tree.{NamedExpression, Address, Load, Apply, Null, 
 use Rattle.alf_program.specs.Tree as tree
 
 -- how a text departs from the grammar, where places are of type P
-pub data Departure (P : Type 0) : Type 0 where
+pub data DepartureAt (P : Type 0) : Type 0 where
   -- the token that begins here does not fit
-  Syntax : P → Departure P
+  Syntax : P → DepartureAt P
   -- the number that begins here is outside its range
-  Number : P → Departure P
+  Number : P → DepartureAt P
   -- this word or number is none of those that the profile has here
-  OutOfProfile : P → List ℕ → Departure P
+  OutOfProfile : P → List ℕ → DepartureAt P
   -- this quantity comes to this number, which is above its limit
-  Limit : Which → ℕ → Departure P
+  Limit : Which → ℕ → DepartureAt P
 
 -- a departure whose place is told by how many bytes of the text are left there
 abbrev pub Fault : Type 0
-Fault = Departure ℕ
+Fault = DepartureAt ℕ
 
 -- ---- limits
 

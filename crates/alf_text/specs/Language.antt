@@ -3,7 +3,7 @@
 --   SpellsProgram bytes whole     the bytes are a spelling of the program
 --   IsSpelled whole               some text spells the program
 --   DepartsWith bytes fault       the bytes are no spelling, and this is where they leave the grammar first
---   placed bytes fault            the fault as it is told: with the place in the text
+--   Departure, placed bytes fault the fault as it is told: with the place in the text
 --   Means bytes meaning           the bytes spell the program, or depart so
 --   HasOneMeaning bytes           they have exactly one meaning
 use Rattle.std.specs.Prelude.{◌≡◌, ◌+◌, ◌-◌, ◌==◌, ℕ, not, Bool, List, length, take, filter, reverse, Result, Ok, Err, Option, Some, None}
@@ -13,7 +13,8 @@ use Rattle.alf_tokens.specs.Tokens.{tokens_of}
 use Rattle.alf_text.specs.declared.text_fault.TextFault.{TextFault}
 use Rattle.alf_text.specs.declared.text_fault.TextFault.TheVariants as faults
 use Rattle.alf_program.specs.Tree.{WholeProgram}
-use Rattle.alf_text.specs.Grammar.{Departure, Fault, Syntax, Number, OutOfProfile, Limit, program, most_functions, most_frames, most_bytes}
+use Rattle.alf_text.specs.Grammar.{DepartureAt, Fault, program, most_functions, most_frames, most_bytes}
+pub use Rattle.alf_text.specs.Grammar.{Syntax, Number, OutOfProfile, Limit}
 use Rattle.alf_text.specs.Grammar as grammar
 
 -- where the reading of a text starts: nothing is counted yet
@@ -51,26 +52,30 @@ place_of bytes left = place_after (take (length bytes - left) bytes)
 
 -- ---- meanings
 
+-- a first departure, as it is told
+abbrev pub Departure : Type 0
+Departure = DepartureAt Place
+
 -- the fault with its place in the text
-abbrev pub placed : List ℕ → Fault → Departure Place
+abbrev pub placed : List ℕ → Fault → Departure
 placed bytes (Syntax left) = Syntax (place_of bytes left)
 placed bytes (Number left) = Number (place_of bytes left)
 placed bytes (OutOfProfile left word) = OutOfProfile (place_of bytes left) word
 placed bytes (Limit which count) = Limit which count
 
 -- the bytes spell the program, or depart so
-abbrev pub Means : List ℕ → Result WholeProgram (Departure Place) → Type 0
+abbrev pub Means : List ℕ → Result WholeProgram Departure → Type 0
 Means bytes (Ok whole) = SpellsProgram bytes whole
 Means bytes (Err departure) = (fault : Fault) × DepartsWith bytes fault × (departure ≡ placed bytes fault)
 
 -- exactly one meaning
 pub record HasOneMeaning (bytes : List ℕ) : Type 0 where
-  pub meaning : Result WholeProgram (Departure Place)
+  pub meaning : Result WholeProgram Departure
   pub means : Means bytes meaning
-  pub only : (other : Result WholeProgram (Departure Place)) → Means bytes other → meaning ≡ other
+  pub only : (other : Result WholeProgram Departure) → Means bytes other → meaning ≡ other
 
 -- the departure that an answer tells, or none for want of memory
-abbrev pub departure_of : TextFault → Option (Departure Place)
+abbrev pub departure_of : TextFault → Option Departure
 departure_of (faults.Syntax place) = Some (Syntax place)
 departure_of (faults.Number place) = Some (Number place)
 departure_of (faults.OutOfProfile place word) = Some (OutOfProfile place word)

@@ -1,0 +1,8 @@
+pub mod Looks
+pub mod Walking
+pub mod Serving
+pub mod Closing
+pub mod Entering
+pub mod Adding
+pub mod Finding
+pub mod Deciding

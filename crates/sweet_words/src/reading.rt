@@ -1,0 +1,54 @@
+//! The words are read.
+ghost use Rattle.std.specs.Prelude.{◌≡◌, ◌≢◌, map, None, Some, Err, IfOk, option_map, string_bytes};
+ghost use Rattle.clap.specs.Words.{kind_of, subcommand_rows_of};
+ghost use Rattle.sweet_words.specs.Commands.{command_of};
+ghost use Rattle.sweet_words.specs.Matched.{command_from};
+ghost use Rattle.sweet_words.specs.Meant.{command_meant};
+
+use crate::command::{Command, named};
+use crate::forms::FORMS;
+use crate::program::program;
+use clap::error::ErrorKind;
+use clap::{ArgMatches, Error};
+use std::alloc::Global;
+
+/// Why words are not read.
+#[derive(Clone, Copy, Debug, PartialEq, Eq)]
+pub enum WordsFault {
+    /// The words are no command.
+    Usage,
+    /// Memory ran out.
+    Memory,
+}
+
+/// The command of the words, which stand after the program's name.
+pub fn read(alloc: Global, words: &[String]) -> Result<Command<'_>, WordsFault>
+    ensures command { IfOk result (λ command. command_of (map string_bytes words.now) ≡ Some (command_meant command)) }
+    ensures usage { result ≡ Err WordsFault.Usage → command_of (map string_bytes words.now) ≡ None }
+{
+    let Ok(program) = program(alloc, FORMS.as_slice()) else {
+        return Err(WordsFault::Memory);
+    };
+    match program.try_get_matches_from(words) {
+        Ok(matches) => command_in(&matches).ok_or(WordsFault::Usage),
+        Err(error) => Err(fault_of(&error)),
+    }
+}
+
+// The command that the matches make.
+fn command_in<'a>(matches: &ArgMatches<'a>) -> Option<Command<'a>>
+    ensures { option_map command_meant result ≡ command_from (subcommand_rows_of matches.now) }
+{
+    let (name, given) = matches.subcommand()?;
+    named(name, given)
+}
+
+// Why `clap` gave no matches.
+fn fault_of(error: &Error) -> WordsFault
+    ensures { result ≡ WordsFault.Usage → kind_of error.now ≢ ErrorKind.OutOfMemory }
+{
+    match error.kind() {
+        ErrorKind::OutOfMemory => WordsFault::Memory,
+        _ => WordsFault::Usage,
+    }
+}

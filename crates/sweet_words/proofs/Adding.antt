@@ -48,9 +48,11 @@ more_forms f table i d before now sub lt had adds is =
     shapes : (forms : List Form) (form : Form) → map shape_in forms ++ shape_in form ∷ [] ≡ map shape_in (forms ++ form ∷ [])
     shapes [] form = refl
     shapes (first ∷ forms) form = ap (λ all. shape_in first ∷ all) (shapes forms form)
+
     filled : (forms : List Form) (form : Form) → false ≡ has_none (forms ++ form ∷ [])
     filled [] form = refl
     filled (first ∷ forms) form = refl
+
     added : (forms : List Form) (form : Form) → with_subcommand (program_so_far forms) (shape_in form) ≡ program_so_far (forms ++ form ∷ [])
     added forms form = (λ i. record { top = record top { is_leaf = filled forms form i }; subs = shapes forms form i })
 
@@ -72,7 +74,7 @@ form_shape form a b c d starts positionals values flags =
     let alone = map (λ name. rule_at Flag name.now) form.flags.now in
     let shape : List Rule → Shape = λ all. record (new_shape form.name.now) { rules = all } in
     let is : d ≡ with_rules (with_rules (with_rules (new_app form.name.now) places) named) alone =
-      flags ∙ ap (λ (x : App). with_rules x alone) (values ∙ ap (λ (x : App). with_rules x named) (positionals ∙ ap (λ (x : App). with_rules x places) starts)) in
+    flags ∙ ap (λ (x : App). with_rules x alone) (values ∙ ap (λ (x : App). with_rules x named) (positionals ∙ ap (λ (x : App). with_rules x places) starts)) in
     ap (λ (x : App). x.top) is ∙ ap shape (append_assoc places named alone)
     ∙ (λ i. shape (map_twice positional_rule (λ name. name.now) form.positionals.now i
-      ++ (map_twice value_rule (λ name. name.now) form.values.now i ++ map_twice flag_rule (λ name. name.now) form.flags.now i)))
+    ++ (map_twice value_rule (λ name. name.now) form.values.now i ++ map_twice flag_rule (λ name. name.now) form.flags.now i)))

@@ -1,23 +1,22 @@
 -- What one level of the parse comes to, with the checks after the walk.
-use Rattle.std.specs.Prelude.{◌≡◌, ℕ, Bool, true, false, not, ◌&&◌, ◌||◌, ◌==◌, ◌+◌, List, [], ◌∷◌, ◌++◌, map, length, min, fold, Option, None, Some, if◌then◌else◌, find, option_map}
+use Rattle.std.specs.Prelude.{◌≡◌, ℕ, Bool, true, false, not, ◌&&◌, ◌||◌, ◌==◌, ◌+◌, List, [], ◌∷◌, ◌++◌, map, length, min, fold, Option, None, Some, if◌then◌else◌, option_map}
 use Rattle.std.specs.Prelude.{option_and_then}
 use Rattle.std.specs.List.{list_any, list_all}
-use Rattle.std.specs.Option.{option_map_or}
 use Rattle.std.specs.Str.{bytes_eq}
-use Rattle.std.proofs.Common.{refl, sym, ap, ◌∙◌, subst, append-nil, append_assoc}
+use Rattle.std.proofs.Common.{refl, sym, ap, ◌∙◌, append-nil, append_assoc}
 use Rattle.clap.specs.Lexer.{usize_max}
 use Rattle.clap.specs.Kinds.{Kinds, or_else}
 use Rattle.clap.specs.Walk.{Rule, Row, has_row, at_row, more_values, walk_from, with_default, default_rows, nothing_held, walk, settled, finished, rows_after, reading_by}
 use Rattle.clap.specs.Takes.{is_given}
 use Rattle.clap.specs.Facts.{explicit_source}
-use Rattle.clap.specs.Faults.{level_fault, walk_fault, settle_fault, defaults_fault, default_fault, given_default_fault, check_fault, repeat_fault}
+use Rattle.clap.specs.Faults.{level_fault, walk_fault, settle_fault, defaults_fault, default_fault, given_default_fault, check_fault}
 use Rattle.clap.specs.declared.parser.matches.ValueSource.TheVariants.{CommandLine, DefaultValue}
 use Rattle.clap.specs.declared.builder.value_parser.Reading.TheVariants.{AsWritten}
-use Rattle.clap.proofs.WalkLemmas.{list_any-map, find-map}
+use Rattle.clap.proofs.WalkLemmas.{list_any-map}
 use Rattle.sweet_words.specs.Forms.{Text, Form}
-use Rattle.sweet_words.specs.Given.{Uses, free, given, is_used, is_once, is_whole, if_whole, uses_of}
-use Rattle.sweet_words.proofs.Looks.{by_test, holding}
-use Rattle.sweet_words.proofs.Walking.{seat, seats, valued, flagged, optional, built_rules, built_shape, leaf, Rows, guard, guard-or_else, guard-None, outcome, with_row, after_uses, after, HasSeats, Serves, Follows, follows}
+use Rattle.sweet_words.specs.Given.{Uses, free, given, is_used, is_once, if_whole, uses_of}
+use Rattle.sweet_words.proofs.Looks.{by_test}
+use Rattle.sweet_words.proofs.Walking.{seat, seats, valued, flagged, optional, built_rules, built_shape, Rows, guard, guard-or_else, outcome, with_row, after_uses, after, HasSeats, Serves, follows}
 
 -- ---- rows of uses
 
@@ -50,8 +49,8 @@ rows_of_uses before [] = ap (λ us. Some (map row us)) (sym (append-nil before))
 rows_of_uses before (entry ∷ uses) = by_test (is_used entry.0 before)
     (λ e. rw (used_rows entry.0 before, e) refl)
     (λ e. let fresh : has_row entry.0 (map row before) ≡ false = used_rows entry.0 before ∙ e in
-      rw (fresh, e) (ap (λ rs. after_uses rs uses) (with_row_added entry.0 entry.1 (map row before) fresh ∙ map_row_append before entry)
-      ∙ rows_of_uses (before ++ entry ∷ []) uses ∙ ap (if_once (is_once (before ++ entry ∷ []) uses)) (append_assoc before (entry ∷ []) uses)))
+    rw (fresh, e) (ap (λ rs. after_uses rs uses) (with_row_added entry.0 entry.1 (map row before) fresh ∙ map_row_append before entry)
+    ∙ rows_of_uses (before ++ entry ∷ []) uses ∙ ap (if_once (is_once (before ++ entry ∷ []) uses)) (append_assoc before (entry ∷ []) uses)))
 
 -- ---- defaults
 
@@ -159,8 +158,8 @@ closes form uses =
     let same : (id : Text) → is_given id rows ≡ is_used id uses = λ id. defaults_kept id (built_rules form) (map row uses) ∙ given_is_used id uses in
     let lack = seats_lack 1 form.positionals (optional form) rows uses same (values_lack form.values form.flags rows) in
     rw (defaults_pass form (map row uses)) (by_test (list_all (λ name. is_used name uses) form.positionals)
-      (λ e. rw (lack, e) refl)
-      (λ e. rw (lack, e) refl))
+    (λ e. rw (lack, e) refl)
+    (λ e. rw (lack, e) refl))
 
 -- the words of a command pass exactly where they are whole uses, and give the rows of these
 pub level_is : (form : Form) → HasSeats (built_rules form) 1 form.positionals → Serves form (built_rules form) → (words : List Text)
@@ -173,5 +172,5 @@ level_is form seated serves words =
     go : (found : Option Uses) → option_and_then (closing form) (after [] found) ≡ option_map (rows_with_defaults form) (option_and_then (if_whole form) found)
     go None = refl
     go (Some uses) = ap (option_and_then (closing form)) (rows_of_uses [] uses) ∙ by_test (is_once [] uses)
-      (λ e. rw e (closes form uses ∙ by_test (list_all (λ name. is_used name uses) form.positionals) (λ t. rw t refl) (λ t. rw t refl)))
-      (λ e. rw e refl)
+        (λ e. rw e (closes form uses ∙ by_test (list_all (λ name. is_used name uses) form.positionals) (λ t. rw t refl) (λ t. rw t refl)))
+        (λ e. rw e refl)

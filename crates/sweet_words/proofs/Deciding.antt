@@ -1,21 +1,21 @@
 -- What `clap` makes of all the words is the command of the words.
-use Rattle.std.specs.Prelude.{◌≡◌, ℕ, Bool, true, false, ⊤, List, [], ◌∷◌, map, Option, None, Some, find, option_map, option_and_then}
+use Rattle.std.specs.Prelude.{◌≡◌, true, ⊤, List, [], ◌∷◌, Option, None, Some, option_map, option_and_then}
 use Rattle.std.specs.Str.{bytes_eq}
 use Rattle.std.proofs.Common.{refl, sym, ap, ◌∙◌, subst}
 use Rattle.clap.specs.Kinds.{Kinds}
 use Rattle.clap.specs.Walk.{Row, nothing_held, rows_after, first_of, stop_after}
-use Rattle.clap.specs.Simple.{App, built, subcommand_of, entered, names_of}
+use Rattle.clap.specs.Simple.{App, subcommand_of, entered, names_of}
 use Rattle.clap.specs.declared.error.kind.ErrorKind.{ErrorKind}
 use Rattle.clap.specs.Faults.{fault_of, built_fault, is_simple_and_free}
 use Rattle.sweet_words.specs.Forms.{Text, Form, forms, form_named}
 use Rattle.sweet_words.specs.Given.{Uses, uses_of, value_in}
-use Rattle.sweet_words.specs.Shapes.{program, program_of}
-use Rattle.sweet_words.specs.Commands.{Command, command_of, command_in, command_named}
+use Rattle.sweet_words.specs.Shapes.{program}
+use Rattle.sweet_words.specs.Commands.{command_of, command_in, command_named}
 use Rattle.sweet_words.specs.Matched.{command_from}
 use Rattle.sweet_words.proofs.Looks.{by_test}
-use Rattle.sweet_words.proofs.Walking.{built_rules, built_shape, HasSeats, Serves, Rows, guard}
+use Rattle.sweet_words.proofs.Walking.{built_rules, HasSeats, guard}
 use Rattle.sweet_words.proofs.Serving.{HasValues, serves}
-use Rattle.sweet_words.proofs.Closing.{level_rows, level_is, rows_with_defaults}
+use Rattle.sweet_words.proofs.Closing.{level_is, rows_with_defaults}
 use Rattle.sweet_words.proofs.Entering.{built_program, built_is, named_level, unnamed_fails, empty_fails, entered_named}
 use Rattle.sweet_words.proofs.Finding.{value_is}
 
@@ -87,13 +87,13 @@ taken (name ∷ words) none = go (form_named name forms) refl
     go : (found : Option Form) → form_named name forms ≡ found → command_from (subcommand_of program (name ∷ words)) ≡ command_of (name ∷ words)
     go None e = absurd (let bad : guard (fault_of program (name ∷ words)) (Some []) ≡ None =
         ap (λ kinds. guard kinds (Some [])) (fault_is (name ∷ words)) ∙ unnamed_fails name words forms (Some []) e in
-      let good : Some [] ≡ None = rw none at bad in cc)
+        let good : Some [] ≡ None = rw none at bad in cc)
     go (Some form) e =
-      let level = level_at name words form e in
-      let rows : Some (rows_after (built_rules form) [] words) ≡ option_map (rows_with_defaults form) (uses_of form words) =
+        let level = level_at name words form e in
+        let rows : Some (rows_after (built_rules form) [] words) ≡ option_map (rows_with_defaults form) (uses_of form words) =
         ap (λ kinds. guard kinds (Some (rows_after (built_rules form) [] words))) (sym none) ∙ level in
-      ap command_from (subcommand_is name words form e) ∙ rows_make form (rows_after (built_rules form) [] words) (uses_of form words) rows
-      ∙ ap (option_and_then (λ f. command_in f words)) (sym e)
+        ap command_from (subcommand_is name words form e) ∙ rows_make form (rows_after (built_rules form) [] words) (uses_of form words) rows
+        ∙ ap (option_and_then (λ f. command_in f words)) (sym e)
 
 -- words that are refused are no command
 pub refused : (words : List Text) (kind : ErrorKind) (kinds : Kinds) → fault_of program words ≡ kind ∷ kinds → command_of words ≡ None
@@ -103,6 +103,6 @@ refused (name ∷ words) kind kinds some = go (form_named name forms) refl
     go : (found : Option Form) → form_named name forms ≡ found → command_of (name ∷ words) ≡ None
     go None e = ap (option_and_then (λ f. command_in f words)) e
     go (Some form) e =
-      let rows : None ≡ option_map (rows_with_defaults form) (uses_of form words) =
+        let rows : None ≡ option_map (rows_with_defaults form) (uses_of form words) =
         ap (λ all. guard all (Some (rows_after (built_rules form) [] words))) (sym some) ∙ level_at name words form e in
-      ap (option_and_then (λ f. command_in f words)) e ∙ no_rows form (uses_of form words) rows
+        ap (option_and_then (λ f. command_in f words)) e ∙ no_rows form (uses_of form words) rows

@@ -1,19 +1,19 @@
 -- The first word names the command, and the words after it are read by that command.
-use Rattle.std.specs.Prelude.{◌≡◌, ℕ, Bool, true, false, not, ◌&&◌, ◌||◌, ◌==◌, ◌+◌, List, [], ◌∷◌, ◌++◌, map, length, min, fold, Option, None, Some, if◌then◌else◌, find, option_map}
-use Rattle.std.specs.Prelude.{option_and_then, codes, is_some}
+use Rattle.std.specs.Prelude.{◌≡◌, ℕ, Bool, true, false, ◌&&◌, ◌+◌, List, [], ◌∷◌, ◌++◌, map, min, fold, None, Some, if◌then◌else◌, find, option_map}
+use Rattle.std.specs.Prelude.{codes}
 use Rattle.std.specs.Str.{bytes_eq}
 use Rattle.std.proofs.Common.{refl, sym, ap, ◌∙◌, subst, append-nil, append_assoc}
 use Rattle.std.proofs.lemmas.Slice.Eq.{bytes_eq-Decides}
 use Rattle.clap.specs.Lexer.{usize_max}
-use Rattle.clap.specs.Kinds.{Kinds, or_else}
-use Rattle.clap.specs.Walk.{Rule, Row, Names, Held, Walk, walked, walk_from, nothing_held, rows_after, answers_to, idle, stop_after}
-use Rattle.clap.specs.Simple.{App, Shape, built, filled_from, label_of, names_of, entered, rows_at, inherited, built_leaf}
+use Rattle.clap.specs.Kinds.{Kinds}
+use Rattle.clap.specs.Walk.{Names, Walk, walked, walk_from, nothing_held, rows_after, answers_to, idle, stop_after}
+use Rattle.clap.specs.Simple.{App, Shape, built, filled_from, label_of, names_of, entered, inherited, built_leaf}
 use Rattle.clap.specs.Faults.{built_fault, entered_fault, level_fault, walk_fault, defaults_fault}
 use Rattle.clap.proofs.FaultLemmas.{stopped_fault}
 use Rattle.sweet_words.specs.Forms.{Text, Form, form_named}
-use Rattle.sweet_words.specs.Shapes.{top, program_of, positional_rule, value_rule, flag_rule, rules_of, shape_in}
-use Rattle.sweet_words.proofs.Looks.{by_test, look, plain_word_is, end_is, long_is, short_is, holding}
-use Rattle.sweet_words.proofs.Walking.{seat, seats, valued, flagged, optional, built_rules, built_shape, leaf, Rows, guard, guard-or_else, guard-None}
+use Rattle.sweet_words.specs.Shapes.{top, program_of, positional_rule, value_rule, flag_rule, shape_in}
+use Rattle.sweet_words.proofs.Looks.{by_test, look, plain_word_is, end_is, long_is, short_is}
+use Rattle.sweet_words.proofs.Walking.{seat, seats, valued, flagged, built_rules, built_shape, leaf, Rows, guard, guard-or_else}
 
 -- ---- the program as it is built
 
@@ -62,8 +62,8 @@ pub name_found : (word : Text) (table : List Form) (form : Form) → form_named 
 name_found word [] form e = absurd (cc)
 name_found word (first ∷ table) form e = by_test (bytes_eq first.name word)
     (λ here. let same : Some first ≡ Some form = rw here at e in
-      let it : first ≡ form = cc in
-      subst (λ (f : Form). f.name ≡ word) it ((bytes_eq-Decides first.name word).0 here))
+    let it : first ≡ form = cc in
+    subst (λ (f : Form). f.name ≡ word) it ((bytes_eq-Decides first.name word).0 here))
     (λ past. let later : form_named word table ≡ Some form = rw past at e in name_found word table form later)
 
 -- ---- the walk at the top
@@ -143,11 +143,11 @@ pub unnamed_fails : (word : Text) (words : List Text) (table : List Form) (rows 
     → guard (built_fault (built_program table) nothing_held (word ∷ words)) rows ≡ None
 unfolding walk_fault walked defaults_fault
 unnamed_fails word words table rows e = elim (look [] (λ c. refl) word) [
-    | plain_word_is w ↦ rw (names_found word table, e, w.no_end, w.fault [] None, w.met idle [] None) refl
-    | end_is w ↦ end_fails word words table rows e w.ends
-    | long_is p w ↦ rw (names_found word table, e, w.no_end, w.long) refl
-    | short_is w ↦ rw (names_found word table, e, w.no_end, w.long, w.fault [] None) refl
-  ]
+  | plain_word_is w ↦ rw (names_found word table, e, w.no_end, w.fault [] None, w.met idle [] None) refl
+  | end_is w ↦ end_fails word words table rows e w.ends
+  | long_is p w ↦ rw (names_found word table, e, w.no_end, w.long) refl
+  | short_is w ↦ rw (names_found word table, e, w.no_end, w.long, w.fault [] None) refl
+]
 
 -- no word is no command
 pub empty_fails : (table : List Form) (rows : Rows) → guard (built_fault (built_program table) nothing_held []) rows ≡ None

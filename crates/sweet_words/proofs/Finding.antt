@@ -1,6 +1,6 @@
 -- The values of names in the rows of a parse.
-use Rattle.std.specs.Prelude.{◌≡◌, ℕ, Bool, true, false, not, ◌&&◌, ◌||◌, ◌==◌, ◌+◌, List, [], ◌∷◌, ◌++◌, map, length, min, fold, Option, None, Some, if◌then◌else◌, find, option_map}
-use Rattle.std.specs.Prelude.{option_and_then, codes, is_some, slice_get}
+use Rattle.std.specs.Prelude.{◌≡◌, ℕ, Bool, true, false, ◌+◌, List, [], ◌∷◌, ◌++◌, map, min, fold, Option, None, Some, if◌then◌else◌}
+use Rattle.std.specs.Prelude.{codes, is_some, slice_get}
 use Rattle.std.specs.Str.{bytes_eq}
 use Rattle.std.proofs.Common.{refl, sym, ap, ◌∙◌, subst}
 use Rattle.std.proofs.lemmas.Slice.Eq.{bytes_eq-Decides}
@@ -11,7 +11,7 @@ use Rattle.clap.specs.declared.builder.value_parser.Reading.TheVariants.{AsWritt
 use Rattle.sweet_words.specs.Forms.{Text, Form, named}
 use Rattle.sweet_words.specs.Given.{Uses, value_of, value_in, or_false}
 use Rattle.sweet_words.proofs.Looks.{by_test}
-use Rattle.sweet_words.proofs.Walking.{seat, seats, valued, flagged, optional, built_rules}
+use Rattle.sweet_words.proofs.Walking.{seat, seats, valued, flagged, optional}
 use Rattle.sweet_words.proofs.Closing.{row, row_added, rows_with_defaults}
 
 -- a name that has a row has a value
@@ -68,8 +68,8 @@ or_used : (id name : Text) (names : List Text) (rows : List Row) → Filled id r
     → or_false (first_of id rows) (named id names) ≡ or_false (first_of id rows) (named id (name ∷ names))
 or_used id name names rows filled has = by_test (bytes_eq name id)
     (λ e. let same : name ≡ id = (bytes_eq-Decides name id).0 e in
-      let there : true ≡ is_some (first_of id rows) = sym (subst (λ (n : Text). has_row n rows ≡ true) same has) ∙ filled in
-      found_stays (first_of id rows) (named id names) (named id (name ∷ names)) there)
+    let there : true ≡ is_some (first_of id rows) = sym (subst (λ (n : Text). has_row n rows ≡ true) same has) ∙ filled in
+    found_stays (first_of id rows) (named id names) (named id (name ∷ names)) there)
     (λ e. rw e refl)
 
 default_stays : (name : Text) (rows : List Row) → has_row name rows ≡ true → with_default rows (flagged name) ≡ rows
@@ -82,10 +82,10 @@ flags_default : (id : Text) (names : List Text) (rows : List Row) → Filled id 
 flags_default id [] rows filled = or_none (first_of id rows)
 flags_default id (name ∷ names) rows filled = by_test (has_row name rows)
     (λ e. ap (λ (rs : List Row). first_of id (fold with_default rs (map flagged names))) (default_stays name rows e)
-      ∙ flags_default id names rows filled ∙ or_used id name names rows filled e)
+    ∙ flags_default id names rows filled ∙ or_used id name names rows filled e)
     (λ e. ap (λ (rs : List Row). first_of id (fold with_default rs (map flagged names))) (default_comes name rows e)
-      ∙ flags_default id names (rows ++ left_out name ∷ []) (filled_added id name rows filled)
-      ∙ ap (λ found. or_false found (named id names)) (first_added id name rows filled) ∙ or_flag id name names (first_of id rows))
+    ∙ flags_default id names (rows ++ left_out name ∷ []) (filled_added id name rows filled)
+    ∙ ap (λ found. or_false found (named id names)) (first_added id name rows filled) ∙ or_flag id name names (first_of id rows))
 
 -- an argument with a value has no default
 no_default : (a : Rule) (rows : List Row) → a.defaults ≡ [] → with_default rows a ≡ rows

@@ -6,3 +6,5 @@ pub mod Entering
 pub mod Adding
 pub mod Finding
 pub mod Deciding
+pub mod Numerals
+pub mod Entered

@@ -1,12 +1,11 @@
 -- What a word looks like to `clap`: plain, `--`, with two dashes, or with one.
-use Rattle.std.specs.Prelude.{◌≡◌, ℕ, Bool, true, false, not, ◌&&◌, ◌||◌, ◌==◌, List, [], ◌∷◌, length, Option, None, Some, codes, slice_get, nat_eq}
+use Rattle.std.specs.Prelude.{◌≡◌, ℕ, Bool, true, false, ◌==◌, List, [], ◌∷◌, Option, None, Some}
 use Rattle.std.specs.Str.{bytes_eq, chars}
-use Rattle.std.proofs.Common.{refl, sym, ap, ◌∙◌, subst}
+use Rattle.std.proofs.Common.{refl, sym, subst}
 use Rattle.std.proofs.lemmas.Bool.{eqb-true}
-use Rattle.clap.specs.Lexer.{long_of, short_of}
-use Rattle.clap.specs.Kinds.{Kinds}
-use Rattle.clap.specs.Walk.{Rule, Row, Held, Outcome, plain, Waiting, Step, arg_by_short, long_or_other, plain_word, bundle_met, short_or_plain, bundle}
-use Rattle.clap.specs.Faults.{flag_word_fault, flags_fault, bundle_fault}
+use Rattle.clap.specs.Lexer.{long_of}
+use Rattle.clap.specs.Walk.{Rule, Row, Held, Waiting, arg_by_short, long_or_other, plain_word, bundle_met}
+use Rattle.clap.specs.Faults.{flag_word_fault, flags_fault}
 use Rattle.clap.specs.declared.error.kind.ErrorKind.TheVariants.{UnknownArgument}
 use Rattle.sweet_words.specs.Forms.{Text}
 use Rattle.sweet_words.specs.Given.{is_plain}

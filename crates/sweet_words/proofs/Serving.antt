@@ -1,13 +1,12 @@
 -- The rules of a command serve its form.
-use Rattle.std.specs.Prelude.{◌≡◌, ℕ, Bool, true, false, not, ◌&&◌, ◌||◌, ◌==◌, ◌+◌, ⊤, List, [], ◌∷◌, ◌++◌, map, min, Option, None, Some, if◌then◌else◌, find, is_some}
-use Rattle.std.specs.List.{list_any, list_all, All}
+use Rattle.std.specs.Prelude.{◌≡◌, ℕ, Bool, not, ◌&&◌, ◌+◌, ⊤, List, [], ◌∷◌, ◌++◌, map, min, None, Some, find, is_some}
 use Rattle.std.specs.Str.{bytes_eq}
-use Rattle.std.proofs.Common.{refl, sym, ap, ◌∙◌, subst}
+use Rattle.std.proofs.Common.{refl, ◌∙◌, subst}
 use Rattle.clap.specs.Lexer.{usize_max}
-use Rattle.clap.specs.Walk.{Rule, arg_by_id, arg_by_long, arg_by_short, has_long, has_short}
+use Rattle.clap.specs.Walk.{Rule, arg_by_id, has_long, has_short}
 use Rattle.sweet_words.specs.Forms.{Text, Form, named}
 use Rattle.sweet_words.proofs.Looks.{by_test}
-use Rattle.sweet_words.proofs.Walking.{seat, seats, valued, flagged, optional, built_rules, option_rule, Serves}
+use Rattle.sweet_words.proofs.Walking.{seats, valued, flagged, optional, built_rules, option_rule, Serves}
 
 abbrev takes_long : Text → Rule → Bool
 takes_long name a = not (is_some a.index) && has_long a name

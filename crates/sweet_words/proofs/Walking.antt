@@ -1,22 +1,21 @@
 -- What `clap`'s walk over the words of one command comes to.
-use Rattle.std.specs.Prelude.{◌≡◌, ℕ, Bool, true, false, not, ◌&&◌, ◌||◌, ◌==◌, ◌+◌, List, [], ◌∷◌, ◌++◌, map, length, min, fold, Option, None, Some}
-use Rattle.std.specs.Prelude.{if◌then◌else◌, codes, find, option_map, is_some, slice_get}
-use Rattle.std.specs.List.{list_any, list_all}
-use Rattle.std.specs.Str.{bytes_eq, chars}
-use Rattle.std.proofs.Common.{refl, sym, ap, ◌∙◌, subst}
-use Rattle.clap.specs.Lexer.{long_of, short_of, usize_max}
+use Rattle.std.specs.Prelude.{◌≡◌, ℕ, Bool, true, false, ◌&&◌, ◌+◌, List, [], ◌∷◌, ◌++◌, map, min, fold, Option, None, Some}
+use Rattle.std.specs.Prelude.{if◌then◌else◌, codes}
+use Rattle.std.specs.Str.{bytes_eq}
+use Rattle.std.proofs.Common.{refl, sym, ap, ◌∙◌}
+use Rattle.clap.specs.Lexer.{usize_max}
 use Rattle.clap.specs.Kinds.{Kinds, or_else}
 use Rattle.clap.specs.Walk.{Rule, Row, Held, Waiting, idle, option, Walk, walked, walk_from, settled, arg_by_id, arg_by_index, arg_by_long, arg_by_short}
 use Rattle.clap.specs.Walk.{has_row, with_values, without, bundle_met, pushed, is_pending, long_word, after_step}
 use Rattle.clap.specs.Walk as clap_walk
 use Rattle.clap.specs.Simple.{Shape, filled, with_index, new_shape}
-use Rattle.clap.specs.Faults.{walk_fault, turn_fault, settle_fault, use_fault, repeat_fault, long_fault, step_fault}
+use Rattle.clap.specs.Faults.{walk_fault, turn_fault, settle_fault, repeat_fault, long_fault, step_fault}
 use Rattle.clap.specs.declared.parser.matches.ValueSource.TheVariants.{CommandLine}
 use Rattle.clap.specs.declared.builder.value_parser.Reading.TheVariants.{AsWritten}
 use Rattle.sweet_words.specs.Forms.{Text, Form, named}
-use Rattle.sweet_words.specs.Given.{Uses, Due, free, wants, ended, is_plain, with_use, seated, dashed, word_used, nothing_due, given, option_used}
+use Rattle.sweet_words.specs.Given.{Uses, free, wants, ended, with_use, seated, given, option_used}
 use Rattle.sweet_words.specs.Shapes.{positional_rule, value_rule, flag_rule}
-use Rattle.sweet_words.proofs.Looks.{holding, by_test, Look, plain_word_is, end_is, long_is, short_is, look}
+use Rattle.sweet_words.proofs.Looks.{holding, plain_word_is, end_is, long_is, short_is, look}
 use Rattle.std.proofs.lemmas.Slice.Eq.{bytes_eq-Decides}
 
 -- ---- rules as they are built
@@ -220,10 +219,10 @@ free-long : (form : Form) (rules : List Rule) (words : List Text) → Follows fo
     → (i : ℕ) (left : List Text) (rows : List Row) (pending : Option (Text × List Text)) → HasSeats rules i left
     → (word text : Text) (value flag attached : Option Text) → arg_by_long rules text ≡ option_rule value flag → ((name : Text) → value ≡ Some name → arg_by_id rules name ≡ Some (valued name))
     → guard (or_else (long_fault rules false (arg_by_long rules text) attached (holding rows pending))
-          (step_fault (leaf form.name rules) i (long_word rules idle word text attached (holding rows pending)).0 (long_word rules idle word text attached (holding rows pending)).1))
-        (outcome form rules (after_step rules word (standing idle false i (holding rows pending))
-          (long_word rules idle word text attached (holding rows pending)).0 (long_word rules idle word text attached (holding rows pending)).1) words)
-      ≡ settles rules (holding rows pending) (option_used value flag attached left (λ d l. given form d l words))
+    (step_fault (leaf form.name rules) i (long_word rules idle word text attached (holding rows pending)).0 (long_word rules idle word text attached (holding rows pending)).1))
+    (outcome form rules (after_step rules word (standing idle false i (holding rows pending))
+    (long_word rules idle word text attached (holding rows pending)).0 (long_word rules idle word text attached (holding rows pending)).1) words)
+    ≡ settles rules (holding rows pending) (option_used value flag attached left (λ d l. given form d l words))
 free-long form rules words next i left rows pending has word text (Some name) flag (Some value) is ids =
     let held = holding rows pending in
     let used = (settled rules held).rows in
@@ -250,8 +249,8 @@ free-long form rules words next i left rows pending has word text None None atta
 free-seat : (form : Form) (rules : List Rule) (word : Text) (words : List Text) → Follows form rules words
     → (i : ℕ) (left : List Text) (rows : List Row) (pending : Option (Text × List Text)) → HasSeats rules i left
     → guard (step_fault (leaf form.name rules) i (holding rows pending) clap_walk.value)
-        (outcome form rules (after_step rules word (standing idle false i (holding rows pending)) (holding rows pending) clap_walk.value) words)
-      ≡ settles rules (holding rows pending) (seated left word (λ l. given form free l words))
+    (outcome form rules (after_step rules word (standing idle false i (holding rows pending)) (holding rows pending) clap_walk.value) words)
+    ≡ settles rules (holding rows pending) (seated left word (λ l. given form free l words))
 free-seat form rules word words next i [] rows pending has = rw has (sym (guard-None (settle_fault rules false (holding rows pending))))
 free-seat form rules word words next i (name ∷ left) rows pending has =
     let held = holding rows pending in

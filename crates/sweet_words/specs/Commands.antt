@@ -2,10 +2,10 @@
 --   Command      a command, with what it was given
 --   file_of      the file that a command names
 --   command_of   the command of the words, where they are one
-use Rattle.std.specs.Prelude.{ℕ, Bool, List, [], ◌∷◌, Option, None, Some, if◌then◌else◌, codes, option_map, option_and_then}
+use Rattle.std.specs.Prelude.{ℕ, List, [], ◌∷◌, Option, None, if◌then◌else◌, codes, option_map, option_and_then}
 use Rattle.std.specs.Str.{bytes_eq}
 use Rattle.sweet_words.specs.Forms.{Text, Form, forms, form_named}
-use Rattle.sweet_words.specs.Given.{Uses, uses_of, value_in}
+use Rattle.sweet_words.specs.Given.{uses_of, value_in}
 use Rattle.sweet_words.specs.Numbers.{number_or, program_file}
 
 -- a command

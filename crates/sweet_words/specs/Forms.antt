@@ -4,7 +4,7 @@
 --   named     the first of some names that is this text
 --   forms     the table of the commands
 --   form_named  the form of a command by its name
-use Rattle.std.specs.Prelude.{ℕ, Bool, List, [], ◌∷◌, Option, find, codes}
+use Rattle.std.specs.Prelude.{ℕ, List, [], ◌∷◌, Option, find, codes}
 use Rattle.std.specs.Str.{bytes_eq}
 
 abbrev pub Text : Type 0

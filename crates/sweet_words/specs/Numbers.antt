@@ -3,7 +3,7 @@
 --   number_in        the number of the text, where it is in a range
 --   number_or        the same of an option, with the number that stands where it is left out
 --   program_file     the file of a program, which is none of C
-use Rattle.std.specs.Prelude.{ℕ, Bool, not, ◌&&◌, nat_le, nat_eq, ◌==◌, List, length, Option, None, Some, if◌then◌else◌, codes}
+use Rattle.std.specs.Prelude.{ℕ, Bool, ◌&&◌, nat_le, nat_eq, length, Option, None, Some, if◌then◌else◌, codes}
 use Rattle.std.specs.Char.{is_ascii_digit}
 use Rattle.std.specs.List.{list_all, ends_with}
 use Rattle.std.specs.Str.Parse.{digits_value}

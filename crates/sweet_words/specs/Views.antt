@@ -1,5 +1,5 @@
 -- The table of the commands in the code, as definitions see it.
-use Rattle.std.specs.Prelude.{List, [], ◌∷◌, map}
+use Rattle.std.specs.Prelude.{map}
 use Rattle.clap.specs.Walk.{Rule}
 use Rattle.sweet_words.specs.declared.forms.Form.{Form as Row}
 use Rattle.sweet_words.specs.declared.program.Place.{Place}

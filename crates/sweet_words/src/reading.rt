@@ -1,16 +1,17 @@
 //! The words are read.
 ghost use Rattle.std.specs.Prelude.{◌≡◌, ◌≢◌, map, None, Some, Err, IfOk, option_map, string_bytes};
-ghost use Rattle.clap.specs.Words.{kind_of, subcommand_rows_of};
+ghost use Rattle.clap.specs.Words.{app_of, kind_of, subcommand_rows_of};
 ghost use Rattle.sweet_words.specs.Commands.{command_of};
 ghost use Rattle.sweet_words.specs.Matched.{command_from};
 ghost use Rattle.sweet_words.specs.Meant.{command_meant};
+ghost use Rattle.sweet_words.specs.Shapes.{program as the_program};
 
 use crate::command::{Command, named};
 use crate::forms::FORMS;
 use crate::program::program;
 use clap::error::ErrorKind;
 use clap::{ArgMatches, Error};
-use std::alloc::Global;
+use std::alloc::{AllocError, Global};
 
 /// Why words are not read.
 #[derive(Clone, Copy, Debug, PartialEq, Eq)]
@@ -26,13 +27,20 @@ pub fn read(alloc: Global, words: &[String]) -> Result<Command<'_>, WordsFault>
     ensures command { IfOk result (λ command. command_of (map string_bytes words.now) ≡ Some (command_meant command)) }
     ensures usage { result ≡ Err WordsFault.Usage → command_of (map string_bytes words.now) ≡ None }
 {
-    let Ok(program) = program(alloc, FORMS.as_slice()) else {
+    let Ok(reader) = reader(alloc) else {
         return Err(WordsFault::Memory);
     };
-    match program.try_get_matches_from(words) {
+    match reader.try_get_matches_from(words) {
         Ok(matches) => command_in(&matches).ok_or(WordsFault::Usage),
         Err(error) => Err(fault_of(&error)),
     }
+}
+
+// The command of `clap` that reads the words.
+fn reader<'a>(alloc: Global) -> Result<clap::Command<'a>, AllocError>
+    ensures { IfOk result (λ c. app_of c ≡ the_program) }
+{
+    program(alloc, FORMS.as_slice())
 }
 
 // The command that the matches make.

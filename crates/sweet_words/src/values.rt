@@ -1,5 +1,7 @@
 //! The values of positionals and options.
 ghost use Rattle.std.specs.Prelude.{◌≡◌, ◌<◌, option_map};
+ghost use Rattle.std.specs.Char.{is_ascii_digit};
+ghost use Rattle.std.specs.List.{list_all};
 ghost use Rattle.sweet_words.specs.Numbers.{is_number, number_in, number_or, program_file as file_told};
 
 const MOST_DIGITS: usize = 20;
@@ -43,5 +45,16 @@ fn is_numeral(text: &str) -> bool
     ensures { result ≡ is_number text.now }
 {
     let bytes = text.as_bytes();
-    !bytes.is_empty() && bytes.len() <= MOST_DIGITS && bytes.iter().all(|byte| byte.is_ascii_digit())
+    !bytes.is_empty() && bytes.len() <= MOST_DIGITS && are_digits(bytes)
+}
+
+fn are_digits(bytes: &[u8]) -> bool
+    ensures { result ≡ list_all is_ascii_digit bytes.now }
+{
+    for byte in bytes {
+        if !byte.is_ascii_digit() {
+            return false;
+        }
+    }
+    true
 }

@@ -11,7 +11,7 @@ pub loop-name-preserved : goal.loop-name-preserved
 loop-name-preserved c =
     let adds = c.in_ok-command.ensures in (
       more_rules (λ name. rule_at c.args.place name.now) c.args.names.now c.loop-name.name-index _ (app_of c.args.command) (app_of c.loop-name.command) _ _ (omega arith)
-        c.loop-name.invariant.0 (adds.shape c.argument.ensures.local) c.argument.ensures.rule,
+          c.loop-name.invariant.0 (adds.shape c.argument.ensures.local) c.argument.ensures.rule,
       still_local _ _ _ _ adds.globals c.argument.ensures.local c.loop-name.invariant.1,
     )
 

@@ -1,4 +1,4 @@
-//! Tests of `flow_base`, `alf_ops` and `call_cycles`. Without tests this library is empty.
+//! Tests of `flow_base`, `alf_ops`, `call_cycles` and `sweet_words`. Without tests this library is empty.
 #![tactic(auto)]
 
 // Files and sinks, names and digits.
@@ -14,3 +14,7 @@ mod values;
 // Cycles of calls.
 #[cfg(test)]
 mod cycles;
+
+// Words of the command line.
+#[cfg(test)]
+mod words;

@@ -9,7 +9,7 @@ use Rattle.clap.specs.declared.error.kind.ErrorKind.{ErrorKind}
 use Rattle.clap.specs.Faults.{fault_of, built_fault, is_simple_and_free}
 use Rattle.sweet_words.specs.Forms.{Text, Form, forms, form_named}
 use Rattle.sweet_words.specs.Given.{Uses, uses_of, value_in}
-use Rattle.sweet_words.specs.Shapes.{program}
+use Rattle.sweet_words.specs.Shapes.{program, program_of}
 use Rattle.sweet_words.specs.Commands.{command_of, command_in, command_named}
 use Rattle.sweet_words.specs.Matched.{command_from}
 use Rattle.sweet_words.proofs.Looks.{by_test}
@@ -45,25 +45,21 @@ simple = refl
 
 -- ---- the words
 
--- the fault of the program as it is built
-abbrev fault_at : List Text → Kinds
-fault_at words = built_fault (built_program forms) nothing_held words
-
-fault_is : (words : List Text) → fault_of program words ≡ fault_at words
-fault_is words = ap (λ (a : App). built_fault a nothing_held words) (built_is forms)
+fault_is : (table : List Form) (words : List Text) → fault_of (program_of table) words ≡ built_fault (built_program table) nothing_held words
+fault_is table words = ap (λ (a : App). built_fault a nothing_held words) (built_is table)
 
 subcommand_is : (name : Text) (words : List Text) (form : Form) → form_named name forms ≡ Some form
     → subcommand_of program (name ∷ words) ≡ Some (form.name, rows_after (built_rules form) [] words)
 subcommand_is name words form e =
     ap (λ (a : App). entered a (stop_after a.top.rules (names_of a) (name ∷ words))) (built_is forms) ∙ entered_named name words forms form e
 
--- the words of one command, by the fault of the whole
-level_at : (name : Text) (words : List Text) (form : Form) → form_named name forms ≡ Some form
-    → guard (fault_of program (name ∷ words)) (Some (rows_after (built_rules form) [] words)) ≡ option_map (rows_with_defaults form) (uses_of form words)
-level_at name words form e =
-    let is = form_is name forms form forms_are e in
-    ap (λ kinds. guard kinds (Some (rows_after (built_rules form) [] words))) (fault_is (name ∷ words))
-    ∙ named_level name words forms form (Some (rows_after (built_rules form) [] words)) e
+-- the words of one command of a table, by the fault of the whole
+pub level_at : (table : List Form) → IsTable table → (name : Text) (words : List Text) (form : Form) → form_named name table ≡ Some form
+    → guard (fault_of (program_of table) (name ∷ words)) (Some (rows_after (built_rules form) [] words)) ≡ option_map (rows_with_defaults form) (uses_of form words)
+level_at table are name words form e =
+    let is = form_is name table form are e in
+    ap (λ kinds. guard kinds (Some (rows_after (built_rules form) [] words))) (fault_is table (name ∷ words))
+    ∙ named_level name words table form (Some (rows_after (built_rules form) [] words)) e
     ∙ level_is form is.seats (serves form is.values) words
 
 rows_make : (form : Form) (rows : List Row) (found : Option Uses) → Some rows ≡ option_map (rows_with_defaults form) found
@@ -80,16 +76,16 @@ no_rows form (Some uses) e = absurd (cc)
 
 -- words that are taken are the command that their rows make
 pub taken : (words : List Text) → fault_of program words ≡ [] → command_from (subcommand_of program words) ≡ command_of words
-taken [] none = absurd (let bad : guard (fault_of program []) (Some []) ≡ None = ap (λ kinds. guard kinds (Some [])) (fault_is []) ∙ empty_fails forms (Some []) in
+taken [] none = absurd (let bad : guard (fault_of program []) (Some []) ≡ None = ap (λ kinds. guard kinds (Some [])) (fault_is forms []) ∙ empty_fails forms (Some []) in
     let good : Some [] ≡ None = rw none at bad in cc)
 taken (name ∷ words) none = go (form_named name forms) refl
   where
     go : (found : Option Form) → form_named name forms ≡ found → command_from (subcommand_of program (name ∷ words)) ≡ command_of (name ∷ words)
     go None e = absurd (let bad : guard (fault_of program (name ∷ words)) (Some []) ≡ None =
-        ap (λ kinds. guard kinds (Some [])) (fault_is (name ∷ words)) ∙ unnamed_fails name words forms (Some []) e in
+        ap (λ kinds. guard kinds (Some [])) (fault_is forms (name ∷ words)) ∙ unnamed_fails name words forms (Some []) e in
         let good : Some [] ≡ None = rw none at bad in cc)
     go (Some form) e =
-        let level = level_at name words form e in
+        let level = level_at forms forms_are name words form e in
         let rows : Some (rows_after (built_rules form) [] words) ≡ option_map (rows_with_defaults form) (uses_of form words) =
         ap (λ kinds. guard kinds (Some (rows_after (built_rules form) [] words))) (sym none) ∙ level in
         ap command_from (subcommand_is name words form e) ∙ rows_make form (rows_after (built_rules form) [] words) (uses_of form words) rows
@@ -104,5 +100,5 @@ refused (name ∷ words) kind kinds some = go (form_named name forms) refl
     go None e = ap (option_and_then (λ f. command_in f words)) e
     go (Some form) e =
         let rows : None ≡ option_map (rows_with_defaults form) (uses_of form words) =
-        ap (λ all. guard all (Some (rows_after (built_rules form) [] words))) (sym some) ∙ level_at name words form e in
+        ap (λ all. guard all (Some (rows_after (built_rules form) [] words))) (sym some) ∙ level_at forms forms_are name words form e in
         ap (option_and_then (λ f. command_in f words)) e ∙ no_rows form (uses_of form words) rows

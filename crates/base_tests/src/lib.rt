@@ -1,4 +1,4 @@
-//! Tests of `flow_base`, `alf_ops`, `walks` and `call_cycles`. Without tests this library is empty.
+//! Tests of `flow_base`, `alf_ops`, `walks`, `call_cycles` and `sweet_words`. Without tests this library is empty.
 #![tactic(auto)]
 
 // Files and sinks, names and digits.
@@ -14,5 +14,4 @@ mod values;
 // Walks over tables, and cycles of calls.
 #[cfg(test)]
 mod cycles;
-#[cfg(test)]
-mod tables;
+//! Tests of `flow_base`, `alf_ops`, `walks`, `call_cycles` and `sweet_words`. Without tests this library is empty.

@@ -14,4 +14,9 @@ mod values;
 // Walks over tables, and cycles of calls.
 #[cfg(test)]
 mod cycles;
-//! Tests of `flow_base`, `alf_ops`, `walks`, `call_cycles` and `sweet_words`. Without tests this library is empty.
+#[cfg(test)]
+mod tables;
+
+// Words of the command line.
+#[cfg(test)]
+mod words;

@@ -49,10 +49,7 @@ impl<'a> Reader<'a> {
         if bytes <= MOST_FRAME_BYTES {
             Ok(())
         } else {
-            Err(Departure::Limit(
-                Which::FrameBytes,
-                MOST_FRAME_BYTES as u64 + 1,
-            ))
+            Err(Departure::Limit(Which::FrameBytes, MOST_FRAME_BYTES as u64 + 1))
         }
     }
 

@@ -13,7 +13,7 @@ loop-reader-preserved g c =
     let e : map g.P.Part.view c.push.new.self.items ≡ map g.P.Part.view c.loop-reader.values.items ++ g.P.Part.view c.in_ok-value.value ∷ []
     = rw c.in-Ok.ensures.items (map_push _ c.loop-reader.values.items c.in_ok-value.value) in
     rw e (row_goes_on (g.P.Part.goes_on c.args.part.now) (g.P.Part.rule c.args.part.now) (map g.P.Part.view c.loop-reader.values.items) (g.P.Part.reading.position c.loop-reader.reader)
-        (g.P.Part.reading.position c.args.reader.now) (g.P.Part.view c.in_ok-value.value) (g.P.Part.reading.position c.read.new.reader) (sym c.begins.ensures ∙ c.loop-reader-test.true) c.in_ok-value.ensures c.loop-reader.invariant)
+    (g.P.Part.reading.position c.args.reader.now) (g.P.Part.view c.in_ok-value.value) (g.P.Part.reading.position c.read.new.reader) (sym c.begins.ensures ∙ c.loop-reader-test.true) c.in_ok-value.ensures c.loop-reader.invariant)
 
 pub returns : goal.returns
 returns g c = row_ends (g.P.Part.goes_on c.args.part.now) (g.P.Part.rule c.args.part.now) (map g.P.Part.view c.loop-reader.values.items) (g.P.Part.reading.position c.loop-reader.reader) (g.P.Part.reading.position c.args.reader.now)

@@ -16,8 +16,8 @@
 --   frames_of whole                the global frames, and then the arguments and declarations of each function
 --   IsWritable whole               so everywhere in the program, and it is within its limits
 -- Whether names belong together and sizes fit one another is not asked here.
-use Rattle.std.specs.Prelude.{◌≡◌, ◌≢◌, ◌<◌, ◌≤◌, ◌*◌, ◌/◌, ◌^◌, ◌%◌, ◌++◌, ℕ, suc, Bool, true, false, List, [], ◌∷◌, length, map, max, sum, drop, slice_index, All, IfSome}
-use Rattle.std.specs.List.{flat_map}
+use Rattle.std.specs.Prelude.{◌≡◌, ◌≢◌, ◌<◌, ◌≤◌, ◌*◌, ◌/◌, ◌^◌, ◌%◌, ◌++◌, ℕ, suc, Bool, true, false, List, [], ◌∷◌, length, max, drop, slice_index, All, IfSome}
+use Rattle.std.specs.List.{flat_map, sum_by}
 use Rattle.alf_ops.specs.declared.operator.Op.{Op}
 use Rattle.alf_ops.specs.declared.operator.Op.TheVariants.{Select}
 use Rattle.alf_ops.specs.Table.{layout_of, size_count, operands_by_layout}
@@ -187,9 +187,9 @@ own_frames func = func.args ++ func.decls
 abbrev pub frames_of : Whole → List Frame
 frames_of whole = whole.decls ++ flat_map own_frames whole.funcs
 
--- how many bytes frames have
-abbrev pub bytes_of : List Frame → ℕ
-bytes_of frames = sum (map (λ frame. frame.bits / 8) frames)
+-- how many bytes a frame has
+abbrev pub frame_bytes : Frame → ℕ
+frame_bytes frame = frame.bits / 8
 
 pub record IsWritable (whole : Whole) : Type 0 where
   pub exports : All IsName whole.exports
@@ -199,4 +199,4 @@ pub record IsWritable (whole : Whole) : Type 0 where
   pub funcs : All FunctionIsWritable whole.funcs
   pub few_functions : length whole.funcs ≤ most_functions
   pub few_frames : length (frames_of whole) ≤ most_frames
-  pub few_bytes : bytes_of (frames_of whole) ≤ most_bytes
+  pub few_bytes : sum_by frame_bytes (frames_of whole) ≤ most_bytes

@@ -21,6 +21,7 @@ use Rattle.alf_tokens.specs.Tokens.{Lexeme, is_kind}
 use Rattle.alf_program.specs.declared.program.Num.{Num}
 use Rattle.alf_program.specs.Tree.{Term, Address, Loads, Applies, Nothing, Stores, Jumps, Switches, Calls, Returns, Entry, Labels, Does, Frame, Start, Function, Whole, terms_of}
 use Rattle.alf_program.specs.Tree as tree
+pub use Rattle.alf_program.specs.Writable.{most_depth, most_functions, most_frames, most_frame_bytes, most_bytes, ends_well}
 
 -- how a text departs from the grammar, where places are of type P
 pub data Departure (P : Type 0) : Type 0 where
@@ -36,23 +37,6 @@ pub data Departure (P : Type 0) : Type 0 where
 -- a departure whose place is told by how many bytes of the text are left there
 abbrev pub Fault : Type 0
 Fault = Departure ℕ
-
--- ---- limits
-
-abbrev pub most_depth : ℕ
-most_depth = 64
-
-abbrev pub most_functions : ℕ
-most_functions = 256
-
-abbrev pub most_frames : ℕ
-most_frames = 256
-
-abbrev pub most_frame_bytes : ℕ
-most_frame_bytes = 65536
-
-abbrev pub most_bytes : ℕ
-most_bytes = 1048576
 
 -- how many functions, frames and bytes of frames there may still be
 pub record Room : Type 0 where
@@ -594,22 +578,6 @@ item = do
   item_tail w
 
 -- ---- functions
-
--- a jump, a switch or a return
-abbrev pub is_ending : Entry → Bool
-is_ending (Labels _) = false
-is_ending (Does Nothing) = false
-is_ending (Does (Stores _ _)) = false
-is_ending (Does (Jumps _)) = true
-is_ending (Does (Switches _ _ _)) = true
-is_ending (Does (Calls _ _ _)) = false
-is_ending (Does (Returns _)) = true
-
--- the last item is one
-abbrev pub ends_well : List Entry → Bool
-ends_well [] = false
-ends_well (last ∷ []) = is_ending last
-ends_well (_ ∷ next ∷ others) = ends_well (next ∷ others)
 
 -- the brace after the last item
 abbrev pub fits_close_after : List Entry → Lexeme → Result (Unit {0}) Fault

@@ -2,6 +2,8 @@
 #![tactic(auto)]
 
 mod text_fault;
+mod writable;
 
 pub use alf_program::{Alloc, Expr, Func, Init, Item, Num, Program, Stmt};
 pub use text_fault::TextFault;
+pub use writable::writable_programs_are_spelled;

@@ -1,0 +1,6 @@
+mod Decimals
+mod Named
+mod Written
+mod Marked
+mod Counts
+mod Kept

@@ -1,20 +1,20 @@
 -- Which programs some text spells, said of the programs alone.
 --   most_depth, most_functions, most_frames, most_frame_bytes, most_bytes   the limits of programs
---   IsName name                    1 to 64 bytes that may stand in a name
---   IsSize size                    1 to 64
---   NumIsWritable num              a number of a size, with a word of that size
---   AddressIsWritable address      the address of a byte: a name, and an offset below 2 to 32
---   AreSizesOf op sizes            what is written between an operator's name and its operands
---   TermIsWritable term            so everywhere in an expression, however deep it is
---   depth_of term                  how many expressions stand in one another
---   ExprIsWritable term            an expression that stands in no other
---   EntryIsWritable item           what stands in an item
---   ends_well items                the last item is a jump, a switch or a return
---   FrameIsWritable frame          a frame has whole bytes, at least one and not too many
---   StartIsWritable start          what a frame holds at first
---   FunctionIsWritable func        what stands in a function
---   frames_of whole                the global frames, and then the arguments and declarations of each function
---   IsWritable whole               so everywhere in the program, and it is within its limits
+--   IsName name                  1 to 64 bytes that may stand in a name
+--   IsSize size                  1 to 64
+--   NumIsWritable num            a number of a size, with a word of that size
+--   AddressIsWritable address    the address of a byte: a name, and an offset below 2 to 32
+--   AreSizesOf op sizes          what is written between an operator's name and its operands
+--   PartsAreWritable e           so everywhere in an expression, however deep it is
+--   depth_of e                   how many expressions stand in one another
+--   ExpressionIsWritable e       an expression that stands in no other
+--   ItemIsWritable item          what stands in an item
+--   ends_well items              the last item is a jump, a switch or a return
+--   AllocationIsWritable frame   a frame has whole bytes, at least one and not too many
+--   InitialIsWritable initial    what a frame holds at first
+--   FunctionIsWritable func      what stands in a function
+--   frames_of program            the global frames, and then the arguments and declarations of each function
+--   IsWritable program           so everywhere in the program, and it is within its limits
 -- Whether names belong together and sizes fit one another is not asked here.
 use Rattle.std.specs.Prelude.{◌≡◌, ◌≢◌, ◌<◌, ◌≤◌, ◌*◌, ◌/◌, ◌^◌, ◌%◌, ◌++◌, ℕ, suc, Bool, true, false, List, [], ◌∷◌, length, max, drop, slice_index, All, IfSome}
 use Rattle.std.specs.List.{flat_map, sum_by}
@@ -22,7 +22,7 @@ use Rattle.alf_ops.specs.declared.operator.Op.{Op}
 use Rattle.alf_ops.specs.declared.operator.Op.TheVariants.{Select}
 use Rattle.alf_ops.specs.Table.{layout_of, size_count, operands_by_layout}
 use Rattle.alf_program.specs.declared.program.Num.{Num}
-use Rattle.alf_program.specs.Tree.{Term, Terms, Number, Address, Loads, Applies, Last, With, Act, Nothing, Stores, Jumps, Switches, Calls, Returns, Entry, Labels, Does, Frame, Start, Function, Whole}
+use Rattle.alf_program.specs.Tree.{NamedExpression, NamedExpressions, Number, Address, Load, Apply, Empty, With, Statement, Null, Store, Jump, Switch, Call, Return, BodyItem, Label, Do, Allocation, InitialValue, Function, WholeProgram}
 
 -- ---- limits
 
@@ -91,39 +91,40 @@ pub record AreSizesOf (op : Op) (sizes : List ℕ) : Type 0 where
   pub others : All (IsFurther op) (drop 1 sizes)
 
 -- how many operands an operator has
-abbrev pub operands_due : Op → ℕ
-operands_due op = length (operands_by_layout (layout_of op) 0 0 0)
+abbrev pub operand_count : Op → ℕ
+operand_count op = length (operands_by_layout (layout_of op) 0 0 0)
 
-abbrev pub count : Terms → ℕ
-count Last = 0
-count (With term terms) = suc (count terms)
+-- how many expressions stand in a row
+abbrev pub count : NamedExpressions → ℕ
+count Empty = 0
+count (With e es) = suc (count es)
 
 abbrev mutual
-  pub TermIsWritable : Term → Type 0
-  TermIsWritable (Number n) = NumIsWritable n
-  TermIsWritable (Address name offset) = AddressIsWritable (name, offset)
-  TermIsWritable (Loads size at) = IsLoadSize size × TermIsWritable at
-  TermIsWritable (Applies op sizes operands) = AreSizesOf op sizes × (count operands ≡ operands_due op) × TermsAreWritable operands
+  pub PartsAreWritable : NamedExpression → Type 0
+  PartsAreWritable (Number n) = NumIsWritable n
+  PartsAreWritable (Address name offset) = AddressIsWritable (name, offset)
+  PartsAreWritable (Load size at) = IsLoadSize size × PartsAreWritable at
+  PartsAreWritable (Apply op sizes operands) = AreSizesOf op sizes × (count operands ≡ operand_count op) × AllPartsAreWritable operands
 
-  pub TermsAreWritable : Terms → Type 0
-  TermsAreWritable Last = Unit {0}
-  TermsAreWritable (With term terms) = TermIsWritable term × TermsAreWritable terms
+  pub AllPartsAreWritable : NamedExpressions → Type 0
+  AllPartsAreWritable Empty = Unit {0}
+  AllPartsAreWritable (With e es) = PartsAreWritable e × AllPartsAreWritable es
 
 -- how many expressions stand in one another
 abbrev mutual
-  pub depth_of : Term → ℕ
+  pub depth_of : NamedExpression → ℕ
   depth_of (Number n) = 1
   depth_of (Address name offset) = 1
-  depth_of (Loads size at) = suc (depth_of at)
-  depth_of (Applies op sizes operands) = suc (most_deep operands)
+  depth_of (Load size at) = suc (depth_of at)
+  depth_of (Apply op sizes operands) = suc (most_deep operands)
 
-  pub most_deep : Terms → ℕ
-  most_deep Last = 0
-  most_deep (With term terms) = max (depth_of term) (most_deep terms)
+  pub most_deep : NamedExpressions → ℕ
+  most_deep Empty = 0
+  most_deep (With e es) = max (depth_of e) (most_deep es)
 
-pub record ExprIsWritable (term : Term) : Type 0 where
-  pub parts : TermIsWritable term
-  pub depth : depth_of term ≤ most_depth
+pub record ExpressionIsWritable (e : NamedExpression) : Type 0 where
+  pub parts : PartsAreWritable e
+  pub depth : depth_of e ≤ most_depth
 
 -- ---- items
 
@@ -131,72 +132,72 @@ pub record TargetIsWritable (target : Num × List ℕ) : Type 0 where
   pub num : NumIsWritable target.0
   pub label : IsName target.1
 
-abbrev pub ActIsWritable : Act → Type 0
-ActIsWritable Nothing = Unit {0}
-ActIsWritable (Stores at value) = ExprIsWritable at × ExprIsWritable value
-ActIsWritable (Jumps label) = IsName label
-ActIsWritable (Switches value targets others) = ExprIsWritable value × All TargetIsWritable targets × IsName others
-ActIsWritable (Calls label args result) = IsName label × All ExprIsWritable args × IfSome result AddressIsWritable
-ActIsWritable (Returns value) = IfSome value ExprIsWritable
+abbrev pub StatementIsWritable : Statement → Type 0
+StatementIsWritable Null = Unit {0}
+StatementIsWritable (Store at value) = ExpressionIsWritable at × ExpressionIsWritable value
+StatementIsWritable (Jump label) = IsName label
+StatementIsWritable (Switch value targets others) = ExpressionIsWritable value × All TargetIsWritable targets × IsName others
+StatementIsWritable (Call label args result) = IsName label × All ExpressionIsWritable args × IfSome result AddressIsWritable
+StatementIsWritable (Return value) = IfSome value ExpressionIsWritable
 
-abbrev pub EntryIsWritable : Entry → Type 0
-EntryIsWritable (Labels name) = IsName name
-EntryIsWritable (Does act) = ActIsWritable act
+abbrev pub ItemIsWritable : BodyItem → Type 0
+ItemIsWritable (Label name) = IsName name
+ItemIsWritable (Do statement) = StatementIsWritable statement
 
 -- a jump, a switch or a return
-abbrev pub is_ending : Entry → Bool
-is_ending (Labels _) = false
-is_ending (Does Nothing) = false
-is_ending (Does (Stores _ _)) = false
-is_ending (Does (Jumps _)) = true
-is_ending (Does (Switches _ _ _)) = true
-is_ending (Does (Calls _ _ _)) = false
-is_ending (Does (Returns _)) = true
+abbrev pub is_ending : BodyItem → Bool
+is_ending (Label _) = false
+is_ending (Do Null) = false
+is_ending (Do (Store _ _)) = false
+is_ending (Do (Jump _)) = true
+is_ending (Do (Switch _ _ _)) = true
+is_ending (Do (Call _ _ _)) = false
+is_ending (Do (Return _)) = true
 
 -- the last item is one
-abbrev pub ends_well : List Entry → Bool
+abbrev pub ends_well : List BodyItem → Bool
 ends_well [] = false
 ends_well (last ∷ []) = is_ending last
 ends_well (_ ∷ next ∷ others) = ends_well (next ∷ others)
 
 -- ---- frames, functions and programs
 
-pub record FrameIsWritable (frame : Frame) : Type 0 where
+pub record AllocationIsWritable (frame : Allocation) : Type 0 where
   pub name : IsName frame.name
   pub some : 1 ≤ frame.bits
   pub bytes : frame.bits % 8 ≡ 0
   pub small : frame.bits ≤ 8 * most_frame_bytes
 
-pub record StartIsWritable (start : Start) : Type 0 where
-  pub name : IsName start.name
-  pub offset : start.offset < 2 ^ 32
-  pub num : NumIsWritable start.num
+pub record InitialIsWritable (initial : InitialValue) : Type 0 where
+  pub name : IsName initial.name
+  pub offset : initial.offset < 2 ^ 32
+  pub num : NumIsWritable initial.num
 
 pub record FunctionIsWritable (func : Function) : Type 0 where
   pub name : IsName func.name
-  pub args : All FrameIsWritable func.args
-  pub decls : All FrameIsWritable func.decls
-  pub inits : All StartIsWritable func.inits
-  pub items : All EntryIsWritable func.items
+  pub args : All AllocationIsWritable func.args
+  pub decls : All AllocationIsWritable func.decls
+  pub inits : All InitialIsWritable func.inits
+  pub items : All ItemIsWritable func.items
   pub ends : ends_well func.items ≡ true
 
 -- the frames of a function
-abbrev pub own_frames : Function → List Frame
+abbrev pub own_frames : Function → List Allocation
 own_frames func = func.args ++ func.decls
 
-abbrev pub frames_of : Whole → List Frame
-frames_of whole = whole.decls ++ flat_map own_frames whole.funcs
+abbrev pub frames_of : WholeProgram → List Allocation
+frames_of program = program.decls ++ flat_map own_frames program.funcs
 
 -- how many bytes a frame has
-abbrev pub frame_bytes : Frame → ℕ
+abbrev pub frame_bytes : Allocation → ℕ
 frame_bytes frame = frame.bits / 8
 
-pub record IsWritable (whole : Whole) : Type 0 where
-  pub exports : All IsName whole.exports
-  pub labels : All IsName whole.labels
-  pub decls : All FrameIsWritable whole.decls
-  pub inits : All StartIsWritable whole.inits
-  pub funcs : All FunctionIsWritable whole.funcs
-  pub few_functions : length whole.funcs ≤ most_functions
-  pub few_frames : length (frames_of whole) ≤ most_frames
-  pub few_bytes : sum_by frame_bytes (frames_of whole) ≤ most_bytes
+pub record IsWritable (program : WholeProgram) : Type 0 where
+  pub exports : All IsName program.exports
+  pub labels : All IsName program.labels
+  pub decls : All AllocationIsWritable program.decls
+  pub inits : All InitialIsWritable program.inits
+  pub funcs : All FunctionIsWritable program.funcs
+  pub few_functions : length program.funcs ≤ most_functions
+  pub few_frames : length (frames_of program) ≤ most_frames
+  pub few_bytes : sum_by frame_bytes (frames_of program) ≤ most_bytes

@@ -19,13 +19,13 @@ use Rattle.alf_tokens.specs.declared.token.Kind.TheVariants as kinds
 use Rattle.alf_tokens.specs.Tokens.{Lexeme, is_kind, tokens_of}
 use Rattle.alf_tokens.specs.Printed.{is_name_text, is_named_well}
 use Rattle.alf_tokens.specs.Laws.{EachNameIsNamedWell}
-use Rattle.alf_program.specs.Tree.{Term, Entry, Frame, Start, Whole, terms_of}
-use Rattle.alf_program.specs.Writable.{most_depth, most_frame_bytes, IsName, IsSize, IsFurther, AreSizesOf, NumIsWritable, AddressIsWritable, count, TermIsWritable, TermsAreWritable, depth_of, most_deep, ExprIsWritable, TargetIsWritable, EntryIsWritable, ends_well, FrameIsWritable, StartIsWritable, FunctionIsWritable, IsWritable}
+use Rattle.alf_program.specs.Tree.{NamedExpression, BodyItem, Allocation, InitialValue, WholeProgram, expressions_of}
+use Rattle.alf_program.specs.Writable.{most_depth, most_frame_bytes, IsName, IsSize, IsFurther, AreSizesOf, NumIsWritable, AddressIsWritable, count, PartsAreWritable, AllPartsAreWritable, depth_of, most_deep, ExpressionIsWritable, TargetIsWritable, ItemIsWritable, ends_well, AllocationIsWritable, InitialIsWritable, FunctionIsWritable, IsWritable}
 use Rattle.alf_text.specs.Grammar.{Fault, Limit, most_functions, most_frames, most_bytes, Room, Rule, misfit, outside, or_outside, or_number, fits_number, number_within, from_least, number_between, fits_below, either, opening, closing, end, some_word, word, between, fixed, size, at_most, name, begin, unknown, opens, opens_target, one_function, one_frame, fits_frame, more_bytes, bits, reference, references, offset, zero_offset, label_tail, label, alloc, allocs, address_tail, address, unsigned, minus, signed_bits, signed, num_tail, num, ref_place, init, inits, operator_named, operand_count, unsigned_term, signed_term, address_term, load, further, sizes, apply, operator, expr_tail, nested, expr, whole_expr, target, default_arm, switch, with_word, store, label_item, null, leaving, jump, result_word, call, returns, item_tail, item, closing_after, stmts, scope, arg_decls, function_tail, function, functions, closing_empty, empty, addr_unit, macro_defs, little_endian, heading, exports, imports, program}
 use Rattle.alf_text.specs.Language.{start, IsSpelled}
 use Rattle.alf_text.proofs.Named.{text_name}
 use Rattle.alf_text.proofs.Written.{need, needs, func_needs, all_need, half_power, some_power, some_sizes}
-use Rattle.alf_text.proofs.Counts.{same_room, full, whole_needs, whole_counted}
+use Rattle.alf_text.proofs.Needs.{same_room, full, whole_needs, whole_counted}
 
 -- a token that is named well
 abbrev Good : Lexeme → Type 0
@@ -212,21 +212,21 @@ unfolding bits
 bits_keep room = between_keeps 1 (2 ^ 128 - 1) 8 >>- λ b w. fits_frame_keeps (b / 8) >>- λ _ v. more_bytes_keeps (b / 8) room >>> λ _ mid h. done ((w, v), h.0, h.1)
 
 -- what was spent was needed
-needed : (f : Frame) (room mid after : Room) → 1 ≤ room.frames → mid ≡ record { functions = room.functions; frames = room.frames - 1; bytes = room.bytes } → f.bits / 8 ≤ mid.bytes
+needed : (f : Allocation) (room mid after : Room) → 1 ≤ room.frames → mid ≡ record { functions = room.functions; frames = room.frames - 1; bytes = room.bytes } → f.bits / 8 ≤ mid.bytes
     → after ≡ record { functions = mid.functions; frames = mid.frames; bytes = mid.bytes - f.bits / 8 } → room ≡ need f after
 needed f room mid after one e le g = same_room room (need f after)
     (omega (arith, ap (λ (r : Room). r.functions) e, ap (λ (r : Room). r.functions) g))
     (omega (arith, ap (λ (r : Room). r.frames) e, ap (λ (r : Room). r.frames) g))
     (omega (arith, ap (λ (r : Room). r.bytes) e, ap (λ (r : Room). r.bytes) g))
 
-frame_keeps : (room : Room) → Keeps Good alloc.form room (λ f after. FrameIsWritable f × (room ≡ need f after))
+frame_keeps : (room : Room) → Keeps Good alloc.form room (λ f after. AllocationIsWritable f × (room ≡ need f after))
 unfolding alloc
 frame_keeps room = opening_passes >>- λ _ _. one_frame_keeps room >>> λ _ mid h. word_passes (codes "alloc") >>- λ _ _. fixed_passes 32 >>- λ _ _. name_keeps >>- λ n i. bits_keep mid >>> λ b last k. closing_passes >>- λ _ _.
     done (record { name = i; some = k.0.0.0; bytes = k.0.0.2; small = omega (arith, k.0.0.2, k.0.1) }, needed (record { name = n; bits = b }) room mid last h.0 h.1 k.1 k.2)
 
-frames_keep : (list : List ℕ) (room : Room) → Keeps Good (allocs list).form room (λ fs after. All FrameIsWritable fs × (room ≡ needs fs after))
+frames_keep : (list : List ℕ) (room : Room) → Keeps Good (allocs list).form room (λ fs after. All AllocationIsWritable fs × (room ≡ needs fs after))
 unfolding allocs
-frames_keep list room = begin_passes list >>- λ _ _. row_keeps opens alloc.form need frame_keeps room >>> λ fs mid h. closing_passes >>- λ _ _. done (all_of FrameIsWritable fs h.0, h.1)
+frames_keep list room = begin_passes list >>- λ _ _. row_keeps opens alloc.form need frame_keeps room >>> λ fs mid h. closing_passes >>- λ _ _. done (all_of AllocationIsWritable fs h.0, h.1)
 
 -- ---- numbers with their sizes
 
@@ -258,13 +258,13 @@ ref_place_keeps : Stays ref_place AddressIsWritable
 unfolding ref_place
 ref_place_keeps = stays (λ room. begin_passes (codes "ref") >>- λ _ _. name_keeps >>- λ n h. offset_keeps >>- λ o i. closing_passes >>- λ _ _. done (record { name = h; offset = i }, refl))
 
-start_keeps : Stays init StartIsWritable
+start_keeps : Stays init InitialIsWritable
 unfolding init
 start_keeps = stays (λ room. begin_passes (codes "init") >>- λ _ _. ref_place_keeps >>- λ p h. num_keeps >>- λ n i. closing_passes >>- λ _ _. done (record { name = h.name; offset = h.offset; num = i }, refl))
 
-starts_keep : Stays inits (All StartIsWritable)
+starts_keep : Stays inits (All InitialIsWritable)
 unfolding inits
-starts_keep = stays (λ room. begin_passes (codes "inits") >>- λ _ _. row_stays opens init.form start_keeps >>- λ ss h. closing_passes >>- λ _ _. done (all_of StartIsWritable ss h, refl))
+starts_keep = stays (λ room. begin_passes (codes "inits") >>- λ _ _. row_stays opens init.form start_keeps >>- λ ss h. closing_passes >>- λ _ _. done (all_of InitialIsWritable ss h, refl))
 
 -- ---- expressions
 
@@ -279,18 +279,18 @@ sizes_keep op = stays (λ room. size_keeps >>- λ s w. exactly_stays (size_count
     done (record { count = omega (arith, h.1, some_sizes op); first = w; others = all_of (IsFurther op) ss h.0 }, refl))
 
 -- an expression that is writable, and in which no more than so many stand in one another
-abbrev Fits : ℕ → Term → Type 0
-Fits depth t = TermIsWritable t × (depth_of t ≤ depth)
+abbrev Fits : ℕ → NamedExpression → Type 0
+Fits depth t = PartsAreWritable t × (depth_of t ≤ depth)
 
-terms_fit : (depth : ℕ) (ts : List Term) → Each (Fits depth) ts → TermsAreWritable (terms_of ts) × (most_deep (terms_of ts) ≤ depth)
+terms_fit : (depth : ℕ) (ts : List NamedExpression) → Each (Fits depth) ts → AllPartsAreWritable (expressions_of ts) × (most_deep (expressions_of ts) ≤ depth)
 terms_fit depth [] h = (tt, omega arith)
 terms_fit depth (t ∷ ts) h = let more = terms_fit depth ts h.1 in ((h.0.0, more.0), omega (arith, h.0.1, more.1))
 
-count_of : (ts : List Term) → count (terms_of ts) ≡ length ts
+count_of : (ts : List NamedExpression) → count (expressions_of ts) ≡ length ts
 count_of [] = refl
 count_of (t ∷ ts) = ap suc (count_of ts)
 
-module _ (inner : Rule true Term) (depth : ℕ) (deep : Stays inner (Fits depth)) where
+module _ (inner : Rule true NamedExpression) (depth : ℕ) (deep : Stays inner (Fits depth)) where
   unsigned_term_keeps : Stays unsigned_term (Fits (suc depth))
   unfolding unsigned_term
   unsigned_term_keeps = stays (λ room. unsigned_keeps >>- λ n h. done ((h, omega arith), refl))
@@ -331,7 +331,7 @@ module _ (inner : Rule true Term) (depth : ℕ) (deep : Stays inner (Fits depth)
   nested_keeps = stays (λ room. opening_passes >>- λ _ _. some_word_passes >>- λ w _. keeps (tail_keeps w) room)
 
 -- where expressions stand too deep, none is spelled
-too_deep : (Q : Term → Type 0) (b : Bool) (f g : Fault) (t : Term) → cond {A = Result Term Fault} b (Err f) (Err g) ≡ Ok t → Q t
+too_deep : (Q : NamedExpression → Type 0) (b : Bool) (f g : Fault) (t : NamedExpression) → cond {A = Result NamedExpression Fault} b (Err f) (Err g) ≡ Ok t → Q t
 too_deep Q true f g t e = ok_no_err t f e
 too_deep Q false f g t e = ok_no_err t g e
 
@@ -340,7 +340,7 @@ unfolding expr
 expr_keeps zero = one_stays (λ p at t good e. too_deep (Fits zero) (is_kind kinds.Open p.kind) _ _ t e)
 expr_keeps (suc depth) = nested_keeps (expr depth) depth (expr_keeps depth)
 
-whole_keeps : Stays whole_expr ExprIsWritable
+whole_keeps : Stays whole_expr ExpressionIsWritable
 unfolding whole_expr
 whole_keeps = weakened (expr_keeps most_depth) (λ t h. record { parts = h.0; depth = h.1 })
 
@@ -354,36 +354,36 @@ default_keeps : Stays default_arm IsName
 unfolding default_arm
 default_keeps = stays (λ room. begin_passes (codes "default") >>- λ _ _. label_keeps >>- λ l h. closing_passes >>- λ _ _. done (h, refl))
 
-switch_keeps : Stays switch EntryIsWritable
+switch_keeps : Stays switch ItemIsWritable
 unfolding switch
 switch_keeps = stays (λ room. whole_keeps >>- λ e h. row_stays opens_target target.form target_keeps >>- λ ts i. default_keeps >>- λ others k. closing_passes >>- λ _ _. done ((h, all_of TargetIsWritable ts i, k), refl))
 
-store_keeps : Stays store EntryIsWritable
+store_keeps : Stays store ItemIsWritable
 unfolding store with_word
 store_keeps = stays (λ room. whole_keeps >>- λ at h. word_passes (codes "with") >>- λ _ _. whole_keeps >>- λ e i. closing_passes >>- λ _ _. done ((h, i), refl))
 
-label_item_keeps : Stays label_item EntryIsWritable
+label_item_keeps : Stays label_item ItemIsWritable
 unfolding label_item
 label_item_keeps = stays (λ room. label_tail_keeps >>- λ n h. done (h, refl))
 
-null_keeps : Stays null EntryIsWritable
+null_keeps : Stays null ItemIsWritable
 unfolding null
 null_keeps = stays (λ room. closing_passes >>- λ _ _. done (tt, refl))
 
-jump_keeps : Stays jump EntryIsWritable
+jump_keeps : Stays jump ItemIsWritable
 unfolding jump leaving
 jump_keeps = stays (λ room. label_keeps >>- λ n h. word_passes (codes "leaving") >>- λ _ _. fixed_passes 0 >>- λ _ _. closing_passes >>- λ _ _. done (h, refl))
 
-call_keeps : Stays call EntryIsWritable
+call_keeps : Stays call ItemIsWritable
 unfolding call result_word
 call_keeps = stays (λ room. label_keeps >>- λ n h. row_stays opens whole_expr.form whole_keeps >>- λ args i. word_passes (codes "result") >>- λ _ _. maybe_stays opens address.form address_keeps >>- λ to k. closing_passes >>- λ _ _.
-    done ((h, all_of ExprIsWritable args i, k), refl))
+    done ((h, all_of ExpressionIsWritable args i, k), refl))
 
-returns_keeps : Stays returns EntryIsWritable
+returns_keeps : Stays returns ItemIsWritable
 unfolding returns
 returns_keeps = stays (λ room. maybe_stays opens whole_expr.form whole_keeps >>- λ e h. closing_passes >>- λ _ _. done (h, refl))
 
-item_keeps : Stays item EntryIsWritable
+item_keeps : Stays item ItemIsWritable
 unfolding item item_tail
 item_keeps = stays (λ room. opening_passes >>- λ _ _. some_word_passes >>- λ w _.
     keeps (either_stays (bytes_eq w.text (codes "label")) _ _ label_item_keeps
@@ -398,7 +398,7 @@ item_keeps = stays (λ room. opening_passes >>- λ _ _. some_word_passes >>- λ 
 -- ---- functions
 
 -- the brace stands after items that end well
-closing_after_keeps : (items : List Entry) → Stays (closing_after items) (λ _. ends_well items ≡ true)
+closing_after_keeps : (items : List BodyItem) → Stays (closing_after items) (λ _. ends_well items ≡ true)
 unfolding closing_after
 closing_after_keeps items = one_stays (λ t at x good e. well (ends_well items) _ _ x e)
   where
@@ -406,14 +406,14 @@ closing_after_keeps items = one_stays (λ t at x good e. well (ends_well items) 
     well true r f x e = refl
     well false r f x e = ok_no_err x f e
 
-stmts_keep : Stays stmts (λ xs. All EntryIsWritable xs × (ends_well xs ≡ true))
+stmts_keep : Stays stmts (λ xs. All ItemIsWritable xs × (ends_well xs ≡ true))
 unfolding stmts
-stmts_keep = stays (λ room. begin_passes (codes "stmts") >>- λ _ _. row_stays opens item.form item_keeps >>- λ xs h. closing_after_keeps xs >>- λ _ ends. done ((all_of EntryIsWritable xs h, ends), refl))
+stmts_keep = stays (λ room. begin_passes (codes "stmts") >>- λ _ _. row_stays opens item.form item_keeps >>- λ xs h. closing_after_keeps xs >>- λ _ ends. done ((all_of ItemIsWritable xs h, ends), refl))
 
-record ScopeIsWritable (frames : List Frame) (starts : List Start) (xs : List Entry) : Type 0 where
-  decls : All FrameIsWritable frames
-  inits : All StartIsWritable starts
-  items : All EntryIsWritable xs
+record ScopeIsWritable (frames : List Allocation) (starts : List InitialValue) (xs : List BodyItem) : Type 0 where
+  decls : All AllocationIsWritable frames
+  inits : All InitialIsWritable starts
+  items : All ItemIsWritable xs
   ends : ends_well xs ≡ true
 
 scope_keeps : (room : Room) → Keeps Good scope.form room (λ s after. ScopeIsWritable s.0 s.1 s.2 × (room ≡ needs s.0 after))
@@ -464,11 +464,11 @@ unfolding imports
 imports_passes = stays (λ room. begin_passes (codes "imports") >>- λ _ _. empty_passes (codes "frefs") (codes "imports") >>- λ _ _. empty_passes (codes "lrefs") (codes "imports") >>- λ _ _. closing_passes >>- λ _ _. done (tt, refl))
 
 -- but for its limits
-record IsKept (whole : Whole) : Type 0 where
+record IsKept (whole : WholeProgram) : Type 0 where
   exports : All IsName whole.exports
   labels : All IsName whole.labels
-  decls : All FrameIsWritable whole.decls
-  inits : All StartIsWritable whole.inits
+  decls : All AllocationIsWritable whole.decls
+  inits : All InitialIsWritable whole.inits
   funcs : All FunctionIsWritable whole.funcs
 
 program_keeps : (room : Room) → Keeps Good program.form room (λ whole after. IsKept whole × (room ≡ whole_needs whole after))
@@ -480,7 +480,7 @@ good_each : (ts : List Lexeme) → list_all is_named_well ts ≡ true → Each G
 good_each [] h = tt
 good_each (t ∷ ts) h = by_test (is_named_well t) (λ g. (g, good_each ts (rw g at h))) (λ g. absurd (let k : false ≡ true = rw g at h in cc))
 
-pub spelled_writable : EachNameIsNamedWell → (whole : Whole) → IsSpelled whole → IsWritable whole
+pub spelled_writable : EachNameIsNamedWell → (whole : WholeProgram) → IsSpelled whole → IsWritable whole
 spelled_writable names whole s =
     let after = s.1.0.room in
     let k = (program_keeps full).each (start s.0) whole s.1.0 refl (good_each (tokens_of s.0) (names s.0)) s.1.1 in

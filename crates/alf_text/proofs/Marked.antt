@@ -11,8 +11,8 @@ use Rattle.alf_ops.specs.declared.operator.Op.TheVariants.{Neg, Select}
 use Rattle.alf_ops.specs.Names.{spelling}
 use Rattle.alf_tokens.specs.Printed.{Mark, is_separator, is_word_text, is_mark}
 use Rattle.alf_program.specs.declared.program.Num.{Num}
-use Rattle.alf_program.specs.Tree.{Term, Terms, Number, Address, Loads, Applies, Last, With, Act, Nothing, Stores, Jumps, Switches, Calls, Returns, Entry, Labels, Does, Frame, Start, Function, Whole}
-use Rattle.alf_program.specs.Writable.{IsName, IsSize, IsFurther, AreSizesOf, NumIsWritable, AddressIsWritable, TermIsWritable, TermsAreWritable, ExprIsWritable, TargetIsWritable, ActIsWritable, EntryIsWritable, FrameIsWritable, StartIsWritable, FunctionIsWritable, IsWritable}
+use Rattle.alf_program.specs.Tree.{NamedExpression, NamedExpressions, Number, Address, Load, Apply, Empty, With, Statement, Null, Store, Jump, Switch, Call, Return, BodyItem, Label, Do, Allocation, InitialValue, Function, WholeProgram}
+use Rattle.alf_program.specs.Writable.{IsName, IsSize, IsFurther, AreSizesOf, NumIsWritable, AddressIsWritable, PartsAreWritable, AllPartsAreWritable, ExpressionIsWritable, TargetIsWritable, StatementIsWritable, ItemIsWritable, AllocationIsWritable, InitialIsWritable, FunctionIsWritable, IsWritable}
 use Rattle.alf_printer.specs.Canonical.{space, line_feed, closes, a_word, a_number, a_name, braced, listed, if_any, ref_marks, refs_marks, is_negative, distance, signed_marks, dec_signed_marks, dec_unsigned_marks, num_marks, label_marks, address_marks, frame_marks, start_marks, starts_marks, term_marks, terms_marks, target_marks, act_marks, entry_marks, function_marks, names_marks, head_marks, program_marks}
 use Rattle.alf_text.proofs.Decimals.{decimal_text}
 use Rattle.alf_text.proofs.Named.{name_text}
@@ -111,17 +111,17 @@ sizes_print op [] w = nothing
 sizes_print op (s ∷ ss) w = size_prints s w.first then further_print op ss w.others
 
 mutual
-  term_prints : (t : Term) → TermIsWritable t → Prints (term_marks t)
+  term_prints : (t : NamedExpression) → PartsAreWritable t → Prints (term_marks t)
   term_prints (Number n) w = num_prints n w
   term_prints (Address n o) w = address_prints (n, o) w
-  term_prints (Loads s e) w = braced_prints space (codes "load") refl refl (number_prints s (omega (arith, w.0.small)) then term_prints e w.1)
-  term_prints (Applies op ss es) w = braced_prints space (spelling op) refl (own_word op) (sizes_print op ss w.0 then terms_print es w.2)
+  term_prints (Load s e) w = braced_prints space (codes "load") refl refl (number_prints s (omega (arith, w.0.small)) then term_prints e w.1)
+  term_prints (Apply op ss es) w = braced_prints space (spelling op) refl (own_word op) (sizes_print op ss w.0 then terms_print es w.2)
 
-  terms_print : (ts : Terms) → TermsAreWritable ts → Prints (terms_marks ts)
-  terms_print Last w = nothing
+  terms_print : (ts : NamedExpressions) → AllPartsAreWritable ts → Prints (terms_marks ts)
+  terms_print Empty w = nothing
   terms_print (With t ts) w = term_prints t w.0 then terms_print ts w.1
 
-expr_prints : (t : Term) → ExprIsWritable t → Prints (term_marks t)
+expr_prints : (t : NamedExpression) → ExpressionIsWritable t → Prints (term_marks t)
 expr_prints t w = term_prints t w.parts
 
 -- ---- items
@@ -129,38 +129,38 @@ expr_prints t w = term_prints t w.parts
 target_prints : (t : Num × List ℕ) → TargetIsWritable t → Prints (target_marks t)
 target_prints t w = braced_prints space (codes "target") refl refl (num_prints t.0 w.num then label_prints space t.1 refl w.label)
 
-act_prints : (a : Act) → ActIsWritable a → Prints (act_marks a)
-act_prints Nothing w = braced_prints line_feed (codes "null") refl refl nothing
-act_prints (Stores at value) w = braced_prints line_feed (codes "store") refl refl (expr_prints at w.0 then word_prints (codes "with") refl then expr_prints value w.1)
-act_prints (Jumps n) w = braced_prints line_feed (codes "jump") refl refl (label_prints space n refl w then (word_prints (codes "leaving") refl then number_0))
-act_prints (Switches value targets others) w = braced_prints line_feed (codes "switch") refl refl
+act_prints : (a : Statement) → StatementIsWritable a → Prints (act_marks a)
+act_prints Null w = braced_prints line_feed (codes "null") refl refl nothing
+act_prints (Store at value) w = braced_prints line_feed (codes "store") refl refl (expr_prints at w.0 then word_prints (codes "with") refl then expr_prints value w.1)
+act_prints (Jump n) w = braced_prints line_feed (codes "jump") refl refl (label_prints space n refl w then (word_prints (codes "leaving") refl then number_0))
+act_prints (Switch value targets others) w = braced_prints line_feed (codes "switch") refl refl
     (expr_prints value w.0 then row_prints TargetIsWritable target_marks target_prints targets w.1 then braced_prints space (codes "default") refl refl (label_prints space others refl w.2))
-act_prints (Calls n args result) w = braced_prints line_feed (codes "call") refl refl
-    (label_prints space n refl w.0 then row_prints ExprIsWritable term_marks expr_prints args w.1 then word_prints (codes "result") refl then any_prints AddressIsWritable address_marks address_prints result w.2)
-act_prints (Returns value) w = braced_prints line_feed (codes "return") refl refl (any_prints ExprIsWritable term_marks expr_prints value w)
+act_prints (Call n args result) w = braced_prints line_feed (codes "call") refl refl
+    (label_prints space n refl w.0 then row_prints ExpressionIsWritable term_marks expr_prints args w.1 then word_prints (codes "result") refl then any_prints AddressIsWritable address_marks address_prints result w.2)
+act_prints (Return value) w = braced_prints line_feed (codes "return") refl refl (any_prints ExpressionIsWritable term_marks expr_prints value w)
 
-entry_prints : (x : Entry) → EntryIsWritable x → Prints (entry_marks x)
-entry_prints (Labels n) w = label_prints line_feed n refl w
-entry_prints (Does a) w = act_prints a w
+entry_prints : (x : BodyItem) → ItemIsWritable x → Prints (entry_marks x)
+entry_prints (Label n) w = label_prints line_feed n refl w
+entry_prints (Do a) w = act_prints a w
 
 -- ---- programs
 
-frame_prints : (f : Frame) → FrameIsWritable f → Prints (frame_marks f)
+frame_prints : (f : Allocation) → AllocationIsWritable f → Prints (frame_marks f)
 frame_prints f w = braced_prints line_feed (codes "alloc") refl refl (number_32 then name_prints f.name w.name then number_prints f.bits (omega (arith, w.small)))
 
-frames_print : (w : List ℕ) (fs : List Frame) → is_word_text w ≡ true → All FrameIsWritable fs → Prints (listed w frame_marks fs)
-frames_print w fs h all = braced_prints space w refl h (row_prints FrameIsWritable frame_marks frame_prints fs all)
+frames_print : (w : List ℕ) (fs : List Allocation) → is_word_text w ≡ true → All AllocationIsWritable fs → Prints (listed w frame_marks fs)
+frames_print w fs h all = braced_prints space w refl h (row_prints AllocationIsWritable frame_marks frame_prints fs all)
 
-start_prints : (s : Start) → StartIsWritable s → Prints (start_marks s)
+start_prints : (s : InitialValue) → InitialIsWritable s → Prints (start_marks s)
 start_prints s w = braced_prints line_feed (codes "init") refl refl (braced_prints space (codes "ref") refl refl (name_prints s.name w.name then offset_prints s.offset w.offset) then num_prints s.num w.num)
 
-starts_print : (ss : List Start) → All StartIsWritable ss → Prints (starts_marks ss)
-starts_print ss all = braced_prints space (codes "inits") refl refl (row_prints StartIsWritable start_marks start_prints ss all)
+starts_print : (ss : List InitialValue) → All InitialIsWritable ss → Prints (starts_marks ss)
+starts_print ss all = braced_prints space (codes "inits") refl refl (row_prints InitialIsWritable start_marks start_prints ss all)
 
 function_prints : (f : Function) → FunctionIsWritable f → Prints (function_marks f)
 function_prints f w = braced_prints line_feed (codes "func") refl refl (label_prints space f.name refl w.name then frames_print (codes "arg_decls") f.args refl w.args
     then braced_prints space (codes "scope") refl refl (frames_print (codes "decls") f.decls refl w.decls then starts_print f.inits w.inits
-    then braced_prints space (codes "stmts") refl refl (row_prints EntryIsWritable entry_marks entry_prints f.items w.items)))
+    then braced_prints space (codes "stmts") refl refl (row_prints ItemIsWritable entry_marks entry_prints f.items w.items)))
 
 refs_print : (list w : List ℕ) (names : List (List ℕ)) → is_word_text list ≡ true → is_word_text w ≡ true → All IsName names → Prints (refs_marks list w names)
 refs_print list w names h i all = braced_prints space list refl h (row_prints IsName (ref_marks w) (λ n is. ref_prints w n i is) names all)
@@ -171,10 +171,10 @@ names_print w frames labels h f l = braced_prints space w refl h (refs_print (co
 head_prints : Prints head_marks
 head_prints = braced_prints space (codes "macro_defs") refl refl nothing then braced_prints space (codes "least_addr_unit") refl refl (number_prints 8 (omega arith)) then word_prints (codes "little_endian") refl
 
-program_prints : (whole : Whole) → IsWritable whole → Prints (program_marks whole)
+program_prints : (whole : WholeProgram) → IsWritable whole → Prints (program_marks whole)
 program_prints whole w = braced_prints space (codes "alf") refl refl (head_prints
     then (names_print (codes "exports") whole.exports whole.labels refl w.exports w.labels then names_print (codes "imports") [] [] refl (All-nil IsName) (All-nil IsName)
     then (frames_print (codes "decls") whole.decls refl w.decls then starts_print whole.inits w.inits then braced_prints space (codes "funcs") refl refl (row_prints FunctionIsWritable function_marks function_prints whole.funcs w.funcs))))
 
-pub program_marked : (whole : Whole) → IsWritable whole → list_all is_mark (program_marks whole) ≡ true
+pub program_marked : (whole : WholeProgram) → IsWritable whole → list_all is_mark (program_marks whole) ≡ true
 program_marked whole w = (program_prints whole w).all

@@ -21,8 +21,8 @@ use Rattle.alf_ops.specs.Names.{spelling}
 use Rattle.alf_tokens.specs.Tokens.{Lexeme}
 use Rattle.alf_tokens.specs.Printed.{Mark, token_before, tokens_before}
 use Rattle.alf_program.specs.declared.program.Num.{Num}
-use Rattle.alf_program.specs.Tree.{Term, Terms, Number, Address, Loads, Applies, Last, With, Act, Nothing, Stores, Jumps, Switches, Calls, Returns, Entry, Labels, Does, Frame, Start, Function, Whole, terms_of}
-use Rattle.alf_program.specs.Writable.{most_depth, most_frame_bytes, IsSize, IsFurther, AreSizesOf, NumIsWritable, AddressIsWritable, count, TermIsWritable, TermsAreWritable, depth_of, most_deep, ExprIsWritable, TargetIsWritable, ActIsWritable, EntryIsWritable, FrameIsWritable, StartIsWritable, ends_well, FunctionIsWritable, IsWritable}
+use Rattle.alf_program.specs.Tree.{NamedExpression, NamedExpressions, Number, Address, Load, Apply, Empty, With, Statement, Null, Store, Jump, Switch, Call, Return, BodyItem, Label, Do, Allocation, InitialValue, Function, WholeProgram, expressions_of}
+use Rattle.alf_program.specs.Writable.{most_depth, most_frame_bytes, IsSize, IsFurther, AreSizesOf, NumIsWritable, AddressIsWritable, count, PartsAreWritable, AllPartsAreWritable, depth_of, most_deep, ExpressionIsWritable, TargetIsWritable, StatementIsWritable, ItemIsWritable, AllocationIsWritable, InitialIsWritable, ends_well, FunctionIsWritable, IsWritable}
 use Rattle.alf_text.specs.Grammar.{Room, Rule, number_between, number_within, opening, closing, end, some_word, word, between, fixed, size, at_most, name, begin, opens, opens_target, one_function, one_frame, fits_frame, more_bytes, bits, reference, references, offset, zero_offset, label_tail, label, alloc, allocs, address_tail, address, unsigned, minus, signed_bits, signed, num_tail, num, ref_place, init, inits, operator_named, unsigned_term, signed_term, address_term, load, further, sizes, apply, operator, expr_tail, nested, expr, whole_expr, target, default_arm, switch, with_word, store, label_item, null, leaving, jump, result_word, call, returns, item_tail, item, closing_after, stmts, scope, arg_decls, function_tail, function, functions, closing_empty, empty, addr_unit, macro_defs, little_endian, heading, exports, imports, program}
 use Rattle.alf_printer.specs.Canonical.{space, closes, a_word, a_number, listed, if_any, ref_marks, refs_marks, is_negative, distance, signed_marks, num_marks, label_marks, address_marks, frame_marks, decls_marks, start_marks, starts_marks, term_marks, terms_marks, target_marks, default_marks, act_marks, entry_marks, scope_marks, function_marks, names_marks, head_marks, parts_marks, globals_marks, program_marks}
 use Rattle.alf_text.proofs.Decimals.{decimal_within}
@@ -96,26 +96,26 @@ rest : (amount room : ℕ) → (room + amount) - amount ≡ room
 rest amount room = omega arith
 
 -- the room that a frame needs, where this is left after it
-abbrev pub need : Frame → Room → Room
+abbrev pub need : Allocation → Room → Room
 need f room = record { functions = room.functions; frames = room.frames + 1; bytes = room.bytes + f.bits / 8 }
 
-abbrev pub needs : List Frame → Room → Room
+abbrev pub needs : List Allocation → Room → Room
 needs fs room = row_room need fs room
 
-frame_reads : (f : Frame) → FrameIsWritable f → (more : List Lexeme) (room : Room) → alloc.form.reading (place (tokens_before more (frame_marks f)) (need f room)) ≡ Ok (f, place more room)
+frame_reads : (f : Allocation) → AllocationIsWritable f → (more : List Lexeme) (room : Room) → alloc.form.reading (place (tokens_before more (frame_marks f)) (need f room)) ≡ Ok (f, place more room)
 unfolding alloc opening one_frame word fixed name bits between fits_frame more_bytes closing
 frame_reads f w more room =
     let small : nat_le (f.bits / 8) most_frame_bytes ≡ true = le-leb (f.bits / 8) most_frame_bytes (omega (arith, w.small, w.bytes)) in
     let own : number_between 1 (2 ^ 128 - 1) 8 (decimal f.bits) ≡ Some f.bits = own_digits 1 (2 ^ 128 - 1) 8 f.bits (omega (arith, w.small)) w.some (omega (arith, w.small)) w.bytes in
     rw (there 1 room.frames, rest 1 room.frames, own_32, own, small, there (f.bits / 8) room.bytes, rest (f.bits / 8) room.bytes) refl
 
-frames_read : (w : List ℕ) (fs : List Frame) → All FrameIsWritable fs → (more : List Lexeme) (room : Room) → (allocs w).form.reading (place (tokens_before more (listed w frame_marks fs)) (needs fs room)) ≡ Ok (fs, place more room)
+frames_read : (w : List ℕ) (fs : List Allocation) → All AllocationIsWritable fs → (more : List Lexeme) (room : Room) → (allocs w).form.reading (place (tokens_before more (listed w frame_marks fs)) (needs fs room)) ≡ Ok (fs, place more room)
 unfolding allocs begin opening word closing
 frames_read w fs all more room = rw (
   same_bytes w,
   before_append more (flat_map frame_marks fs) (closes ∷ []),
   row_before frame_marks fs (close more),
-  many_reads opens alloc (λ f more. tokens_before more (frame_marks f)) need (λ f w more room. refl) frame_reads fs (each_of FrameIsWritable fs all) (close more) room refl,
+  many_reads opens alloc (λ f more. tokens_before more (frame_marks f)) need (λ f w more room. refl) frame_reads fs (each_of AllocationIsWritable fs all) (close more) room refl,
 ) refl
 
 -- ---- numbers with their sizes
@@ -170,16 +170,16 @@ num_reads n w more room = by_sign n.signed
 
 -- ---- initial values
 
-start_reads : (s : Start) → StartIsWritable s → (more : List Lexeme) (room : Room) → init.form.reading (place (tokens_before more (start_marks s)) room) ≡ Ok (s, place more room)
+start_reads : (s : InitialValue) → InitialIsWritable s → (more : List Lexeme) (room : Room) → init.form.reading (place (tokens_before more (start_marks s)) room) ≡ Ok (s, place more room)
 unfolding init ref_place offset begin opening word name fixed between at_most closing
 start_reads s w more room = rw (own_32, offset_own s.offset w.offset, before_append more (num_marks s.num) (closes ∷ []), num_reads s.num w.num (close more) room) refl
 
-starts_read : (ss : List Start) → All StartIsWritable ss → (more : List Lexeme) (room : Room) → inits.form.reading (place (tokens_before more (starts_marks ss)) room) ≡ Ok (ss, place more room)
+starts_read : (ss : List InitialValue) → All InitialIsWritable ss → (more : List Lexeme) (room : Room) → inits.form.reading (place (tokens_before more (starts_marks ss)) room) ≡ Ok (ss, place more room)
 unfolding inits begin opening word closing
 starts_read ss all more room = rw (
   before_append more (flat_map start_marks ss) (closes ∷ []),
   row_before start_marks ss (close more),
-  many_reads_same opens init (λ s more. tokens_before more (start_marks s)) (λ s w more room. refl) start_reads ss (each_of StartIsWritable ss all) (close more) room refl,
+  many_reads_same opens init (λ s more. tokens_before more (start_marks s)) (λ s w more room. refl) start_reads ss (each_of InitialIsWritable ss all) (close more) room refl,
 ) refl
 
 -- ---- expressions
@@ -190,6 +190,7 @@ address_reads n o lt more room = rw (own_32, own_32, own_32, offset_own o lt) re
 
 -- an operator is read from its own word
 own_word : (op : Op) → operator_named (spelling op) ≡ Some op
+unfolding operator_named
 own_word Neg = refl
 own_word _ = refl
 
@@ -231,21 +232,21 @@ sizes_read op (s ∷ ss) w more room =
       exactly_reads (further op) number_tokens {Fine = IsFurther op} (further_reads op) (size_count (layout_of op) - 1) ss long (each_of (IsFurther op) ss w.others) more room,
     ) refl
 
-abbrev list_of : Terms → List Term
-list_of Last = []
+abbrev list_of : NamedExpressions → List NamedExpression
+list_of Empty = []
 list_of (With t ts) = t ∷ list_of ts
 
-same_terms : (ts : Terms) → terms_of (list_of ts) ≡ ts
-same_terms Last = refl
+same_terms : (ts : NamedExpressions) → expressions_of (list_of ts) ≡ ts
+same_terms Empty = refl
 same_terms (With t ts) = ap (With t) (same_terms ts)
 
-some_depth : (t : Term) → 1 ≤ depth_of t
+some_depth : (t : NamedExpression) → 1 ≤ depth_of t
 some_depth (Number n) = omega arith
 some_depth (Address n o) = omega arith
-some_depth (Loads s e) = omega arith
-some_depth (Applies op ss es) = omega arith
+some_depth (Load s e) = omega arith
+some_depth (Apply op ss es) = omega arith
 
-number_reads : (n : Num) (inner : Rule true Term) → NumIsWritable n → (more : List Lexeme) (room : Room) → (nested inner).form.reading (place (tokens_before more (num_marks n)) room) ≡ Ok (Number n, place more room)
+number_reads : (n : Num) (inner : Rule true NamedExpression) → NumIsWritable n → (more : List Lexeme) (room : Room) → (nested inner).form.reading (place (tokens_before more (num_marks n)) room) ≡ Ok (Number n, place more room)
 unfolding nested opening some_word expr_tail unsigned_term signed_term
 number_reads n inner w more room = by_sign n.signed
   where
@@ -256,14 +257,14 @@ number_reads n inner w more room = by_sign n.signed
 mutual
   unfolding expr nested opening some_word expr_tail address_term address_tail reference offset begin word fixed at_most name load between closing operator apply exactly_form
 
-  expr_reads : (t : Term) (depth : ℕ) → depth_of t ≤ depth → TermIsWritable t → (more : List Lexeme) (room : Room) → (expr depth).form.reading (place (tokens_before more (term_marks t)) room) ≡ Ok (t, place more room)
+  expr_reads : (t : NamedExpression) (depth : ℕ) → depth_of t ≤ depth → PartsAreWritable t → (more : List Lexeme) (room : Room) → (expr depth).form.reading (place (tokens_before more (term_marks t)) room) ≡ Ok (t, place more room)
   expr_reads t zero d w more room = absurd (omega (arith, some_depth t))
   expr_reads (Number n) (suc depth) d w more room = number_reads n (expr depth) w more room
   expr_reads (Address n o) (suc depth) d w more room = rw (own_32, own_32, own_32, offset_own o w.offset) refl
-  expr_reads (Loads s e) (suc depth) d w more room =
+  expr_reads (Load s e) (suc depth) d w more room =
       let own : number_between 8 64 8 (decimal s) ≡ Some s = own_digits 8 64 8 s (omega (arith, w.0.small)) (omega (arith, w.0.some, w.0.bytes)) w.0.small w.0.bytes in
       rw (own, before_append more (term_marks e) (closes ∷ []), expr_reads e depth (omega arith) w.1 (close more) room) refl
-  expr_reads (Applies op ss es) (suc depth) d w more room =
+  expr_reads (Apply op ss es) (suc depth) d w more room =
       let o = no_other op in
       rw (
         o.unsigned,
@@ -279,16 +280,16 @@ mutual
         same_terms es,
       ) refl
 
-  operands_read : (ts : Terms) (depth : ℕ) → most_deep ts ≤ depth → TermsAreWritable ts → (more : List Lexeme) (room : Room)
+  operands_read : (ts : NamedExpressions) (depth : ℕ) → most_deep ts ≤ depth → AllPartsAreWritable ts → (more : List Lexeme) (room : Room)
       → (exactly_form (count ts) (expr depth).form).reading (place (tokens_before more (terms_marks ts)) room) ≡ Ok (list_of ts, place more room)
-  operands_read Last depth d w more room = refl
+  operands_read Empty depth d w more room = refl
   operands_read (With t ts) depth d w more room = rw (
     before_append more (term_marks t) (terms_marks ts),
     expr_reads t depth (omega arith) w.0 (tokens_before more (terms_marks ts)) room,
     operands_read ts depth (omega arith) w.1 more room,
   ) refl
 
-whole_reads : (t : Term) → ExprIsWritable t → (more : List Lexeme) (room : Room) → whole_expr.form.reading (place (tokens_before more (term_marks t)) room) ≡ Ok (t, place more room)
+whole_reads : (t : NamedExpression) → ExpressionIsWritable t → (more : List Lexeme) (room : Room) → whole_expr.form.reading (place (tokens_before more (term_marks t)) room) ≡ Ok (t, place more room)
 unfolding whole_expr
 whole_reads t w more room = expr_reads t most_depth w.depth w.parts more room
 
@@ -300,11 +301,11 @@ num_opens n more room = by_sign n.signed
     by_sign true = refl
     by_sign false = refl
 
-term_opens : (t : Term) (more : List Lexeme) (room : Room) → opens (place (tokens_before more (term_marks t)) room) ≡ true
+term_opens : (t : NamedExpression) (more : List Lexeme) (room : Room) → opens (place (tokens_before more (term_marks t)) room) ≡ true
 term_opens (Number n) more room = num_opens n more room
 term_opens (Address n o) more room = refl
-term_opens (Loads s e) more room = refl
-term_opens (Applies op ss es) more room = refl
+term_opens (Load s e) more room = refl
+term_opens (Apply op ss es) more room = refl
 
 -- ---- items
 
@@ -324,10 +325,10 @@ targets_read ts all more room stops = rw (row_before target_marks ts more)
     (many_reads_same opens_target target (λ t more. tokens_before more (target_marks t)) (λ t w more room. refl) target_reads ts (each_of TargetIsWritable ts all) more room stops)
 
 -- the arguments of a call, and what follows them
-args_read : (ts : List Term) → All ExprIsWritable ts → (more : List Lexeme) (room : Room) → opens (place more room) ≡ false
+args_read : (ts : List NamedExpression) → All ExpressionIsWritable ts → (more : List Lexeme) (room : Room) → opens (place more room) ≡ false
     → (many opens whole_expr).form.reading (place (tokens_before more (flat_map term_marks ts)) room) ≡ Ok (ts, place more room)
 args_read ts all more room stops = rw (row_before term_marks ts more)
-    (many_reads_same opens whole_expr (λ t more. tokens_before more (term_marks t)) (λ t w more room. term_opens t more room) whole_reads ts (each_of ExprIsWritable ts all) more room stops)
+    (many_reads_same opens whole_expr (λ t more. tokens_before more (term_marks t)) (λ t w more room. term_opens t more room) whole_reads ts (each_of ExpressionIsWritable ts all) more room stops)
 
 -- the address of a call's result, if there is one
 result_reads : (to : Option (List ℕ × ℕ)) → IfSome to AddressIsWritable → (more : List Lexeme) (room : Room) → opens (place more room) ≡ false
@@ -336,15 +337,15 @@ result_reads None w more room stops = rw stops refl
 result_reads (Some to) w more room stops = rw (address_reads to.0 to.1 w.offset more room) refl
 
 -- the value of a return, if there is one
-value_reads : (value : Option Term) → IfSome value ExprIsWritable → (more : List Lexeme) (room : Room) → opens (place more room) ≡ false
+value_reads : (value : Option NamedExpression) → IfSome value ExpressionIsWritable → (more : List Lexeme) (room : Room) → opens (place more room) ≡ false
     → (maybe opens whole_expr).form.reading (place (tokens_before more (if_any term_marks value)) room) ≡ Ok (value, place more room)
 value_reads None w more room stops = rw stops refl
 value_reads (Some value) w more room stops = rw (term_opens value more room, whole_reads value w more room) refl
 
-act_reads : (a : Act) → ActIsWritable a → (more : List Lexeme) (room : Room) → item.form.reading (place (tokens_before more (act_marks a)) room) ≡ Ok (Does a, place more room)
+act_reads : (a : Statement) → StatementIsWritable a → (more : List Lexeme) (room : Room) → item.form.reading (place (tokens_before more (act_marks a)) room) ≡ Ok (Do a, place more room)
 unfolding item item_tail opening some_word null store with_word jump leaving switch default_arm call result_word returns begin word fixed between closing
-act_reads Nothing w more room = refl
-act_reads (Stores at value) w more room =
+act_reads Null w more room = refl
+act_reads (Store at value) w more room =
     let with : List Mark = a_word (codes "with") ∷ [] in
     let last = tokens_before (close more) (term_marks value) in
     rw (
@@ -354,8 +355,8 @@ act_reads (Stores at value) w more room =
       whole_reads at w.0 (tokens_before last with) room,
       whole_reads value w.1 (close more) room,
     ) refl
-act_reads (Jumps n) w more room = rw (label_reads space n (tokens_before more (a_word (codes "leaving") ∷ a_number 0 ∷ closes ∷ [])) room, own_0) refl
-act_reads (Switches value targets others) w more room =
+act_reads (Jump n) w more room = rw (label_reads space n (tokens_before more (a_word (codes "leaving") ∷ a_number 0 ∷ closes ∷ [])) room, own_0) refl
+act_reads (Switch value targets others) w more room =
     let last = tokens_before (close more) (default_marks others) in
     rw (
       before_append more (term_marks value ++ flat_map target_marks targets ++ default_marks others) (closes ∷ []),
@@ -365,7 +366,7 @@ act_reads (Switches value targets others) w more room =
       targets_read targets w.1 last room refl,
       label_reads space others (close (close more)) room,
     ) refl
-act_reads (Calls n args to) w more room =
+act_reads (Call n args to) w more room =
     let result : List Mark = a_word (codes "result") ∷ [] in
     let last = tokens_before (close more) (if_any address_marks to) in
     rw (
@@ -376,34 +377,34 @@ act_reads (Calls n args to) w more room =
       args_read args w.1 (tokens_before last result) room refl,
       result_reads to w.2 (close more) room refl,
     ) refl
-act_reads (Returns value) w more room = rw (before_append more (if_any term_marks value) (closes ∷ []), value_reads value w (close more) room refl) refl
+act_reads (Return value) w more room = rw (before_append more (if_any term_marks value) (closes ∷ []), value_reads value w (close more) room refl) refl
 
-entry_reads : (x : Entry) → EntryIsWritable x → (more : List Lexeme) (room : Room) → item.form.reading (place (tokens_before more (entry_marks x)) room) ≡ Ok (x, place more room)
+entry_reads : (x : BodyItem) → ItemIsWritable x → (more : List Lexeme) (room : Room) → item.form.reading (place (tokens_before more (entry_marks x)) room) ≡ Ok (x, place more room)
 unfolding item item_tail opening some_word label_item label_tail reference zero_offset begin word fixed between name closing
-entry_reads (Labels n) w more room = rw (own_32, own_32, own_32, own_0) refl
-entry_reads (Does a) w more room = act_reads a w more room
+entry_reads (Label n) w more room = rw (own_32, own_32, own_32, own_0) refl
+entry_reads (Do a) w more room = act_reads a w more room
 
-entry_opens : (x : Entry) (more : List Lexeme) (room : Room) → opens (place (tokens_before more (entry_marks x)) room) ≡ true
-entry_opens (Labels n) more room = refl
-entry_opens (Does Nothing) more room = refl
-entry_opens (Does (Stores at value)) more room = refl
-entry_opens (Does (Jumps n)) more room = refl
-entry_opens (Does (Switches value targets others)) more room = refl
-entry_opens (Does (Calls n args result)) more room = refl
-entry_opens (Does (Returns value)) more room = refl
+entry_opens : (x : BodyItem) (more : List Lexeme) (room : Room) → opens (place (tokens_before more (entry_marks x)) room) ≡ true
+entry_opens (Label n) more room = refl
+entry_opens (Do Null) more room = refl
+entry_opens (Do (Store at value)) more room = refl
+entry_opens (Do (Jump n)) more room = refl
+entry_opens (Do (Switch value targets others)) more room = refl
+entry_opens (Do (Call n args result)) more room = refl
+entry_opens (Do (Return value)) more room = refl
 
 -- ---- functions
 
-stmts_read : (xs : List Entry) → All EntryIsWritable xs → ends_well xs ≡ true → (more : List Lexeme) (room : Room) → stmts.form.reading (place (tokens_before more (listed (codes "stmts") entry_marks xs)) room) ≡ Ok (xs, place more room)
+stmts_read : (xs : List BodyItem) → All ItemIsWritable xs → ends_well xs ≡ true → (more : List Lexeme) (room : Room) → stmts.form.reading (place (tokens_before more (listed (codes "stmts") entry_marks xs)) room) ≡ Ok (xs, place more room)
 unfolding stmts begin opening word closing_after
 stmts_read xs all ends more room = rw (
   before_append more (flat_map entry_marks xs) (closes ∷ []),
   row_before entry_marks xs (close more),
-  many_reads_same opens item (λ x more. tokens_before more (entry_marks x)) (λ x w more room. entry_opens x more room) entry_reads xs (each_of EntryIsWritable xs all) (close more) room refl,
+  many_reads_same opens item (λ x more. tokens_before more (entry_marks x)) (λ x w more room. entry_opens x more room) entry_reads xs (each_of ItemIsWritable xs all) (close more) room refl,
   ends,
 ) refl
 
-scope_reads : (frames : List Frame) (starts : List Start) (xs : List Entry) → All FrameIsWritable frames → All StartIsWritable starts → All EntryIsWritable xs → ends_well xs ≡ true → (more : List Lexeme) (room : Room)
+scope_reads : (frames : List Allocation) (starts : List InitialValue) (xs : List BodyItem) → All AllocationIsWritable frames → All InitialIsWritable starts → All ItemIsWritable xs → ends_well xs ≡ true → (more : List Lexeme) (room : Room)
     → scope.form.reading (place (tokens_before more (scope_marks frames starts xs)) (needs frames room)) ≡ Ok ((frames, starts, xs), place more room)
 unfolding scope begin opening word closing
 scope_reads frames starts xs f s i ends more room =
@@ -472,7 +473,7 @@ imports_read : (more : List Lexeme) (room : Room) → imports.form.reading (plac
 unfolding imports empty closing_empty begin opening word closing
 imports_read more room = refl
 
-pub program_reads : (whole : Whole) → IsWritable whole → (room : Room) → program.form.reading (place (tokens_before [] (program_marks whole)) (needs whole.decls (all_need whole.funcs room))) ≡ Ok (whole, place [] room)
+pub program_reads : (whole : WholeProgram) → IsWritable whole → (room : Room) → program.form.reading (place (tokens_before [] (program_marks whole)) (needs whole.decls (all_need whole.funcs room))) ≡ Ok (whole, place [] room)
 unfolding program begin opening word closing end
 program_reads whole w room =
     let full = needs whole.decls (all_need whole.funcs room) in

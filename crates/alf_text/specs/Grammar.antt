@@ -19,9 +19,9 @@ use Rattle.alf_tokens.specs.declared.token.Kind.{Kind}
 use Rattle.alf_tokens.specs.declared.token.Kind.TheVariants as kinds
 use Rattle.alf_tokens.specs.Tokens.{Lexeme, is_kind}
 use Rattle.alf_program.specs.declared.program.Num.{Num}
-use Rattle.alf_program.specs.Tree.{Term, Address, Loads, Applies, Nothing, Stores, Jumps, Switches, Calls, Returns, Entry, Labels, Does, Frame, Start, Function, Whole, terms_of}
+use Rattle.alf_program.specs.Tree.{NamedExpression, Address, Load, Apply, Null, Store, Jump, Switch, Call, Return, BodyItem, Label, Do, Allocation, InitialValue, Function, WholeProgram, expressions_of}
 use Rattle.alf_program.specs.Tree as tree
-pub use Rattle.alf_program.specs.Writable.{most_depth, most_functions, most_frames, most_frame_bytes, most_bytes, ends_well}
+pub use Rattle.alf_program.specs.Writable.{most_depth, most_functions, most_frames, most_frame_bytes, most_bytes, operand_count, is_ending, ends_well}
 
 -- how a text departs from the grammar, where places are of type P
 pub data Departure (P : Type 0) : Type 0 where
@@ -272,7 +272,7 @@ label = do
   value n
 
 -- ALLOC = { alloc 32 NAME BITS }
-unfoldable pub alloc : Rule true Frame
+unfoldable pub alloc : Rule true Allocation
 alloc = do
   opening
   one_frame
@@ -284,7 +284,7 @@ alloc = do
   value (record { name = n; bits = b })
 
 -- { LIST ALLOC* }
-unfoldable pub allocs : List ℕ → Rule true (List Frame)
+unfoldable pub allocs : List ℕ → Rule true (List Allocation)
 allocs list = do
   begin list
   frames ← many opens alloc
@@ -360,7 +360,7 @@ ref_place = do
   value (n, o)
 
 -- INIT = { init { ref NAME OFFSET } NUM }
-unfoldable pub init : Rule true Start
+unfoldable pub init : Rule true InitialValue
 init = do
   begin (codes "init")
   p ← ref_place
@@ -369,7 +369,7 @@ init = do
   value (record { name = p.0; offset = p.1; num = n })
 
 -- { inits INIT* }
-unfoldable pub inits : Rule true (List Start)
+unfoldable pub inits : Rule true (List InitialValue)
 inits = do
   begin (codes "inits")
   starts ← many opens init
@@ -383,35 +383,31 @@ abbrev pub operator_among : List Op → List ℕ → Option Op
 operator_among [] w = None
 operator_among (op ∷ ops) w = if bytes_eq (spelling op) w then Some op else operator_among ops w
 
-abbrev pub operator_named : List ℕ → Option Op
+unfoldable pub operator_named : List ℕ → Option Op
 operator_named w = operator_among operators w
 
--- how many operands an operator has
-abbrev pub operand_count : Op → ℕ
-operand_count op = length (operands_by_layout (layout_of op) 0 0 0)
-
-unfoldable pub unsigned_term : Rule true Term
+unfoldable pub unsigned_term : Rule true NamedExpression
 unsigned_term = do
   n ← unsigned
   value (tree.Number n)
 
-unfoldable pub signed_term : Rule true Term
+unfoldable pub signed_term : Rule true NamedExpression
 signed_term = do
   n ← signed
   value (tree.Number n)
 
-unfoldable pub address_term : Rule true Term
+unfoldable pub address_term : Rule true NamedExpression
 address_term = do
   a ← address_tail
   value (Address a.0 a.1)
 
 -- { load SIZE EXPR }, after its word; inner is what stands in it as an expression
-unfoldable pub load : Rule true Term → Rule true Term
+unfoldable pub load : Rule true NamedExpression → Rule true NamedExpression
 load inner = do
   s ← between 8 64 8
   at ← inner
   closing
-  value (Loads s at)
+  value (Load s at)
 
 abbrev pub least_further : Op → ℕ
 least_further Select = 0
@@ -433,18 +429,18 @@ sizes op = do
   value (s ∷ ss)
 
 -- { OP SIZE.. EXPR.. }, after its word
-unfoldable pub apply : Rule true Term → Op → Rule true Term
+unfoldable pub apply : Rule true NamedExpression → Op → Rule true NamedExpression
 apply inner op = do
   ss ← sizes op
   es ← exactly (operand_count op) inner
   closing
-  value (Applies op ss (terms_of es))
+  value (Apply op ss (expressions_of es))
 
-unfoldable pub operator : Rule true Term → Lexeme → Option Op → Rule true Term
+unfoldable pub operator : Rule true NamedExpression → Lexeme → Option Op → Rule true NamedExpression
 operator inner w None = unknown w
 operator inner w (Some op) = apply inner op
 
-unfoldable pub expr_tail : Rule true Term → Lexeme → Rule true Term
+unfoldable pub expr_tail : Rule true NamedExpression → Lexeme → Rule true NamedExpression
 expr_tail inner w =
     after_word (codes "dec_unsigned") w unsigned_term
     (after_word (codes "dec_signed") w signed_term
@@ -452,23 +448,23 @@ expr_tail inner w =
     (after_word (codes "load") w (load inner)
     (operator inner w (operator_named w.text)))))
 
-abbrev pub fits_too_deep : Lexeme → Result Term Fault
+abbrev pub fits_too_deep : Lexeme → Result NamedExpression Fault
 fits_too_deep t = if is_kind kinds.Open t.kind then Err (Limit Depth (most_depth + 1)) else Err (misfit t)
 
 -- { .. }, where inner is what stands in it as an expression
-unfoldable pub nested : Rule true Term → Rule true Term
+unfoldable pub nested : Rule true NamedExpression → Rule true NamedExpression
 nested inner = do
   opening
   w ← some_word
   expr_tail inner w
 
 -- EXPR = NUM | ADDR | { load SIZE EXPR } | { OP SIZE.. EXPR.. }, in which at most so many expressions stand in one another
-unfoldable pub expr : ℕ → Rule true Term
+unfoldable pub expr : ℕ → Rule true NamedExpression
 expr zero = one fits_too_deep
 expr (suc depth) = nested (expr depth)
 
 -- an expression that stands in no other
-unfoldable pub whole_expr : Rule true Term
+unfoldable pub whole_expr : Rule true NamedExpression
 whole_expr = expr most_depth
 
 -- ---- items
@@ -495,71 +491,71 @@ default_arm = do
   value l
 
 -- { switch EXPR TARGET* { default LABEL } }, after its word
-unfoldable pub switch : Rule true Entry
+unfoldable pub switch : Rule true BodyItem
 switch = do
   e ← whole_expr
   targets ← many opens_target target
   others ← default_arm
   closing
-  value (Does (Switches e targets others))
+  value (Do (Switch e targets others))
 
 unfoldable pub with_word : Rule true (Unit {0})
 with_word = word (codes "with")
 
 -- { store EXPR with EXPR }, after its word
-unfoldable pub store : Rule true Entry
+unfoldable pub store : Rule true BodyItem
 store = do
   at ← whole_expr
   with_word
   e ← whole_expr
   closing
-  value (Does (Stores at e))
+  value (Do (Store at e))
 
 -- LABEL, after its word
-unfoldable pub label_item : Rule true Entry
+unfoldable pub label_item : Rule true BodyItem
 label_item = do
   n ← label_tail
-  value (Labels n)
+  value (Label n)
 
 -- { null }, after its word
-unfoldable pub null : Rule true Entry
+unfoldable pub null : Rule true BodyItem
 null = do
   closing
-  value (Does Nothing)
+  value (Do Null)
 
 unfoldable pub leaving : Rule true (Unit {0})
 leaving = word (codes "leaving")
 
 -- { jump LABEL leaving 0 }, after its word
-unfoldable pub jump : Rule true Entry
+unfoldable pub jump : Rule true BodyItem
 jump = do
   n ← label
   leaving
   fixed 0
   closing
-  value (Does (Jumps n))
+  value (Do (Jump n))
 
 unfoldable pub result_word : Rule true (Unit {0})
 result_word = word (codes "result")
 
 -- { call LABEL EXPR* result ADDR? }, after its word
-unfoldable pub call : Rule true Entry
+unfoldable pub call : Rule true BodyItem
 call = do
   n ← label
   args ← many opens whole_expr
   result_word
   to ← maybe opens address
   closing
-  value (Does (Calls n args to))
+  value (Do (Call n args to))
 
 -- { return EXPR? }, after its word
-unfoldable pub returns : Rule true Entry
+unfoldable pub returns : Rule true BodyItem
 returns = do
   e ← maybe opens whole_expr
   closing
-  value (Does (Returns e))
+  value (Do (Return e))
 
-unfoldable pub item_tail : Lexeme → Rule true Entry
+unfoldable pub item_tail : Lexeme → Rule true BodyItem
 item_tail w =
     after_word (codes "label") w label_item
     (after_word (codes "null") w null
@@ -571,7 +567,7 @@ item_tail w =
     (unknown w)))))))
 
 -- ITEM = LABEL | STMT
-unfoldable pub item : Rule true Entry
+unfoldable pub item : Rule true BodyItem
 item = do
   opening
   w ← some_word
@@ -580,14 +576,14 @@ item = do
 -- ---- functions
 
 -- the brace after the last item
-abbrev pub fits_close_after : List Entry → Lexeme → Result (Unit {0}) Fault
+abbrev pub fits_close_after : List BodyItem → Lexeme → Result (Unit {0}) Fault
 fits_close_after items t = if ends_well items then fits kinds.Close t else Err (misfit t)
 
-unfoldable pub closing_after : List Entry → Rule true (Unit {0})
+unfoldable pub closing_after : List BodyItem → Rule true (Unit {0})
 closing_after items = one (fits_close_after items)
 
 -- { stmts ITEM* }, of which the last is a jump, a switch or a return
-unfoldable pub stmts : Rule true (List Entry)
+unfoldable pub stmts : Rule true (List BodyItem)
 stmts = do
   begin (codes "stmts")
   items ← many opens item
@@ -595,7 +591,7 @@ stmts = do
   value items
 
 -- { scope { decls ALLOC* } { inits INIT* } { stmts ITEM* } }
-unfoldable pub scope : Rule true (List Frame × List Start × List Entry)
+unfoldable pub scope : Rule true (List Allocation × List InitialValue × List BodyItem)
 scope = do
   begin (codes "scope")
   frames ← allocs (codes "decls")
@@ -604,7 +600,7 @@ scope = do
   closing
   value (frames, starts, items)
 
-unfoldable pub arg_decls : Rule true (List Frame)
+unfoldable pub arg_decls : Rule true (List Allocation)
 arg_decls = allocs (codes "arg_decls")
 
 -- LABEL { arg_decls ALLOC* } { scope .. }, after the word of a function
@@ -690,7 +686,7 @@ imports = do
   value tt
 
 -- PROGRAM = { alf { macro_defs } { least_addr_unit 8 } little_endian { exports .. } { imports .. } { decls ALLOC* } { inits INIT* } { funcs FUNC* } }
-unfoldable pub program : Rule true Whole
+unfoldable pub program : Rule true WholeProgram
 program = do
   begin (codes "alf")
   heading

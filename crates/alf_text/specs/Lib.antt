@@ -1,4 +1,8 @@
 pub use Rattle.alf_program.specs.Tree
 pub use Rattle.alf_printer.specs.Canonical
 pub mod Grammar
+pub mod Reading
 pub mod Language
+pub mod First
+pub mod FirstTests
+pub mod FirstText

@@ -1,9 +1,34 @@
 //! The text of ALF: programs, what a text spells, and where it departs from the grammar first.
 #![tactic(auto)]
 
+// Where a text departs from the grammar.
+mod fault;
 mod text_fault;
 mod writable;
 
+// Single tokens, and what is counted.
+mod counts;
+mod reader;
+mod words;
+
+// Reading by the grammar's rules.
+mod expressions;
+mod frames;
+mod functions;
+mod lists;
+mod names;
+mod numbers;
+mod programs;
+mod statements;
+
+// What a text means.
+mod language;
+
+// Texts whose program is `main` alone.
+mod first;
+
 pub use alf_program::{Alloc, Expr, Func, Init, Item, Num, Program, Stmt};
+pub use first::{FirstFault, first_texts, read_first};
+pub use language::{one_meaning, read};
 pub use text_fault::TextFault;
 pub use writable::writable_programs_are_spelled;

@@ -22,6 +22,7 @@ use Rattle.alf_tokens.specs.Tokens.{Lexeme, is_kind}
 use Rattle.alf_program.specs.declared.program.Num.{Num}
 use Rattle.alf_program.specs.Tree.{NamedExpression, Address, Load, Apply, Null, Store, Jump, Switch, Call, Return, BodyItem, Label, Do, Allocation, InitialValue, Function, WholeProgram, expressions_of}
 use Rattle.alf_program.specs.Tree as tree
+pub use Rattle.alf_program.specs.Writable.{most_depth, most_functions, most_frames, most_frame_bytes, most_bytes, operand_count, is_ending, ends_well}
 
 -- how a text departs from the grammar, where places are of type P
 pub data DepartureAt (P : Type 0) : Type 0 where
@@ -37,23 +38,6 @@ pub data DepartureAt (P : Type 0) : Type 0 where
 -- a departure whose place is told by how many bytes of the text are left there
 abbrev pub Fault : Type 0
 Fault = DepartureAt ℕ
-
--- ---- limits
-
-abbrev pub most_depth : ℕ
-most_depth = 64
-
-abbrev pub most_functions : ℕ
-most_functions = 256
-
-abbrev pub most_frames : ℕ
-most_frames = 256
-
-abbrev pub most_frame_bytes : ℕ
-most_frame_bytes = 65536
-
-abbrev pub most_bytes : ℕ
-most_bytes = 1048576
 
 -- how many functions, frames and bytes of frames there may still be
 pub record Room : Type 0 where
@@ -403,10 +387,6 @@ operator_among (op ∷ ops) w = if bytes_eq (spelling op) w then Some op else op
 unfoldable pub operator_named : List ℕ → Option Op
 operator_named w = operator_among operators w
 
--- how many operands an operator has
-abbrev pub operand_count : Op → ℕ
-operand_count op = length (operands_by_layout (layout_of op) 0 0 0)
-
 unfoldable pub unsigned_term : Rule true NamedExpression
 unsigned_term = do
   n ← unsigned
@@ -595,22 +575,6 @@ item = do
   item_tail w
 
 -- ---- functions
-
--- a jump, a switch or a return
-abbrev pub is_ending : BodyItem → Bool
-is_ending (Label _) = false
-is_ending (Do Null) = false
-is_ending (Do (Store _ _)) = false
-is_ending (Do (Jump _)) = true
-is_ending (Do (Switch _ _ _)) = true
-is_ending (Do (Call _ _ _)) = false
-is_ending (Do (Return _)) = true
-
--- the last item is one
-abbrev pub ends_well : List BodyItem → Bool
-ends_well [] = false
-ends_well (last ∷ []) = is_ending last
-ends_well (_ ∷ next ∷ others) = ends_well (next ∷ others)
 
 -- the brace after the last item
 abbrev pub fits_close_after : List BodyItem → Lexeme → Result (Unit {0}) Fault

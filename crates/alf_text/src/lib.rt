@@ -4,6 +4,7 @@
 // Where a text departs from the grammar.
 mod fault;
 mod text_fault;
+mod writable;
 
 // Single tokens, and what is counted.
 mod counts;
@@ -30,3 +31,4 @@ pub use alf_program::{Alloc, Expr, Func, Init, Item, Num, Program, Stmt};
 pub use first::{FirstFault, first_texts, read_first};
 pub use language::{one_meaning, read};
 pub use text_fault::TextFault;
+pub use writable::writable_programs_are_spelled;

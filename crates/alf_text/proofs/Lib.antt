@@ -1,13 +1,13 @@
--- Shared lemmas.
+-- Shared lemmas: the reader's, first texts, and which programs some text spells.
 pub mod Depths
+pub mod Operators
+pub mod Meaning
 pub mod FirstMeaning
 pub mod FirstPrograms
-pub mod Meaning
-pub mod Operators
--- Which programs some text spells.
-mod Decimals
-mod Named
-mod Written
-mod Marked
-mod Needs
-mod Kept
+pub mod Decimals
+pub mod Named
+pub mod Written
+pub mod Marked
+pub mod Needs
+pub mod Kept
+pub mod Spelled

@@ -1,8 +1,11 @@
+-- Programs and their canonical text, the grammar, the reader, what a text means, first texts, and what printing back promises.
 pub use Rattle.alf_program.specs.Tree
 pub use Rattle.alf_printer.specs.Canonical
 pub mod Grammar
 pub mod Reading
 pub mod Language
+pub mod Spelled
 pub mod First
 pub mod FirstTests
 pub mod FirstText
+pub mod CanonicalLaws

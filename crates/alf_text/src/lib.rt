@@ -4,7 +4,6 @@
 // Where a text departs from the grammar.
 mod fault;
 mod text_fault;
-mod writable;
 
 // Single tokens, and what is counted.
 mod counts;
@@ -21,8 +20,13 @@ mod parts;
 mod programs;
 mod statements;
 
-// What a text means.
+// What a text means, and what the definitions promise.
 mod language;
+mod laws;
+mod writable;
+
+// Writing a program.
+mod printing;
 
 // Texts whose program is `main` alone.
 mod first;
@@ -30,5 +34,7 @@ mod first;
 pub use alf_program::{Alloc, Expr, Func, Init, Item, Num, Program, Stmt};
 pub use first::{FirstFault, first_texts, read_first};
 pub use language::{one_meaning, read};
+pub use laws::{canonical_texts_are_read_back, spelled_programs_are_written};
+pub use printing::print;
 pub use text_fault::TextFault;
 pub use writable::writable_programs_are_spelled;

@@ -3,7 +3,7 @@ use Rattle.std.proofs.Common.{◌≡◌, ◌≤◌, ℕ, List, ◌++◌, Option,
 use Rattle.std.specs.Prelude.{Vec, vec_len}
 use Rattle.std.specs.declared.alloc.Global.{Global}
 use Rattle.flow_base.specs.Outside.{Files, Appended}
-use Rattle.alf_program.specs.Tree.{Entry, Whole}
+use Rattle.alf_program.specs.Tree.{BodyItem, WholeProgram}
 use Rattle.alf_text.specs.First.{main_alone, IsFirst}
 use Rattle.alf_text.specs.FirstText.{FirstText}
 use Rattle.alf_text.specs.Canonical.{canonical_text}
@@ -25,9 +25,9 @@ pub within_is : (bytes : Vec ℕ Global) → vec_len bytes ≤ 1048576 → lengt
 within_is bytes h = omega (arith, bytes.ok.0)
 
 -- the program of each first text is one whose exact reports are sound
-module _ (firsts : (bytes : List ℕ) (whole : Whole) → FirstText bytes whole → IsFirst whole) where
+module _ (firsts : (bytes : List ℕ) (whole : WholeProgram) → FirstText bytes whole → IsFirst whole) where
   done_text : {bytes : List ℕ} {turns : ℕ} {status : Status} {text : List ℕ} → TextAnswers bytes turns status text → status ≡ Done
-      → (frames : List (List ℕ)) × (items : List Entry) × (findings : Findings) × FirstText bytes (main_alone frames items) × IsSound items findings × (text ≡ report_text findings)
+      → (frames : List (List ℕ)) × (items : List BodyItem) × (findings : Findings) × FirstText bytes (main_alone frames items) × IsSound items findings × (text ≡ report_text findings)
   done_text (not_first none) e = absurd (let k : Source ≡ Done = e in cc)
   done_text (left frames items text past) e = absurd (let k : Unbounded ≡ Done = e in cc)
   done_text {bytes = bytes} (done frames items findings text within) e =

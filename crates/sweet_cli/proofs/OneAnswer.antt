@@ -2,7 +2,7 @@
 use Rattle.std.proofs.Common.{◌≡◌, ◌≤◌, ◌<◌, ℕ, List, [], Result, Ok, Err, Option, None, Some, length, refl, ap, sym, ◌∙◌, subst, arith}
 use Rattle.std.specs.Prelude.{IsSomeAnd}
 use Rattle.flow_base.specs.Outside.{Files}
-use Rattle.alf_program.specs.Tree.{Entry, Whole}
+use Rattle.alf_program.specs.Tree.{BodyItem, WholeProgram}
 use Rattle.alf_text.specs.First.{main_alone, IsFirst}
 use Rattle.alf_text.specs.FirstText.{FirstText}
 use Rattle.alf_text.specs.Language.{Departure, Means, HasOneMeaning}
@@ -21,17 +21,17 @@ use Rattle.sweet_cli.proofs.Named.{main_items}
 use Rattle.sweet_cli.proofs.OneRun.{report_one, past_apart}
 use Rattle.sweet_cli.proofs.Cutting.{some_is}
 
-module _ (text_one : (bytes : List ℕ) (a b : Whole) → FirstText bytes a → FirstText bytes b → a ≡ b)
-    (firsts : (bytes : List ℕ) (whole : Whole) → FirstText bytes whole → IsFirst whole) (meaning : (bytes : List ℕ) → HasOneMeaning bytes) where
+module _ (text_one : (bytes : List ℕ) (a b : WholeProgram) → FirstText bytes a → FirstText bytes b → a ≡ b)
+    (firsts : (bytes : List ℕ) (whole : WholeProgram) → FirstText bytes whole → IsFirst whole) (meaning : (bytes : List ℕ) → HasOneMeaning bytes) where
   -- bytes spell the items of one program
-  items_one : (bytes : List ℕ) (f g : List (List ℕ)) (a b : List Entry) → FirstText bytes (main_alone f a) → FirstText bytes (main_alone g b) → b ≡ a
+  items_one : (bytes : List ℕ) (f g : List (List ℕ)) (a b : List BodyItem) → FirstText bytes (main_alone f a) → FirstText bytes (main_alone g b) → b ≡ a
   items_one bytes f g a b text text' = main_items g f b a (text_one bytes (main_alone g b) (main_alone f a) text' text)
 
-  apart : (bytes : List ℕ) (turns : ℕ) (f g : List (List ℕ)) (a b : List Entry) (findings : Findings) → FirstText bytes (main_alone f a) → RunsPast (blocks_of a) entry [] turns
+  apart : (bytes : List ℕ) (turns : ℕ) (f g : List (List ℕ)) (a b : List BodyItem) (findings : Findings) → FirstText bytes (main_alone f a) → RunsPast (blocks_of a) entry [] turns
       → FirstText bytes (main_alone g b) → IsReportWithin b turns findings → ⊥
   apart bytes turns f g a b findings text past text' within =
       let same : b ≡ a = items_one bytes f g a b text text' in
-      past_apart f a turns findings (firsts bytes (main_alone f a) text) past (subst (λ (x : List Entry). IsReportWithin x turns findings) same within)
+      past_apart f a turns findings (firsts bytes (main_alone f a) text) past (subst (λ (x : List BodyItem). IsReportWithin x turns findings) same within)
 
   texts_one : (bytes : List ℕ) (turns : ℕ) (s t : Status) (x y : List ℕ) → TextAnswers bytes turns s x → TextAnswers bytes turns t y → (s ≡ t) × (x ≡ y)
   texts_one bytes turns s t x y (not_first none) (not_first none') = (refl, refl)
@@ -44,11 +44,11 @@ module _ (text_one : (bytes : List ℕ) (a b : Whole) → FirstText bytes a → 
   texts_one bytes turns s t x y (done frames items findings text within) (left frames' items' text' past) = absurd (apart bytes turns frames' frames items' items findings text' past text within)
   texts_one bytes turns s t x y (done frames items findings text within) (done frames' items' findings' text' within') =
       let same : items' ≡ items = items_one bytes frames frames' items items' text text' in
-      let exact : IsReportOf items findings' = subst (λ (z : List Entry). IsReportOf z findings') same within'.exact in
+      let exact : IsReportOf items findings' = subst (λ (z : List BodyItem). IsReportOf z findings') same within'.exact in
       (refl, ap report_text (report_one frames items findings findings' (firsts bytes (main_alone frames items) text) within.exact exact))
 
   -- bytes mean one thing
-  meanings_one : (bytes : List ℕ) (m n : Result Whole Departure) → Means bytes m → Means bytes n → m ≡ n
+  meanings_one : (bytes : List ℕ) (m n : Result WholeProgram Departure) → Means bytes m → Means bytes n → m ≡ n
   meanings_one bytes m n h k = let one = meaning bytes in sym (one.only m h) ∙ one.only n k
 
   prints_one : (bytes : List ℕ) (s t : Status) (x y : List ℕ) → PrintAnswers bytes s x → PrintAnswers bytes t y → (s ≡ t) × (x ≡ y)

@@ -8,7 +8,7 @@
 --   PrintsSame file files before after          what a sink grew by is a text that spells the program in the file
 use Rattle.std.specs.Prelude.{◌≡◌, ◌≤◌, ◌<◌, ℕ, List, [], ◌++◌, length, Ok, Err, Option, None, Some, IfSome, IsSomeAnd, codes}
 use Rattle.flow_base.specs.Outside.{Files}
-use Rattle.alf_program.specs.Tree.{Entry, Whole}
+use Rattle.alf_program.specs.Tree.{BodyItem, WholeProgram}
 use Rattle.alf_text.specs.First.{main_alone}
 use Rattle.alf_text.specs.FirstText.{FirstText}
 use Rattle.alf_text.specs.Language.{Departure, Means, SpellsProgram}
@@ -30,12 +30,12 @@ most_bytes = 1048576
 -- a status and a text answer the bytes of a program that is analysed
 pub data TextAnswers (bytes : List ℕ) (turns : ℕ) : Status → List ℕ → Type 0 where
   -- they are no first text
-  not_first : ((whole : Whole) → FirstText bytes whole → ⊥) → TextAnswers bytes turns Source (line (codes "fault 10 syntax 1 1"))
+  not_first : ((whole : WholeProgram) → FirstText bytes whole → ⊥) → TextAnswers bytes turns Source (line (codes "fault 10 syntax 1 1"))
   -- the run has more nodes than the turns
-  left : (frames : List (List ℕ)) (items : List Entry) → FirstText bytes (main_alone frames items) → RunsPast (blocks_of items) entry [] turns
+  left : (frames : List (List ℕ)) (items : List BodyItem) → FirstText bytes (main_alone frames items) → RunsPast (blocks_of items) entry [] turns
       → TextAnswers bytes turns Unbounded (line (codes "unbounded 0 \"main\":entry"))
   -- the run ends within the turns
-  done : (frames : List (List ℕ)) (items : List Entry) (findings : Findings) → FirstText bytes (main_alone frames items) → IsReportWithin items turns findings
+  done : (frames : List (List ℕ)) (items : List BodyItem) (findings : Findings) → FirstText bytes (main_alone frames items) → IsReportWithin items turns findings
       → TextAnswers bytes turns Done (report_text findings)
 
 -- a status and a text answer the bytes of a program that is printed
@@ -43,7 +43,7 @@ pub data PrintAnswers (bytes : List ℕ) : Status → List ℕ → Type 0 where
   -- they depart from the grammar
   departed : (departure : Departure) → Means bytes (Err departure) → PrintAnswers bytes Source (fault_line departure)
   -- they spell a program
-  printed : (whole : Whole) → Means bytes (Ok whole) → PrintAnswers bytes Done (canonical_text whole)
+  printed : (whole : WholeProgram) → Means bytes (Ok whole) → PrintAnswers bytes Done (canonical_text whole)
 
 -- a status and a text answer the bytes that a command reads
 abbrev pub CommandAnswers : Command → List ℕ → Status → List ℕ → Type 0
@@ -80,7 +80,7 @@ IsWritten Memory = ⊥
 pub record PrintsSound (file : List ℕ) (files : Files) (before after : List ℕ) : Type 0 where
   pub bytes : List ℕ
   pub frames : List (List ℕ)
-  pub items : List Entry
+  pub items : List BodyItem
   pub findings : Findings
   pub told : files file ≡ Some bytes
   pub spelled : FirstText bytes (main_alone frames items)
@@ -91,7 +91,7 @@ pub record PrintsSound (file : List ℕ) (files : Files) (before after : List �
 pub record PrintsSame (file : List ℕ) (files : Files) (before after : List ℕ) : Type 0 where
   pub bytes : List ℕ
   pub text : List ℕ
-  pub whole : Whole
+  pub whole : WholeProgram
   pub told : files file ≡ Some bytes
   pub spelled : SpellsProgram bytes whole
   pub again : SpellsProgram text whole

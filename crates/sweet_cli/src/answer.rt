@@ -1,6 +1,6 @@
 ghost use Rattle.std.specs.Prelude.{◌≡◌, List, ℕ, map, Some, string_bytes, IfOk};
 ghost use Rattle.flow_base.specs.Outside.{Rose};
-ghost use Rattle.alf_program.specs.Tree.{item_of, names_of, whole_of};
+ghost use Rattle.alf_program.specs.Tree.{item_of, names_of, program_of};
 ghost use Rattle.alf_text.specs.First.{main_alone, IsFirst};
 ghost use Rattle.alf_text.specs.FirstText.{FirstText};
 ghost use Rattle.sweet_cli.specs.Words.{Command as Meaning, command_of, file_of};
@@ -105,8 +105,8 @@ fn text_answer(alloc: Global, bytes: &[u8], turns: u32) -> Result<Answer, AllocE
 
 // The answer to a program, whatever bytes spell it.
 fn program_answer(alloc: Global, program: &Program, turns: u32) -> Result<Answer, AllocError>
-    requires { IsFirst (whole_of program.now) }
-    ensures answer { (bytes : List ℕ) → FirstText bytes (whole_of program.now)
+    requires { IsFirst (program_of program.now) }
+    ensures answer { (bytes : List ℕ) → FirstText bytes (program_of program.now)
         → IfOk result (λ answer. TextAnswers bytes turns answer.status (answer.text.items)) }
     ensures was_read { IfOk result (λ answer. answer.status ≡ Status.ReadFailed → ⊥) }
     ensures written { IfOk result (λ answer. IsWritten answer.status) }
@@ -124,8 +124,8 @@ fn program_answer(alloc: Global, program: &Program, turns: u32) -> Result<Answer
 
 // The items of the program's one function.
 fn items_of_main(program: &Program) -> &[Item]
-    requires { IsFirst (whole_of program.now) }
-    ensures { whole_of program.now ≡ main_alone (names_of program.now.decls.items) (map item_of result.now) }
+    requires { IsFirst (program_of program.now) }
+    ensures { program_of program.now ≡ main_alone (names_of program.now.decls.items) (map item_of result.now) }
 {
     &program.funcs[0].items
 }

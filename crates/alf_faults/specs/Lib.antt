@@ -6,4 +6,6 @@ pub mod Unknowns
 pub mod Sizes
 pub mod Faults
 pub mod Told
+pub mod NoFault
+pub mod NoFaultLaws
 pub mod Scopes

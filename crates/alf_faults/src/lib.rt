@@ -11,6 +11,7 @@
 // What is found, and what is told of it.
 mod findings;
 mod item_faults;
+mod item_places;
 
 // Sizes of expressions and returns, and what is looked up around an item.
 mod returns;
@@ -27,6 +28,9 @@ mod unknown_names;
 mod first_faults;
 mod function_faults;
 
+// What the definitions promise.
+mod laws;
+
 pub use first_faults::first_fault;
 pub use item_faults::ItemFault;
-pub use term_sizes::term_size;
+pub use laws::no_fault_is_by_parts;

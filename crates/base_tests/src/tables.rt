@@ -1,6 +1,7 @@
 //! Walks over tables, and what is reached, worked out by hand.
 
 use crate::cycles::lists;
+use std::alloc::{AllocError, Global};
 use std::process::Abort;
 use std::test::Fail;
 use walks::{find_walk, is_closed, mark_reached};
@@ -69,15 +70,26 @@ static WALKS: [Row; 9] = [
     ),
 ];
 
+/// The walk, where the table and the marks fit one another.
+fn walk_of(
+    rt: &impl Abort,
+    alloc: Global,
+    table: &[Vec<u32>],
+    marks: &[bool],
+    ends: (u32, u32),
+) -> Result<Option<Vec<u32>>, AllocError> {
+    assert!(rt; is_closed(table), "a node has no row");
+    assert!(rt; marks.len() == table.len(), "a node has no mark");
+    assert!(rt; (ends.0 as usize) < table.len(), "the start has no row");
+    find_walk(alloc, table, marks, ends.0, ends.1)
+}
+
 #[test]
 fn a_walk_is_found_where_there_is_one(rt: HostRuntime) -> Result<(), Fail> {
     let alloc = rt.alloc();
     for (name, rows, marks, ends, path) in &WALKS {
         let table = lists(alloc, rows)?;
-        assert!(rt; is_closed(&table), "{name}");
-        assert!(rt; marks.len() == table.len(), "{name}");
-        assert!(rt; (ends.0 as usize) < table.len(), "{name}");
-        let found = find_walk(alloc, &table, marks, ends.0, ends.1)?;
+        let found = walk_of(&rt, alloc, &table, marks, *ends)?;
         assert_eq!(rt; found.as_deref(), *path, "{name}");
     }
     Ok(())
@@ -130,16 +142,27 @@ static REACHED: [Reach; 5] = [
     ),
 ];
 
+/// Marks what the node reaches, where the table and the marks fit one another.
+fn mark(
+    rt: &impl Abort,
+    alloc: Global,
+    table: &[Vec<u32>],
+    marks: &mut [bool],
+    from: u32,
+) -> Result<(), AllocError> {
+    assert!(rt; is_closed(table), "a node has no row");
+    assert!(rt; marks.len() == table.len(), "a node has no mark");
+    assert!(rt; (from as usize) < table.len(), "the node has no row");
+    mark_reached(alloc, table, marks, from)
+}
+
 #[test]
 fn what_a_node_reaches_is_marked(rt: HostRuntime) -> Result<(), Fail> {
     let alloc = rt.alloc();
     for (name, rows, before, from, after) in &REACHED {
         let table = lists(alloc, rows)?;
         let mut marks = before.to_vec(alloc)?;
-        assert!(rt; is_closed(&table), "{name}");
-        assert!(rt; marks.len() == table.len(), "{name}");
-        assert!(rt; (*from as usize) < table.len(), "{name}");
-        mark_reached(alloc, &table, &mut marks, *from)?;
+        mark(&rt, alloc, &table, &mut marks, *from)?;
         assert_eq!(rt; marks.as_slice(), *after, "{name}");
     }
     Ok(())
@@ -160,9 +183,7 @@ fn a_long_walk_takes_no_stack(rt: HostRuntime) -> Result<(), Fail> {
         chain.push(node)?;
     }
     let marks = vec![in alloc; false; table.len()]?;
-    assert!(rt; is_closed(&table), "the chain is closed");
-    assert!(rt; table.len() > 0, "there are nodes");
-    let found = find_walk(alloc, &table, &marks, 0, NODES - 1)?;
+    let found = walk_of(&rt, alloc, &table, &marks, (0, NODES - 1))?;
     assert_eq!(rt; found, Some(chain));
     Ok(())
 }

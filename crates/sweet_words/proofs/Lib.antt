@@ -9,3 +9,4 @@ pub mod Deciding
 pub mod Numerals
 pub mod Entered
 mod Later
+pub mod Spelling

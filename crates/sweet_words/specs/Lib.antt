@@ -6,3 +6,4 @@ pub mod Numbers
 pub mod Commands
 pub mod Meant
 pub mod Matched
+pub mod Laws

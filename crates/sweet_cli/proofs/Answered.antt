@@ -1,8 +1,7 @@
 -- Lemmas on answers.
-use Rattle.std.proofs.Common.{◌≡◌, ◌≤◌, ℕ, List, ◌++◌, Option, None, Some, IfSome, length, refl, ap, sym, ◌∙◌, subst, arith}
-use Rattle.std.specs.Prelude.{Vec, vec_len}
-use Rattle.std.specs.declared.alloc.Global.{Global}
-use Rattle.flow_base.specs.Outside.{Files, Appended}
+use Rattle.std.proofs.Common.{◌≡◌, ℕ, List, ◌++◌, Option, None, Some, IfSome, refl, ap, sym, ◌∙◌, subst}
+use Rattle.flow_base.specs.Outside.{Files}
+use Rattle.flow_base.specs.Sinks.{Appended}
 use Rattle.alf_program.specs.Tree.{Entry, Whole}
 use Rattle.alf_text.specs.First.{main_alone, IsFirst}
 use Rattle.alf_text.specs.FirstText.{FirstText}
@@ -20,9 +19,6 @@ use Rattle.sweet_cli.proofs.OneRun.{sound_of_exact}
 -- a status and a text in the place of equal ones
 pub put : (P : Status → List ℕ → Type 0) (s t : Status) (x y : List ℕ) → P s x → (t ≡ s) × (y ≡ x) → P t y
 put P s t x y p (e, f) = subst (λ (u : Status). P u y) (sym e) (subst (λ (z : List ℕ). P s z) (sym f) p)
-
-pub within_is : (bytes : Vec ℕ Global) → vec_len bytes ≤ 1048576 → length bytes.items ≤ 1048576
-within_is bytes h = omega (arith, bytes.ok.0)
 
 -- the program of each first text is one whose exact reports are sound
 module _ (firsts : (bytes : List ℕ) (whole : Whole) → FirstText bytes whole → IsFirst whole) where

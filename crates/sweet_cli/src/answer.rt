@@ -32,12 +32,12 @@ pub fn words_answer<F: Shelf>(
     words: &[String],
     shelf: &mut F,
 ) -> Result<Answer, AllocError>
-    ensures answer { IfOk result (λ answer. Answers (map string_bytes words.now) (F.files shelf.old) answer.status (answer.text.items)) }
-    ensures read_failed { IfOk result (λ answer. answer.status ≡ Status.ReadFailed → Rose (F.faults shelf.old) (F.faults shelf.new)) }
+    ensures answer { IfOk result (λ answer. Answers (map string_bytes words.now) (F.state shelf.old).files answer.status (answer.text.items)) }
+    ensures read_failed { IfOk result (λ answer. answer.status ≡ Status.ReadFailed → Rose (F.state shelf.old).faults (F.state shelf.new).faults) }
     ensures name_kept { IfOk result (λ answer. answer.status ≡ Status.ReadFailed
-        → (command : Meaning) × (command_of (map string_bytes words.now) ≡ Some command) × (F.failed shelf.new ≡ Some (file_of command))) }
-    ensures no_other_read { IfOk result (λ answer. (answer.status ≡ Status.ReadFailed → ⊥) → F.failed shelf.new ≡ F.failed shelf.old) }
-    ensures same_files { F.files shelf.new ≡ F.files shelf.old }
+        → (command : Meaning) × (command_of (map string_bytes words.now) ≡ Some command) × ((F.state shelf.new).failed ≡ Some (file_of command))) }
+    ensures no_other_read { IfOk result (λ answer. (answer.status ≡ Status.ReadFailed → ⊥) → (F.state shelf.new).failed ≡ (F.state shelf.old).failed) }
+    ensures same_files { (F.state shelf.new).files ≡ (F.state shelf.old).files }
     ensures written { IfOk result (λ answer. IsWritten answer.status) }
 {
     let Some(command) = read_command(words) else {

@@ -1,5 +1,6 @@
 ghost use Rattle.std.specs.Prelude.{◌≡◌, List, ℕ, map, Some, string_bytes, IfSome};
-ghost use Rattle.flow_base.specs.Outside.{Rose, Appended, AppendedFront};
+ghost use Rattle.flow_base.specs.Outside.{Rose};
+ghost use Rattle.flow_base.specs.Sinks.{Appended, AppendedPrefix};
 ghost use Rattle.sweet_cli.specs.Words.{Command, Analyse, Print, file_of, command_of};
 ghost use Rattle.sweet_cli.specs.Answer.{Answers, IsWritten, PrintsSound, PrintsSame};
 ghost use Rattle.sweet_cli.specs.declared.status.Status.{Status};
@@ -17,36 +18,36 @@ use std::alloc::Global;
 /// runs out; a read may have failed before.
 pub fn run<F: Shelf, W: Sink>(alloc: Global, words: &[String], shelf: &mut F, out: &mut W) -> Status
     // The sink grew by the text of the answer.
-    ensures answer { IsWritten result → (text : List ℕ) × Answers (map string_bytes words.now) (F.files shelf.old) result text
-        × Appended (W.taken out.old) (W.taken out.new) text }
+    ensures answer { IsWritten result → (text : List ℕ) × Answers (map string_bytes words.now) (F.state shelf.old).files result text
+        × Appended (W.state out.old).taken (W.state out.new).taken text }
 
     // After `Done` on `analyse` the report that was printed is sound for the program that the told bytes spell.
     ensures sound { result ≡ Status.Done → (file : List ℕ) (turns : ℕ) → command_of (map string_bytes words.now) ≡ Some (Analyse file turns)
-        → IfSome (F.files shelf.old) (λ files. IfSome (W.taken out.old) (λ before. IfSome (W.taken out.new) (λ after. PrintsSound file files before after))) }
+        → IfSome (F.state shelf.old).files (λ files. IfSome (W.state out.old).taken (λ before. IfSome (W.state out.new).taken (λ after. PrintsSound file files before after))) }
 
     // After `Done` on `print` the text that was printed spells the program that the told bytes spell.
     ensures same { result ≡ Status.Done → (file : List ℕ) → command_of (map string_bytes words.now) ≡ Some (Print file)
-        → IfSome (F.files shelf.old) (λ files. IfSome (W.taken out.old) (λ before. IfSome (W.taken out.new) (λ after. PrintsSame file files before after))) }
+        → IfSome (F.state shelf.old).files (λ files. IfSome (W.state out.old).taken (λ before. IfSome (W.state out.new).taken (λ after. PrintsSame file files before after))) }
 
-    ensures read_failed { result ≡ Status.ReadFailed → Rose (F.faults shelf.old) (F.faults shelf.new) }
+    ensures read_failed { result ≡ Status.ReadFailed → Rose (F.state shelf.old).faults (F.state shelf.new).faults }
     ensures name_kept { result ≡ Status.ReadFailed → (command : Command) × (command_of (map string_bytes words.now) ≡ Some command)
-        × (F.failed shelf.new ≡ Some (file_of command)) }
+        × ((F.state shelf.new).failed ≡ Some (file_of command)) }
 
     // No failed read goes untold: another answer that was written whole comes without one.
-    ensures no_other_read { IsWritten result → (result ≡ Status.ReadFailed → ⊥) → F.failed shelf.new ≡ F.failed shelf.old }
-    ensures same_files { F.files shelf.new ≡ F.files shelf.old }
+    ensures no_other_read { IsWritten result → (result ≡ Status.ReadFailed → ⊥) → (F.state shelf.new).failed ≡ (F.state shelf.old).failed }
+    ensures same_files { (F.state shelf.new).files ≡ (F.state shelf.old).files }
 
-    ensures write_failed { result ≡ Status.WriteFailed → Rose (W.faults out.old) (W.faults out.new) }
+    ensures write_failed { result ≡ Status.WriteFailed → Rose (W.state out.old).faults (W.state out.new).faults }
 
     // The answer whose text was cut short is the answer, and tells of a failed read as above.
     ensures cut_short { result ≡ Status.WriteFailed → (status : Status) × (text : List ℕ)
-        × Answers (map string_bytes words.now) (F.files shelf.old) status text × AppendedFront (W.taken out.old) (W.taken out.new) text
-        × (status ≡ Status.ReadFailed → Rose (F.faults shelf.old) (F.faults shelf.new))
+        × Answers (map string_bytes words.now) (F.state shelf.old).files status text × AppendedPrefix (W.state out.old).taken (W.state out.new).taken text
+        × (status ≡ Status.ReadFailed → Rose (F.state shelf.old).faults (F.state shelf.new).faults)
         × (status ≡ Status.ReadFailed → (command : Command) × (command_of (map string_bytes words.now) ≡ Some command)
-        × (F.failed shelf.new ≡ Some (file_of command)))
-        × ((status ≡ Status.ReadFailed → ⊥) → F.failed shelf.new ≡ F.failed shelf.old) }
+        × ((F.state shelf.new).failed ≡ Some (file_of command)))
+        × ((status ≡ Status.ReadFailed → ⊥) → (F.state shelf.new).failed ≡ (F.state shelf.old).failed) }
 
-    ensures nothing_written { result ≡ Status.Memory → W.taken out.new ≡ W.taken out.old }
+    ensures nothing_written { result ≡ Status.Memory → (W.state out.new).taken ≡ (W.state out.old).taken }
 {
     // What the texts of programs promise, as `sound` and `same` need it.
     first_texts();

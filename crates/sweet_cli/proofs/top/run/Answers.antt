@@ -1,5 +1,5 @@
 use Rattle.std.proofs.Common.{subst, map, string_bytes, List, ℕ}
-use Rattle.flow_base.specs.Outside.{Appended}
+use Rattle.flow_base.specs.Sinks.{Appended}
 use Rattle.sweet_cli.proofs.Answered.{prints_sound, prints_same}
 use Rattle.sweet_cli.specs.Answer.{IsWritten}
 use Rattle.sweet_cli.proofs.top.run.Goals as goal
@@ -13,10 +13,10 @@ returns-in-Ok-write_all-clause-nothing_written g c = λ e. absurd (subst IsWritt
 
 pub returns-in-Ok-write_all-clause-sound : goal.returns-in-Ok-write_all-clause-sound
 returns-in-Ok-write_all-clause-sound g c =
-    λ e file turns is. prints_sound c.first_texts.ensures.first (map string_bytes c.args.words.now) (g.F.Shelf.files c.args.shelf.now) _ _ _ _ file turns c.in-Ok.ensures.answer
-    (subst (λ (x : List ℕ). Appended (g.W.Sink.taken c.args.out.now) (g.W.Sink.taken c.write_all.new.self) x) c.deref.ensures.value c.in-Ok-write_all.ensures.all) e is
+    λ e file turns is. prints_sound c.first_texts.ensures.first (map string_bytes c.args.words.now) (g.F.Shelf.state c.args.shelf.now).files _ _ _ _ file turns c.in-Ok.ensures.answer
+    (subst (λ (x : List ℕ). Appended (g.W.Sink.state c.args.out.now).taken (g.W.Sink.state c.write_all.new.self).taken x) c.deref.ensures.value c.in-Ok-write_all.ensures.answer) e is
 
 pub returns-in-Ok-write_all-clause-same : goal.returns-in-Ok-write_all-clause-same
 returns-in-Ok-write_all-clause-same g c =
-    λ e file is. prints_same c.canonical_texts_are_read_back.ensures.spelled (map string_bytes c.args.words.now) (g.F.Shelf.files c.args.shelf.now) _ _ _ _ file c.in-Ok.ensures.answer
-    (subst (λ (x : List ℕ). Appended (g.W.Sink.taken c.args.out.now) (g.W.Sink.taken c.write_all.new.self) x) c.deref.ensures.value c.in-Ok-write_all.ensures.all) e is
+    λ e file is. prints_same c.canonical_texts_are_read_back.ensures.spelled (map string_bytes c.args.words.now) (g.F.Shelf.state c.args.shelf.now).files _ _ _ _ file c.in-Ok.ensures.answer
+    (subst (λ (x : List ℕ). Appended (g.W.Sink.state c.args.out.now).taken (g.W.Sink.state c.write_all.new.self).taken x) c.deref.ensures.value c.in-Ok-write_all.ensures.answer) e is

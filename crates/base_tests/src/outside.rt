@@ -58,14 +58,14 @@ fn a_fault_of_the_outside_has_a_text(rt: HostRuntime) -> Result<(), Fail> {
         (ReadError::Memory, "out of memory"),
     ];
     for (error, wanted) in reads {
-        assert_eq!(rt; format!(alloc; "{error}")?.as_str(), wanted);
+        assert_eq!(rt; format!(in alloc; "{error}")?.as_str(), wanted);
     }
     let writes = [
         (WriteError::Failed, "the write failed"),
         (WriteError::Memory, "out of memory"),
     ];
     for (error, wanted) in writes {
-        assert_eq!(rt; format!(alloc; "{error}")?.as_str(), wanted);
+        assert_eq!(rt; format!(in alloc; "{error}")?.as_str(), wanted);
     }
     Ok(())
 }

@@ -2,12 +2,13 @@
 --   Tells name before after            the failed read that is told is the shelf's last one; where none is told, none has failed
 --   Works w view before result after   the answer is one of the work, and the shelf is left as it says
 --   Judges Means view result           the answer is the one that is meant; no shelf is touched
-use Rattle.std.specs.Prelude.{◌≡◌, ◌≤◌, ℕ, List, Result, Ok, Err, Option, None, Some}
+--   stop_judges                        a stop with the one outcome that is meant judges
+use Rattle.std.proofs.Common.{◌≡◌, ◌≤◌, ℕ, List, Result, Ok, Err, Option, None, Some, ap, sym, ◌∙◌, subst}
 use Rattle.flow_base.specs.Outside.{Rose}
 use Rattle.flow_base.specs.Shelves.{ShelfState}
 use Rattle.work.specs.declared.stop.Stop.{Stop}
 use Rattle.work.specs.declared.stop.Stop.TheVariants as stops
-use Rattle.work.specs.Outcome.{Outcome, cause_of, unread_of}
+use Rattle.work.specs.Outcome.{Outcome, cause_of, unread_of, IsStop}
 use Rattle.work.specs.Log.{log_of}
 use Rattle.work.specs.Work.{Work, IsOnly}
 
@@ -33,3 +34,10 @@ abbrev pub Judges : {A X : Type 0} → (Result A Outcome → Type 0) → (X → 
 Judges Means view (Ok x) = IsOnly Means (Ok (view x))
 Judges Means view (Err (stops.Told why text)) = (unread_of (cause_of why) ≡ None) × IsOnly Means (Err (record { cause = cause_of why; text = text.items }))
 Judges Means view (Err stops.Memory) = Unit {0}
+
+-- a stop with the one outcome that is meant judges
+pub stop_judges : {A X : Type 0} (Means : Result A Outcome → Type 0) (view : X → A) (stop : Stop) (outcome : Outcome) → IsStop stop outcome → unread_of outcome.cause ≡ None
+    → IsOnly Means (Err outcome) → Judges Means view (Err stop)
+stop_judges Means view (stops.Told why text) outcome e none only =
+    (ap (λ (o : Outcome). unread_of o.cause) e ∙ none, subst (λ (o : Outcome). IsOnly Means (Err o)) (sym e) only)
+stop_judges Means view stops.Memory outcome e none only = tt

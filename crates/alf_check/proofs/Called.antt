@@ -4,7 +4,7 @@ use Rattle.std.specs.List.{flat_map}
 use Rattle.std.proofs.lemmas.List.{length-map}
 use Rattle.std.proofs.lemmas.List.Elements.{Contains-append_cases}
 use Rattle.alf_program.specs.declared.program.Func.{Func}
-use Rattle.alf_program.specs.Tree.{function_of, Nothing, Stores, Jumps, Switches, Calls, Returns, Entry, Labels, Does, Function}
+use Rattle.alf_program.specs.Tree.{function_of, Null, Store, Jump, Switch, Call, Return, BodyItem, Label, Do, Function}
 use Rattle.alf_names.specs.Places.{function_place}
 use Rattle.alf_names.specs.PlaceLaws.{place_within}
 use Rattle.call_cycles.specs.Calls.{CallsWithin}
@@ -26,17 +26,17 @@ or_first (Some place) n some low = low
 pub number_low : (all : List Function) (name : List ℕ) → 0 < length all → func_number all name < length all
 number_low all name some = or_first (function_place all name) (length all) some (place_within _ all)
 
-called_low : (all : List Function) (item : Entry) (g : ℕ) → 0 < length all → Contains (called_by all item) g → g < length all
-called_low all (Labels label) g some h = absurd (contains_none g h)
-called_low all (Does Nothing) g some h = absurd (contains_none g h)
-called_low all (Does (Stores at value)) g some h = absurd (contains_none g h)
-called_low all (Does (Jumps label)) g some h = absurd (contains_none g h)
-called_low all (Does (Switches value targets others)) g some h = absurd (contains_none g h)
-called_low all (Does (Calls label args result)) g some h =
+called_low : (all : List Function) (item : BodyItem) (g : ℕ) → 0 < length all → Contains (called_by all item) g → g < length all
+called_low all (Label label) g some h = absurd (contains_none g h)
+called_low all (Do Null) g some h = absurd (contains_none g h)
+called_low all (Do (Store at value)) g some h = absurd (contains_none g h)
+called_low all (Do (Jump label)) g some h = absurd (contains_none g h)
+called_low all (Do (Switch value targets others)) g some h = absurd (contains_none g h)
+called_low all (Do (Call label args result)) g some h =
     let e = contains_only (func_number all label) g h in let low = number_low all label some in omega arith
-called_low all (Does (Returns value)) g some h = absurd (contains_none g h)
+called_low all (Do (Return value)) g some h = absurd (contains_none g h)
 
-row_low : (all : List Function) (items : List Entry) (g : ℕ) → 0 < length all → Contains (flat_map (called_by all) items) g → g < length all
+row_low : (all : List Function) (items : List BodyItem) (g : ℕ) → 0 < length all → Contains (flat_map (called_by all) items) g → g < length all
 row_low all [] g some h = absurd (contains_none g h)
 row_low all (item ∷ items) g some h =
     ⊎_elim (λ k. called_low all item g some k) (λ k. row_low all items g some k) (Contains-append_cases (called_by all item) (flat_map (called_by all) items) g h)

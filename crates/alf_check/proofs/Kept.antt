@@ -3,7 +3,7 @@ use Rattle.std.proofs.Common.{◌≡◌, ◌<◌, ℕ, suc, true, List, [], ◌�
 use Rattle.std.specs.Str.{bytes_eq}
 use Rattle.std.proofs.lemmas.List.Elements.{All-append}
 use Rattle.std.proofs.lemmas.Option.{slice_get-map, slice_get_within, get_or_from_slice_get}
-use Rattle.alf_program.specs.Tree.{Entry, Labels, Does, Frame, Start, Function, Whole}
+use Rattle.alf_program.specs.Tree.{BodyItem, Label, Do, Allocation, InitialValue, Function, WholeProgram}
 use Rattle.alf_program.specs.Tree as text
 use Rattle.call_cycles.specs.Calls.{IsRanked}
 use Rattle.alf_faults.specs.Sizes.{is_export_size}
@@ -23,9 +23,9 @@ use Rattle.alf_check.proofs.KeptParts.{numbers_at, length_funcs, length_all, fun
 use Rattle.alf_check.proofs.KeptCalls.{call_end, one_size}
 use Rattle.alf_check.proofs.KeptBlocks.{keeps_blocks}
 
-module _ (whole : Whole) (root : List ℕ) (written : WholeIsWritten whole) (s : IsSound whole) where
+module _ (whole : WholeProgram) (root : List ℕ) (written : WholeIsWritten whole) (s : IsSound whole) where
   -- a frame of a function
-  owns : (k : ℕ) (frame : Frame) → slice_get (frame_rows whole) (frame_number (frame_rows whole) (Some k) frame.name) ≡ Some (row_for (Some k) frame)
+  owns : (k : ℕ) (frame : Allocation) → slice_get (frame_rows whole) (frame_number (frame_rows whole) (Some k) frame.name) ≡ Some (row_for (Some k) frame)
       → OwnsFrame (frame_rows whole) k (frame_number (frame_rows whole) (Some k) frame.name)
   owns k frame at = (row_for (Some k) frame, at, refl)
 
@@ -48,7 +48,7 @@ module _ (whole : Whole) (root : List ℕ) (written : WholeIsWritten whole) (s :
       }
 
   -- each call of a block is one of its function's calls
-  called_in : (k : ℕ) (func : Function) → slice_get whole.funcs k ≡ Some func → (item : Entry) → Contains func.items item → (f : ℕ) → Contains (called_by whole.funcs item) f → Contains (slice_index_or (calls_in whole) k []) f
+  called_in : (k : ℕ) (func : Function) → slice_get whole.funcs k ≡ Some func → (item : BodyItem) → Contains func.items item → (f : ℕ) → Contains (called_by whole.funcs item) f → Contains (slice_index_or (calls_in whole) k []) f
   called_in k func at item c f d =
       subst (λ (xs : List ℕ). Contains xs f)
       (sym (get_or_from_slice_get (calls_in whole) k (flat_map (called_by whole.funcs) func.items) [] (slice_get-map (λ func. flat_map (called_by whole.funcs) func.items) whole.funcs k ∙ ap (option_map (λ func. flat_map (called_by whole.funcs) func.items)) at)))
@@ -61,9 +61,9 @@ module _ (whole : Whole) (root : List ℕ) (written : WholeIsWritten whole) (s :
       let call = call_end (numbers_at whole root k owner.0) (suc b) here.last f args result next (here.end ∙ end) in
       let item = subst (Contains owner.0.items) call.3 (last_among whole root k owner.0 b block here) in
       let number = func_number whole.funcs call.0 in
-      r.falls k f (called_in k owner.0 owner.1 (Does (text.Calls call.0 call.1 call.2)) item f (subst (Contains (number ∷ [])) call.4 (at_front number [])))
+      r.falls k f (called_in k owner.0 owner.1 (Do (text.Call call.0 call.1 call.2)) item f (subst (Contains (number ∷ [])) call.4 (at_front number [])))
 
-pub kept : (whole : Whole) (root ranks : List ℕ) → IsSpelled whole → WholeIsWritten whole → Passes whole root → IsRanked (calls_in whole) ranks → IsKept (numbered whole root)
+pub kept : (whole : WholeProgram) (root ranks : List ℕ) → IsSpelled whole → WholeIsWritten whole → Passes whole root → IsRanked (calls_in whole) ranks → IsKept (numbered whole root)
 kept whole root ranks spelled written passes ranked =
     let s = sound whole passes.sound in
     let start = standing (λ func. bytes_eq func.name root) whole.funcs passes.starts in

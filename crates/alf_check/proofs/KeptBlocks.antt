@@ -4,7 +4,7 @@ use Rattle.std.specs.Str.{bytes_eq}
 use Rattle.std.proofs.lemmas.Bool.{false≢true, and_parts}
 use Rattle.std.proofs.lemmas.List.Elements.{All-nil, All-cons}
 use Rattle.alf_program.specs.declared.program.Num.{Num}
-use Rattle.alf_program.specs.Tree.{Term, Entry, Labels, Does, Function, Whole, terms_of}
+use Rattle.alf_program.specs.Tree.{NamedExpression, BodyItem, Label, Do, Function, WholeProgram, expressions_of, with_frames}
 use Rattle.alf_program.specs.Tree as text
 use Rattle.alf_names.specs.Places.{function_place, label_place}
 use Rattle.alf_faults.specs.Fault.{Unknown, is_exactly}
@@ -13,9 +13,9 @@ use Rattle.alf_faults.specs.Unknowns.{is_frame, unknown_in, unknown_among, unkno
 use Rattle.alf_faults.specs.Returns.{first_return}
 use Rattle.alf_faults.specs.Sizes.{targets_fit, arguments_fit, agrees_behind, fits_function, fits_place}
 use Rattle.alf_check.specs.Blocks.{blocks_of}
-use Rattle.alf_check.specs.Resolved.{Stretch, Calls, Nothing, Stores}
+use Rattle.alf_check.specs.Resolved.{Stretch, Call, Null, Store}
 use Rattle.alf_check.specs.Numbers.{frame_rows, frame_number, block_number}
-use Rattle.alf_check.specs.Numbered.{numbered_term, numbered_func, steps_by, end_by, numbered}
+use Rattle.alf_check.specs.Numbered.{numbered_func, steps_by, end_by, numbered}
 use Rattle.alf_text.specs.Grammar.{is_ending}
 use Rattle.alf_text.specs.Spelled.{Each, FunctionIsWritten}
 use Rattle.alf_check.specs.Kept.{HasSize, KeepsStep, KeepsEnd, KeepsBlock, SeesResult, IsBlockOf, blocks_at}
@@ -39,34 +39,34 @@ switch_size : (o : Option ℕ) (targets : List (Num × List ℕ)) → targets_fi
 switch_size None targets e = absurd (false≢true e)
 switch_size (Some size) targets e = (size, refl)
 
-none_targets : (items : List Entry) (targets : List (Num × List ℕ)) → unknown_targets items targets ≡ [] → (target : Num × List ℕ) → Contains targets target → unknown_label items target.1 ≡ []
+none_targets : (items : List BodyItem) (targets : List (Num × List ℕ)) → unknown_targets items targets ≡ [] → (target : Num × List ℕ) → Contains targets target → unknown_label items target.1 ≡ []
 none_targets items [] none target c = no_member target c
 none_targets items (first ∷ targets) none target c =
     let parts = no_parts (unknown_label items first.1) (unknown_targets items targets) none in
     front_or_further first targets target c (λ same. subst (λ (z : Num × List ℕ). unknown_label items z.1 ≡ []) same parts.0) (none_targets items targets parts.1 target)
 
-module _ (whole : Whole) (root : List ℕ) (sound : IsSound whole) (written : Each FunctionIsWritten whole.funcs)
+module _ (whole : WholeProgram) (root : List ℕ) (sound : IsSound whole) (written : Each FunctionIsWritten whole.funcs)
     (k : ℕ) (func : Function) (at : slice_get whole.funcs k ≡ Some func) where
-  has_size : (t : Term) (size : ℕ) → unknown_in whole func t ≡ [] → term_size t ≡ Some size → HasSize (frame_rows whole) k size (numbered_term (frame_number (frame_rows whole) (Some k)) t)
+  has_size : (t : NamedExpression) (size : ℕ) → unknown_in whole func t ≡ [] → term_size t ≡ Some size → HasSize (frame_rows whole) k size (with_frames (frame_number (frame_rows whole) (Some k)) t)
   has_size t size none is = sized whole func (frame_rows whole) k (frame_number (frame_rows whole) (Some k)) (sees whole sound k func at) t size none is
 
   -- ---- statements
 
-  keeps_steps : (i : ℕ) (item : Entry) → slice_get func.items i ≡ Some item → All (KeepsStep (frame_rows whole) k) (steps_by (frame_number (frame_rows whole) (Some k)) item)
-  keeps_steps i (Labels name) is = All-nil (KeepsStep (frame_rows whole) k)
-  keeps_steps i (Does text.Nothing) is = All-cons (KeepsStep (frame_rows whole) k) Nothing [] tt (All-nil (KeepsStep (frame_rows whole) k))
-  keeps_steps i (Does (text.Stores to value)) is =
-      let item = (sound.funcs k func at).items i (Does (text.Stores to value)) is in
+  keeps_steps : (i : ℕ) (item : BodyItem) → slice_get func.items i ≡ Some item → All (KeepsStep (frame_rows whole) k) (steps_by (frame_number (frame_rows whole) (Some k)) item)
+  keeps_steps i (Label name) is = All-nil (KeepsStep (frame_rows whole) k)
+  keeps_steps i (Do text.Null) is = All-cons (KeepsStep (frame_rows whole) k) Null [] tt (All-nil (KeepsStep (frame_rows whole) k))
+  keeps_steps i (Do (text.Store to value)) is =
+      let item = (sound.funcs k func at).items i (Do (text.Store to value)) is in
       let parts = no_parts (unknown_in whole func to) (unknown_in whole func value) item.named in
       let tests = and_parts (is_exactly 32 (term_size to)) (is_bytes (term_size value)) item.fits in
       let whole_bytes = bytes_size (term_size value) tests.1 in
       let number = frame_number (frame_rows whole) (Some k) in
-      All-cons (KeepsStep (frame_rows whole) k) (Stores (numbered_term number to) (numbered_term number value)) []
+      All-cons (KeepsStep (frame_rows whole) k) (Store (with_frames number to) (with_frames number value)) []
       (has_size to 32 parts.0 (exactly 32 (term_size to) tests.0), (whole_bytes.0, has_size value whole_bytes.0 parts.1 whole_bytes.1, whole_bytes.2)) (All-nil (KeepsStep (frame_rows whole) k))
-  keeps_steps i (Does (text.Jumps label)) is = All-nil (KeepsStep (frame_rows whole) k)
-  keeps_steps i (Does (text.Switches value targets others)) is = All-nil (KeepsStep (frame_rows whole) k)
-  keeps_steps i (Does (text.Calls label args result)) is = All-nil (KeepsStep (frame_rows whole) k)
-  keeps_steps i (Does (text.Returns value)) is = All-nil (KeepsStep (frame_rows whole) k)
+  keeps_steps i (Do (text.Jump label)) is = All-nil (KeepsStep (frame_rows whole) k)
+  keeps_steps i (Do (text.Switch value targets others)) is = All-nil (KeepsStep (frame_rows whole) k)
+  keeps_steps i (Do (text.Call label args result)) is = All-nil (KeepsStep (frame_rows whole) k)
+  keeps_steps i (Do (text.Return value)) is = All-nil (KeepsStep (frame_rows whole) k)
 
   -- ---- ends
 
@@ -78,12 +78,12 @@ module _ (whole : Whole) (root : List ℕ) (sound : IsSound whole) (written : Ea
   sees_result None none = tt
   sees_result (Some to) none = sees whole sound k func at to.0 (when_not (is_frame whole func to.0) (Unknown to.0) none)
 
-  keeps_call : (i : ℕ) (label : List ℕ) (args : List Term) (result : Option (List ℕ × ℕ)) (next : ℕ) → slice_get func.items i ≡ Some (Does (text.Calls label args result)) → IsBlockOf (numbered whole root) k next
-      → KeepsEnd (numbered whole root) k (end_by (numbers_at whole root k func) next (Does (text.Calls label args result)))
+  keeps_call : (i : ℕ) (label : List ℕ) (args : List NamedExpression) (result : Option (List ℕ × ℕ)) (next : ℕ) → slice_get func.items i ≡ Some (Do (text.Call label args result)) → IsBlockOf (numbered whole root) k next
+      → KeepsEnd (numbered whole root) k (end_by (numbers_at whole root k func) next (Do (text.Call label args result)))
   keeps_call i label args result next is within =
-      let item = (sound.funcs k func at).items i (Does (text.Calls label args result)) is in
-      let names = no_parts (unknown_function whole label) (unknown_among whole func (terms_of args) ++ unknown_result whole func result) item.named in
-      let operands = no_parts (unknown_among whole func (terms_of args)) (unknown_result whole func result) names.1 in
+      let item = (sound.funcs k func at).items i (Do (text.Call label args result)) is in
+      let names = no_parts (unknown_function whole label) (unknown_among whole func (expressions_of args) ++ unknown_result whole func result) item.named in
+      let operands = no_parts (unknown_among whole func (expressions_of args)) (unknown_result whole func result) names.1 in
       let found = standing (λ func. bytes_eq func.name label) whole.funcs (when_not (is_some (function_place whole.funcs label)) (Unknown label) names.0) in
       let p = found.0 in
       let called = found.1 in
@@ -94,7 +94,7 @@ module _ (whole : Whole) (root : List ℕ) (sound : IsSound whole) (written : Ea
       let rows = frame_rows whole in
       let number = frame_number rows (Some k) in
       let to : List ℕ × ℕ → ℕ × ℕ = λ at. (number at.0, at.1) in
-      subst (λ (f : ℕ). KeepsEnd (numbered whole root) k (Calls f (map (numbered_term number) args) (option_map to result) next)) (sym (ap (λ (o : Option ℕ). unwrap_or o 0) found.2)) (
+      subst (λ (f : ℕ). KeepsEnd (numbered whole root) k (Call f (map (with_frames number) args) (option_map to result) next)) (sym (ap (λ (o : Option ℕ). unwrap_or o 0) found.2)) (
         (numbered_func (frame_number rows (Some p)) called, row_of_function whole root p called found.3, fit whole func rows k number (sees whole sound k func at) (Some p) (frame_number rows (Some p)) called.args args tests.0 operands.0 (arg_at whole sound p called found.3)),
         result_fits whole root sound p called found.3 (of_each FunctionIsWritten whole.funcs p called written found.3).items result to
             (λ r first. agreed whole sound k func i label args result at is p called found.3 (same_name called.name label found.4) r first tests.1),
@@ -102,19 +102,19 @@ module _ (whole : Whole) (root : List ℕ) (sound : IsSound whole) (written : Ea
         within,
       )
 
-  keeps_end : (i : ℕ) (last : Entry) (next : ℕ) → slice_get func.items i ≡ Some last → (is_ending last ≡ false → IsBlockOf (numbered whole root) k next) → KeepsEnd (numbered whole root) k (end_by (numbers_at whole root k func) next last)
-  keeps_end i (Labels name) next is goes = goes refl
-  keeps_end i (Does text.Nothing) next is goes = goes refl
-  keeps_end i (Does (text.Stores to value)) next is goes = goes refl
-  keeps_end i (Does (text.Jumps label)) next is goes = leads label ((sound.funcs k func at).items i (Does (text.Jumps label)) is).named
-  keeps_end i (Does (text.Switches value targets others)) next is goes =
-      let item = (sound.funcs k func at).items i (Does (text.Switches value targets others)) is in
+  keeps_end : (i : ℕ) (last : BodyItem) (next : ℕ) → slice_get func.items i ≡ Some last → (is_ending last ≡ false → IsBlockOf (numbered whole root) k next) → KeepsEnd (numbered whole root) k (end_by (numbers_at whole root k func) next last)
+  keeps_end i (Label name) next is goes = goes refl
+  keeps_end i (Do text.Null) next is goes = goes refl
+  keeps_end i (Do (text.Store to value)) next is goes = goes refl
+  keeps_end i (Do (text.Jump label)) next is goes = leads label ((sound.funcs k func at).items i (Do (text.Jump label)) is).named
+  keeps_end i (Do (text.Switch value targets others)) next is goes =
+      let item = (sound.funcs k func at).items i (Do (text.Switch value targets others)) is in
       let names = no_parts (unknown_in whole func value) (unknown_targets func.items targets ++ unknown_label func.items others) item.named in
       let labels = no_parts (unknown_targets func.items targets) (unknown_label func.items others) names.1 in
       let size = switch_size (term_size value) targets item.fits in
       ((size.0, has_size value size.0 names.0 size.1), all_images (λ target. IsBlockOf (numbered whole root) k target.1) (λ target. (target.0.bits, block_number func.items target.1)) targets (λ target c. leads target.1 (none_targets func.items targets labels.0 target c)), leads others labels.1)
-  keeps_end i (Does (text.Calls label args result)) next is goes = keeps_call i label args result next is (goes refl)
-  keeps_end i (Does (text.Returns value)) next is goes = tt
+  keeps_end i (Do (text.Call label args result)) next is goes = keeps_call i label args result next is (goes refl)
+  keeps_end i (Do (text.Return value)) next is goes = tt
 
   -- ---- blocks
 

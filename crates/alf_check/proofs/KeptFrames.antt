@@ -5,7 +5,7 @@ use Rattle.std.proofs.lemmas.Bool.{false≢true, not-false, or_parts, and_parts,
 use Rattle.std.proofs.lemmas.Option.{none-some, same_Some}
 use Rattle.std.proofs.lemmas.Slice.Eq.{bytes_eq-Decides}
 use Rattle.std.proofs.lemmas.List.Elements.{Contains-append_left, Contains-append_right, Contains-append_cases}
-use Rattle.alf_program.specs.Tree.{Frame, Function, Whole}
+use Rattle.alf_program.specs.Tree.{Allocation, Function, WholeProgram}
 use Rattle.alf_names.specs.Places.{frame_place}
 use Rattle.alf_faults.specs.Fault.{each_from, is_exactly, Duplicate}
 use Rattle.alf_faults.specs.Duplicates.{frame_duplicates}
@@ -15,7 +15,7 @@ use Rattle.alf_check.proofs.KeptMembers.{contained, no_member, placed, mapped, s
 use Rattle.alf_check.proofs.KeptFaults.{IsSound}
 
 -- a frame's row
-abbrev pub row_for : Option ℕ → Frame → FrameRow
+abbrev pub row_for : Option ℕ → Allocation → FrameRow
 row_for owner frame = record { owner = owner; name = frame.name; bits = frame.bits }
 
 pub same_name : (a b : List ℕ) → bytes_eq a b ≡ true → a ≡ b
@@ -24,10 +24,10 @@ same_name a b = (bytes_eq-Decides a b).0
 pub its_name : (a b : List ℕ) → a ≡ b → bytes_eq a b ≡ true
 its_name a b = (bytes_eq-Decides a b).1
 
-pub frame_row : (owner : Option ℕ) (frames : List Frame) (r : FrameRow) → Contains (rows_of owner frames) r → (frame : Frame) × Contains frames frame × (row_for owner frame ≡ r)
+pub frame_row : (owner : Option ℕ) (frames : List Allocation) (r : FrameRow) → Contains (rows_of owner frames) r → (frame : Allocation) × Contains frames frame × (row_for owner frame ≡ r)
 frame_row owner frames r c = mapped (row_for owner) frames r c
 
-pub owner_of : (owner : Option ℕ) (frames : List Frame) (r : FrameRow) → Contains (rows_of owner frames) r → r.owner ≡ owner
+pub owner_of : (owner : Option ℕ) (frames : List Allocation) (r : FrameRow) → Contains (rows_of owner frames) r → r.owner ≡ owner
 owner_of owner frames r c = ap (λ (x : FrameRow). x.owner) (sym (frame_row owner frames r c).2)
 
 -- ---- no two rows of one name
@@ -49,9 +49,9 @@ apart_append rows others a b d r s c e same =
 disjoint_append : (rows others more : List FrameRow) → Disjoint rows others → Disjoint rows more → Disjoint rows (others ++ more)
 disjoint_append rows others more a b r s c e same = elim (Contains-append_cases others more s e) [ inl left ↦ a r s c left same | inr right ↦ b r s c right same ]
 
-module _ (taken others frames : List Frame) (none : each_from (frame_duplicates taken others frames) 0 frames ≡ []) where
+module _ (taken others frames : List Allocation) (none : each_from (frame_duplicates taken others frames) 0 frames ≡ []) where
   -- what is true of a frame at its place
-  checked : (i : ℕ) (frame : Frame) → slice_get frames i ≡ Some frame → (is_some (frame_place taken frame.name) ≡ false) × (is_some (frame_place others frame.name) ≡ false) × (frame_place frames frame.name ≡ Some i)
+  checked : (i : ℕ) (frame : Allocation) → slice_get frames i ≡ Some frame → (is_some (frame_place taken frame.name) ≡ false) × (is_some (frame_place others frame.name) ≡ false) × (frame_place frames frame.name ≡ Some i)
   checked i frame at =
       let here = none_each (frame_duplicates taken others frames) 0 frames i i frame (sym (zero-add i)) none at in
       let a = is_some (frame_place taken frame.name) in
@@ -73,7 +73,7 @@ module _ (taken others frames : List Frame) (none : each_from (frame_duplicates 
       sym f.2 ∙ ap (row_for owner) frames_same ∙ g.2
 
   -- no frame has a name of a list that was looked at
-  disjoint : (owner other : Option ℕ) (list : List Frame) → ((i : ℕ) (frame : Frame) → slice_get frames i ≡ Some frame → is_some (frame_place list frame.name) ≡ false) → Disjoint (rows_of other list) (rows_of owner frames)
+  disjoint : (owner other : Option ℕ) (list : List Allocation) → ((i : ℕ) (frame : Allocation) → slice_get frames i ≡ Some frame → is_some (frame_place list frame.name) ≡ false) → Disjoint (rows_of other list) (rows_of owner frames)
   disjoint owner other list clear r s c e same =
       let g = frame_row other list r c in
       let f = frame_row owner frames s e in
@@ -87,7 +87,7 @@ abbrev pub own_rows : ℕ → Function → List FrameRow
 own_rows k func = rows_of (Some k) func.args ++ rows_of (Some k) func.decls
 
 -- the rows that function k sees
-abbrev pub seen_rows : Whole → ℕ → Function → List FrameRow
+abbrev pub seen_rows : WholeProgram → ℕ → Function → List FrameRow
 seen_rows whole k func = rows_of None whole.decls ++ own_rows k func
 
 pub own_owner : (k : ℕ) (func : Function) (r : FrameRow) → Contains (own_rows k func) r → r.owner ≡ Some k
@@ -134,7 +134,7 @@ numbered_row rows viewer r c seen only =
     let parts = and_parts (is_seen viewer found.1.owner) (bytes_eq found.1.name r.name) found.4 in
     ap (λ (o : Option ℕ). slice_get rows (unwrap_or o 0)) found.2 ∙ found.3 ∙ ap Some (only found.1 (contained rows found.0 found.1 found.3) parts.0 (same_name found.1.name r.name parts.1))
 
-module _ (whole : Whole) (sound : IsSound whole) where
+module _ (whole : WholeProgram) (sound : IsSound whole) where
   apart_globals : Apart (rows_of None whole.decls)
   apart_globals = apart_frames [] [] whole.decls sound.decls None
 

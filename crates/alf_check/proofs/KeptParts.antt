@@ -6,10 +6,10 @@ use Rattle.std.specs.Option.{option_map_or}
 use Rattle.std.proofs.lemmas.Bool.{cases_lt}
 use Rattle.std.proofs.lemmas.List.{get_or_past}
 use Rattle.std.proofs.lemmas.Option.{none-some, same_Some, slice_get-get_or, get_or_from_slice_get}
-use Rattle.alf_program.specs.Tree.{Entry, Function, Whole}
+use Rattle.alf_program.specs.Tree.{BodyItem, Function, WholeProgram}
 use Rattle.alf_check.specs.declared.rows.FrameRow.{FrameRow}
 use Rattle.alf_check.specs.Blocks.{blocks_of}
-use Rattle.alf_check.specs.Resolved.{Stretch, Row, Falls}
+use Rattle.alf_check.specs.Resolved.{Stretch, Row, Fall}
 use Rattle.alf_check.specs.Numbers.{Numbers, frame_rows, frame_number, numbers_with}
 use Rattle.alf_check.specs.Numbered.{numbered_func, funcs_from, end_by, numbered_block, numbered_blocks, blocks_with, numbered}
 use Rattle.alf_check.specs.Kept.{blocks_at}
@@ -42,7 +42,7 @@ funcs_along : (rows : List FrameRow) (n : ℕ) (funcs : List Function) → funcs
 funcs_along rows n [] = refl
 funcs_along rows n (func ∷ funcs) = ap (λ (rest : List Row). numbered_func (frame_number rows (Some n)) func ∷ rest) (funcs_along rows (suc n) funcs)
 
-blocks_along : (numbers : Numbers) (n : ℕ) (blocks : List (List Entry)) → numbered_blocks numbers n blocks ≡ along (λ b block. numbered_block numbers (suc b) block) n blocks
+blocks_along : (numbers : Numbers) (n : ℕ) (blocks : List (List BodyItem)) → numbered_blocks numbers n blocks ≡ along (λ b block. numbered_block numbers (suc b) block) n blocks
 blocks_along numbers n [] = refl
 blocks_along numbers n (block ∷ blocks) = ap (λ (rest : List Stretch). numbered_block numbers (suc n) block ∷ rest) (blocks_along numbers (suc n) blocks)
 
@@ -51,10 +51,10 @@ all_along rows all n [] = refl
 all_along rows all n (func ∷ funcs) = ap (λ (rest : List (List Stretch)). numbered_blocks (numbers_with rows all n func) 0 (blocks_of func.items) ∷ rest) (all_along rows all (suc n) funcs)
 
 -- a block ends with its last item
-end_of_last : (numbers : Numbers) (next : ℕ) (part : List Entry) (last : Entry) (block : Stretch) → slice_get part (length part - 1) ≡ Some last → numbered_block numbers next part ≡ block → end_by numbers next last ≡ block.end
-end_of_last numbers next part last block at is = ap (λ (o : Option Entry). option_map_or (end_by numbers next) o (Falls next)) (sym at) ∙ ap (λ (x : Stretch). x.end) is
+end_of_last : (numbers : Numbers) (next : ℕ) (part : List BodyItem) (last : BodyItem) (block : Stretch) → slice_get part (length part - 1) ≡ Some last → numbered_block numbers next part ≡ block → end_by numbers next last ≡ block.end
+end_of_last numbers next part last block at is = ap (λ (o : Option BodyItem). option_map_or (end_by numbers next) o (Fall next)) (sym at) ∙ ap (λ (x : Stretch). x.end) is
 
-module _ (whole : Whole) (root : List ℕ) where
+module _ (whole : WholeProgram) (root : List ℕ) where
   abbrev pub numbers_at : ℕ → Function → Numbers
   numbers_at k func = numbers_with (frame_rows whole) whole.funcs k func
 
@@ -81,11 +81,11 @@ module _ (whole : Whole) (root : List ℕ) where
 
   -- block b of a function is that of these items
   pub record IsBlockAt (k : ℕ) (func : Function) (b : ℕ) (block : Stretch) : Type 0 where
-    pub part : List Entry
+    pub part : List BodyItem
     pub part_at : slice_get (blocks_of func.items) b ≡ Some part
     pub is : numbered_block (numbers_at k func) (suc b) part ≡ block
     pub cuts : IsCut func.items (blocks_of func.items)
-    pub last : Entry
+    pub last : BodyItem
     pub last_at : slice_get part (length part - 1) ≡ Some last
     pub end : end_by (numbers_at k func) (suc b) last ≡ block.end
 

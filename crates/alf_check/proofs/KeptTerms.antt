@@ -7,12 +7,11 @@ use Rattle.alf_ops.specs.declared.layout.Layout.{Layout}
 use Rattle.alf_ops.specs.declared.layout.Layout.TheVariants.{Unary, Sum, Carry, Joined, First, Second, Binary, Comparison, Extension, Truncation, Field, Choice}
 use Rattle.alf_ops.specs.Table.{result_size, operand_size, operand_sizes, layout_of, size_count, is_size, is_typed, is_written_so, result_by_layout}
 use Rattle.alf_ops.specs.OperandLaws.{operands_end, operands_go_on}
-use Rattle.alf_program.specs.Tree.{Term, Terms, Number, Address, Loads, Applies, Last, With, Does, Returns, Function, Whole}
+use Rattle.alf_program.specs.Tree.{NamedExpression, NamedExpressions, Number, Address, Load, Apply, Empty, With, Do, Return, Function, WholeProgram, with_frames, all_with_frames}
 use Rattle.alf_faults.specs.Fault.{Unknown, is_exactly}
 use Rattle.alf_faults.specs.TermSizes.{term_size, operands_fit, return_size, same_size}
 use Rattle.alf_faults.specs.Unknowns.{is_frame, unknown_in, unknown_among, entry_unknowns}
 use Rattle.alf_check.specs.declared.rows.FrameRow.{FrameRow}
-use Rattle.alf_check.specs.Numbered.{numbered_term, numbered_terms}
 use Rattle.alf_text.specs.Spelled.{IsWritten}
 use Rattle.alf_check.specs.Kept.{SeesFrame, HasSize, HaveSizes, GivesSize}
 use Rattle.alf_check.proofs.KeptMembers.{no_parts, when_not, exactly}
@@ -33,18 +32,18 @@ no_size (Some size) e = absurd (false≢true e)
 
 -- ---- expressions
 
-module _ (whole : Whole) (func : Function) (rows : List FrameRow) (k : ℕ) (frame : List ℕ → ℕ) (sees : (name : List ℕ) → is_frame whole func name ≡ true → SeesFrame rows k (frame name)) where
+module _ (whole : WholeProgram) (func : Function) (rows : List FrameRow) (k : ℕ) (frame : List ℕ → ℕ) (sees : (name : List ℕ) → is_frame whole func name ≡ true → SeesFrame rows k (frame name)) where
   mutual
     -- an expression that names what stands somewhere has its size
-    pub sized : (t : Term) (size : ℕ) → unknown_in whole func t ≡ [] → term_size t ≡ Some size → HasSize rows k size (numbered_term frame t)
+    pub sized : (t : NamedExpression) (size : ℕ) → unknown_in whole func t ≡ [] → term_size t ≡ Some size → HasSize rows k size (with_frames frame t)
     sized (Number n) size none is = same_Some n.size size is
     sized (Address name offset) size none is = (same_Some 32 size is, sees name (when_not (is_frame whole func name) (Unknown name) none))
-    sized (Loads bits at) size none is = let c = cond_some (is_exactly 32 (term_size at)) bits size is in (c.1, sized at 32 none (exactly 32 (term_size at) c.0))
-    sized (Applies op sizes operands) size none is = let c = chosen (operands_fit op sizes 0 operands) (result_size op sizes) size is in (c.1, each_sized operands op sizes 0 (ap is_some c.1) none c.0)
+    sized (Load bits at) size none is = let c = cond_some (is_exactly 32 (term_size at)) bits size is in (c.1, sized at 32 none (exactly 32 (term_size at) c.0))
+    sized (Apply op sizes operands) size none is = let c = chosen (operands_fit op sizes 0 operands) (result_size op sizes) size is in (c.1, each_sized operands op sizes 0 (ap is_some c.1) none c.0)
 
-    each_sized : (ts : Terms) (op : Op) (sizes : List ℕ) (i : ℕ) → IsSome (result_size op sizes) → unknown_among whole func ts ≡ [] → operands_fit op sizes i ts ≡ true
-        → HaveSizes rows k (drop i (operand_sizes op sizes)) (numbered_terms frame ts)
-    each_sized Last op sizes i typed none fits = rw (operands_end op sizes i typed (no_size (operand_size op sizes i) fits)) tt
+    each_sized : (ts : NamedExpressions) (op : Op) (sizes : List ℕ) (i : ℕ) → IsSome (result_size op sizes) → unknown_among whole func ts ≡ [] → operands_fit op sizes i ts ≡ true
+        → HaveSizes rows k (drop i (operand_sizes op sizes)) (all_with_frames frame ts)
+    each_sized Empty op sizes i typed none fits = rw (operands_end op sizes i typed (no_size (operand_size op sizes i) fits)) tt
     each_sized (With t ts) op sizes i typed none fits =
         let parts = no_parts (unknown_in whole func t) (unknown_among whole func ts) none in
         let tests = and_parts (same_size (operand_size op sizes i) (term_size t)) (operands_fit op sizes (i + 1) ts) fits in
@@ -52,7 +51,7 @@ module _ (whole : Whole) (func : Function) (rows : List FrameRow) (k : ℕ) (fra
         rw (operands_go_on op sizes i same.0 same.1) (sized t same.0 parts.0 same.2, each_sized ts op sizes (i + 1) typed parts.1 tests.1)
 
   -- what a return gives
-  pub gives_size : (value : Option Term) (size : ℕ) → entry_unknowns whole func (Does (Returns value)) ≡ [] → return_size value ≡ Some size → GivesSize rows k size (option_map (numbered_term frame) value)
+  pub gives_size : (value : Option NamedExpression) (size : ℕ) → entry_unknowns whole func (Do (Return value)) ≡ [] → return_size value ≡ Some size → GivesSize rows k size (option_map (with_frames frame) value)
   gives_size None size none is = sym (same_Some 0 size is)
   gives_size (Some t) size none is = sized t size none is
 
@@ -77,11 +76,11 @@ result_some Field m n h e = omega arith
 result_some Choice m n h e = is_size_some m e
 
 -- so has each expression that is written
-pub some_bits : (t : Term) → IsWritten t → term_size t ≡ Some 0 → ⊥
+pub some_bits : (t : NamedExpression) → IsWritten t → term_size t ≡ Some 0 → ⊥
 some_bits (Number n) written is = let some = written.0 in let none = same_Some n.size 0 is in omega arith
 some_bits (Address name offset) written is = let none = same_Some {A = ℕ} 32 0 is in omega arith
-some_bits (Loads bits at) written is = let some = written.0 in let none = (cond_some (is_exactly 32 (term_size at)) bits 0 is).1 in omega arith
-some_bits (Applies op sizes operands) written is =
+some_bits (Load bits at) written is = let some = written.0 in let none = (cond_some (is_exactly 32 (term_size at)) bits 0 is).1 in omega arith
+some_bits (Apply op sizes operands) written is =
     let layout = layout_of op in
     let m = slice_index sizes 0 in
     let n = slice_index sizes 1 in

@@ -2,7 +2,7 @@
 use Rattle.std.proofs.Common.{◌≡◌, ℕ, suc, List, [], ◌∷◌, map, length, None, refl, ap, sym, ◌∙◌, Vec}
 use Rattle.std.specs.declared.alloc.Global.{Global}
 use Rattle.std.proofs.lemmas.List.{length-map}
-use Rattle.alf_program.specs.Tree.{Function, Whole}
+use Rattle.alf_program.specs.Tree.{Function, WholeProgram}
 use Rattle.alf_check.specs.declared.rows.FrameRow.{FrameRow}
 use Rattle.alf_check.specs.declared.rows.InitRow.{InitRow}
 use Rattle.alf_check.specs.declared.rows.FuncRow.{FuncRow}
@@ -24,7 +24,7 @@ blocks_twice [] = refl
 blocks_twice (x ∷ blocks) = ap (λ (rest : List (List Stretch)). map block_of x.items ∷ rest) (blocks_twice blocks)
 
 -- the parts make the program
-pub made : (whole : Whole) (root : List ℕ) (frames : List FrameRow) (funcs : List FuncRow) (blocks : List (Vec Block Global)) (inits : List InitRow) (exports : List ℕ) (start : ℕ)
+pub made : (whole : WholeProgram) (root : List ℕ) (frames : List FrameRow) (funcs : List FuncRow) (blocks : List (Vec Block Global)) (inits : List InitRow) (exports : List ℕ) (start : ℕ)
     → frames ≡ frame_rows whole → map row_of funcs ≡ funcs_from frames 0 whole.funcs → map (λ blocks. map block_of blocks.items) blocks ≡ blocks_with frames whole.funcs 0 whole.funcs
     → inits ≡ numbered_inits (frame_number frames None) whole.inits → exports ≡ map (frame_number frames None) whole.exports → start ≡ func_number whole.funcs root
     → resolved_of (record { frames = frames; funcs = funcs; blocks = map (λ blocks. blocks.items) blocks; inits = inits; exports = exports; root = start }) ≡ numbered whole root

@@ -7,7 +7,7 @@
 --   IsTold whole root fault   what the fault says is true, and nothing that is looked for before it is wrong
 use Rattle.std.specs.Prelude.{◌≡◌, ℕ, List, [], ◌∷◌, ⊤, map, None, Some, IsSome, slice_index_or}
 use Rattle.std.specs.List.{flat_map}
-use Rattle.alf_program.specs.Tree.{Nothing, Stores, Jumps, Switches, Calls, Returns, Entry, Labels, Does, Function, Whole}
+use Rattle.alf_program.specs.Tree.{Null, Store, Jump, Switch, Call, Return, BodyItem, Label, Do, Function, WholeProgram}
 use Rattle.alf_names.specs.Places.{function_place}
 use Rattle.alf_faults.specs.Fault.{Unknown, Duplicate, Size, earliest}
 use Rattle.alf_faults.specs.Faults.{faults_in}
@@ -17,20 +17,20 @@ use Rattle.alf_check.specs.declared.fault.CheckFault.TheVariants as told
 use Rattle.alf_check.specs.Numbers.{func_number}
 
 -- the function that the item calls
-abbrev pub called_by : List Function → Entry → List ℕ
-called_by funcs (Labels label) = []
-called_by funcs (Does Nothing) = []
-called_by funcs (Does (Stores at value)) = []
-called_by funcs (Does (Jumps label)) = []
-called_by funcs (Does (Switches value targets others)) = []
-called_by funcs (Does (Calls label args result)) = func_number funcs label ∷ []
-called_by funcs (Does (Returns value)) = []
+abbrev pub called_by : List Function → BodyItem → List ℕ
+called_by funcs (Label label) = []
+called_by funcs (Do Null) = []
+called_by funcs (Do (Store at value)) = []
+called_by funcs (Do (Jump label)) = []
+called_by funcs (Do (Switch value targets others)) = []
+called_by funcs (Do (Call label args result)) = func_number funcs label ∷ []
+called_by funcs (Do (Return value)) = []
 
 -- for each function those that it calls
 abbrev pub calls_among : List Function → List Function → List (List ℕ)
 calls_among all funcs = map (λ func. flat_map (called_by all) func.items) funcs
 
-abbrev pub calls_in : Whole → List (List ℕ)
+abbrev pub calls_in : WholeProgram → List (List ℕ)
 calls_in whole = calls_among whole.funcs whole.funcs
 
 -- the name of function f
@@ -38,27 +38,27 @@ abbrev pub name_at : List Function → ℕ → List ℕ
 name_at funcs f = slice_index_or (map (λ func. func.name) funcs) f []
 
 -- nothing is wrong
-pub record Passes (whole : Whole) (root : List ℕ) : Type 0 where
+pub record Passes (whole : WholeProgram) (root : List ℕ) : Type 0 where
   pub sound : faults_in whole ≡ []
   pub falls : (f : ℕ) → OnCycle (calls_in whole) f → ⊥
   pub starts : IsSome (function_place whole.funcs root)
 
 -- the names of the functions on the first cycle of calls
-pub record IsRecursion (whole : Whole) (names : List (List ℕ)) : Type 0 where
+pub record IsRecursion (whole : WholeProgram) (names : List (List ℕ)) : Type 0 where
   pub sound : faults_in whole ≡ []
   pub path : List ℕ
   pub first : IsFirstCycle (calls_in whole) path
   pub named : names ≡ map (name_at whole.funcs) path
 
 -- no function has the root's name
-pub record IsRootless (whole : Whole) (root name : List ℕ) : Type 0 where
+pub record IsRootless (whole : WholeProgram) (root name : List ℕ) : Type 0 where
   pub sound : faults_in whole ≡ []
   pub falls : (f : ℕ) → OnCycle (calls_in whole) f → ⊥
   pub none : function_place whole.funcs root ≡ None
   pub named : name ≡ root
 
 -- what the fault says is true; a want of memory says nothing
-abbrev pub IsTold : Whole → List ℕ → CheckFault → Type 0
+abbrev pub IsTold : WholeProgram → List ℕ → CheckFault → Type 0
 IsTold whole root (told.UnknownName name) = earliest (faults_in whole) ≡ Some (Unknown name)
 IsTold whole root (told.DuplicateName name) = earliest (faults_in whole) ≡ Some (Duplicate name)
 IsTold whole root (told.Size name number) = earliest (faults_in whole) ≡ Some (Size name number)

@@ -3,21 +3,21 @@
 --   number_behind n item items  the number of the block of the item behind one of block n
 --   numbers_along n items       for each item the number of its block, where the first has this number
 use Rattle.std.specs.Prelude.{ℕ, suc, List, [], ◌∷◌, if◌then◌else◌}
-use Rattle.alf_program.specs.Tree.{Entry}
+use Rattle.alf_program.specs.Tree.{BodyItem}
 use Rattle.alf_check.specs.Blocks.{begins_between}
 
 -- how many items the first block has
-abbrev pub first_length : List Entry → ℕ
+abbrev pub first_length : List BodyItem → ℕ
 first_length [] = 0
 first_length (item ∷ []) = 1
 first_length (item ∷ next ∷ items) = if begins_between item next then 1 else suc (first_length (next ∷ items))
 
 -- the number of the block of the next item
-abbrev pub number_behind : ℕ → Entry → List Entry → ℕ
+abbrev pub number_behind : ℕ → BodyItem → List BodyItem → ℕ
 number_behind n item [] = n
 number_behind n item (next ∷ items) = if begins_between item next then suc n else n
 
 -- for each item the number of its block
-abbrev pub numbers_along : ℕ → List Entry → List ℕ
+abbrev pub numbers_along : ℕ → List BodyItem → List ℕ
 numbers_along n [] = []
 numbers_along n (item ∷ items) = n ∷ numbers_along (number_behind n item items) items

@@ -6,13 +6,13 @@
 --   Numbers, numbers_with        what each name in a function stands for
 use Rattle.std.specs.Prelude.{ℕ, suc, ◌==◌, ◌&&◌, Bool, true, false, List, [], ◌∷◌, ◌++◌, map, Option, Some, None, is_some, unwrap_or}
 use Rattle.std.specs.Str.{bytes_eq}
-use Rattle.alf_program.specs.Tree.{Entry, Frame, Function, Whole}
+use Rattle.alf_program.specs.Tree.{BodyItem, Allocation, Function, WholeProgram}
 use Rattle.alf_names.specs.Places.{place_of, function_place, label_place}
 use Rattle.alf_check.specs.declared.rows.FrameRow.{FrameRow}
 use Rattle.alf_check.specs.Blocks.{blocks_of}
 
 -- the frames of one owner
-abbrev pub rows_of : Option ℕ → List Frame → List FrameRow
+abbrev pub rows_of : Option ℕ → List Allocation → List FrameRow
 rows_of owner frames = map (λ frame. record { owner = owner; name = frame.name; bits = frame.bits }) frames
 
 -- the frames of functions, of which the first has this number
@@ -20,7 +20,7 @@ abbrev pub rows_from : ℕ → List Function → List FrameRow
 rows_from k [] = []
 rows_from k (func ∷ funcs) = rows_of (Some k) func.args ++ (rows_of (Some k) func.decls ++ rows_from (suc k) funcs)
 
-abbrev pub frame_rows : Whole → List FrameRow
+abbrev pub frame_rows : WholeProgram → List FrameRow
 frame_rows whole = rows_of None whole.decls ++ rows_from 0 whole.funcs
 
 -- a frame is seen where it is global, and in its own function
@@ -39,10 +39,10 @@ abbrev pub func_number : List Function → List ℕ → ℕ
 func_number funcs name = unwrap_or (function_place funcs name) 0
 
 -- the label stands among these items
-abbrev pub has_label : List ℕ → List Entry → Bool
+abbrev pub has_label : List ℕ → List BodyItem → Bool
 has_label label items = is_some (label_place items label)
 
-abbrev pub block_number : List Entry → List ℕ → ℕ
+abbrev pub block_number : List BodyItem → List ℕ → ℕ
 block_number items label = unwrap_or (place_of (has_label label) (blocks_of items)) 0
 
 -- what each name in a function stands for

@@ -1,5 +1,4 @@
 -- Programs with numbers in place of names, without where they lie in memory.
---   Tree, Trees        an expression, expressions in a row
 --   Step, End, Stretch a statement that control goes through, what is behind the last one, and a block of both
 --   Row                a function: its name, the frames of its arguments, all its frames, and what they hold at first
 --   Resolved           a program: its frames, its functions and the blocks of each, what global frames hold at first, the frames that it exports, and the function that it starts with
@@ -9,6 +8,7 @@ use Rattle.std.specs.Prelude.{ℕ, List, [], ◌∷◌, map, Option}
 use Rattle.std.specs.Option.{option_map}
 use Rattle.alf_ops.specs.declared.operator.Op.{Op}
 use Rattle.alf_program.specs.declared.program.Num.{Num}
+use Rattle.alf_program.specs.Tree.{NumberedExpression, Number, Address, Load, Apply, expressions_of}
 use Rattle.alf_check.specs.declared.rows.FrameRow.{FrameRow}
 use Rattle.alf_check.specs.declared.rows.InitRow.{InitRow}
 use Rattle.alf_check.specs.declared.rows.FuncRow.{FuncRow}
@@ -22,31 +22,18 @@ use Rattle.alf_check.specs.declared.rows.BlockEnd.{BlockEnd}
 use Rattle.alf_check.specs.declared.rows.BlockEnd.TheVariants as ends
 use Rattle.alf_check.specs.declared.rows.Block.{Block}
 
-mutual
-  -- an expression: a number, an address by its frame and offset, a load of so many bits, or an operator with its sizes and operands
-  pub data Tree : Type 0 where
-    Number : Num → Tree
-    Address : ℕ → ℕ → Tree
-    Loads : ℕ → Tree → Tree
-    Applies : Op → List ℕ → Trees → Tree
-
-  -- expressions in a row
-  pub data Trees : Type 0 where
-    Last : Trees
-    With : Tree → Trees → Trees
-
 -- a statement that control goes through
 pub data Step : Type 0 where
-  Nothing : Step
-  Stores : Tree → Tree → Step
+  Null : Step
+  Store : NumberedExpression → NumberedExpression → Step
 
 -- how a block ends
 pub data End : Type 0 where
-  Falls : ℕ → End
-  Jumps : ℕ → End
-  Switches : Tree → List (ℕ × ℕ) → ℕ → End
-  Calls : ℕ → List Tree → Option (ℕ × ℕ) → ℕ → End
-  Returns : Option Tree → End
+  Fall : ℕ → End
+  Jump : ℕ → End
+  Switch : NumberedExpression → List (ℕ × ℕ) → ℕ → End
+  Call : ℕ → List NumberedExpression → Option (ℕ × ℕ) → ℕ → End
+  Return : Option NumberedExpression → End
 
 -- a block
 pub record Stretch : Type 0 where
@@ -78,29 +65,25 @@ pub record Held : Type 0 where
   pub exports : List ℕ
   pub root : ℕ
 
-abbrev pub trees_of : List Tree → Trees
-trees_of [] = Last
-trees_of (t ∷ ts) = With t (trees_of ts)
+abbrev pub numbered_step : Term-F NumberedExpression → NumberedExpression
+numbered_step (terms.Num n) = Number n
+numbered_step (terms.Addr frame offset) = Address frame offset
+numbered_step (terms.Load size at) = Load size at.value
+numbered_step (terms.Apply op sizes operands) = Apply op sizes.items (expressions_of operands.items)
 
-abbrev pub tree_step : Term-F Tree → Tree
-tree_step (terms.Num n) = Number n
-tree_step (terms.Addr frame offset) = Address frame offset
-tree_step (terms.Load size at) = Loads size at.value
-tree_step (terms.Apply op sizes operands) = Applies op sizes.items (trees_of operands.items)
-
-abbrev pub tree_of : Term → Tree
-tree_of = fold-Term Tree tree_step
+abbrev pub tree_of : Term → NumberedExpression
+tree_of = fold-Term NumberedExpression numbered_step
 
 abbrev pub step_of : Act → Step
-step_of acts.Null = Nothing
-step_of (acts.Store at value) = Stores (tree_of at) (tree_of value)
+step_of acts.Null = Null
+step_of (acts.Store at value) = Store (tree_of at) (tree_of value)
 
 abbrev pub end_of : BlockEnd → End
-end_of (ends.Fall next) = Falls next
-end_of (ends.Jump to) = Jumps to
-end_of (ends.Switch value targets others) = Switches (tree_of value) targets.items others
-end_of (ends.Call func args result next) = Calls func (map tree_of args.items) result next
-end_of (ends.Return value) = Returns (option_map tree_of value)
+end_of (ends.Fall next) = Fall next
+end_of (ends.Jump to) = Jump to
+end_of (ends.Switch value targets others) = Switch (tree_of value) targets.items others
+end_of (ends.Call func args result next) = Call func (map tree_of args.items) result next
+end_of (ends.Return value) = Return (option_map tree_of value)
 
 abbrev pub block_of : Block → Stretch
 block_of block = record { steps = map step_of block.stmts.items; end = end_of block.end }

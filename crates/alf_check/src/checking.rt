@@ -1,5 +1,5 @@
 ghost use Rattle.std.specs.Prelude.{◌≡◌, ◌<◌, ℕ, List, [], Some, IsSome, map, length, IfOk, IfErr, OnOk};
-ghost use Rattle.alf_program.specs.Tree.{function_of, whole_of};
+ghost use Rattle.alf_program.specs.Tree.{function_of, program_of};
 ghost use Rattle.alf_text.specs.Language.{IsSpelled};
 ghost use Rattle.alf_names.specs.Places.{function_place};
 ghost use Rattle.alf_faults.specs.Fault.{earliest};
@@ -29,10 +29,10 @@ use std::alloc::{AllocError, Global};
 /// that some text spells, as one that was read is. Takes memory for the tables of names, the calls
 /// and the answer; the program is given up.
 pub fn check(alloc: Global, program: Program, root: &str) -> Result<Checked, CheckFault>
-    requires spelled { IsSpelled (whole_of program) }
-    ensures passes { IfOk result (λ checked. Passes (whole_of program) root.now) }
-    ensures numbered { IfOk result (λ checked. resolved_of checked ≡ numbered (whole_of program) root.now) }
-    ensures told { IfErr result (λ fault. IsTold (whole_of program) root.now fault) }
+    requires spelled { IsSpelled (program_of program) }
+    ensures passes { IfOk result (λ checked. Passes (program_of program) root.now) }
+    ensures numbered { IfOk result (λ checked. resolved_of checked ≡ numbered (program_of program) root.now) }
+    ensures told { IfErr result (λ fault. IsTold (program_of program) root.now fault) }
 {
     spelled_programs_are_written();
     ranked_calls_have_no_cycle();
@@ -54,8 +54,8 @@ pub fn check(alloc: Global, program: Program, root: &str) -> Result<Checked, Che
 
 // That nothing is wrong with the names and the sizes.
 fn check_items(alloc: Global, program: &Program) -> Result<(), CheckFault>
-    ensures sound { OnOk result (faults_in (whole_of program.now) ≡ []) }
-    ensures told { IfErr result (λ fault. (root : List ℕ) → IsTold (whole_of program.now) root fault) }
+    ensures sound { OnOk result (faults_in (program_of program.now) ≡ []) }
+    ensures told { IfErr result (λ fault. (root : List ℕ) → IsTold (program_of program.now) root fault) }
 {
     match first_fault(alloc, program) {
         Ok(None) => Ok(()),
@@ -68,9 +68,9 @@ fn check_items(alloc: Global, program: &Program) -> Result<(), CheckFault>
 
 // That no calls lead from a function back to it.
 fn check_calls(alloc: Global, program: &Program) -> Result<(), CheckFault>
-    requires { faults_in (whole_of program.now) ≡ [] }
-    ensures ranked { OnOk result ((ranks : List ℕ) × IsRanked (calls_in (whole_of program.now)) ranks) }
-    ensures told { IfErr result (λ fault. (root : List ℕ) → IsTold (whole_of program.now) root fault) }
+    requires { faults_in (program_of program.now) ≡ [] }
+    ensures ranked { OnOk result ((ranks : List ℕ) × IsRanked (calls_in (program_of program.now)) ranks) }
+    ensures told { IfErr result (λ fault. (root : List ℕ) → IsTold (program_of program.now) root fault) }
 {
     let funcs = program.funcs.as_slice();
     let Ok(calls) = all_calls(alloc, funcs) else {
@@ -121,10 +121,10 @@ fn name_at(funcs: &[Func], number: u32) -> &[u8]
 
 // That there is a function of this name.
 fn check_root(alloc: Global, program: &Program, root: &[u8]) -> Result<(), CheckFault>
-    requires sound { faults_in (whole_of program.now) ≡ [] }
-    requires ranked { (ranks : List ℕ) × IsRanked (calls_in (whole_of program.now)) ranks }
-    ensures starts { OnOk result (IsSome (function_place (whole_of program.now).funcs root.now)) }
-    ensures told { IfErr result (λ fault. IsTold (whole_of program.now) root.now fault) }
+    requires sound { faults_in (program_of program.now) ≡ [] }
+    requires ranked { (ranks : List ℕ) × IsRanked (calls_in (program_of program.now)) ranks }
+    ensures starts { OnOk result (IsSome (function_place (program_of program.now).funcs root.now)) }
+    ensures told { IfErr result (λ fault. IsTold (program_of program.now) root.now fault) }
 {
     ranked_calls_have_no_cycle();
     match function_named(&program.funcs, root) {

@@ -1,9 +1,9 @@
 ghost use Rattle.std.specs.Prelude.{◌≡◌, map, IfOk};
 ghost use Rattle.std.specs.Option.{option_map};
-ghost use Rattle.alf_program.specs.Tree.{Does, item_of, term_of};
+ghost use Rattle.alf_program.specs.Tree.{Do, item_of, expression_of, with_frames};
 ghost use Rattle.alf_program.specs.Tree as text;
-ghost use Rattle.alf_check.specs.Resolved.{Switches, end_of};
-ghost use Rattle.alf_check.specs.Numbered.{numbered_term, numbered_targets, numbered_end, end_by};
+ghost use Rattle.alf_check.specs.Resolved.{Switch, end_of};
+ghost use Rattle.alf_check.specs.Numbered.{numbered_targets, numbered_end, end_by};
 ghost use Rattle.alf_check.specs.Names.{numbers_of};
 
 use crate::expressions::{term, terms};
@@ -54,7 +54,7 @@ fn switch(
     others: &Name,
 ) -> Result<BlockEnd, AllocError>
     ensures { IfOk result (λ end. let numbers = numbers_of names.now in
-        end_of end ≡ Switches (numbered_term numbers.frame (term_of value.now)) (numbered_targets numbers.block targets.now) (numbers.block others.now)) }
+        end_of end ≡ Switch (with_frames numbers.frame (expression_of value.now)) (numbered_targets numbers.block targets.now) (numbers.block others.now)) }
 {
     let value = term(alloc, names, value)?;
     let targets = numbered_targets(alloc, names, targets)?;
@@ -85,7 +85,7 @@ fn call(
     args: &[Expr],
     to: &Option<(Name, u32)>,
 ) -> Result<BlockEnd, AllocError>
-    ensures { IfOk result (λ end. end_of end ≡ end_by (numbers_of names.now) next (Does (text.Calls func.now (map term_of args.now) to.now))) }
+    ensures { IfOk result (λ end. end_of end ≡ end_by (numbers_of names.now) next (Do (text.Call func.now (map expression_of args.now) to.now))) }
 {
     let func = names.func(func.bytes());
     let args = terms(alloc, names, args)?;
@@ -103,7 +103,7 @@ fn call(
 
 // A return.
 fn returned(alloc: Global, names: &Names<'_>, value: &Option<Expr>) -> Result<BlockEnd, AllocError>
-    ensures { IfOk result (λ end. end_of end ≡ end_by (numbers_of names.now) 0 (Does (text.Returns (option_map term_of value.now)))) }
+    ensures { IfOk result (λ end. end_of end ≡ end_by (numbers_of names.now) 0 (Do (text.Return (option_map expression_of value.now)))) }
 {
     match value {
         Some(value) => Ok(BlockEnd::Return(Some(term(alloc, names, value)?))),

@@ -1,7 +1,6 @@
 ghost use Rattle.std.specs.Prelude.{◌≡◌, map, IfOk};
-ghost use Rattle.alf_program.specs.Tree.{term_of};
+ghost use Rattle.alf_program.specs.Tree.{expression_of, with_frames};
 ghost use Rattle.alf_check.specs.Resolved.{tree_of};
-ghost use Rattle.alf_check.specs.Numbered.{numbered_term};
 ghost use Rattle.alf_check.specs.Names.{numbers_of};
 
 use crate::lookup::Names;
@@ -12,7 +11,7 @@ use std::alloc::{AllocError, Global};
 /// The expression, with the number of each frame.
 #[cycle(expressions)]
 pub fn term(alloc: Global, names: &Names<'_>, expr: &Expr) -> Result<Term, AllocError>
-    ensures { IfOk result (λ term. tree_of term ≡ numbered_term (numbers_of names.now).frame (term_of expr.now)) }
+    ensures { IfOk result (λ term. tree_of term ≡ with_frames (numbers_of names.now).frame (expression_of expr.now)) }
 {
     match expr {
         Expr::Num(num) => Ok(Term::Num(*num)),
@@ -31,7 +30,7 @@ pub fn term(alloc: Global, names: &Names<'_>, expr: &Expr) -> Result<Term, Alloc
 /// The expressions in their order.
 #[cycle(expressions)]
 pub fn terms(alloc: Global, names: &Names<'_>, exprs: &[Expr]) -> Result<Vec<Term>, AllocError>
-    ensures { IfOk result (λ terms. map tree_of terms.items ≡ map (numbered_term (numbers_of names.now).frame) (map term_of exprs.now)) }
+    ensures { IfOk result (λ terms. map tree_of terms.items ≡ map (with_frames (numbers_of names.now).frame) (map expression_of exprs.now)) }
 {
     let mut terms = Vec::new(alloc);
     for expr in exprs {

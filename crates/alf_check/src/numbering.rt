@@ -1,5 +1,5 @@
 ghost use Rattle.std.specs.Prelude.{◌≡◌, ◌<◌, ◌^◌, Some, map, length, All, IfOk};
-ghost use Rattle.alf_program.specs.Tree.{whole_of, function_of};
+ghost use Rattle.alf_program.specs.Tree.{program_of, function_of};
 ghost use Rattle.alf_check.specs.Blocks.{blocks_of};
 ghost use Rattle.alf_check.specs.Numbers.{numbers_with};
 ghost use Rattle.alf_check.specs.Numbered.{numbered_blocks, blocks_with, funcs_from};

@@ -1,6 +1,6 @@
 ghost use Rattle.std.specs.Prelude.{◌≡◌, ◌<◌, ℕ, List, [], map, length, All, IfOk, IsSome, slice_get, slice_index_or, Some};
 ghost use Rattle.std.specs.Coded.{codes};
-ghost use Rattle.alf_program.specs.Tree.{whole_of};
+ghost use Rattle.alf_program.specs.Tree.{program_of};
 ghost use Rattle.alf_text.specs.Language.{IsSpelled};
 ghost use Rattle.alf_text.specs.Spelled.{WholeIsWritten};
 ghost use Rattle.alf_names.specs.Places.{function_place};
@@ -135,12 +135,12 @@ impl Checked {
 
 // The program with numbers in place of names, which starts with the function of this name.
 pub(crate) fn numbered(alloc: Global, program: &Program, root: &[u8]) -> Result<Checked, AllocError>
-    requires spelled { IsSpelled (whole_of program.now) }
-    requires written { WholeIsWritten (whole_of program.now) }
-    requires sound { faults_in (whole_of program.now) ≡ [] }
-    requires ranked { (ranks : List ℕ) × IsRanked (calls_in (whole_of program.now)) ranks }
-    requires starts { IsSome (function_place (whole_of program.now).funcs root.now) }
-    ensures { IfOk result (λ checked. resolved_of checked ≡ numbered (whole_of program.now) root.now) }
+    requires spelled { IsSpelled (program_of program.now) }
+    requires written { WholeIsWritten (program_of program.now) }
+    requires sound { faults_in (program_of program.now) ≡ [] }
+    requires ranked { (ranks : List ℕ) × IsRanked (calls_in (program_of program.now)) ranks }
+    requires starts { IsSome (function_place (program_of program.now).funcs root.now) }
+    ensures { IfOk result (λ checked. resolved_of checked ≡ numbered (program_of program.now) root.now) }
 {
     ranked_calls_have_no_cycle();
     few(&program.funcs)?;

@@ -1,8 +1,8 @@
 ghost use Rattle.std.specs.Prelude.{◌≡◌, ◌++◌, map, IfOk, OnOk};
 ghost use Rattle.std.specs.List.{flat_map};
-ghost use Rattle.alf_program.specs.Tree.{item_of, term_of};
-ghost use Rattle.alf_check.specs.Resolved.{Stores, step_of};
-ghost use Rattle.alf_check.specs.Numbered.{numbered_term, steps_by};
+ghost use Rattle.alf_program.specs.Tree.{item_of, expression_of, with_frames};
+ghost use Rattle.alf_check.specs.Resolved.{Store, step_of};
+ghost use Rattle.alf_check.specs.Numbered.{steps_by};
 ghost use Rattle.alf_check.specs.Names.{numbers_of};
 
 use crate::expressions::term;
@@ -45,7 +45,7 @@ fn push_act(
 
 // A store.
 fn store(alloc: Global, names: &Names<'_>, at: &Expr, value: &Expr) -> Result<Act, AllocError>
-    ensures { IfOk result (λ act. step_of act ≡ Stores (numbered_term (numbers_of names.now).frame (term_of at.now)) (numbered_term (numbers_of names.now).frame (term_of value.now))) }
+    ensures { IfOk result (λ act. step_of act ≡ Store (with_frames (numbers_of names.now).frame (expression_of at.now)) (with_frames (numbers_of names.now).frame (expression_of value.now))) }
 {
     let at = term(alloc, names, at)?;
     let value = term(alloc, names, value)?;

@@ -1,5 +1,5 @@
 ghost use Rattle.std.specs.Prelude.{◌≡◌, ◌<◌, ◌^◌, ◌++◌, Some, map, length, Option, ℕ, IfOk, OnOk};
-ghost use Rattle.alf_program.specs.Tree.{frame_of, function_of, start_of, whole_of};
+ghost use Rattle.alf_program.specs.Tree.{allocation_of, function_of, initial_of, program_of};
 ghost use Rattle.alf_check.specs.Numbers.{rows_of, rows_from, frame_rows, frame_number};
 ghost use Rattle.alf_check.specs.Numbered.{numbered_frames, numbered_func, numbered_inits};
 ghost use Rattle.alf_check.specs.Resolved.{row_of};
@@ -13,7 +13,7 @@ use std::alloc::{AllocError, Global};
 
 /// The frames of the program.
 pub fn frame_rows(alloc: Global, program: &Program) -> Result<Vec<FrameRow>, AllocError>
-    ensures rows { IfOk result (λ rows. rows.items ≡ frame_rows (whole_of program.now)) }
+    ensures rows { IfOk result (λ rows. rows.items ≡ frame_rows (program_of program.now)) }
     ensures few { IfOk result (λ rows. length rows.items < 4294967295) }
 {
     let mut rows = Vec::new(alloc);
@@ -45,7 +45,7 @@ fn push_rows(
     owner: Option<u32>,
     frames: &[Alloc],
 ) -> Result<(), AllocError>
-    ensures { OnOk result (rows.new.items ≡ rows.old.items ++ rows_of owner (map frame_of frames.now)) }
+    ensures { OnOk result (rows.new.items ≡ rows.old.items ++ rows_of owner (map allocation_of frames.now)) }
 {
     for frame in frames {
         let name = Name::new(alloc, frame.name.bytes())?;
@@ -87,7 +87,7 @@ fn frame_numbers(
 ) -> Result<Vec<u32>, AllocError>
     requires { length rows.now < 2 ^ 32 }
     ensures { IfOk result (λ numbers. let number = frame_number rows.now (Some owner) in
-        numbers.items ≡ numbered_frames number (map frame_of first.now) ++ numbered_frames number (map frame_of others.now)) }
+        numbers.items ≡ numbered_frames number (map allocation_of first.now) ++ numbered_frames number (map allocation_of others.now)) }
 {
     let mut numbers = Vec::new(alloc);
     push_numbers(&mut numbers, rows, owner, first)?;
@@ -103,7 +103,7 @@ fn push_numbers(
     frames: &[Alloc],
 ) -> Result<(), AllocError>
     requires { length rows.now < 2 ^ 32 }
-    ensures { OnOk result (numbers.new.items ≡ numbers.old.items ++ numbered_frames (frame_number rows.now (Some owner)) (map frame_of frames.now)) }
+    ensures { OnOk result (numbers.new.items ≡ numbers.old.items ++ numbered_frames (frame_number rows.now (Some owner)) (map allocation_of frames.now)) }
 {
     for frame in frames {
         numbers.push(frame_number(rows, Some(owner), frame.name.bytes()))?;
@@ -119,7 +119,7 @@ pub fn init_rows(
     inits: &[Init],
 ) -> Result<Vec<InitRow>, AllocError>
     requires { length rows.now < 2 ^ 32 }
-    ensures { IfOk result (λ numbered. numbered.items ≡ numbered_inits (frame_number rows.now viewer) (map start_of inits.now)) }
+    ensures { IfOk result (λ numbered. numbered.items ≡ numbered_inits (frame_number rows.now viewer) (map initial_of inits.now)) }
 {
     let mut numbered = Vec::new(alloc);
     for init in inits {

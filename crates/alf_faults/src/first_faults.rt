@@ -2,7 +2,7 @@
 
 ghost use Rattle.std.specs.Prelude.{◌≡◌, IfOk};
 ghost use Rattle.std.specs.Option.{option_map};
-ghost use Rattle.alf_program.specs.Tree.{whole_of};
+ghost use Rattle.alf_program.specs.Tree.{program_of};
 ghost use Rattle.alf_faults.specs.Fault.{earliest};
 ghost use Rattle.alf_faults.specs.Told.{told, fault_of};
 ghost use Rattle.alf_faults.specs.Faults.{global_faults, faults_in};
@@ -25,7 +25,7 @@ use std::alloc::{AllocError, Global};
 /// is told as want of memory.
 pub fn first_fault(alloc: Global, program: &Program) -> Result<Option<ItemFault>, AllocError>
     ensures first { IfOk result (λ found. option_map fault_of found
-        ≡ earliest (faults_in (whole_of program.now))) }
+        ≡ earliest (faults_in (program_of program.now))) }
 {
     match first_found(alloc, program)? {
         Some(found) => Ok(Some(owned(alloc, found)?)),
@@ -37,7 +37,7 @@ pub fn first_fault(alloc: Global, program: &Program) -> Result<Option<ItemFault>
 #[tactic(auto, using(crate::proofs::EarliestFaults::earliest_faults))]
 fn first_found(alloc: Global, program: &Program) -> Result<Option<Found<'_>>, AllocError>
     ensures { IfOk result (λ found. option_map told found
-        ≡ earliest (faults_in (whole_of program.now))) }
+        ≡ earliest (faults_in (program_of program.now))) }
 {
     if let Some(found) = global_fault(program) {
         return Ok(Some(found));
@@ -48,7 +48,7 @@ fn first_found(alloc: Global, program: &Program) -> Result<Option<Found<'_>>, Al
 // The first fault of what stands before the functions.
 #[tactic(auto, using(crate::proofs::EarliestFaults::earliest_faults))]
 fn global_fault(program: &Program) -> Option<Found<'_>>
-    ensures { option_map told result ≡ earliest (global_faults (whole_of program.now)) }
+    ensures { option_map told result ≡ earliest (global_faults (program_of program.now)) }
 {
     if let Some(found) = export_fault(&program.decls, &program.exports) {
         return Some(found);

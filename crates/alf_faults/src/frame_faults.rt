@@ -3,7 +3,7 @@
 ghost use Rattle.std.specs.Prelude.{◌≡◌, [], map};
 ghost use Rattle.std.specs.List.{flat_map};
 ghost use Rattle.std.specs.Option.{option_map};
-ghost use Rattle.alf_program.specs.Tree.{frame_of, start_of};
+ghost use Rattle.alf_program.specs.Tree.{allocation_of, initial_of};
 ghost use Rattle.alf_faults.specs.Fault.{each_from, earliest};
 ghost use Rattle.alf_faults.specs.Told.{told};
 ghost use Rattle.alf_faults.specs.Duplicates.{frame_duplicates};
@@ -22,8 +22,8 @@ pub fn repeated_frame<'a>(
     frames: &'a [Alloc],
 ) -> Option<Found<'a>>
     ensures { option_map told result ≡ earliest (each_from (frame_duplicates
-        (map frame_of taken.now) (map frame_of others.now) (map frame_of frames.now))
-        0 (map frame_of frames.now)) }
+        (map allocation_of taken.now) (map allocation_of others.now) (map allocation_of frames.now))
+        0 (map allocation_of frames.now)) }
 {
     for (place, frame) in frames.iter().enumerate() {
         let name = frame.name.bytes();
@@ -41,7 +41,7 @@ pub fn repeated_frame<'a>(
 #[tactic(auto, using(crate::proofs::EarliestFaults::earliest_faults))]
 pub fn export_fault<'a>(frames: &[Alloc], exports: &'a [Name]) -> Option<Found<'a>>
     ensures { option_map told result
-        ≡ earliest (flat_map (export_faults (map frame_of frames.now)) exports.now) }
+        ≡ earliest (flat_map (export_faults (map allocation_of frames.now)) exports.now) }
 {
     for name in exports {
         if let Some(found) = export_fault_at(frames, name) {
@@ -54,7 +54,7 @@ pub fn export_fault<'a>(frames: &[Alloc], exports: &'a [Name]) -> Option<Found<'
 // The fault of one export.
 #[tactic(auto, using(crate::proofs::Reading::read_of))]
 fn export_fault_at<'a>(frames: &[Alloc], name: &'a Name) -> Option<Found<'a>>
-    ensures { option_map told result ≡ earliest (export_faults (map frame_of frames.now) name.now) }
+    ensures { option_map told result ≡ earliest (export_faults (map allocation_of frames.now) name.now) }
 {
     let Some(place) = frame_named(frames, name.bytes()) else {
         return Some(Found::Unknown(name));
@@ -77,7 +77,7 @@ fn is_export_size(bits: u32) -> bool
 #[tactic(auto, using(crate::proofs::EarliestFaults::earliest_faults))]
 pub fn start_fault<'a>(frames: &[Alloc], inits: &'a [Init]) -> Option<Found<'a>>
     ensures { option_map told result
-        ≡ earliest (flat_map (start_faults (map frame_of frames.now)) (map start_of inits.now)) }
+        ≡ earliest (flat_map (start_faults (map allocation_of frames.now)) (map initial_of inits.now)) }
 {
     for init in inits {
         if let Some(found) = start_fault_at(frames, init) {
@@ -91,7 +91,7 @@ pub fn start_fault<'a>(frames: &[Alloc], inits: &'a [Init]) -> Option<Found<'a>>
 #[tactic(auto, using(crate::proofs::Reading::read_of))]
 fn start_fault_at<'a>(frames: &[Alloc], init: &'a Init) -> Option<Found<'a>>
     ensures { option_map told result
-        ≡ earliest (start_faults (map frame_of frames.now) (start_of init.now)) }
+        ≡ earliest (start_faults (map allocation_of frames.now) (initial_of init.now)) }
 {
     let Some(place) = frame_named(frames, init.name.bytes()) else {
         return Some(Found::Unknown(&init.name));
@@ -105,7 +105,7 @@ fn start_fault_at<'a>(frames: &[Alloc], init: &'a Init) -> Option<Found<'a>>
 
 // Whether the number is of whole bytes and lies in a frame of so many bits.
 fn start_fits(bits: u32, init: &Init) -> bool
-    ensures { result ≡ start_fits bits (start_of init.now) }
+    ensures { result ≡ start_fits bits (initial_of init.now) }
 {
     let size = init.num.size;
     size % 8 == 0 && 8 * u64::from(init.offset) + u64::from(size) <= u64::from(bits)

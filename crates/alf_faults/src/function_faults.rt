@@ -2,7 +2,7 @@
 
 ghost use Rattle.std.specs.Prelude.{◌≡◌, map, IfOk};
 ghost use Rattle.std.specs.Option.{option_map};
-ghost use Rattle.alf_program.specs.Tree.{item_of, function_of, whole_of};
+ghost use Rattle.alf_program.specs.Tree.{item_of, function_of, program_of};
 ghost use Rattle.alf_faults.specs.Fault.{earliest, each_from};
 ghost use Rattle.alf_faults.specs.Told.{told};
 ghost use Rattle.alf_faults.specs.Returns.{returns_of};
@@ -12,7 +12,7 @@ ghost use Rattle.alf_faults.specs.Faults.{entry_faults, header_faults, function_
 use crate::findings::Found;
 use crate::frame_faults::{repeated_frame, start_fault};
 use crate::repeated_names::{entry_repeated, repeated_function};
-use crate::returns::{Return, first_return, first_returns};
+use crate::returns::{FirstReturn, first_return, first_returns};
 use crate::scopes::Scope;
 use crate::size_rules::entry_fits;
 use crate::unknown_names::entry_unknown;
@@ -24,7 +24,7 @@ use std::alloc::{AllocError, Global};
 #[tactic(auto, using(crate::proofs::EarliestFaults::earliest_faults))]
 pub fn functions_fault(alloc: Global, program: &Program) -> Result<Option<Found<'_>>, AllocError>
     ensures { IfOk result (λ found. option_map told found ≡ earliest
-        (each_from (function_faults (whole_of program.now)) 0 (whole_of program.now).funcs)) }
+        (each_from (function_faults (program_of program.now)) 0 (program_of program.now).funcs)) }
 {
     let returns = first_returns(alloc, &program.funcs)?;
     for (place, func) in program.funcs.iter().enumerate() {
@@ -40,13 +40,13 @@ pub fn functions_fault(alloc: Global, program: &Program) -> Result<Option<Found<
 fn function_fault<'a>(
     alloc: Global,
     program: &'a Program,
-    returns: &[Option<Return>],
+    returns: &[Option<FirstReturn>],
     place: usize,
     func: &'a Func,
 ) -> Result<Option<Found<'a>>, AllocError>
     requires { returns.now ≡ returns_of program.now.funcs.items }
     ensures { IfOk result (λ found. option_map told found
-        ≡ earliest (function_faults (whole_of program.now) place (function_of func.now))) }
+        ≡ earliest (function_faults (program_of program.now) place (function_of func.now))) }
 {
     if let Some(found) = header_fault(program, place, func) {
         return Ok(Some(found));
@@ -67,7 +67,7 @@ fn function_fault<'a>(
 #[tactic(auto, using(crate::proofs::EarliestFaults::earliest_faults))]
 fn header_fault<'a>(program: &Program, place: usize, func: &'a Func) -> Option<Found<'a>>
     ensures { option_map told result
-        ≡ earliest (header_faults (whole_of program.now) place (function_of func.now)) }
+        ≡ earliest (header_faults (program_of program.now) place (function_of func.now)) }
 {
     if let Some(found) = repeated_function(program, place, func) {
         return Some(found);
@@ -86,7 +86,7 @@ fn header_fault<'a>(program: &Program, place: usize, func: &'a Func) -> Option<F
 fn entries_fault<'a>(alloc: Global, scope: &Scope<'_, 'a>) -> Result<Option<Found<'a>>, AllocError>
     requires { IsScope scope.now }
     ensures { IfOk result (λ found. option_map told found ≡ earliest (each_from (entry_faults
-        (whole_of scope.now.program.now) scope.now.place (function_of scope.now.func.now))
+        (program_of scope.now.program.now) scope.now.place (function_of scope.now.func.now))
         0 (function_of scope.now.func.now).items)) }
 {
     for (at, item) in scope.func.items.iter().enumerate() {
@@ -107,7 +107,7 @@ fn entry_fault<'a>(
 ) -> Result<Option<Found<'a>>, AllocError>
     requires { IsScope scope.now }
     ensures { IfOk result (λ found. option_map told found ≡ earliest (entry_faults
-        (whole_of scope.now.program.now) scope.now.place (function_of scope.now.func.now)
+        (program_of scope.now.program.now) scope.now.place (function_of scope.now.func.now)
         place (item_of item.now))) }
 {
     let (program, func, labels) = (scope.program, scope.func, scope.labels);

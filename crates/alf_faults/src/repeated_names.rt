@@ -2,7 +2,7 @@
 
 ghost use Rattle.std.specs.Prelude.{◌≡◌, [], map, IfOk};
 ghost use Rattle.std.specs.Option.{option_map};
-ghost use Rattle.alf_program.specs.Tree.{item_of, function_of, whole_of};
+ghost use Rattle.alf_program.specs.Tree.{item_of, function_of, program_of};
 ghost use Rattle.alf_faults.specs.Fault.{earliest};
 ghost use Rattle.alf_faults.specs.Told.{told};
 ghost use Rattle.alf_faults.specs.Duplicates.{function_duplicates, label_duplicates, target_duplicates, entry_duplicates};
@@ -17,7 +17,7 @@ use std::alloc::{AllocError, Global};
 /// The function's name, where an earlier function has it.
 pub fn repeated_function<'a>(program: &Program, place: usize, func: &'a Func) -> Option<Found<'a>>
     ensures { option_map told result
-        ≡ earliest (function_duplicates (whole_of program.now).funcs place (function_of func.now)) }
+        ≡ earliest (function_duplicates (program_of program.now).funcs place (function_of func.now)) }
 {
     if is_exactly(place, function_named(&program.funcs, func.name.bytes())) {
         None
@@ -37,7 +37,7 @@ pub fn entry_repeated<'a>(
 ) -> Result<Option<Found<'a>>, AllocError>
     requires { labels.now ≡ func.now.items.items }
     ensures { IfOk result (λ found. option_map told found ≡ earliest
-        (entry_duplicates (whole_of program.now) (function_of func.now) place (item_of item.now))) }
+        (entry_duplicates (program_of program.now) (function_of func.now) place (item_of item.now))) }
 {
     match item {
         Item::Label(label) => Ok(repeated_label(program, labels, place, label)),
@@ -58,7 +58,7 @@ fn repeated_label<'a>(
     label: &'a Name,
 ) -> Option<Found<'a>>
     ensures { option_map told result ≡ earliest
-        (label_duplicates (whole_of program.now).funcs (map item_of labels.now) place label.now) }
+        (label_duplicates (program_of program.now).funcs (map item_of labels.now) place label.now) }
 {
     if !is_exactly(place, labels.find(label.bytes()))
         || function_named(&program.funcs, label.bytes()).is_some()

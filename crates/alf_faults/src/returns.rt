@@ -10,7 +10,7 @@ use std::alloc::{AllocError, Global};
 
 /// A return: its item's number, whether it has an expression, and the size of what it gives.
 #[derive(Clone, Copy, Debug, Drop)]
-pub struct Return {
+pub struct FirstReturn {
     pub item: usize,
     pub has_value: bool,
     /// 0 where there is no expression, and None where the expression breaks a size rule.
@@ -18,7 +18,7 @@ pub struct Return {
 }
 
 /// The first return of these items.
-pub fn first_return(items: &[Item]) -> Option<Return>
+pub fn first_return(items: &[Item]) -> Option<FirstReturn>
     ensures { result ≡ first_return (map item_of items.now) }
 {
     for (place, item) in items.iter().enumerate() {
@@ -30,7 +30,7 @@ pub fn first_return(items: &[Item]) -> Option<Return>
 }
 
 // The return that the item is, if it is one.
-fn return_of(place: usize, item: &Item) -> Option<Return>
+fn return_of(place: usize, item: &Item) -> Option<FirstReturn>
     ensures { result ≡ return_of place (item_of item.now) }
 {
     match item {
@@ -40,7 +40,7 @@ fn return_of(place: usize, item: &Item) -> Option<Return>
         Item::Stmt(Stmt::Jump(_)) => None,
         Item::Stmt(Stmt::Switch(_, _, _)) => None,
         Item::Stmt(Stmt::Call(_, _, _)) => None,
-        Item::Stmt(Stmt::Return(value)) => Some(Return {
+        Item::Stmt(Stmt::Return(value)) => Some(FirstReturn {
             item: place,
             has_value: value.is_some(),
             size: return_size(value),
@@ -49,7 +49,7 @@ fn return_of(place: usize, item: &Item) -> Option<Return>
 }
 
 /// The first return of each function.
-pub fn first_returns(alloc: Global, funcs: &[Func]) -> Result<Vec<Option<Return>>, AllocError>
+pub fn first_returns(alloc: Global, funcs: &[Func]) -> Result<Vec<Option<FirstReturn>>, AllocError>
     ensures { IfOk result (λ returns. returns.items ≡ returns_of funcs.now) }
 {
     let mut returns = Vec::new(alloc);
@@ -60,7 +60,7 @@ pub fn first_returns(alloc: Global, funcs: &[Func]) -> Result<Vec<Option<Return>
 }
 
 /// Whether a call with or without a result agrees with the return.
-pub fn agrees(has_result: bool, first: Return) -> bool
+pub fn agrees(has_result: bool, first: FirstReturn) -> bool
     ensures { result ≡ agrees has_result first }
 {
     if has_result {
@@ -78,7 +78,7 @@ pub fn is_before(func: usize, item: usize, other_func: usize, other_item: usize)
 }
 
 /// Whether a call that stands before this return of function `place` does not agree with it.
-pub fn is_breached(funcs: &[Func], name: &[u8], first: Return, place: usize) -> bool
+pub fn is_breached(funcs: &[Func], name: &[u8], first: FirstReturn, place: usize) -> bool
     ensures { result ≡ is_breached (map function_of funcs.now) name.now first place }
 {
     for (caller, func) in funcs.iter().enumerate() {
@@ -90,7 +90,7 @@ pub fn is_breached(funcs: &[Func], name: &[u8], first: Return, place: usize) -> 
 }
 
 // Whether one of the items of the caller is such a call.
-fn has_breach(name: &[u8], first: Return, place: usize, caller: usize, items: &[Item]) -> bool
+fn has_breach(name: &[u8], first: FirstReturn, place: usize, caller: usize, items: &[Item]) -> bool
     ensures { result ≡ has_breach name.now first place caller (map item_of items.now) }
 {
     for (at, item) in items.iter().enumerate() {
@@ -102,7 +102,7 @@ fn has_breach(name: &[u8], first: Return, place: usize, caller: usize, items: &[
 }
 
 // Whether the item is a call of this name that does not agree with the return.
-fn is_disagreeing(name: &[u8], first: Return, item: &Item) -> bool
+fn is_disagreeing(name: &[u8], first: FirstReturn, item: &Item) -> bool
     ensures { result ≡ is_disagreeing name.now first (item_of item.now) }
 {
     match item {

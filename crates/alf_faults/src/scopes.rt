@@ -1,6 +1,6 @@
 //! What is looked up around an item.
 
-use crate::returns::Return;
+use crate::returns::FirstReturn;
 use alf_names::Labels;
 use alf_program::{Func, Program};
 
@@ -9,12 +9,12 @@ use alf_program::{Func, Program};
 pub struct Scope<'s, 'a> {
     pub program: &'a Program,
     /// The first return of each function of the program.
-    pub returns: &'s [Option<Return>],
+    pub returns: &'s [Option<FirstReturn>],
     pub func: &'a Func,
     /// The function's place.
     pub place: usize,
     /// The function's first return.
-    pub first: Option<Return>,
+    pub first: Option<FirstReturn>,
     /// The labels of the function.
     pub labels: &'s Labels<'a>,
 }

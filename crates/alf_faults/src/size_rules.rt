@@ -2,13 +2,13 @@
 
 ghost use Rattle.std.specs.Prelude.{◌≡◌, map};
 ghost use Rattle.std.specs.Option.{option_map};
-ghost use Rattle.alf_program.specs.Tree.{frame_of, term_of, item_of, function_of, whole_of};
+ghost use Rattle.alf_program.specs.Tree.{allocation_of, expression_of, item_of, function_of, program_of};
 ghost use Rattle.alf_faults.specs.Returns.{first_return, returns_of};
 ghost use Rattle.alf_faults.specs.Scopes.{IsScope};
 ghost use Rattle.alf_faults.specs.Sizes.{targets_have, targets_fit, arguments_fit, agrees_behind, call_fits, breaks_calls, return_fits, entry_fits};
 
 use crate::findings::is_exactly;
-use crate::returns::{Return, agrees, is_before, is_breached};
+use crate::returns::{FirstReturn, agrees, is_before, is_breached};
 use crate::scopes::Scope;
 use crate::term_sizes::{is_bytes, is_size, return_size, same_size, term_size};
 use alf_names::function_named;
@@ -18,7 +18,7 @@ use flow_base::Name;
 /// Whether item `place` of the function keeps the size rules.
 pub fn entry_fits(scope: &Scope, place: usize, item: &Item) -> bool
     requires { IsScope scope.now }
-    ensures { result ≡ entry_fits (whole_of scope.now.program.now) scope.now.place
+    ensures { result ≡ entry_fits (program_of scope.now.program.now) scope.now.place
         (function_of scope.now.func.now) place (item_of item.now) }
 {
     match item {
@@ -62,8 +62,8 @@ fn targets_have(size: u32, targets: &[(Num, Name)]) -> bool
 #[tactic(auto, using(crate::proofs::Reading::read_of))]
 fn call_fits(scope: &Scope, place: usize, label: &Name, args: &[Expr], has_result: bool) -> bool
     requires { IsScope scope.now }
-    ensures { result ≡ call_fits (whole_of scope.now.program.now) scope.now.place place label.now
-        (map term_of args.now) has_result }
+    ensures { result ≡ call_fits (program_of scope.now.program.now) scope.now.place place label.now
+        (map expression_of args.now) has_result }
 {
     let funcs = &scope.program.funcs;
     let Some(called) = function_named(funcs, label.bytes()) else {
@@ -81,7 +81,7 @@ fn call_fits(scope: &Scope, place: usize, label: &Name, args: &[Expr], has_resul
 
 // Whether the arguments are as many as the frames, each of its frame's size.
 fn arguments_fit(frames: &[Alloc], args: &[Expr]) -> bool
-    ensures { result ≡ arguments_fit (map frame_of frames.now) (map term_of args.now) }
+    ensures { result ≡ arguments_fit (map allocation_of frames.now) (map expression_of args.now) }
 {
     let mut frames = frames;
     for arg in args {
@@ -99,7 +99,7 @@ fn arguments_fit(frames: &[Alloc], args: &[Expr]) -> bool
 // Whether a call agrees with the first return of function `called`, where that stands before it.
 fn agrees_behind(
     called: usize,
-    first: Option<Return>,
+    first: Option<FirstReturn>,
     func: usize,
     item: usize,
     has_result: bool,
@@ -116,8 +116,8 @@ fn agrees_behind(
 // with the calls before it where it is that first return.
 fn return_fits(scope: &Scope, place: usize, value: &Option<Expr>) -> bool
     requires { IsScope scope.now }
-    ensures { result ≡ return_fits (whole_of scope.now.program.now) scope.now.place
-        (function_of scope.now.func.now) place (option_map term_of value.now) }
+    ensures { result ≡ return_fits (program_of scope.now.program.now) scope.now.place
+        (function_of scope.now.func.now) place (option_map expression_of value.now) }
 {
     match scope.first {
         Some(first) => {
@@ -130,8 +130,14 @@ fn return_fits(scope: &Scope, place: usize, value: &Option<Expr>) -> bool
 
 // Whether item `item` of function `place` is this return, the function is the first of its name,
 // and a call before it does not agree with it.
-fn breaks_calls(program: &Program, place: usize, name: &Name, item: usize, first: Return) -> bool
-    ensures { result ≡ breaks_calls (whole_of program.now) place name.now item first }
+fn breaks_calls(
+    program: &Program,
+    place: usize,
+    name: &Name,
+    item: usize,
+    first: FirstReturn,
+) -> bool
+    ensures { result ≡ breaks_calls (program_of program.now) place name.now item first }
 {
     first.item == item
         && is_exactly(place, function_named(&program.funcs, name.bytes()))

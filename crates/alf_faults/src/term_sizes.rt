@@ -2,7 +2,7 @@
 
 ghost use Rattle.std.specs.Prelude.{◌≡◌, map};
 ghost use Rattle.std.specs.Option.{option_map};
-ghost use Rattle.alf_program.specs.Tree.{term_of, terms_of};
+ghost use Rattle.alf_program.specs.Tree.{expression_of, expressions_of};
 ghost use Rattle.alf_faults.specs.Fault.{is_exactly};
 ghost use Rattle.alf_faults.specs.TermSizes.{term_size, operands_fit, same_size, is_bytes, return_size};
 
@@ -12,7 +12,7 @@ use alf_program::Expr;
 /// The size of the expression in bits, or None where it breaks a size rule.
 #[cycle(sizes)]
 pub fn term_size(expr: &Expr) -> Option<u32>
-    ensures { result ≡ term_size (term_of expr.now) }
+    ensures { result ≡ term_size (expression_of expr.now) }
 {
     match expr {
         Expr::Num(num) => Some(num.size),
@@ -38,7 +38,7 @@ pub fn term_size(expr: &Expr) -> Option<u32>
 #[cycle(sizes)]
 #[tactic(auto, using(crate::proofs::Operands::operand_within))]
 fn operands_fit(op: Op, sizes: &[u32], operands: &[Expr]) -> bool
-    ensures { result ≡ operands_fit op sizes.now 0 (terms_of (map term_of operands.now)) }
+    ensures { result ≡ operands_fit op sizes.now 0 (expressions_of (map expression_of operands.now)) }
 {
     let mut place = 0;
     for first in operands {
@@ -82,7 +82,7 @@ pub fn is_bytes(size: Option<u32>) -> bool
 
 /// The size of what a return gives: 0 where it has no expression.
 pub fn return_size(value: &Option<Expr>) -> Option<u32>
-    ensures { result ≡ return_size (option_map term_of value.now) }
+    ensures { result ≡ return_size (option_map expression_of value.now) }
 {
     match value {
         Some(value) => term_size(value),

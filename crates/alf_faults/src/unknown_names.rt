@@ -3,7 +3,7 @@
 ghost use Rattle.std.specs.Prelude.{◌≡◌, ◌++◌, map};
 ghost use Rattle.std.specs.List.{flat_map};
 ghost use Rattle.std.specs.Option.{option_map};
-ghost use Rattle.alf_program.specs.Tree.{term_of, terms_of, item_of, function_of, whole_of};
+ghost use Rattle.alf_program.specs.Tree.{expression_of, expressions_of, item_of, function_of, program_of};
 ghost use Rattle.alf_faults.specs.Fault.{earliest};
 ghost use Rattle.alf_faults.specs.Told.{told};
 ghost use Rattle.alf_faults.specs.Unknowns.{is_frame, unknown_frame, unknown_in, unknown_among, unknown_function, unknown_label, unknown_targets, unknown_result, entry_unknowns};
@@ -23,7 +23,7 @@ pub fn entry_unknown<'a>(
     requires { labels.now ≡ func.now.items.items }
     ensures { option_map told result
         ≡ earliest
-        (entry_unknowns (whole_of program.now) (function_of func.now) (item_of item.now)) }
+        (entry_unknowns (program_of program.now) (function_of func.now) (item_of item.now)) }
 {
     match item {
         Item::Label(_) => None,
@@ -50,8 +50,8 @@ fn unknown_in_two<'a>(
     value: &'a Expr,
 ) -> Option<Found<'a>>
     ensures { option_map told result ≡ earliest
-        (unknown_in (whole_of program.now) (function_of func.now) (term_of at.now)
-        ++ unknown_in (whole_of program.now) (function_of func.now) (term_of value.now)) }
+        (unknown_in (program_of program.now) (function_of func.now) (expression_of at.now)
+        ++ unknown_in (program_of program.now) (function_of func.now) (expression_of value.now)) }
 {
     if let Some(found) = unknown_in(program, func, at) {
         return Some(found);
@@ -70,7 +70,7 @@ fn unknown_in_switch<'a>(
     others: &'a Name,
 ) -> Option<Found<'a>>
     ensures { option_map told result ≡ earliest
-        (unknown_in (whole_of program.now) (function_of func.now) (term_of value.now)
+        (unknown_in (program_of program.now) (function_of func.now) (expression_of value.now)
         ++ (unknown_targets (map item_of labels.now) targets.now
         ++ unknown_label (map item_of labels.now) others.now)) }
 {
@@ -93,10 +93,10 @@ fn unknown_in_call<'a>(
     place: &'a Option<(Name, u32)>,
 ) -> Option<Found<'a>>
     ensures { option_map told result ≡ earliest
-        (unknown_function (whole_of program.now) label.now
+        (unknown_function (program_of program.now) label.now
         ++ (unknown_among
-        (whole_of program.now) (function_of func.now) (terms_of (map term_of args.now))
-        ++ unknown_result (whole_of program.now) (function_of func.now) place.now)) }
+        (program_of program.now) (function_of func.now) (expressions_of (map expression_of args.now))
+        ++ unknown_result (program_of program.now) (function_of func.now) place.now)) }
 {
     if let Some(found) = unknown_function(program, label) {
         return Some(found);
@@ -111,7 +111,7 @@ fn unknown_in_call<'a>(
 #[tactic(auto, using(crate::proofs::EarliestFaults::earliest_faults))]
 pub fn unknown_export(program: &Program) -> Option<Found<'_>>
     ensures { option_map told result ≡ earliest
-        (flat_map (unknown_function (whole_of program.now)) (whole_of program.now).labels) }
+        (flat_map (unknown_function (program_of program.now)) (program_of program.now).labels) }
 {
     for name in &program.labels {
         if let Some(found) = unknown_function(program, name) {
@@ -123,7 +123,7 @@ pub fn unknown_export(program: &Program) -> Option<Found<'_>>
 
 // The name, where no function has it.
 fn unknown_function<'a>(program: &Program, name: &'a Name) -> Option<Found<'a>>
-    ensures { option_map told result ≡ earliest (unknown_function (whole_of program.now) name.now) }
+    ensures { option_map told result ≡ earliest (unknown_function (program_of program.now) name.now) }
 {
     if function_named(&program.funcs, name.bytes()).is_some() {
         None
@@ -164,7 +164,7 @@ fn unknown_result<'a>(
     place: &'a Option<(Name, u32)>,
 ) -> Option<Found<'a>>
     ensures { option_map told result
-        ≡ earliest (unknown_result (whole_of program.now) (function_of func.now) place.now) }
+        ≡ earliest (unknown_result (program_of program.now) (function_of func.now) place.now) }
 {
     match place {
         Some(place) => unknown_frame(program, func, &place.0),
@@ -175,7 +175,7 @@ fn unknown_result<'a>(
 // The frame, where it is neither global nor an argument or a declaration of the function.
 fn unknown_frame<'a>(program: &Program, func: &Func, name: &'a Name) -> Option<Found<'a>>
     ensures { option_map told result
-        ≡ earliest (unknown_frame (whole_of program.now) (function_of func.now) name.now) }
+        ≡ earliest (unknown_frame (program_of program.now) (function_of func.now) name.now) }
 {
     if is_frame(program, func, name.bytes()) {
         None
@@ -186,7 +186,7 @@ fn unknown_frame<'a>(program: &Program, func: &Func, name: &'a Name) -> Option<F
 
 // Whether the frame is global, or an argument or a declaration of the function.
 fn is_frame(program: &Program, func: &Func, name: &[u8]) -> bool
-    ensures { result ≡ is_frame (whole_of program.now) (function_of func.now) name.now }
+    ensures { result ≡ is_frame (program_of program.now) (function_of func.now) name.now }
 {
     frame_named(&program.decls, name).is_some()
         || frame_named(&func.args, name).is_some()
@@ -197,7 +197,7 @@ fn is_frame(program: &Program, func: &Func, name: &[u8]) -> bool
 #[cycle(unknowns)]
 fn unknown_in<'a>(program: &Program, func: &Func, expr: &'a Expr) -> Option<Found<'a>>
     ensures { option_map told result
-        ≡ earliest (unknown_in (whole_of program.now) (function_of func.now) (term_of expr.now)) }
+        ≡ earliest (unknown_in (program_of program.now) (function_of func.now) (expression_of expr.now)) }
 {
     match expr {
         Expr::Num(_) => None,
@@ -212,7 +212,7 @@ fn unknown_in<'a>(program: &Program, func: &Func, expr: &'a Expr) -> Option<Foun
 #[tactic(auto, using(crate::proofs::EarliestFaults::earliest_faults))]
 fn unknown_among<'a>(program: &Program, func: &Func, operands: &'a [Expr]) -> Option<Found<'a>>
     ensures { option_map told result ≡ earliest (unknown_among
-        (whole_of program.now) (function_of func.now) (terms_of (map term_of operands.now))) }
+        (program_of program.now) (function_of func.now) (expressions_of (map expression_of operands.now))) }
 {
     for operand in operands {
         if let Some(found) = unknown_in(program, func, operand) {

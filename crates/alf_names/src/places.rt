@@ -1,12 +1,12 @@
 ghost use Rattle.std.specs.Prelude.{◌≡◌, ◌<◌, map, length, IfSome};
-ghost use Rattle.alf_program.specs.Tree.{frame_of, function_of};
+ghost use Rattle.alf_program.specs.Tree.{allocation_of, function_of};
 ghost use Rattle.alf_names.specs.Places.{frame_place, function_place};
 
 use alf_program::{Alloc, Func};
 
 /// The place of the first frame of this name. Takes no memory.
 pub fn frame_named(frames: &[Alloc], name: &[u8]) -> Option<usize>
-    ensures first { result ≡ frame_place (map frame_of frames.now) name.now }
+    ensures first { result ≡ frame_place (map allocation_of frames.now) name.now }
     ensures within { IfSome result (λ place. place < length frames.now) }
 {
     frames.iter().position(|frame| frame.name.bytes() == name)

@@ -1,6 +1,11 @@
-pub mod Histories
+-- The files of this folder.
+pub mod Cells
+pub mod Fitting
+pub mod LoadsAndStores
 pub mod Modular
 pub mod NamedOperators
+pub mod Origins
+pub mod OutcomeSizes
 pub mod Rotations
 pub mod Values
 pub mod WordReadings

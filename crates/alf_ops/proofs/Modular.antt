@@ -1,6 +1,6 @@
 -- Words of a size as remainders.
 use Rattle.std.proofs.Common.{◌≡◌, ℕ, zero, suc, ◌+◌, ◌-◌, ◌*◌, ◌/◌, ◌%◌, ◌^◌, ◌<◌, ◌≤◌, ℤ, pos, negsuc, neg_ℤ, true, false, refl, sym, ap, ◌∙◌, arith, ⊎_elim}
-use Rattle.std.specs.Prelude.{unsigned_abs, int_div, int_rem, bit_and, bit_or, bit_xor, ◌-ℤ◌, ◌*ℤ◌}
+use Rattle.std.specs.Prelude.{min, max, unsigned_abs, int_div, int_rem, bit_and, bit_or, bit_xor, ◌-ℤ◌, ◌*ℤ◌}
 use Rattle.std.specs.Int.{int_div_euclid}
 use Rattle.std.proofs.lemmas.Bool.{cases_lt}
 use Rattle.std.proofs.lemmas.Int.{ints, quot-rem}
@@ -8,8 +8,7 @@ use Rattle.std.proofs.lemmas.Nat.{pow_pos, pow-add, mod_below, div-add-mod', mod
 use Rattle.std.proofs.Math.Nat.{mod_self, sub-zero, zero-mod, mod-mod, mul-mod_left, div-le_self}
 use Rattle.std.proofs.Math.IntN.{*ℤ_comm}
 use Rattle.std.proofs.Math.Pow.{pow_mono}
-use Rattle.alf_ops.specs.Words.{word, signed}
-use Rattle.alf_ops.specs.Signs.{sign, with_sign}
+use Rattle.alf_ops.specs.TwosComplement.{word, signed, sign, with_sign}
 
 -- a number below the modulus is its own remainder
 pub mod_small : (x m : ℕ) → x < m → x % m ≡ x
@@ -87,7 +86,17 @@ remainder_by_sign x y =
 pub rotated : (a places : ℕ) → a < 2 ^ 64 → places ≤ 64 → (a * 2 ^ places) % 2 ^ 128 ≡ a * 2 ^ places
 rotated a places below within = shl_whole a 64 places 128 below (omega arith)
 
+-- a word of a machine is below 2 to a size that it has room for
+pub below_wide : (x size : ℕ) → x < 2 ^ 64 → 64 ≤ size → x < 2 ^ size
+below_wide x size below wide = let e : 2 ^ 64 ≤ 2 ^ size = pow_mono wide in omega arith
+
 -- Results that are below the modulus already.
+
+pub lesser_kept : (a b m : ℕ) → a < 2 ^ m → b < 2 ^ m → min a b % 2 ^ m ≡ min a b
+lesser_kept a b m below_a below_b = mod_small (min a b) (2 ^ m) (omega arith)
+
+pub greater_kept : (a b m : ℕ) → a < 2 ^ m → b < 2 ^ m → max a b % 2 ^ m ≡ max a b
+greater_kept a b m below_a below_b = mod_small (max a b) (2 ^ m) (omega arith)
 
 pub quotient_kept : (a b m : ℕ) → a < 2 ^ m → a / b ≡ (a / b) % 2 ^ m
 quotient_kept a b m below = sym (mod_small (a / b) (2 ^ m) (let e : a / b ≤ a = div-le_self a b in omega arith))

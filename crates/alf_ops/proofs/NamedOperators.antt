@@ -1,6 +1,6 @@
 -- Names of rows: where none is found, and tests that a table is right.
-use Rattle.std.proofs.Common.{◌≡◌, ◌≢◌, ◌↔◌, ℕ, List, [], ◌∷◌, All, AllPairs, IsNone, Some, Bool, true, false, not, ◌&&◌, length, arith, refl, map, ◌<◌, sym, ap, ◌∙◌, slice_index_or}
-use Rattle.std.specs.Prelude.{◌==◌}
+use Rattle.std.proofs.Common.{◌≡◌, ◌≢◌, ◌↔◌, ℕ, List, [], ◌∷◌, All, AllPairs, IsNone, Some, Bool, true, false, not, ◌&&◌, length, arith, map, ◌<◌, sym, ap, ◌∙◌, slice_index_or}
+use Rattle.std.specs.Prelude.{◌==◌, find, option_map, Option, None}
 use Rattle.std.specs.Str.{bytes_eq}
 use Rattle.std.specs.List.{list_all, slice_get}
 use Rattle.std.proofs.lemmas.List.{get_or-map, length-map}
@@ -8,35 +8,37 @@ use Rattle.std.proofs.lemmas.Option.{slice_get_within, get_or_from_slice_get}
 use Rattle.alf_ops.specs.declared.operator.Op.{Op}
 use Rattle.std.proofs.lemmas.Grind.{common_steps}
 use Rattle.std.proofs.lemmas.Bool.Decides.{not_from_Decides}
-use Rattle.std.proofs.lemmas.List.Elements.{All-cons, All-nil, All-head, All-tail}
+use Rattle.std.proofs.lemmas.List.Elements.{All-cons, All-nil, All-weaker}
 use Rattle.std.proofs.lemmas.List.Kept.{AllPairs-cons}
 use Rattle.std.proofs.lemmas.Slice.Eq.{bytes_eq-Decides}
 use Rattle.alf_ops.specs.declared.table.OpRow.{OpRow}
-use Rattle.alf_ops.specs.Table.{layout_of, size_count, operands_by_layout}
+use Rattle.alf_ops.specs.Layouts.{size_count, operands_by_layout}
+use Rattle.alf_ops.specs.Table.{layout_of}
+use Rattle.lists.specs.Finding.{find_none}
+use Rattle.lists.specs.Tests.{by_test}
 use Rattle.alf_ops.specs.Names.{operator_named, name_of, operators, spelling, TellsOperator}
 
-by_test : {A : Type 0} (v : Bool) → (v ≡ true → A) → (v ≡ false → A) → A
-by_test true f g = f refl
-by_test false f g = g refl
-
--- where the first row has another name, the rest decides
-skips_other : (row : OpRow) (rows : List OpRow) (name : List ℕ) → bytes_eq (name_of row) name ≡ false → operator_named (row ∷ rows) name ≡ operator_named rows name
-skips_other row rows name other = rw other refl
-
-takes_first : (row : OpRow) (rows : List OpRow) (name : List ℕ) → bytes_eq (name_of row) name ≡ true → operator_named (row ∷ rows) name ≡ Some row.op
-takes_first row rows name same = rw same refl
-
+-- none is found exactly where no row has the name
 pub none_is_named : (rows : List OpRow) (name : List ℕ) → IsNone (operator_named rows name) ↔ All (λ row. name_of row ≢ name) rows
-none_is_named [] name = (λ none. All-nil (λ row. name_of row ≢ name), λ all. grind (arith, common_steps))
-none_is_named (row ∷ rows) name = by_test (bytes_eq (name_of row) name)
-    (λ same. (
-      λ none. cc (takes_first row rows name same),
-      λ all. absurd (All-head (λ row. name_of row ≢ name) row rows all ((bytes_eq-Decides (name_of row) name).0 same)),
-    ))
-    (λ other. rw (skips_other row rows name other) (
-      λ none. All-cons (λ row. name_of row ≢ name) row rows (λ e. not_from_Decides _ (bytes_eq-Decides (name_of row) name) other e) ((none_is_named rows name).0 none),
-      λ all. (none_is_named rows name).1 (All-tail (λ row. name_of row ≢ name) row rows all),
-    ))
+none_is_named rows name =
+    let none = find_none (λ row. bytes_eq (name_of row) name) rows in (
+      λ missing. All-weaker (λ row. bytes_eq (name_of row) name ≡ false) (λ row. name_of row ≢ name) (λ row other. differ row other) rows (none.0 (no_row (find (λ row. bytes_eq (name_of row) name) rows) missing)),
+      λ all. no_operator (find (λ row. bytes_eq (name_of row) name) rows) (none.1 (All-weaker (λ row. name_of row ≢ name) (λ row. bytes_eq (name_of row) name ≡ false) (λ row other. fails row other) rows all)),
+    )
+  where
+    differ : (row : OpRow) → bytes_eq (name_of row) name ≡ false → name_of row ≢ name
+    differ row other e = not_from_Decides _ (bytes_eq-Decides (name_of row) name) other e
+
+    fails : (row : OpRow) → name_of row ≢ name → bytes_eq (name_of row) name ≡ false
+    fails row other = by_test (bytes_eq (name_of row) name) (λ same. absurd (other ((bytes_eq-Decides (name_of row) name).0 same))) (λ e. e)
+
+    no_row : (found : Option OpRow) → IsNone (option_map (λ row. row.op) found) → IsNone found
+    no_row None missing = missing
+    no_row (Some row) missing = missing
+
+    no_operator : (found : Option OpRow) → IsNone found → IsNone (option_map (λ row. row.op) found)
+    no_operator None missing = missing
+    no_operator (Some row) missing = missing
 
 -- no name stands twice
 abbrev pub names_apart : List (List ℕ) → Bool

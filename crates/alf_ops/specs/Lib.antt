@@ -1,10 +1,18 @@
+-- The files of this folder.
+pub mod Histories
+pub mod HistoryLaws
+pub mod Layouts
 pub mod Names
 pub mod OperandLaws
 pub mod PointerLaws
 pub mod Pointers
-pub mod RunLaws
-pub mod Runs
-pub mod Signs
+pub mod Readings
+pub mod Spans
 pub mod Table
+pub mod Tables
+pub mod TwosComplement
+pub mod Values
 pub mod WordLaws
+pub mod WholeCells
+pub mod WordBytes
 pub mod Words

@@ -1,9 +1,19 @@
--- Operands one after the other.
-use Rattle.std.specs.Prelude.{slice_get}
+-- Operands one after the other, and place by place.
+--   FitsAt Fits size arg   there is a size and an argument that fits it, or neither
+--   operands_end           where there is no operand i, no operands are left from i on
+--   operands_go_on         else operand i is the first of those that are left
+use Rattle.std.specs.Prelude.{slice_get, Option, ⊤}
 use Rattle.std.proofs.Common.{◌≡◌, ℕ, zero, suc, List, [], ◌∷◌, Some, None, drop, IsSome, refl, ◌+◌, add-one, arith}
 use Rattle.std.proofs.lemmas.Grind.{common_steps}
 use Rattle.alf_ops.specs.declared.operator.Op.{Op}
 use Rattle.alf_ops.specs.Table.{result_size, operand_size, operand_sizes}
+
+-- there is a size and an argument that fits it, or neither
+abbrev pub FitsAt : {A B : Type 0} → (A → B → Type 0) → Option A → Option B → Type 0
+FitsAt Fits None None = ⊤
+FitsAt Fits None (Some arg) = ⊥
+FitsAt Fits (Some size) None = ⊥
+FitsAt Fits (Some size) (Some arg) = Fits size arg
 
 drop_end : (sizes : List ℕ) (i : ℕ) → slice_get sizes i ≡ None → drop i sizes ≡ []
 drop_end [] zero none = refl

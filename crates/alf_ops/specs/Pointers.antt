@@ -1,14 +1,11 @@
 -- What an operator gives at values of a run: at words, and at pointers where a rule takes them.
---   bits_of value                the word, or the offset of a pointer
---   EachValueFits sizes values   there is one value for each size, of this size
 --   applied op sizes a b c       the operator's word at the words and offsets
 --   at_words op sizes a b c      the outcome where no operand is a pointer
 --   add_rule, subtract_rule, equality_rule, order_rule, choice_rule   the rules that take pointers
 --   by_rule op sizes a b c       the outcome where an operand is a pointer: without a rule it is the fault kind
 --   outcome op sizes values      the value or the fault of the operator at the values of its operands
 --   operands results             the values of the operands, or the first fault from left to right
-use Rattle.std.specs.Prelude.{◌≡◌, ◌<◌, ◌^◌, ℕ, Bool, true, false, List, [], ◌∷◌, Result, Ok, Err, ◌==◌, ◌&&◌, ◌||◌, if◌then◌else◌, slice_index_or}
-use Rattle.std.specs.List.{AllZip}
+use Rattle.std.specs.Prelude.{ℕ, List, [], ◌∷◌, Result, Ok, Err, ◌==◌, ◌&&◌, ◌||◌, if◌then◌else◌, slice_index_or}
 use Rattle.alf_ops.specs.declared.operator.Op.{Op}
 use Rattle.alf_ops.specs.declared.operator.Op.TheVariants.{Add, Sub, Eq, Neq, ULt, ULe, UGt, UGe, If}
 use Rattle.alf_ops.specs.declared.history.Value.{Value}
@@ -16,26 +13,8 @@ use Rattle.alf_ops.specs.declared.history.Value.TheVariants.{Int, Ptr}
 use Rattle.alf_ops.specs.declared.history.RunFault.{RunFault}
 use Rattle.alf_ops.specs.declared.history.RunFault.TheVariants.{Divide, Kind, Pointers}
 use Rattle.alf_ops.specs.Table.{size_of_result}
+use Rattle.alf_ops.specs.Values.{bits_of, is_pointer}
 use Rattle.alf_ops.specs.Words.{value, divides}
-
--- the word, or the offset of a pointer
-abbrev pub bits_of : Value → ℕ
-bits_of (Int size word) = word
-bits_of (Ptr frame offset) = offset
-
--- the value is a pointer
-abbrev pub is_pointer : Value → Bool
-is_pointer (Int size word) = false
-is_pointer (Ptr frame offset) = true
-
--- the value has the size, and its word or offset is in range
-abbrev pub FitsValue : ℕ → Value → Type 0
-FitsValue size (Int own word) = (own ≡ size) × (word < 2 ^ size)
-FitsValue size (Ptr frame offset) = (size ≡ 32) × (offset < 2 ^ 32)
-
--- there is one value that fits for each size
-abbrev pub EachValueFits : List ℕ → List Value → Type 0
-EachValueFits sizes values = AllZip FitsValue sizes values
 
 -- the operator's word at the words and offsets
 abbrev pub applied : Op → List ℕ → Value → Value → Value → ℕ

@@ -1,7 +1,7 @@
 //! What a run stores and loads.
 
 ghost use Rattle.std.specs.Prelude.{List};
-ghost use Rattle.alf_ops.specs.declared.history.Event.{Event};
+ghost use Rattle.alf_ops.specs.declared.history.RunEvent.{RunEvent};
 
 use std::marker::Model;
 
@@ -19,9 +19,10 @@ pub enum Value {
 pub enum RunFault {
     /// An operator divides by 0.
     Divide,
-    /// A cell is loaded that shares no byte with a store since the frame's function was entered.
+    /// A cell is loaded, and no store since the frame's function was entered covers one of its bytes.
     Uninit,
-    /// A cell is loaded, and the newest store that shares a byte with it is of another cell.
+    /// A cell is loaded whose bytes are not all of one store of this very cell, and one of them is a
+    /// pointer's.
     Mixed,
     /// A cell does not lie in its frame.
     Bounds,
@@ -33,17 +34,17 @@ pub enum RunFault {
     Pointers,
 }
 
-/// A frame of a program: the function that makes it anew each time it is entered, or None for a
+/// What a run knows of a frame: the function that makes it anew each time it is entered, or None for a
 /// global frame, and its size in bits.
 #[derive(Clone, Copy, Debug, PartialEq, Eq)]
-pub struct Frame {
+pub struct FrameShape {
     pub owner: Option<u32>,
     pub bits: u32,
 }
 
 /// What happens in a run that later loads depend on.
 #[derive(Clone, Copy, Debug, PartialEq, Eq)]
-pub enum Event {
+pub enum RunEvent {
     /// The function with this number is entered.
     Enter(u32),
     /// The function with this number is left.
@@ -60,11 +61,11 @@ pub enum Event {
 /// The events of a run so far, the newest first. Only contracts name it, and no call makes one.
 #[derive(Drop)]
 pub struct History {
-    events: Vec<Event>,
+    events: Vec<RunEvent>,
 }
 
 impl Model for History {
-    ghost Value = { List Event };
+    ghost Value = { List RunEvent };
 
     ghost view = { λ history. history.events.items };
 }

@@ -1,12 +1,74 @@
-//! What the meaning of a run promises, as clauses of functions that do nothing.
+//! What words, operators and the meaning of a run promise, as clauses of functions that do nothing.
 
-ghost use Rattle.alf_ops.specs.PointerLaws.{Unequal, Unordered, DividedPointer, Chosen, FirstFaultCounts};
-ghost use Rattle.alf_ops.specs.RunLaws.{StoreThenLoad, StoreElsewhere, EnterEmpties, EnterKeepsOthers, LeaveEnds, LeaveKeepsOthers, LooksAtNewest, HasOneAnswer};
-ghost use Rattle.alf_ops.specs.WordLaws.{ReadsTwosComplement, BelowItsSize, IsTruncated, MovesRound};
+ghost use Rattle.alf_ops.specs.WordLaws.{ReadsTwosComplement, IsRead, ReadsByHighestBit, BelowItsSize, TruncatesTowardZero, MovesRound, LesserAndGreater, SelectsBytes, ConcatenatesWords};
+ghost use Rattle.alf_ops.specs.Names.{HaveOwnNames};
+ghost use Rattle.alf_ops.specs.PointerLaws.{TableDecides, Unequal, Unordered, AsOffsets, Moves, Chosen, KindElsewhere, DividedPointer, OutcomeFits, FirstFaultCounts};
+ghost use Rattle.alf_ops.specs.HistoryLaws.{StoreThenLoad, StoreElsewhere, ReadsBack, EnterEmpties, EnterKeepsOthers, LeaveEnds, LeaveKeepsOthers, KindFirst, DeadNext, PastTheEnd, EmptyByte, PointerByte, WordOfBytes, ComesFromNewest, IsOneStore, StoreKeepsSound, LoadFits, HasOneAnswer};
 
-/// A store and then a load of the same cell gives the value.
+use crate::table::rows;
+
+/// A word is read in two's complement.
+pub fn words_are_read_in_twos_complement()
+    ensures signed { ReadsTwosComplement }
+    ensures read { IsRead }
+    ensures highest_bit { ReadsByHighestBit }
+{}
+
+/// Each value is cut to its size, a signed quotient is truncated toward zero, a rotation moves each
+/// bit round, of two words one is the lesser, and bytes are selected and put together.
+pub fn words_are_cut_and_computed()
+    ensures fits { BelowItsSize }
+    ensures truncated { TruncatesTowardZero }
+    ensures rotated { MovesRound }
+    ensures lesser { LesserAndGreater }
+    ensures selected { SelectsBytes }
+    ensures concatenated { ConcatenatesWords }
+{}
+
+/// No two operators have one name.
+pub fn operators_have_their_own_names()
+    ensures { HaveOwnNames }
+{
+    let _ = rows();
+}
+
+/// Where no operand is a pointer the table decides.
+pub fn the_table_decides_at_words()
+    ensures { TableDecides }
+{}
+
+/// Pointers to different frames are unequal, and neither ordered nor subtracted; pointers to one
+/// frame are compared and subtracted as their offsets are.
+pub fn pointers_are_compared_within_a_frame()
+    ensures unequal { Unequal }
+    ensures unordered { Unordered }
+    ensures offsets { AsOffsets }
+{}
+
+/// A pointer moves within its frame, a choice may give one, and a pointer anywhere else is the
+/// fault `Kind`, of every operator.
+pub fn pointers_stand_where_a_rule_takes_them()
+    ensures moves { Moves }
+    ensures chosen { Chosen }
+    ensures elsewhere { KindElsewhere }
+    ensures divided { DividedPointer }
+{}
+
+/// An outcome has the size of the operator's result.
+pub fn outcomes_have_their_size()
+    ensures { OutcomeFits }
+{}
+
+/// Operands fault before their operator, the leftmost first.
+pub fn operands_fault_from_left_to_right()
+    ensures { FirstFaultCounts }
+{}
+
+/// A store and then a load of the same cell gives the value, and a load within a word that was
+/// stored gives the word's bits there, the lowest bits at the lowest offset.
 pub fn a_load_gives_what_was_stored()
-    ensures { StoreThenLoad }
+    ensures same { StoreThenLoad }
+    ensures within { ReadsBack }
 {}
 
 /// A store leaves a cell that shares no byte with it, and each cell of another frame, as it was.
@@ -26,35 +88,33 @@ pub fn leaving_ends_the_frames_of_the_function()
     ensures others { LeaveKeepsOthers }
 {}
 
-/// Pointers to different frames are unequal, and neither ordered nor subtracted.
-pub fn pointers_to_different_frames_are_unequal()
-    ensures unequal { Unequal }
-    ensures unordered { Unordered }
+/// A load and a store test their address in the order `Kind`, `Dead`, `Bounds`.
+pub fn an_address_is_tested_in_order()
+    ensures kind { KindFirst }
+    ensures dead { DeadNext }
+    ensures bounds { PastTheEnd }
 {}
 
-/// A pointer is not divided, not even by 0, and a choice may take one.
-pub fn pointers_stand_where_a_rule_takes_them()
-    ensures divided { DividedPointer }
-    ensures chosen { Chosen }
-{}
-
-/// Operands fault before their operator, the leftmost first.
-pub fn operands_fault_from_left_to_right()
-    ensures { FirstFaultCounts }
-{}
-
-/// A load looks at the newest store since the frame's function was entered that shares a byte
-/// with the cell, and gives exactly one of a value and a fault.
-pub fn a_load_looks_at_the_newest_store()
-    ensures newest { LooksAtNewest }
+/// A load reads its bytes: one without a store makes it `Uninit`; where they are not all of one
+/// store of the very cell, one of a pointer makes it `Mixed`, and else it gives their word. It gives
+/// exactly one of a value and a fault.
+pub fn a_load_reads_its_bytes()
+    ensures empty { EmptyByte }
+    ensures mixed { PointerByte }
+    ensures word { WordOfBytes }
     ensures one_answer { HasOneAnswer }
 {}
 
-/// A word is read in two's complement, each value is cut to its size, a quotient is truncated
-/// toward zero, and a rotation moves each bit round.
-pub fn words_are_read_and_cut()
-    ensures signed { ReadsTwosComplement }
-    ensures fits { BelowItsSize }
-    ensures truncated { IsTruncated }
-    ensures rotated { MovesRound }
+/// A byte comes from the newest store since the frame's function was entered that covers it, and
+/// bytes that come from stores of one cell come from one store.
+pub fn a_byte_comes_from_the_newest_store()
+    ensures newest { ComesFromNewest }
+    ensures one_store { IsOneStore }
+{}
+
+/// A store of a value that fits keeps a history sound, and a load of a sound history gives a value
+/// of the size that is loaded.
+pub fn sound_histories_give_values_that_fit()
+    ensures stored { StoreKeepsSound }
+    ensures loaded { LoadFits }
 {}

@@ -1,8 +1,8 @@
-//! The layouts of the table's rows: which sizes are written, which operands stand behind them,
+//! The layouts of the table's rows: which sizes are written, which operands stand after them,
 //! and which size the result has.
 
 ghost use Rattle.std.specs.Prelude.{◌≡◌, ◌↔◌, ℕ, ◌<◌, IsTrue, slice_get, slice_index};
-ghost use Rattle.alf_ops.specs.Table.{size_count, is_size as size_in_range, is_typed, result_by_layout, operands_by_layout};
+ghost use Rattle.alf_ops.specs.Layouts.{size_count, is_size as size_in_range, is_typed, result_by_layout, operands_by_layout};
 
 /// How the sizes, the operands and the result of a row belong together.
 #[derive(Clone, Copy)]
@@ -33,7 +33,7 @@ pub enum Layout {
     Choice,
 }
 
-/// The size at this place, or 0 behind the last.
+/// The size at this place, or 0 after the last.
 pub fn size_at(sizes: &[u32], place: usize) -> u32
     ensures { result ≡ slice_index sizes.now place }
 {

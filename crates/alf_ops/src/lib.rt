@@ -16,6 +16,7 @@ mod table;
 // The sizes of an operator and its value, over the arithmetic of words.
 mod divide;
 mod operations;
+mod sizes;
 mod words;
 
 // What a run is made of, and operators at its values.
@@ -27,15 +28,20 @@ mod outcomes;
 mod laws;
 
 pub use divide::Divide;
-pub use history::{Event, Frame, History, RunFault, Value};
+pub use history::{FrameShape, History, RunEvent, RunFault, Value};
 pub use laws::{
-    a_load_gives_what_was_stored, a_load_looks_at_the_newest_store, a_store_leaves_other_cells,
+    a_byte_comes_from_the_newest_store, a_load_gives_what_was_stored, a_load_reads_its_bytes,
+    a_store_leaves_other_cells, an_address_is_tested_in_order,
     entering_empties_the_frames_of_the_function, leaving_ends_the_frames_of_the_function,
-    operands_fault_from_left_to_right, pointers_stand_where_a_rule_takes_them,
-    pointers_to_different_frames_are_unequal, words_are_read_and_cut,
+    operands_fault_from_left_to_right, operators_have_their_own_names, outcomes_have_their_size,
+    pointers_are_compared_within_a_frame, pointers_stand_where_a_rule_takes_them,
+    sound_histories_give_values_that_fit, the_table_decides_at_words, words_are_cut_and_computed,
+    words_are_read_in_twos_complement,
 };
 pub use loads::load_after;
-pub use operations::{apply, operand, shape};
+pub use operations::apply;
 pub use operator::Op;
 pub use outcomes::apply_to_values;
+pub use sizes::{fits, operand, shape, values_fit};
 pub use table::{OPS, OpRow, find, rows, spelling};
+pub use words::{distance, is_negative, negated};

@@ -1,19 +1,43 @@
-//! Loads computed from the events of a run, one by one.
+//! Loads computed from the events of a run, byte by byte.
 
-ghost use Rattle.std.specs.Prelude.{◌≡◌, ◌*◌, ◌+◌};
-ghost use Rattle.alf_ops.specs.Runs.{is_running, is_owner_active, is_owner, share_byte, content, newest, stores_since, load_in, load};
+ghost use Rattle.std.specs.Prelude.{◌≡◌, ◌*◌, ◌+◌, ◌^◌, ◌<◌, ◌≤◌, map, option_map};
+ghost use Rattle.std.specs.List.{list_any, list_all};
+ghost use Rattle.alf_ops.specs.Values.{bits_of};
+ghost use Rattle.alf_ops.specs.Histories.{is_running, is_active, is_owner, is_byte_of, left_by, origin, offsets, is_empty, is_from, of_pointer, byte_of, word_of, cell_in, load};
 
-use crate::history::{Event, Frame, RunFault, Value};
+use crate::history::{FrameShape, RunEvent, RunFault, Value};
+use crate::outcomes::{bits, points};
+
+/// The store that a byte comes from.
+#[derive(Clone, Copy)]
+struct Stored {
+    offset: u32,
+    size: u32,
+    value: Value,
+}
+
+/// What the bytes of a cell come from.
+#[derive(Clone, Copy)]
+struct Reading {
+    /// Some byte has no store.
+    empty: bool,
+    /// All bytes are of stores of this cell.
+    whole: bool,
+    /// Some byte is of a pointer.
+    pointer: bool,
+    /// The word of the bytes.
+    word: u64,
+}
 
 /// The newest Enter or Leave of the function is an Enter.
-fn runs(history: &[Event], function: u32) -> bool
+fn runs(history: &[RunEvent], function: u32) -> bool
     ensures { result ≡ is_running history.now function }
 {
     let mut rest = history;
     while let Some((event, others)) = rest.split_first() {
         match *event {
-            Event::Enter(entered) if entered == function => return true,
-            Event::Leave(left) if left == function => return false,
+            RunEvent::Enter(entered) if entered == function => return true,
+            RunEvent::Leave(left) if left == function => return false,
             _ => rest = others,
         }
     }
@@ -21,8 +45,8 @@ fn runs(history: &[Event], function: u32) -> bool
 }
 
 /// The frame of this owner is active.
-fn is_alive(history: &[Event], owner: Option<u32>) -> bool
-    ensures { result ≡ is_owner_active owner history.now }
+fn is_alive(history: &[RunEvent], owner: Option<u32>) -> bool
+    ensures { result ≡ is_active owner history.now }
 {
     match owner {
         None => true,
@@ -40,56 +64,143 @@ fn belongs_to(owner: Option<u32>, function: u32) -> bool
     }
 }
 
-/// Two cells of one frame share a byte.
-fn overlap(offset: u32, size: u32, other: u32, other_size: u32) -> bool
-    ensures { result ≡ share_byte offset size other other_size }
+/// The cell covers the byte.
+fn covers(offset: u32, size: u32, byte: u64) -> bool
+    ensures { result ≡ is_byte_of offset size byte }
 {
-    let (first, second) = (offset as u64 * 8, other as u64 * 8);
-    first < second + other_size as u64 && second < first + size as u64
+    offset as u64 <= byte && byte < offset as u64 + (size / 8) as u64
 }
 
-/// What the newest store that shares a byte with the cell makes of it.
-fn newest_content(
-    history: &[Event],
+/// The store that a byte of a frame comes from.
+fn source(history: &[RunEvent], owner: Option<u32>, frame: u32, byte: u64) -> Option<Stored>
+    ensures { origin owner frame history.now byte ≡ option_map (λ from. left_by from.offset from.size from.value byte) result }
+{
+    let mut rest = history;
+    while let Some((event, others)) = rest.split_first() {
+        match *event {
+            RunEvent::Enter(entered) if belongs_to(owner, entered) => return None,
+            RunEvent::Store {
+                frame: other,
+                offset,
+                size,
+                value,
+            } if other == frame && covers(offset, size, byte) => {
+                return Some(Stored {
+                    offset,
+                    size,
+                    value,
+                });
+            }
+            _ => rest = others,
+        }
+    }
+    None
+}
+
+/// Byte number place of a word or an offset.
+#[tactic(auto, using(crate::specs::WordBytes::byte_far))]
+fn byte_in(value: Value, place: u64) -> u64
+    ensures small { result < 256 }
+    ensures bits { result ≡ byte_of place (bits_of value) }
+{
+    if place < 8 {
+        (bits(value) >> (8 * place)) % 256
+    } else {
+        0
+    }
+}
+
+/// What the bytes of a cell come from, from one byte of it on.
+#[tactic(auto, using(crate::specs::Spans::offsets_step, crate::specs::WordBytes::wider, crate::specs::WordBytes::within_word))]
+fn read(
+    history: &[RunEvent],
+    owner: Option<u32>,
+    frame: u32,
+    offset: u32,
+    size: u32,
+    at: u64,
+    count: u32,
+) -> Reading
+    requires few { count ≤ 8 }
+    requires near { at + count < 2 ^ 40 }
+    ensures empty { result.empty ≡ list_any is_empty (map (origin owner frame history.now) (offsets at count)) }
+    ensures whole { result.whole ≡ list_all (is_from offset size) (map (origin owner frame history.now) (offsets at count)) }
+    ensures pointer { result.pointer ≡ list_any of_pointer (map (origin owner frame history.now) (offsets at count)) }
+    ensures word { result.word ≡ word_of (map (origin owner frame history.now) (offsets at count)) }
+    ensures small { result.word < 2 ^ (8 * count) }
+{
+    if count == 0 {
+        return Reading {
+            empty: false,
+            whole: true,
+            pointer: false,
+            word: 0,
+        };
+    }
+    let rest = read(history, owner, frame, offset, size, at + 1, count - 1);
+    match source(history, owner, frame, at) {
+        None => Reading {
+            empty: true,
+            whole: false,
+            pointer: rest.pointer,
+            word: rest.word * 256,
+        },
+        Some(from) => {
+            let is_of_cell = from.offset == offset && from.size == size;
+            let low = byte_in(from.value, at.saturating_sub(from.offset as u64));
+            Reading {
+                empty: rest.empty,
+                whole: is_of_cell && rest.whole,
+                pointer: points(from.value) || rest.pointer,
+                word: rest.word * 256 + low,
+            }
+        }
+    }
+}
+
+/// What a cell of a frame gives.
+fn cell(
+    history: &[RunEvent],
     owner: Option<u32>,
     frame: u32,
     offset: u32,
     size: u32,
 ) -> Result<Value, RunFault>
-    ensures { result ≡ content (newest (stores_since owner history.now) frame offset size) offset size }
+    requires some { 8 ≤ size }
+    requires few { size ≤ 64 }
+    ensures { result ≡ cell_in (origin owner frame history.now) offset size }
 {
-    let mut rest = history;
-    while let Some((event, others)) = rest.split_first() {
-        match *event {
-            Event::Enter(entered) if belongs_to(owner, entered) => return Err(RunFault::Uninit),
-            Event::Store {
-                frame: other,
-                offset: place,
-                size: stored,
-                value,
-            } if other == frame && overlap(place, stored, offset, size) => {
-                return if place == offset && stored == size {
-                    Ok(value)
-                } else {
-                    Err(RunFault::Mixed)
-                };
-            }
-            _ => rest = others,
-        }
+    let reading = read(history, owner, frame, offset, size, offset as u64, size / 8);
+    if reading.empty {
+        return Err(RunFault::Uninit);
     }
-    Err(RunFault::Uninit)
+    if reading.whole {
+        return match source(history, owner, frame, offset as u64) {
+            None => Err(RunFault::Uninit),
+            Some(from) => Ok(from.value),
+        };
+    }
+    if reading.pointer {
+        return Err(RunFault::Mixed);
+    }
+    Ok(Value::Int {
+        size,
+        bits: reading.word,
+    })
 }
 
-/// What a load gives after these events, of which the newest stands first.
+/// What a load gives after these events, of which the newest stands first. The size is 8 to 64.
 ///
-/// It goes through all events, so it serves to try the meaning on examples; a machine keeps cells.
-/// Takes no memory.
+/// It goes through all events for each byte, so it serves to try the meaning on examples; a machine
+/// keeps bytes. Takes no memory.
 pub fn load_after(
-    frames: &[Frame],
-    history: &[Event],
+    frames: &[FrameShape],
+    history: &[RunEvent],
     place: Value,
     size: u32,
 ) -> Result<Value, RunFault>
+    requires some { 8 ≤ size }
+    requires few { size ≤ 64 }
     ensures { result ≡ load frames.now history.now place size }
 {
     let Value::Ptr { frame, offset } = place else {
@@ -104,5 +215,5 @@ pub fn load_after(
     if offset as u64 * 8 + size as u64 > row.bits as u64 {
         return Err(RunFault::Bounds);
     }
-    newest_content(history, row.owner, frame, offset, size)
+    cell(history, row.owner, frame, offset, size)
 }

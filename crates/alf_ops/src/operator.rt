@@ -39,4 +39,8 @@ pub enum Op {
     If,
     RotL,
     RotR,
+    UMin,
+    UMax,
+    SMin,
+    SMax,
 }

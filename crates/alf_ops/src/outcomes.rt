@@ -3,12 +3,14 @@
 ghost use Rattle.std.specs.Prelude.{◌≡◌, ◌↔◌, ◌<◌, ◌^◌, ◌||◌, false, true, IsTrue, IsSome, IsErr, IfOk};
 ghost use Rattle.alf_ops.specs.Table.{result_size, operand_sizes, size_of_result};
 ghost use Rattle.alf_ops.specs.Words.{divides};
-ghost use Rattle.alf_ops.specs.Pointers.{bits_of, is_pointer, operand_at, EachValueFits, applied, at_words, by_rule, add_rule, subtract_rule, equality_rule, order_rule, choice_rule, outcome};
+ghost use Rattle.alf_ops.specs.Values.{bits_of, is_pointer, EachValueFits};
+ghost use Rattle.alf_ops.specs.Pointers.{operand_at, applied, at_words, by_rule, add_rule, subtract_rule, equality_rule, order_rule, choice_rule, outcome};
 
 use crate::divide::Divide;
 use crate::history::{RunFault, Value};
-use crate::operations::{apply, shape};
+use crate::operations::apply;
 use crate::operator::Op;
+use crate::sizes::shape;
 
 /// The operand at this place, or a word where there is none.
 fn value_at(values: &[Value], place: usize) -> Value
@@ -22,7 +24,7 @@ fn value_at(values: &[Value], place: usize) -> Value
 }
 
 /// The word, or the offset of a pointer.
-fn bits(value: Value) -> u64
+pub(crate) fn bits(value: Value) -> u64
     ensures { result ≡ bits_of value }
 {
     match value {
@@ -32,7 +34,7 @@ fn bits(value: Value) -> u64
 }
 
 /// The value is a pointer.
-fn points(value: Value) -> bool
+pub(crate) fn points(value: Value) -> bool
     ensures { result ≡ is_pointer value }
 {
     match value {
@@ -155,7 +157,8 @@ fn undivided(op: Op, sizes: &[u32], values: &[Value]) -> u64
     }
 }
 
-/// The value or the fault of the operator at the values of its operands. Takes no memory.
+/// The value or the fault of the operator at the values of its operands. Takes no memory. `shape`
+/// and `values_fit` test the conditions.
 pub fn apply_to_values(op: Op, sizes: &[u32], values: &[Value]) -> Result<Value, RunFault>
     requires typed { IsSome (result_size op sizes.now) }
     requires fitting { EachValueFits (operand_sizes op sizes.now) values.now }

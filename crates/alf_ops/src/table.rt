@@ -11,7 +11,7 @@ pub struct OpRow {
     pub op: Op,
     /// The word that stands for the operator.
     pub name: &'static str,
-    /// How many sizes are written behind it.
+    /// How many sizes are written after it.
     pub sizes: u8,
     /// How many operands it has.
     pub operands: u8,
@@ -24,7 +24,7 @@ macro_rules! row {
 }
 
 /// The operators, in the order of the table.
-pub const OPS: [OpRow; 36] = [
+pub const OPS: [OpRow; 40] = [
     row!(Neg, "neg", 1, 1),
     row!(Not, "not", 1, 1),
     row!(Add, "add", 1, 3),
@@ -61,6 +61,10 @@ pub const OPS: [OpRow; 36] = [
     row!(If, "if", 1, 3),
     row!(RotL, "rot_l", 2, 2),
     row!(RotR, "rot_r", 2, 2),
+    row!(UMin, "u_min", 1, 2),
+    row!(UMax, "u_max", 1, 2),
+    row!(SMin, "s_min", 1, 2),
+    row!(SMax, "s_max", 1, 2),
 ];
 
 /// The operator of the first row of this name. Takes no memory.
@@ -68,18 +72,12 @@ pub fn find(rows: &[OpRow], name: &str) -> Option<Op>
     ensures first { result ≡ operator_named rows.now name.now }
     ensures none { IsNone result ↔ All (λ row. name_of row ≢ name.now) rows.now }
 {
-    let mut rest = rows;
-    while let Some((first, others)) = rest.split_first() {
-        if first.name == name {
-            return Some(first.op);
-        }
-        rest = others;
-    }
-    None
+    rows.iter().find(|row| row.name == name).map(|row| row.op)
 }
 
-/// The table: the 36 operators in their order, each with its name, and no two with one name.
-pub fn rows() -> &'static [OpRow; 36]
+/// `OPS` with its facts: the 40 operators in their order, each with its name, and no two with one
+/// name. A crate that needs these facts calls this, since a clause cannot name `OPS`.
+pub fn rows() -> &'static [OpRow; 40]
     ensures order { map (λ row. row.op) result.now ≡ operators }
     ensures told { All TellsOperator result.now }
     ensures distinct { AllPairs (λ a b. a ≢ b) (map name_of result.now) }
@@ -91,7 +89,7 @@ pub fn rows() -> &'static [OpRow; 36]
 // The place of an operator's row.
 fn place(op: Op) -> usize
     ensures row { slice_get operators result ≡ Some op }
-    ensures within { result < 36 }
+    ensures within { result < 40 }
 {
     op as usize
 }

@@ -1,9 +1,10 @@
 //! Arithmetic on words of a size.
 
 ghost use Rattle.std.specs.Prelude.{◌≡◌, ◌+◌, ◌-◌, ◌*◌, ◌/◌, ◌%◌, ◌^◌, ◌<◌, ◌≤◌, pos, neg_ℤ, nat_le, nat_lt, unsigned_abs, ◌*ℤ◌, ◌-ℤ◌, int_div, int_lt, int_le, if◌then◌else◌, bit_and, bit_or, bit_xor, slice_index, ◌==◌, ◌↔◌, IsErr, IfOk};
-ghost use Rattle.std.specs.Int.{int_div_euclid};
-ghost use Rattle.alf_ops.specs.Words.{word, signed, bit as bit_of};
-ghost use Rattle.alf_ops.specs.Signs.{sign, with_sign as signed_by};
+ghost use Rattle.std.specs.Prelude.{min, max};
+ghost use Rattle.std.specs.Int.{int_div_euclid, int_min, int_max};
+ghost use Rattle.alf_ops.specs.TwosComplement.{word, signed, sign, is_negative, distance, with_sign as signed_by};
+ghost use Rattle.alf_ops.specs.Table.{bit as bit_of};
 
 use crate::divide::Divide;
 
@@ -93,21 +94,21 @@ pub fn product(m: u32, n: u32, a: u64, b: u64) -> u64
 }
 
 /// The word is below 0 in two's complement.
-fn is_negative(size: u32, a: u64) -> bool
+pub fn is_negative(size: u32, a: u64) -> bool
     requires least { 1 ≤ size }
     requires size { size ≤ 64 }
     requires fits { a < 2 ^ size }
-    ensures { result ≡ sign (signed size a) }
+    ensures { result ≡ is_negative size a }
 {
     a as u128 >= power(size - 1)
 }
 
 /// The distance of the word from 0 in two's complement.
-fn distance(size: u32, a: u64) -> u64
+pub fn distance(size: u32, a: u64) -> u64
     requires least { 1 ≤ size }
     requires size { size ≤ 64 }
     requires fits { a < 2 ^ size }
-    ensures { result ≡ unsigned_abs (signed size a) }
+    ensures { result ≡ distance size a }
 {
     if is_negative(size, a) {
         (power(size) - a as u128) as u64
@@ -404,7 +405,51 @@ pub fn chosen(size: u32, test: u64, a: u64, b: u64) -> u64
     if test == 1 { a } else { b }
 }
 
-/// The operand at this place, or 0 behind the last.
+/// The lesser of two words.
+#[tactic(auto, using(crate::proofs::Modular::lesser_kept))]
+pub fn lesser(size: u32, a: u64, b: u64) -> u64
+    requires fits_a { a < 2 ^ size }
+    requires fits_b { b < 2 ^ size }
+    ensures { result ≡ min a b % 2 ^ size }
+{
+    if a < b { a } else { b }
+}
+
+/// The greater of two words.
+#[tactic(auto, using(crate::proofs::Modular::greater_kept))]
+pub fn greater(size: u32, a: u64, b: u64) -> u64
+    requires fits_a { a < 2 ^ size }
+    requires fits_b { b < 2 ^ size }
+    ensures { result ≡ max a b % 2 ^ size }
+{
+    if a < b { b } else { a }
+}
+
+/// The lesser of two signed words.
+#[tactic(auto, using(crate::proofs::WordReadings::signed_lesser_is))]
+pub fn signed_lesser(size: u32, a: u64, b: u64) -> u64
+    requires least { 1 ≤ size }
+    requires size { size ≤ 64 }
+    requires fits_a { a < 2 ^ size }
+    requires fits_b { b < 2 ^ size }
+    ensures { result ≡ word size (int_min (signed size a) (signed size b)) }
+{
+    if is_signed_below(size, b, a) { b } else { a }
+}
+
+/// The greater of two signed words.
+#[tactic(auto, using(crate::proofs::WordReadings::signed_greater_is))]
+pub fn signed_greater(size: u32, a: u64, b: u64) -> u64
+    requires least { 1 ≤ size }
+    requires size { size ≤ 64 }
+    requires fits_a { a < 2 ^ size }
+    requires fits_b { b < 2 ^ size }
+    ensures { result ≡ word size (int_max (signed size a) (signed size b)) }
+{
+    if is_signed_below(size, b, a) { a } else { b }
+}
+
+/// The operand at this place, or 0 after the last.
 pub fn word_at(args: &[u64], place: usize) -> u64
     ensures { result ≡ slice_index args.now place }
 {

@@ -11,7 +11,7 @@ use Rattle.alf_ops.specs.Names.{spelling}
 use Rattle.alf_tokens.specs.declared.token.Kind.TheVariants as kinds
 use Rattle.alf_tokens.specs.Printed.{Mark, text_of_marks}
 use Rattle.alf_program.specs.declared.program.Num.{Num}
-use Rattle.alf_program.specs.Tree.{Term, Terms, Number, Address, Loads, Applies, Last, With, Act, Nothing, Stores, Jumps, Switches, Calls, Returns, Entry, Labels, Does, Frame, Start, Function, Whole}
+use Rattle.alf_program.specs.Tree.{NamedExpression, NamedExpressions, Number, Address, Load, Apply, Empty, With, Statement, Null, Store, Jump, Switch, Call, Return, BodyItem, Label, Do, Allocation, InitialValue, Function, WholeProgram}
 
 -- ---- one token
 
@@ -88,14 +88,14 @@ address_marks at = braced space (codes "addr") (a_number 32 ∷ ref_marks (codes
 -- ---- expressions
 
 abbrev mutual
-  pub term_marks : Term → List Mark
+  pub term_marks : NamedExpression → List Mark
   term_marks (Number n) = num_marks n
   term_marks (Address n offset) = address_marks (n, offset)
-  term_marks (Loads size at) = braced space (codes "load") (a_number size ∷ term_marks at)
-  term_marks (Applies op sizes operands) = braced space (spelling op) (map a_number sizes ++ terms_marks operands)
+  term_marks (Load size at) = braced space (codes "load") (a_number size ∷ term_marks at)
+  term_marks (Apply op sizes operands) = braced space (spelling op) (map a_number sizes ++ terms_marks operands)
 
-  pub terms_marks : Terms → List Mark
-  terms_marks Last = []
+  pub terms_marks : NamedExpressions → List Mark
+  terms_marks Empty = []
   terms_marks (With t ts) = term_marks t ++ terms_marks ts
 
 -- ---- statements
@@ -106,36 +106,36 @@ target_marks t = braced space (codes "target") (num_marks t.0 ++ label_marks spa
 abbrev pub default_marks : List ℕ → List Mark
 default_marks label = braced space (codes "default") (label_marks space label)
 
-abbrev pub act_marks : Act → List Mark
-act_marks Nothing = braced line_feed (codes "null") []
-act_marks (Stores at value) = braced line_feed (codes "store") (term_marks at ++ a_word (codes "with") ∷ [] ++ term_marks value)
-act_marks (Jumps label) = braced line_feed (codes "jump") (label_marks space label ++ a_word (codes "leaving") ∷ a_number 0 ∷ [])
-act_marks (Switches value targets others) = braced line_feed (codes "switch") (term_marks value ++ flat_map target_marks targets ++ default_marks others)
-act_marks (Calls label args result) = braced line_feed (codes "call") (label_marks space label ++ flat_map term_marks args ++ a_word (codes "result") ∷ [] ++ if_any address_marks result)
-act_marks (Returns value) = braced line_feed (codes "return") (if_any term_marks value)
+abbrev pub act_marks : Statement → List Mark
+act_marks Null = braced line_feed (codes "null") []
+act_marks (Store at value) = braced line_feed (codes "store") (term_marks at ++ a_word (codes "with") ∷ [] ++ term_marks value)
+act_marks (Jump label) = braced line_feed (codes "jump") (label_marks space label ++ a_word (codes "leaving") ∷ a_number 0 ∷ [])
+act_marks (Switch value targets others) = braced line_feed (codes "switch") (term_marks value ++ flat_map target_marks targets ++ default_marks others)
+act_marks (Call label args result) = braced line_feed (codes "call") (label_marks space label ++ flat_map term_marks args ++ a_word (codes "result") ∷ [] ++ if_any address_marks result)
+act_marks (Return value) = braced line_feed (codes "return") (if_any term_marks value)
 
-abbrev pub entry_marks : Entry → List Mark
-entry_marks (Labels n) = label_marks line_feed n
-entry_marks (Does act) = act_marks act
+abbrev pub entry_marks : BodyItem → List Mark
+entry_marks (Label n) = label_marks line_feed n
+entry_marks (Do act) = act_marks act
 
 -- ---- programs
 
-abbrev pub frame_marks : Frame → List Mark
+abbrev pub frame_marks : Allocation → List Mark
 frame_marks f = braced line_feed (codes "alloc") (a_number 32 ∷ a_name f.name ∷ a_number f.bits ∷ [])
 
 abbrev pub place_marks : List ℕ → ℕ → List Mark
 place_marks n offset = braced space (codes "ref") (a_name n ∷ dec_unsigned_marks 32 offset)
 
-abbrev pub start_marks : Start → List Mark
+abbrev pub start_marks : InitialValue → List Mark
 start_marks s = braced line_feed (codes "init") (place_marks s.name s.offset ++ num_marks s.num)
 
-abbrev pub decls_marks : List Frame → List Mark
+abbrev pub decls_marks : List Allocation → List Mark
 decls_marks frames = listed (codes "decls") frame_marks frames
 
-abbrev pub starts_marks : List Start → List Mark
+abbrev pub starts_marks : List InitialValue → List Mark
 starts_marks starts = listed (codes "inits") start_marks starts
 
-abbrev pub scope_marks : List Frame → List Start → List Entry → List Mark
+abbrev pub scope_marks : List Allocation → List InitialValue → List BodyItem → List Mark
 scope_marks frames starts items = braced space (codes "scope") (decls_marks frames ++ starts_marks starts ++ listed (codes "stmts") entry_marks items)
 
 abbrev pub function_marks : Function → List Mark
@@ -156,19 +156,19 @@ unit_marks = braced space (codes "least_addr_unit") (a_number 8 ∷ [])
 abbrev pub head_marks : List Mark
 head_marks = braced space (codes "macro_defs") [] ++ unit_marks ++ a_word (codes "little_endian") ∷ []
 
-abbrev pub globals_marks : Whole → List Mark
+abbrev pub globals_marks : WholeProgram → List Mark
 globals_marks p = decls_marks p.decls ++ starts_marks p.inits ++ listed (codes "funcs") function_marks p.funcs
 
 -- what follows
-abbrev pub parts_marks : Whole → List Mark
+abbrev pub parts_marks : WholeProgram → List Mark
 parts_marks p = names_marks (codes "exports") p.exports p.labels ++ names_marks (codes "imports") [] [] ++ globals_marks p
 
 -- what stands behind the first brace
-abbrev pub body_marks : Whole → List Mark
+abbrev pub body_marks : WholeProgram → List Mark
 body_marks p = a_word (codes "alf") ∷ (head_marks ++ parts_marks p ++ closes ∷ [])
 
-abbrev pub program_marks : Whole → List Mark
+abbrev pub program_marks : WholeProgram → List Mark
 program_marks p = opens space ∷ body_marks p
 
-abbrev pub canonical_text : Whole → List ℕ
+abbrev pub canonical_text : WholeProgram → List ℕ
 canonical_text whole = text_of_marks (program_marks whole)

@@ -2,9 +2,9 @@
 use Rattle.std.specs.Prelude.{◌≡◌, List, [], ◌∷◌}
 use Rattle.std.specs.List.{flat_map}
 use Rattle.std.proofs.Common.{refl}
-use Rattle.alf_program.specs.Tree.{Term, terms_of}
+use Rattle.alf_program.specs.Tree.{NamedExpression, expressions_of}
 use Rattle.alf_printer.specs.Canonical.{term_marks, terms_marks}
 
-pub terms-marks : (ts : List Term) → terms_marks (terms_of ts) ≡ flat_map term_marks ts
+pub terms-marks : (ts : List NamedExpression) → terms_marks (expressions_of ts) ≡ flat_map term_marks ts
 terms-marks [] = refl
 terms-marks (t ∷ ts) = rw (terms-marks ts) refl

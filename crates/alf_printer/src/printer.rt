@@ -4,7 +4,7 @@ ghost use Rattle.std.specs.Prelude.{◌≡◌, map, OnOk, IfOk, codes};
 ghost use Rattle.std.specs.List.{flat_map};
 ghost use Rattle.std.specs.Option.{option_map};
 ghost use Rattle.alf_printer.specs.Printing.{all_put};
-ghost use Rattle.alf_program.specs.Tree.{term_of, terms_of, act_of, item_of, frame_of, start_of, function_of, whole_of, Loads, Applies, Nothing, Stores, Jumps, Switches, Calls, Returns};
+ghost use Rattle.alf_program.specs.Tree.{expression_of, expressions_of, statement_of, item_of, allocation_of, initial_of, function_of, program_of, Load, Apply, Null, Store, Jump, Switch, Call, Return};
 ghost use Rattle.alf_printer.specs.Canonical.{a_number, listed, if_any, address_marks, term_marks, target_marks, default_marks, act_marks, entry_marks, frame_marks, place_marks, start_marks, starts_marks, scope_marks, function_marks, refs_marks, names_marks, unit_marks, head_marks, globals_marks, parts_marks, body_marks, canonical_text};
 
 use crate::marks::{
@@ -20,7 +20,7 @@ use std::alloc::{AllocError, Global};
 
 #[cycle(put_expr)]
 fn put_expr(out: &mut Vec<u8>, expr: &Expr) -> Result<(), AllocError>
-    ensures { OnOk result (out.new.items ≡ all_put out.old.items (term_marks (term_of expr.now))) }
+    ensures { OnOk result (out.new.items ≡ all_put out.old.items (term_marks (expression_of expr.now))) }
 {
     match expr {
         Expr::Num(num) => put_num(out, num),
@@ -32,7 +32,7 @@ fn put_expr(out: &mut Vec<u8>, expr: &Expr) -> Result<(), AllocError>
 
 #[cycle(put_expr)]
 fn put_load(out: &mut Vec<u8>, size: u32, at: &Expr) -> Result<(), AllocError>
-    ensures { OnOk result (out.new.items ≡ all_put out.old.items (term_marks (Loads size (term_of at.now)))) }
+    ensures { OnOk result (out.new.items ≡ all_put out.old.items (term_marks (Load size (expression_of at.now)))) }
 {
     open(out, b' ', b"load")?;
     put_number(out, size as u64)?;
@@ -44,7 +44,7 @@ fn put_load(out: &mut Vec<u8>, size: u32, at: &Expr) -> Result<(), AllocError>
 #[cycle(put_expr)]
 #[tactic(auto, using(crate::proofs::Printing::printing))]
 fn put_apply(out: &mut Vec<u8>, op: Op, sizes: &[u32], operands: &[Expr]) -> Result<(), AllocError>
-    ensures { OnOk result (out.new.items ≡ all_put out.old.items (term_marks (Applies op sizes.now (terms_of (map term_of operands.now))))) }
+    ensures { OnOk result (out.new.items ≡ all_put out.old.items (term_marks (Apply op sizes.now (expressions_of (map expression_of operands.now))))) }
 {
     open(out, b' ', spelling(op).as_bytes())?;
     put_sizes(out, sizes)?;
@@ -55,7 +55,7 @@ fn put_apply(out: &mut Vec<u8>, op: Op, sizes: &[u32], operands: &[Expr]) -> Res
 
 #[cycle(put_expr)]
 fn put_exprs(out: &mut Vec<u8>, exprs: &[Expr]) -> Result<(), AllocError>
-    ensures { OnOk result (out.new.items ≡ all_put out.old.items (flat_map term_marks (map term_of exprs.now))) }
+    ensures { OnOk result (out.new.items ≡ all_put out.old.items (flat_map term_marks (map expression_of exprs.now))) }
 {
     for expr in exprs {
         put_expr(out, expr)?;
@@ -94,7 +94,7 @@ fn put_targets(out: &mut Vec<u8>, targets: &[(Num, Name)]) -> Result<(), AllocEr
 }
 
 fn put_store(out: &mut Vec<u8>, at: &Expr, value: &Expr) -> Result<(), AllocError>
-    ensures { OnOk result (out.new.items ≡ all_put out.old.items (act_marks (Stores (term_of at.now) (term_of value.now)))) }
+    ensures { OnOk result (out.new.items ≡ all_put out.old.items (act_marks (Store (expression_of at.now) (expression_of value.now)))) }
 {
     open(out, b'\n', b"store")?;
     put_expr(out, at)?;
@@ -105,7 +105,7 @@ fn put_store(out: &mut Vec<u8>, at: &Expr, value: &Expr) -> Result<(), AllocErro
 }
 
 fn put_jump(out: &mut Vec<u8>, label: &Name) -> Result<(), AllocError>
-    ensures { OnOk result (out.new.items ≡ all_put out.old.items (act_marks (Jumps label.now))) }
+    ensures { OnOk result (out.new.items ≡ all_put out.old.items (act_marks (Jump label.now))) }
 {
     open(out, b'\n', b"jump")?;
     put_label(out, b' ', label)?;
@@ -130,7 +130,7 @@ fn put_switch(
     targets: &[(Num, Name)],
     others: &Name,
 ) -> Result<(), AllocError>
-    ensures { OnOk result (out.new.items ≡ all_put out.old.items (act_marks (Switches (term_of value.now) targets.now others.now))) }
+    ensures { OnOk result (out.new.items ≡ all_put out.old.items (act_marks (Switch (expression_of value.now) targets.now others.now))) }
 {
     open(out, b'\n', b"switch")?;
     put_expr(out, value)?;
@@ -155,7 +155,7 @@ fn put_call(
     args: &[Expr],
     result_at: &Option<(Name, u32)>,
 ) -> Result<(), AllocError>
-    ensures { OnOk result (out.new.items ≡ all_put out.old.items (act_marks (Calls label.now (map term_of args.now) result_at.now))) }
+    ensures { OnOk result (out.new.items ≡ all_put out.old.items (act_marks (Call label.now (map expression_of args.now) result_at.now))) }
 {
     open(out, b'\n', b"call")?;
     put_label(out, b' ', label)?;
@@ -167,7 +167,7 @@ fn put_call(
 }
 
 fn put_value(out: &mut Vec<u8>, value: &Option<Expr>) -> Result<(), AllocError>
-    ensures { OnOk result (out.new.items ≡ all_put out.old.items (if_any term_marks (option_map term_of value.now))) }
+    ensures { OnOk result (out.new.items ≡ all_put out.old.items (if_any term_marks (option_map expression_of value.now))) }
 {
     match value {
         Some(expr) => put_expr(out, expr),
@@ -176,7 +176,7 @@ fn put_value(out: &mut Vec<u8>, value: &Option<Expr>) -> Result<(), AllocError>
 }
 
 fn put_return(out: &mut Vec<u8>, value: &Option<Expr>) -> Result<(), AllocError>
-    ensures { OnOk result (out.new.items ≡ all_put out.old.items (act_marks (Returns (option_map term_of value.now)))) }
+    ensures { OnOk result (out.new.items ≡ all_put out.old.items (act_marks (Return (option_map expression_of value.now)))) }
 {
     open(out, b'\n', b"return")?;
     put_value(out, value)?;
@@ -185,7 +185,7 @@ fn put_return(out: &mut Vec<u8>, value: &Option<Expr>) -> Result<(), AllocError>
 }
 
 fn put_null(out: &mut Vec<u8>) -> Result<(), AllocError>
-    ensures { OnOk result (out.new.items ≡ all_put out.old.items (act_marks Nothing)) }
+    ensures { OnOk result (out.new.items ≡ all_put out.old.items (act_marks Null)) }
 {
     open(out, b'\n', b"null")?;
     close(out)?;
@@ -193,7 +193,7 @@ fn put_null(out: &mut Vec<u8>) -> Result<(), AllocError>
 }
 
 fn put_stmt(out: &mut Vec<u8>, stmt: &Stmt) -> Result<(), AllocError>
-    ensures { OnOk result (out.new.items ≡ all_put out.old.items (act_marks (act_of stmt.now))) }
+    ensures { OnOk result (out.new.items ≡ all_put out.old.items (act_marks (statement_of stmt.now))) }
 {
     match stmt {
         Stmt::Null => put_null(out),
@@ -228,7 +228,7 @@ fn put_items(out: &mut Vec<u8>, items: &[Item]) -> Result<(), AllocError>
 // ---- programs
 
 fn put_alloc(out: &mut Vec<u8>, alloc: &Alloc) -> Result<(), AllocError>
-    ensures { OnOk result (out.new.items ≡ all_put out.old.items (frame_marks (frame_of alloc.now))) }
+    ensures { OnOk result (out.new.items ≡ all_put out.old.items (frame_marks (allocation_of alloc.now))) }
 {
     open(out, b'\n', b"alloc")?;
     put_number(out, 32)?;
@@ -239,7 +239,7 @@ fn put_alloc(out: &mut Vec<u8>, alloc: &Alloc) -> Result<(), AllocError>
 }
 
 fn put_allocs(out: &mut Vec<u8>, word: &[u8], allocs: &[Alloc]) -> Result<(), AllocError>
-    ensures { OnOk result (out.new.items ≡ all_put out.old.items (listed word.now frame_marks (map frame_of allocs.now))) }
+    ensures { OnOk result (out.new.items ≡ all_put out.old.items (listed word.now frame_marks (map allocation_of allocs.now))) }
 {
     open(out, b' ', word)?;
     for alloc in allocs {
@@ -260,7 +260,7 @@ fn put_place(out: &mut Vec<u8>, frame: &Name, offset: u32) -> Result<(), AllocEr
 }
 
 fn put_init(out: &mut Vec<u8>, init: &Init) -> Result<(), AllocError>
-    ensures { OnOk result (out.new.items ≡ all_put out.old.items (start_marks (start_of init.now))) }
+    ensures { OnOk result (out.new.items ≡ all_put out.old.items (start_marks (initial_of init.now))) }
 {
     open(out, b'\n', b"init")?;
     put_place(out, &init.name, init.offset)?;
@@ -270,7 +270,7 @@ fn put_init(out: &mut Vec<u8>, init: &Init) -> Result<(), AllocError>
 }
 
 fn put_inits(out: &mut Vec<u8>, inits: &[Init]) -> Result<(), AllocError>
-    ensures { OnOk result (out.new.items ≡ all_put out.old.items (starts_marks (map start_of inits.now))) }
+    ensures { OnOk result (out.new.items ≡ all_put out.old.items (starts_marks (map initial_of inits.now))) }
 {
     open(out, b' ', b"inits")?;
     for init in inits {
@@ -359,7 +359,7 @@ fn put_head(out: &mut Vec<u8>) -> Result<(), AllocError>
 }
 
 fn put_globals(out: &mut Vec<u8>, program: &Program) -> Result<(), AllocError>
-    ensures { OnOk result (out.new.items ≡ all_put out.old.items (globals_marks (whole_of program.now))) }
+    ensures { OnOk result (out.new.items ≡ all_put out.old.items (globals_marks (program_of program.now))) }
 {
     put_allocs(out, b"decls", &program.decls)?;
     put_inits(out, &program.inits)?;
@@ -368,7 +368,7 @@ fn put_globals(out: &mut Vec<u8>, program: &Program) -> Result<(), AllocError>
 }
 
 fn put_parts(out: &mut Vec<u8>, program: &Program) -> Result<(), AllocError>
-    ensures { OnOk result (out.new.items ≡ all_put out.old.items (parts_marks (whole_of program.now))) }
+    ensures { OnOk result (out.new.items ≡ all_put out.old.items (parts_marks (program_of program.now))) }
 {
     put_names(out, b"exports", &program.exports, &program.labels)?;
     put_names(out, b"imports", &[], &[])?;
@@ -378,7 +378,7 @@ fn put_parts(out: &mut Vec<u8>, program: &Program) -> Result<(), AllocError>
 
 // What stands behind the first brace.
 fn put_body(out: &mut Vec<u8>, program: &Program) -> Result<(), AllocError>
-    ensures { OnOk result (out.new.items ≡ all_put out.old.items (body_marks (whole_of program.now))) }
+    ensures { OnOk result (out.new.items ≡ all_put out.old.items (body_marks (program_of program.now))) }
 {
     put_word(out, b"alf")?;
     put_head(out)?;
@@ -394,7 +394,7 @@ fn put_body(out: &mut Vec<u8>, program: &Program) -> Result<(), AllocError>
 /// before its digits, and a signed number that is negative is written by its distance from 0. Takes
 /// memory for the text.
 pub fn print(alloc: Global, program: &Program) -> Result<Vec<u8>, AllocError>
-    ensures { IfOk result (λ text. text.items ≡ canonical_text (whole_of program.now)) }
+    ensures { IfOk result (λ text. text.items ≡ canonical_text (program_of program.now)) }
 {
     let mut out = Vec::new(alloc);
     out.push(b'{')?;

@@ -1,7 +1,14 @@
--- Programs, without where they lie in memory.
---   Term, Terms, Act, Item, Frame, Start, Function, Whole   an expression, expressions in a row, a statement, an item, a frame, an initial value, a function, a program
---   term_of, act_of, item_of, frame_of, names_of, start_of, function_of, whole_of   what the code's values stand for
-use Rattle.std.specs.Prelude.{ℕ, List, [], ◌∷◌, map, Option}
+-- Programs, without where they lie in memory. An expression is of names or of numbers, by what stands for a frame in it.
+--   Expression F, Expressions F            an expression in which an F stands for a frame, and expressions in a row
+--   NamedExpression, NamedExpressions      the same with the names of frames
+--   NumberedExpression, NumberedExpressions   the same with the numbers of frames
+--   with_frames f e                        the expression with what f gives in place of each frame
+--   Statement, BodyItem                    a statement, and what stands in the list of a function's statements
+--   Allocation, InitialValue               a frame with its size in bits, and what a frame holds at first
+--   Function, WholeProgram                 a function, a program
+--   call_of, return_of, store_of item      the call, the return, the store that an item is
+--   expression_of, statement_of, item_of, allocation_of, names_of, initial_of, function_of, program_of   what the code's values stand for
+use Rattle.std.specs.Prelude.{ℕ, List, [], ◌∷◌, map, Option, None, Some}
 use Rattle.std.specs.Option.{option_map}
 use Rattle.alf_ops.specs.declared.operator.Op.{Op}
 use Rattle.alf_program.specs.declared.program.Num.{Num}
@@ -20,103 +27,150 @@ use Rattle.alf_program.specs.declared.program.Program.{Program}
 
 mutual
   -- an expression: a number, an address, a load of so many bits, or an operator with its sizes and operands
-  pub data Term : Type 0 where
-    Number : Num → Term
-    Address : List ℕ → ℕ → Term
-    Loads : ℕ → Term → Term
-    Applies : Op → List ℕ → Terms → Term
+  pub data Expression (F : Type 0) : Type 0 where
+    Number : Num → Expression F
+    Address : F → ℕ → Expression F
+    Load : ℕ → Expression F → Expression F
+    Apply : Op → List ℕ → Expressions F → Expression F
 
   -- expressions in a row
-  pub data Terms : Type 0 where
-    Last : Terms
-    With : Term → Terms → Terms
+  pub data Expressions (F : Type 0) : Type 0 where
+    Empty : Expressions F
+    With : Expression F → Expressions F → Expressions F
+
+abbrev pub NamedExpression : Type 0
+NamedExpression = Expression (List ℕ)
+
+abbrev pub NamedExpressions : Type 0
+NamedExpressions = Expressions (List ℕ)
+
+abbrev pub NumberedExpression : Type 0
+NumberedExpression = Expression ℕ
+
+abbrev pub NumberedExpressions : Type 0
+NumberedExpressions = Expressions ℕ
+
+abbrev mutual
+  -- the expression with what f gives in place of each frame
+  pub with_frames : {F G : Type 0} → (F → G) → Expression F → Expression G
+  with_frames f (Number n) = Number n
+  with_frames f (Address frame offset) = Address (f frame) offset
+  with_frames f (Load size at) = Load size (with_frames f at)
+  with_frames f (Apply op sizes operands) = Apply op sizes (all_with_frames f operands)
+
+  pub all_with_frames : {F G : Type 0} → (F → G) → Expressions F → Expressions G
+  all_with_frames f Empty = Empty
+  all_with_frames f (With e es) = With (with_frames f e) (all_with_frames f es)
 
 -- a statement
-pub data Act : Type 0 where
-  Nothing : Act
-  Stores : Term → Term → Act
-  Jumps : List ℕ → Act
-  Switches : Term → List (Num × List ℕ) → List ℕ → Act
-  Calls : List ℕ → List Term → Option (List ℕ × ℕ) → Act
-  Returns : Option Term → Act
+pub data Statement : Type 0 where
+  Null : Statement
+  Store : NamedExpression → NamedExpression → Statement
+  Jump : List ℕ → Statement
+  Switch : NamedExpression → List (Num × List ℕ) → List ℕ → Statement
+  Call : List ℕ → List NamedExpression → Option (List ℕ × ℕ) → Statement
+  Return : Option NamedExpression → Statement
 
--- an item: a label, or a statement
-pub data Entry : Type 0 where
-  Labels : List ℕ → Entry
-  Does : Act → Entry
+-- what stands in the list of a function's statements: a label, or a statement
+pub data BodyItem : Type 0 where
+  Label : List ℕ → BodyItem
+  Do : Statement → BodyItem
 
-pub record Frame : Type 0 where
+-- a call: the function, its arguments, and the frame and the offset that the result goes to
+pub record CallParts : Type 0 where
+  pub func : List ℕ
+  pub args : List NamedExpression
+  pub result : Option (List ℕ × ℕ)
+
+-- the call that the item is
+abbrev pub call_of : BodyItem → Option CallParts
+call_of (Do (Call func args result)) = Some (record { func = func; args = args; result = result })
+call_of item = None
+
+-- what the return gives that the item is
+abbrev pub return_of : BodyItem → Option (Option NamedExpression)
+return_of (Do (Return value)) = Some value
+return_of item = None
+
+-- the address and the value of the store that the item is
+abbrev pub store_of : BodyItem → Option (NamedExpression × NamedExpression)
+store_of (Do (Store to value)) = Some (to, value)
+store_of item = None
+
+pub record Allocation : Type 0 where
   pub name : List ℕ
   pub bits : ℕ
 
-pub record Start : Type 0 where
+pub record InitialValue : Type 0 where
   pub name : List ℕ
   pub offset : ℕ
   pub num : Num
 
 pub record Function : Type 0 where
   pub name : List ℕ
-  pub args : List Frame
-  pub decls : List Frame
-  pub inits : List Start
-  pub items : List Entry
+  pub args : List Allocation
+  pub decls : List Allocation
+  pub inits : List InitialValue
+  pub items : List BodyItem
 
-pub record Whole : Type 0 where
+pub record WholeProgram : Type 0 where
   pub exports : List (List ℕ)
   pub labels : List (List ℕ)
-  pub decls : List Frame
-  pub inits : List Start
+  pub decls : List Allocation
+  pub inits : List InitialValue
   pub funcs : List Function
 
-abbrev pub terms_of : List Term → Terms
-terms_of [] = Last
-terms_of (t ∷ ts) = With t (terms_of ts)
+-- ---- what the code's values stand for
 
-abbrev pub term_step : Expr-F Term → Term
-term_step (exprs.Num n) = Number n
-term_step (exprs.Addr name offset) = Address name offset
-term_step (exprs.Load size at) = Loads size at.value
-term_step (exprs.Apply op sizes operands) = Applies op sizes.items (terms_of operands.items)
+abbrev pub expressions_of : {F : Type 0} → List (Expression F) → Expressions F
+expressions_of [] = Empty
+expressions_of (e ∷ es) = With e (expressions_of es)
 
-abbrev pub term_of : Expr → Term
-term_of = fold-Expr Term term_step
+abbrev pub expression_step : Expr-F NamedExpression → NamedExpression
+expression_step (exprs.Num n) = Number n
+expression_step (exprs.Addr name offset) = Address name offset
+expression_step (exprs.Load size at) = Load size at.value
+expression_step (exprs.Apply op sizes operands) = Apply op sizes.items (expressions_of operands.items)
 
-abbrev pub act_of : Stmt → Act
-act_of stmts.Null = Nothing
-act_of (stmts.Store at value) = Stores (term_of at) (term_of value)
-act_of (stmts.Jump label) = Jumps label
-act_of (stmts.Switch value targets others) = Switches (term_of value) targets.items others
-act_of (stmts.Call label args result) = Calls label (map term_of args.items) result
-act_of (stmts.Return value) = Returns (option_map term_of value)
+abbrev pub expression_of : Expr → NamedExpression
+expression_of = fold-Expr NamedExpression expression_step
 
-abbrev pub item_of : Item → Entry
-item_of (items.Label name) = Labels name
-item_of (items.Stmt stmt) = Does (act_of stmt)
+abbrev pub statement_of : Stmt → Statement
+statement_of stmts.Null = Null
+statement_of (stmts.Store at value) = Store (expression_of at) (expression_of value)
+statement_of (stmts.Jump label) = Jump label
+statement_of (stmts.Switch value targets others) = Switch (expression_of value) targets.items others
+statement_of (stmts.Call label args result) = Call label (map expression_of args.items) result
+statement_of (stmts.Return value) = Return (option_map expression_of value)
 
-abbrev pub frame_of : Alloc → Frame
-frame_of alloc = record { name = alloc.name; bits = alloc.bits }
+abbrev pub item_of : Item → BodyItem
+item_of (items.Label name) = Label name
+item_of (items.Stmt stmt) = Do (statement_of stmt)
+
+abbrev pub allocation_of : Alloc → Allocation
+allocation_of alloc = record { name = alloc.name; bits = alloc.bits }
 
 -- the names of frames
 abbrev pub names_of : List Alloc → List (List ℕ)
 names_of allocs = map (λ alloc. alloc.name) allocs
 
-abbrev pub start_of : Init → Start
-start_of init = record { name = init.name; offset = init.offset; num = init.num }
+abbrev pub initial_of : Init → InitialValue
+initial_of init = record { name = init.name; offset = init.offset; num = init.num }
 
 abbrev pub function_of : Func → Function
 function_of func = record {
   name = func.name;
-  args = map frame_of func.args.items;
-  decls = map frame_of func.decls.items;
-  inits = map start_of func.inits.items;
+  args = map allocation_of func.args.items;
+  decls = map allocation_of func.decls.items;
+  inits = map initial_of func.inits.items;
   items = map item_of func.items.items;
 }
 
-abbrev pub whole_of : Program → Whole
-whole_of program = record {
+abbrev pub program_of : Program → WholeProgram
+program_of program = record {
   exports = program.exports.items;
   labels = program.labels.items;
-  decls = map frame_of program.decls.items;
-  inits = map start_of program.inits.items;
+  decls = map allocation_of program.decls.items;
+  inits = map initial_of program.inits.items;
   funcs = map function_of program.funcs.items;
 }

@@ -27,7 +27,7 @@ use Rattle.alf_tokens.specs.declared.token.Kind.TheVariants as kinds
 use Rattle.alf_tokens.specs.Tokens.{Lexeme, after, is_open, is_close, is_word, is_number, is_quoted}
 use Rattle.alf_tokens.specs.Printed.{Mark, unplaced, is_mark, is_separator, is_word_text, is_name_text, is_named_well}
 use Rattle.alf_text.specs.Grammar.{Fault, At, with_ahead, Rule, alf, misfit, outside, fits, or_outside, fits_word, fits_name, opening, closing, only, word, number_between, between, fixed, size, at_most, name, begin, ends_well, fits_close_after, closing_after, fits_empty, closing_empty, token, Passes, counted, one_function, one_frame, most_functions, most_frames, most_frame_bytes, most_bytes, or_bytes, bits, reference, references, offset, zero_offset, label_tail, label, alloc, allocs, address_tail, address, unsigned, minus, signed_bits, signed, num_word, num_tail, num, ref_place, init, inits, row_word, operator_among, operator_word, expr_word, unsigned_term, signed_term, address_term, load, least_further, most_further, further, sizes, apply, expr_tail, nested, expr, whole_expr, targets_ahead, target, default_arm, switch, with_word, store, item_word, label_item, null, leaving, jump, result_word, call, returns, item_tail, item, stmts, scope, arg_decls, function_tail, function, functions, empty, addr_unit, macro_defs, little_endian, heading, exports, imports}
-use Rattle.alf_program.specs.Tree.{Whole, Term, Act, Nothing, Entry, Labels, Does}
+use Rattle.alf_program.specs.Tree.{WholeProgram, NamedExpression, Statement, Null, BodyItem, Label, Do}
 use Rattle.alf_program.specs.Tree as tree
 use Rattle.alf_printer.specs.Canonical.{space, line_feed, opens, closes, a_word, a_number, a_name, braced, listed, ref_marks, refs_marks, dec_signed_marks, dec_unsigned_marks, signed_marks, is_negative, distance, num_marks, label_marks, address_marks, frame_marks, place_marks, start_marks, starts_marks, term_marks, target_marks, default_marks, act_marks, entry_marks, scope_marks, function_marks, unit_marks, head_marks, names_marks, program_marks}
 use Rattle.alf_printer.specs.CanonicalLaws.{terms-marks}
@@ -50,7 +50,7 @@ pub closing_again : Respells Any closing [] (λ _. closes ∷ [])
 unfolding closing
 closing_again = token_again {fit = fits is_close} {mark = λ _. closes} (λ t x n h. (refl, λ u k e. rw k refl))
 
-pub closing_after_again : (items : List Entry) → Respells Any (closing_after items) [] (λ _. closes ∷ [])
+pub closing_after_again : (items : List BodyItem) → Respells Any (closing_after items) [] (λ _. closes ∷ [])
 unfolding closing_after
 closing_after_again items = token_again {fit = fits_close_after items} {mark = λ _. closes} (λ t x n h. (refl, λ u k e. let well = passed (ends_well items) (fits is_close t) (misfit t) x h in rw (well.0, k) refl))
 
@@ -410,7 +410,7 @@ unfolding sizes further
 sizes_again op count = then_again size_again (λ s. then_again (exactly_again (count - 1) (between_again (least_further op) (most_further op) 1 (most_small op)))
     (λ ss. made_again (ap (λ (ms : List Mark). a_number s ∷ ms) (flat_map_single a_number ss))))
 
-module _ (inner : Rule Term) (h : Respells Any inner [] term_marks) where
+module _ (inner : Rule NamedExpression) (h : Respells Any inner [] term_marks) where
   expr_tail_again : (w : ExprWord) → Respells Any (expr_tail inner w) (opens space ∷ a_word (expr_text w) ∷ []) term_marks
   unfolding expr_tail unsigned_term signed_term address_term load apply
   expr_tail_again expr_words.Unsigned = more_again unsigned_again (λ n. made_again refl)
@@ -423,7 +423,7 @@ module _ (inner : Rule Term) (h : Respells Any inner [] term_marks) where
   unfolding nested
   nested_again = then_again (opening_again space refl) (λ _. then_again (table_again expr_word expr_text expr_spelling) expr_tail_again)
 
-never_deep : (b : Bool) (f g : Fault) (e : Term) → cond {A = Result Term Fault} b (Err f) (Err g) ≡ Ok e → ⊥
+never_deep : (b : Bool) (f g : Fault) (e : NamedExpression) → cond {A = Result NamedExpression Fault} b (Err f) (Err g) ≡ Ok e → ⊥
 never_deep true f g e h = cc
 never_deep false f g e h = cc
 
@@ -446,8 +446,8 @@ num_begins at n more = by_sign n.signed
 term_begins : Begins alf term_marks
 term_begins at (tree.Number n) more = num_begins at n more
 term_begins at (tree.Address n o) more = refl
-term_begins at (tree.Loads s t) more = refl
-term_begins at (tree.Applies op ss ts) more = refl
+term_begins at (tree.Load s t) more = refl
+term_begins at (tree.Apply op ss ts) more = refl
 
 -- ---- items
 
@@ -494,12 +494,12 @@ item_again : Respells Any item [] entry_marks
 unfolding item
 item_again = then_again (opening_again line_feed refl) (λ _. then_again (table_again item_word item_text item_spelling) item_tail_again)
 
-act_begins : (at : At) (act : Act) (more : List Lexeme) → alf.goes_on (with_ahead at (tokens (act_marks act) ++ more)) ≡ true
-act_begins at act more = elim act as (λ (act : Act). alf.goes_on (with_ahead at (tokens (act_marks act) ++ more)) ≡ true) [ Nothing ↦ refl | _ ↦ refl ]
+act_begins : (at : At) (act : Statement) (more : List Lexeme) → alf.goes_on (with_ahead at (tokens (act_marks act) ++ more)) ≡ true
+act_begins at act more = elim act as (λ (act : Statement). alf.goes_on (with_ahead at (tokens (act_marks act) ++ more)) ≡ true) [ Null ↦ refl | _ ↦ refl ]
 
 item_begins : Begins alf entry_marks
-item_begins at (Labels n) more = refl
-item_begins at (Does act) more = act_begins at act more
+item_begins at (Label n) more = refl
+item_begins at (Do act) more = act_begins at act more
 
 -- ---- functions
 
@@ -548,7 +548,7 @@ imports_again = then_again (begin_again space (codes "imports") refl refl) (λ _
     (λ _. then_again (empty_again (codes "lrefs") (codes "imports") refl) (λ _. then_again closing_again (λ _. made_again refl))))
 
 -- a program without the end of the text
-abbrev pub body : Rule Whole
+abbrev pub body : Rule WholeProgram
 body = do
   begin (codes "alf")
   heading

@@ -15,7 +15,7 @@ use Rattle.alf_text.specs.declared.words.ExprWord.TheVariants as expr_words
 use Rattle.alf_text.specs.declared.words.ItemWord.{ItemWord}
 use Rattle.alf_text.specs.declared.words.ItemWord.TheVariants as item_words
 use Rattle.alf_ops.specs.declared.operator.Op.{Op}
-use Rattle.alf_program.specs.Tree.{Term, Loads, Applies, Entry, Frame, Start, Function, terms_of}
+use Rattle.alf_program.specs.Tree.{NamedExpression, Load, Apply, BodyItem, Allocation, InitialValue, Function, expressions_of}
 use Rattle.alf_text.specs.Grammar.{Fault, Passes, At, Rule, alf, left, token, behind, misfit, opening, closing, end, word, between, fixed, size, at_most, name, begin, one_function, one_frame, most_functions, most_frames, most_frame_bytes, number_between, or_bytes, bits, reference, references, offset, zero_offset, label_tail, label, alloc, allocs, address_tail, address, unsigned, minus, signed_bits, signed, num_tail, num, ref_place, init, inits, unsigned_term, signed_term, address_term, load, further, sizes, apply, expr_tail, fits_word, expr_word, fits_too_deep, nested, expr, whole_expr, targets_ahead, target, default_arm, switch, with_word, store, label_item, null, leaving, jump, result_word, call, returns, item_tail, item, closing_after, stmts, scope, arg_decls, function_tail, function, functions, closing_empty, empty, addr_unit, macro_defs, little_endian, heading, exports, imports, program}
 
 length_after : (ts : List Lexeme) → length (after ts) ≤ length ts
@@ -196,7 +196,7 @@ pub alloc_takes : TakesSome alf alloc
 unfolding alloc
 alloc_takes = search tokens depth 20
 
-pub alloc_smaller : (at : At) (x : Frame) (rest : At) → alloc.reading at ≡ Ok (x, rest) → left rest < left at
+pub alloc_smaller : (at : At) (x : Allocation) (rest : At) → alloc.reading at ≡ Ok (x, rest) → left rest < left at
 alloc_smaller at x rest e = alloc_takes.smaller at (x, rest) e
 
 pub allocs_exact : (list : List ℕ) → IsExact alf (allocs list)
@@ -253,7 +253,7 @@ pub init_takes : TakesSome alf init
 unfolding init
 init_takes = search (tokens, ref_place_exact, num_exact) depth 20
 
-pub init_smaller : (at : At) (x : Start) (rest : At) → init.reading at ≡ Ok (x, rest) → left rest < left at
+pub init_smaller : (at : At) (x : InitialValue) (rest : At) → init.reading at ≡ Ok (x, rest) → left rest < left at
 init_smaller at x rest e = init_takes.smaller at (x, rest) e
 
 pub inits_exact : IsExact alf inits
@@ -274,9 +274,9 @@ address_term_exact : IsExact alf address_term
 unfolding address_term
 address_term_exact = search (tokens, address_tail_exact) depth 20
 
-load_exact : (inner : Rule Term) → IsExact alf inner → IsExact alf (load inner)
+load_exact : (inner : Rule NamedExpression) → IsExact alf inner → IsExact alf (load inner)
 unfolding load
-load_exact inner h = then_exact (between_exact 8 64 8) (λ s. then_exact h (λ t. then_exact closing_exact (λ _. value_exact (Loads s t))))
+load_exact inner h = then_exact (between_exact 8 64 8) (λ s. then_exact h (λ t. then_exact closing_exact (λ _. value_exact (Load s t))))
 
 further_exact : (op : Op) → IsExact alf (further op)
 unfolding further
@@ -286,11 +286,11 @@ sizes_exact : (op : Op) (count : ℕ) → IsExact alf (sizes op count)
 unfolding sizes
 sizes_exact op count = then_exact size_exact (λ s. then_exact (exactly_exact alf (count - 1) (further op) (further_exact op)) (λ ss. value_exact (s ∷ ss)))
 
-apply_exact : (inner : Rule Term) → IsExact alf inner → (op : Op) (m n : ℕ) → IsExact alf (apply inner op m n)
+apply_exact : (inner : Rule NamedExpression) → IsExact alf inner → (op : Op) (m n : ℕ) → IsExact alf (apply inner op m n)
 unfolding apply
-apply_exact inner h op m n = then_exact (sizes_exact op m) (λ ss. then_exact (exactly_exact alf n inner h) (λ es. then_exact closing_exact (λ _. value_exact (Applies op ss (terms_of es)))))
+apply_exact inner h op m n = then_exact (sizes_exact op m) (λ ss. then_exact (exactly_exact alf n inner h) (λ es. then_exact closing_exact (λ _. value_exact (Apply op ss (expressions_of es)))))
 
-expr_tail_exact : (inner : Rule Term) → IsExact alf inner → (w : ExprWord) → IsExact alf (expr_tail inner w)
+expr_tail_exact : (inner : Rule NamedExpression) → IsExact alf inner → (w : ExprWord) → IsExact alf (expr_tail inner w)
 unfolding expr_tail
 expr_tail_exact inner h expr_words.Unsigned = unsigned_term_exact
 expr_tail_exact inner h expr_words.Signed = signed_term_exact
@@ -298,11 +298,11 @@ expr_tail_exact inner h expr_words.Address = address_term_exact
 expr_tail_exact inner h expr_words.Load = load_exact inner h
 expr_tail_exact inner h (expr_words.Apply op m n) = apply_exact inner h op m n
 
-nested_exact : (inner : Rule Term) → IsExact alf inner → IsExact alf (nested inner)
+nested_exact : (inner : Rule NamedExpression) → IsExact alf inner → IsExact alf (nested inner)
 unfolding nested
 nested_exact inner h = then_exact opening_exact (λ _. then_exact (token_exact (fits_word expr_word)) (expr_tail_exact inner h))
 
-nested_takes : (inner : Rule Term) → IsExact alf inner → TakesSome alf (nested inner)
+nested_takes : (inner : Rule NamedExpression) → IsExact alf inner → TakesSome alf (nested inner)
 unfolding nested
 nested_takes inner h = then_takes opening_takes (λ _. then_exact (token_exact (fits_word expr_word)) (expr_tail_exact inner h))
 
@@ -329,7 +329,7 @@ pub expr_takes : TakesSome alf whole_expr
 unfolding whole_expr expr
 expr_takes = nested_takes (expr 63) (expr_exact 63)
 
-pub expr_smaller : (at : At) (x : Term) (rest : At) → whole_expr.reading at ≡ Ok (x, rest) → left rest < left at
+pub expr_smaller : (at : At) (x : NamedExpression) (rest : At) → whole_expr.reading at ≡ Ok (x, rest) → left rest < left at
 expr_smaller at x rest e = expr_takes.smaller at (x, rest) e
 
 -- ---- items
@@ -381,12 +381,12 @@ pub item_takes : TakesSome alf item
 unfolding item
 item_takes = search (tokens, item_tail_exact) depth 20
 
-pub item_smaller : (at : At) (x : Entry) (rest : At) → item.reading at ≡ Ok (x, rest) → left rest < left at
+pub item_smaller : (at : At) (x : BodyItem) (rest : At) → item.reading at ≡ Ok (x, rest) → left rest < left at
 item_smaller at x rest e = item_takes.smaller at (x, rest) e
 
 -- ---- functions
 
-closing_after_exact : (items : List Entry) → IsExact alf (closing_after items)
+closing_after_exact : (items : List BodyItem) → IsExact alf (closing_after items)
 unfolding closing_after
 closing_after_exact items = search token_exact
 

@@ -15,7 +15,7 @@ use Rattle.alf_text.specs.declared.words.ExprWord.{ExprWord}
 use Rattle.alf_text.specs.declared.words.ExprWord.TheVariants as expr_words
 use Rattle.alf_text.specs.declared.words.ItemWord.{ItemWord}
 use Rattle.alf_text.specs.declared.words.ItemWord.TheVariants as item_words
-use Rattle.alf_program.specs.Tree.{Term, Frame, Start, Entry, Does, Returns, Function, Whole, terms_of}
+use Rattle.alf_program.specs.Tree.{NamedExpression, Allocation, InitialValue, BodyItem, Do, Return, Function, WholeProgram, expressions_of}
 use Rattle.alf_text.specs.Grammar.{Fault, Number, At, Rule, alf, token, misfit, outside, or_outside, or_number, fits_number, fits_below, number_within, number_between, from_least, between, size, at_most, most_frame_bytes, fits_bytes, or_bytes, bits, offset, alloc, allocs, address_tail, address, unsigned, signed_bits, signed, num_tail, num, ref_place, init, inits, unsigned_term, signed_term, address_term, load, apply, expr_tail, nested, expr, whole_expr, targets_ahead, target, switch, store, label_item, null, jump, call, returns, item_tail, item, closing_after, stmts, scope, arg_decls, function_tail, function, functions, program, ends_well}
 use Rattle.alf_text.specs.Spelled.{Each, NumIsWritten, IsWritten, AreWritten, ResultIsWritten, EntryIsWritten, FrameIsWritten, StartIsWritten, FunctionIsWritten, WholeIsWritten, SpelledProgramsAreWritten}
 
@@ -148,15 +148,15 @@ bits_fit at rest n h =
     (b.0, b.2, omega (arith, b.2, o.1)))
     (λ k. ok_no_err (n, rest) (misfit (token at)) (rw k at h))
 
-frame_fits : (at rest : At) (f : Frame) → alloc.Spells at f rest → FrameIsWritten f
+frame_fits : (at rest : At) (f : Allocation) → alloc.Spells at f rest → FrameIsWritten f
 unfolding alloc
 frame_fits at rest f h = let b = h.3.3.3.3 in rw b.3.3.0 (bits_fit _ _ b.0 b.2)
 
-frames_fit : (at rest : At) (fs : List Frame) → InARow alf alloc at fs rest → Each FrameIsWritten fs
+frames_fit : (at rest : At) (fs : List Allocation) → InARow alf alloc at fs rest → Each FrameIsWritten fs
 frames_fit at rest [] h = tt
 frames_fit at rest (f ∷ fs) h = (frame_fits at h.1.0 f h.1.1, frames_fit h.1.0 rest fs h.1.2)
 
-allocs_fit : (list : List ℕ) (at rest : At) (fs : List Frame) → (allocs list).Spells at fs rest → Each FrameIsWritten fs
+allocs_fit : (list : List ℕ) (at rest : At) (fs : List Allocation) → (allocs list).Spells at fs rest → Each FrameIsWritten fs
 unfolding allocs
 allocs_fit list at rest fs h = let f = h.3 in rw f.3.3.0 (frames_fit _ _ f.0 f.2.0)
 
@@ -164,18 +164,18 @@ place_fits : (at rest : At) (p : List ℕ × ℕ) → ref_place.Spells at p rest
 unfolding ref_place
 place_fits at rest p h = let o = h.3.3 in rw o.3.3.0 (offset_fits _ _ o.0 o.2)
 
-start_fits : (at rest : At) (s : Start) → init.Spells at s rest → StartIsWritten s
+start_fits : (at rest : At) (s : InitialValue) → init.Spells at s rest → StartIsWritten s
 unfolding init
 start_fits at rest s h =
     let p = h.3 in
     let n = p.3 in
     rw n.3.3.0 (num_fits _ _ n.0 n.2, place_fits _ _ p.0 p.2)
 
-starts_fit : (at rest : At) (ss : List Start) → InARow alf init at ss rest → Each StartIsWritten ss
+starts_fit : (at rest : At) (ss : List InitialValue) → InARow alf init at ss rest → Each StartIsWritten ss
 starts_fit at rest [] h = tt
 starts_fit at rest (s ∷ ss) h = (start_fits at h.1.0 s h.1.1, starts_fit h.1.0 rest ss h.1.2)
 
-inits_fit : (at rest : At) (ss : List Start) → inits.Spells at ss rest → Each StartIsWritten ss
+inits_fit : (at rest : At) (ss : List InitialValue) → inits.Spells at ss rest → Each StartIsWritten ss
 unfolding inits
 inits_fit at rest ss h = let s = h.3 in rw s.3.3.0 (starts_fit _ _ s.0 s.2.0)
 
@@ -186,15 +186,15 @@ unfolding address_tail
 address_fits at rest a h = let o = h.3.3 in rw o.3.3.0 (offset_fits _ _ o.0 o.2)
 
 -- each expression that the part spells is written
-abbrev Writes : Rule Term → Type 0
-Writes p = (at rest : At) (t : Term) → p.Spells at t rest → IsWritten t
+abbrev Writes : Rule NamedExpression → Type 0
+Writes p = (at rest : At) (t : NamedExpression) → p.Spells at t rest → IsWritten t
 
-exactly_writes : (n : ℕ) (p : Rule Term) → Writes p → (at rest : At) (ts : List Term) → (exactly n p).Spells at ts rest → AreWritten (terms_of ts)
+exactly_writes : (n : ℕ) (p : Rule NamedExpression) → Writes p → (at rest : At) (ts : List NamedExpression) → (exactly n p).Spells at ts rest → AreWritten (expressions_of ts)
 unfolding exactly
 exactly_writes zero p h at rest ts s = rw s.0 tt
 exactly_writes (suc n) p h at rest ts s = let more = s.3 in rw more.3.0 (h _ _ s.0 s.2, exactly_writes n p h _ _ more.0 more.2)
 
-tail_writes : (inner : Rule Term) → Writes inner → (w : ExprWord) → Writes (expr_tail inner w)
+tail_writes : (inner : Rule NamedExpression) → Writes inner → (w : ExprWord) → Writes (expr_tail inner w)
 unfolding expr_tail unsigned_term signed_term address_term load apply
 tail_writes inner hi expr_words.Unsigned at rest t h = rw h.3.0 (unsigned_fits _ _ h.0 h.2)
 tail_writes inner hi expr_words.Signed at rest t h = rw h.3.0 (signed_fits _ _ h.0 h.2)
@@ -205,11 +205,11 @@ tail_writes inner hi expr_words.Load at rest t h =
     rw i.3.3.0 (omega (arith, b.0), b.1, b.2, hi _ _ i.0 i.2)
 tail_writes inner hi (expr_words.Apply op m n) at rest t h = let e = h.3 in rw e.3.3.0 (exactly_writes n inner hi _ _ e.0 e.2)
 
-nested_writes : (inner : Rule Term) → Writes inner → Writes (nested inner)
+nested_writes : (inner : Rule NamedExpression) → Writes inner → Writes (nested inner)
 unfolding nested
 nested_writes inner hi at rest t h = let w = h.3 in tail_writes inner hi w.0 _ _ t w.3
 
-not_deep : (b : Bool) (f g : Fault) (t : Term) → cond {A = Result Term Fault} b (Err f) (Err g) ≡ Ok t → IsWritten t
+not_deep : (b : Bool) (f g : Fault) (t : NamedExpression) → cond {A = Result NamedExpression Fault} b (Err f) (Err g) ≡ Ok t → IsWritten t
 not_deep true f g t e = ok_no_err t f e
 not_deep false f g t e = ok_no_err t g e
 
@@ -232,7 +232,7 @@ targets_fit at rest (t ∷ ts) h =
     let one : NumIsWritten t.0 = rw n.3.3.3.0 (num_fits _ _ n.0 n.2) in
     (one, targets_fit h.1.0 rest ts h.1.2)
 
-args_fit : (at rest : At) (ts : List Term) → InARow alf whole_expr at ts rest → Each IsWritten ts
+args_fit : (at rest : At) (ts : List NamedExpression) → InARow alf whole_expr at ts rest → Each IsWritten ts
 args_fit at rest [] h = tt
 args_fit at rest (t ∷ ts) h = (whole_writes at h.1.0 t h.1.1, args_fit h.1.0 rest ts h.1.2)
 
@@ -241,11 +241,11 @@ unfolding address
 result_fits at rest None h = tt
 result_fits at rest (Some a) h = let t = h.1.3 in rw t.3.0 (address_fits _ _ t.0 t.2)
 
-value_fits : (at rest : At) (o : Option Term) → AtMostOne alf whole_expr at o rest → EntryIsWritten (Does (Returns o))
+value_fits : (at rest : At) (o : Option NamedExpression) → AtMostOne alf whole_expr at o rest → EntryIsWritten (Do (Return o))
 value_fits at rest None h = tt
 value_fits at rest (Some t) h = whole_writes at rest t h.1
 
-entry_fits : (w : ItemWord) (at rest : At) (x : Entry) → (item_tail w).Spells at x rest → EntryIsWritten x
+entry_fits : (w : ItemWord) (at rest : At) (x : BodyItem) → (item_tail w).Spells at x rest → EntryIsWritten x
 unfolding item_tail label_item null store jump switch call returns
 entry_fits item_words.Label at rest x h = rw h.3.0 tt
 entry_fits item_words.Null at rest x h = rw h.3.0 tt
@@ -255,7 +255,7 @@ entry_fits item_words.Switch at rest x h = let t = h.3 in let d = t.3 in rw d.3.
 entry_fits item_words.Call at rest x h = let a = h.3 in let r = a.3.3 in rw r.3.3.0 (args_fit _ _ a.0 a.2.0, result_fits a.3.1 r.1 r.0 r.2)
 entry_fits item_words.Return at rest x h = rw h.3.3.0 (value_fits at h.1 h.0 h.2)
 
-entries_fit : (at rest : At) (xs : List Entry) → InARow alf item at xs rest → Each EntryIsWritten xs
+entries_fit : (at rest : At) (xs : List BodyItem) → InARow alf item at xs rest → Each EntryIsWritten xs
 unfolding item
 entries_fit at rest [] h = tt
 entries_fit at rest (x ∷ xs) h = let w = h.1.1.3 in (entry_fits w.0 _ _ x w.3, entries_fit h.1.0 rest xs h.1.2)
@@ -265,7 +265,7 @@ well_closed : (b : Bool) (r : Result (Unit {0}) Fault) (f : Fault) → cond b r 
 well_closed true r f e = refl
 well_closed false r f e = ok_no_err tt f e
 
-stmts_fit : (at rest : At) (items : List Entry) → stmts.Spells at items rest → Each EntryIsWritten items × (ends_well items ≡ true)
+stmts_fit : (at rest : At) (items : List BodyItem) → stmts.Spells at items rest → Each EntryIsWritten items × (ends_well items ≡ true)
 unfolding stmts closing_after
 stmts_fit at rest items h =
     let i = h.3 in
@@ -299,7 +299,7 @@ functions_fit : (at rest : At) (funcs : List Function) → functions.Spells at f
 unfolding functions
 functions_fit at rest funcs h = let f = h.3 in rw f.3.3.0 (functions_are _ _ f.0 f.2.0)
 
-program_is : (at rest : At) (whole : Whole) → program.Spells at whole rest → WholeIsWritten whole
+program_is : (at rest : At) (whole : WholeProgram) → program.Spells at whole rest → WholeIsWritten whole
 unfolding program
 program_is at rest whole h =
     let d = h.3.3.3.3 in

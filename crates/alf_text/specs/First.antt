@@ -4,14 +4,14 @@
 use Rattle.std.specs.Prelude.{◌≡◌, ◌≢◌, ◌<◌, ◌^◌, ℕ, false, List, [], ◌∷◌, map, codes, None, Some, ◌⊎◌}
 use Rattle.alf_ops.specs.declared.operator.Op.TheVariants.{Add}
 use Rattle.alf_program.specs.declared.program.Num.{Num}
-use Rattle.alf_program.specs.Tree.{Term, Terms, Number, Address, Loads, Applies, Last, With, Nothing, Stores, Jumps, Switches, Calls, Returns, Entry, Labels, Does, Frame, Whole}
+use Rattle.alf_program.specs.Tree.{NamedExpression, NamedExpressions, Number, Address, Load, Apply, Empty, With, Null, Store, Jump, Switch, Call, Return, BodyItem, Label, Do, Allocation, WholeProgram}
 
 -- a frame of 32 bits
-abbrev pub cell_frame : List ℕ → Frame
+abbrev pub cell_frame : List ℕ → Allocation
 cell_frame name = record { name = name; bits = 32 }
 
 -- the program of these global frames and one function `main` with these items, and of nothing else
-abbrev pub main_alone : List (List ℕ) → List Entry → Whole
+abbrev pub main_alone : List (List ℕ) → List BodyItem → WholeProgram
 main_alone frames items = record {
   exports = [];
   labels = [];
@@ -27,30 +27,30 @@ abbrev pub IsWord : ℕ → Num → Type 0
 IsWord size n = (n.signed ≡ false) × (n.size ≡ size) × (n.bits < 2 ^ size)
 
 -- the address of a frame's first byte
-abbrev pub IsCell : Term → Type 0
+abbrev pub IsCell : NamedExpression → Type 0
 IsCell (Address frame offset) = offset ≡ 0
 IsCell (Number n) = ⊥
-IsCell (Loads size at) = ⊥
-IsCell (Applies op sizes operands) = ⊥
+IsCell (Load size at) = ⊥
+IsCell (Apply op sizes operands) = ⊥
 
 -- a load of 32 bits from there
-abbrev pub IsCellLoad : Term → Type 0
-IsCellLoad (Loads size at) = (size ≡ 32) × IsCell at
+abbrev pub IsCellLoad : NamedExpression → Type 0
+IsCellLoad (Load size at) = (size ≡ 32) × IsCell at
 IsCellLoad (Number n) = ⊥
 IsCellLoad (Address frame offset) = ⊥
-IsCellLoad (Applies op sizes operands) = ⊥
+IsCellLoad (Apply op sizes operands) = ⊥
 
 -- such a load, a number of 32 bits, and the carry 0
-abbrev pub IsLoadAndNumber : Terms → Type 0
-IsLoadAndNumber (With a (With (Number b) (With (Number carry) Last))) = IsCellLoad a × IsWord 32 b × IsWord 1 carry × (carry.bits ≡ 0)
+abbrev pub IsLoadAndNumber : NamedExpressions → Type 0
+IsLoadAndNumber (With a (With (Number b) (With (Number carry) Empty))) = IsCellLoad a × IsWord 32 b × IsWord 1 carry × (carry.bits ≡ 0)
 IsLoadAndNumber _ = ⊥
 
 -- a number, a load, or the sum of a load and a number
-abbrev pub IsFirstTerm : Term → Type 0
+abbrev pub IsFirstTerm : NamedExpression → Type 0
 IsFirstTerm (Number n) = IsWord 32 n
 IsFirstTerm (Address frame offset) = ⊥
-IsFirstTerm (Loads size at) = (size ≡ 32) × IsCell at
-IsFirstTerm (Applies op sizes operands) = (op ≡ Add) × (sizes ≡ 32 ∷ []) × IsLoadAndNumber operands
+IsFirstTerm (Load size at) = (size ≡ 32) × IsCell at
+IsFirstTerm (Apply op sizes operands) = (op ≡ Add) × (sizes ≡ 32 ∷ []) × IsLoadAndNumber operands
 
 -- this holds of each target of a switch
 abbrev pub EachTarget : (Num × List ℕ → Type 0) → List (Num × List ℕ) → Type 0
@@ -58,25 +58,25 @@ EachTarget Holds [] = Unit {0}
 EachTarget Holds (target ∷ targets) = Holds target × EachTarget Holds targets
 
 -- a label, `{ null }`, a store, a jump, a switch on a load, or `{ return }`
-abbrev pub IsFirstItem : Entry → Type 0
-IsFirstItem (Labels name) = Unit {0}
-IsFirstItem (Does Nothing) = Unit {0}
-IsFirstItem (Does (Stores at value)) = IsCell at × IsFirstTerm value
-IsFirstItem (Does (Jumps label)) = Unit {0}
-IsFirstItem (Does (Switches value targets others)) = IsCellLoad value × EachTarget (λ target. IsWord 32 target.0) targets
-IsFirstItem (Does (Calls label args result)) = ⊥
-IsFirstItem (Does (Returns None)) = Unit {0}
-IsFirstItem (Does (Returns (Some value))) = ⊥
+abbrev pub IsFirstItem : BodyItem → Type 0
+IsFirstItem (Label name) = Unit {0}
+IsFirstItem (Do Null) = Unit {0}
+IsFirstItem (Do (Store at value)) = IsCell at × IsFirstTerm value
+IsFirstItem (Do (Jump label)) = Unit {0}
+IsFirstItem (Do (Switch value targets others)) = IsCellLoad value × EachTarget (λ target. IsWord 32 target.0) targets
+IsFirstItem (Do (Call label args result)) = ⊥
+IsFirstItem (Do (Return None)) = Unit {0}
+IsFirstItem (Do (Return (Some value))) = ⊥
 
 -- ---- how they fit one another
 
 -- each of the items holds
-abbrev pub Each : (Entry → Type 0) → List Entry → Type 0
+abbrev pub Each : (BodyItem → Type 0) → List BodyItem → Type 0
 Each Holds [] = Unit {0}
 Each Holds (item ∷ items) = Holds item × Each Holds items
 
 -- the item is one of these
-abbrev pub Among : List Entry → Entry → Type 0
+abbrev pub Among : List BodyItem → BodyItem → Type 0
 Among [] item = ⊥
 Among (other ∷ others) item = (item ≡ other) ⊎ Among others item
 
@@ -91,32 +91,32 @@ NamesDiffer [] = Unit {0}
 NamesDiffer (name ∷ names) = (Named names name → ⊥) × NamesDiffer names
 
 -- no label stands twice
-abbrev pub LabelsDiffer : List Entry → Type 0
+abbrev pub LabelsDiffer : List BodyItem → Type 0
 LabelsDiffer [] = Unit {0}
-LabelsDiffer (Labels name ∷ items) = (Among items (Labels name) → ⊥) × LabelsDiffer items
-LabelsDiffer (Does act ∷ items) = LabelsDiffer items
+LabelsDiffer (Label name ∷ items) = (Among items (Label name) → ⊥) × LabelsDiffer items
+LabelsDiffer (Do act ∷ items) = LabelsDiffer items
 
 -- a label has another name than the function
-abbrev pub IsApart : Entry → Type 0
-IsApart (Labels name) = name ≢ codes "main"
-IsApart (Does act) = Unit {0}
+abbrev pub IsApart : BodyItem → Type 0
+IsApart (Label name) = name ≢ codes "main"
+IsApart (Do act) = Unit {0}
 
 -- each frame that the expression names is one of these
 abbrev mutual
-  pub IsDeclared : List (List ℕ) → Term → Type 0
+  pub IsDeclared : List (List ℕ) → NamedExpression → Type 0
   IsDeclared frames (Number n) = Unit {0}
   IsDeclared frames (Address frame offset) = Named frames frame
-  IsDeclared frames (Loads size at) = IsDeclared frames at
-  IsDeclared frames (Applies op sizes operands) = AreDeclared frames operands
+  IsDeclared frames (Load size at) = IsDeclared frames at
+  IsDeclared frames (Apply op sizes operands) = AreDeclared frames operands
 
-  pub AreDeclared : List (List ℕ) → Terms → Type 0
-  AreDeclared frames Last = Unit {0}
+  pub AreDeclared : List (List ℕ) → NamedExpressions → Type 0
+  AreDeclared frames Empty = Unit {0}
   AreDeclared frames (With operand operands) = IsDeclared frames operand × AreDeclared frames operands
 
 -- each frame that the item names is one of these
-abbrev pub NamesFrames : List (List ℕ) → Entry → Type 0
-NamesFrames frames (Does (Stores at value)) = IsDeclared frames at × IsDeclared frames value
-NamesFrames frames (Does (Switches value targets others)) = IsDeclared frames value
+abbrev pub NamesFrames : List (List ℕ) → BodyItem → Type 0
+NamesFrames frames (Do (Store at value)) = IsDeclared frames at × IsDeclared frames value
+NamesFrames frames (Do (Switch value targets others)) = IsDeclared frames value
 NamesFrames frames item = Unit {0}
 
 -- one of the targets has this number
@@ -130,28 +130,28 @@ TargetsDiffer [] = Unit {0}
 TargetsDiffer (target ∷ targets) = (HasNumber targets target.0.bits → ⊥) × TargetsDiffer targets
 
 -- a jump or a switch names labels of the function, and the numbers of its targets differ
-abbrev pub IsLed : List Entry → Entry → Type 0
-IsLed items (Does (Jumps label)) = Among items (Labels label)
-IsLed items (Does (Switches value targets others)) = EachTarget (λ target. Among items (Labels target.1)) targets × Among items (Labels others) × TargetsDiffer targets
+abbrev pub IsLed : List BodyItem → BodyItem → Type 0
+IsLed items (Do (Jump label)) = Among items (Label label)
+IsLed items (Do (Switch value targets others)) = EachTarget (λ target. Among items (Label target.1)) targets × Among items (Label others) × TargetsDiffer targets
 IsLed items item = Unit {0}
 
 -- the last item is a jump, a switch or a return
-abbrev pub EndsWell : List Entry → Type 0
+abbrev pub EndsWell : List BodyItem → Type 0
 EndsWell [] = ⊥
 EndsWell (item ∷ other ∷ items) = EndsWell (other ∷ items)
-EndsWell (Labels name ∷ []) = ⊥
-EndsWell (Does Nothing ∷ []) = ⊥
-EndsWell (Does (Stores at value) ∷ []) = ⊥
-EndsWell (Does (Jumps label) ∷ []) = Unit {0}
-EndsWell (Does (Switches value targets others) ∷ []) = Unit {0}
-EndsWell (Does (Calls label args result) ∷ []) = ⊥
-EndsWell (Does (Returns value) ∷ []) = Unit {0}
+EndsWell (Label name ∷ []) = ⊥
+EndsWell (Do Null ∷ []) = ⊥
+EndsWell (Do (Store at value) ∷ []) = ⊥
+EndsWell (Do (Jump label) ∷ []) = Unit {0}
+EndsWell (Do (Switch value targets others) ∷ []) = Unit {0}
+EndsWell (Do (Call label args result) ∷ []) = ⊥
+EndsWell (Do (Return value) ∷ []) = Unit {0}
 
 -- The program is `main` alone. Its items are of the first kinds; its frames differ, and so do its labels, also from its name; each frame and label that is
 -- named stands there; and the last item is a jump, a switch or a return.
-pub record IsFirst (whole : Whole) : Type 0 where
+pub record IsFirst (whole : WholeProgram) : Type 0 where
   pub frames : List (List ℕ)
-  pub items : List Entry
+  pub items : List BodyItem
   pub alone : whole ≡ main_alone frames items
   pub each : Each IsFirstItem items
   pub differ : NamesDiffer frames

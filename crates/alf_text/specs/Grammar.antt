@@ -26,7 +26,7 @@ use Rattle.alf_text.specs.declared.words.ExprWord.{ExprWord}
 use Rattle.alf_text.specs.declared.words.ExprWord.TheVariants as expr_words
 use Rattle.alf_text.specs.declared.words.ItemWord.{ItemWord}
 use Rattle.alf_text.specs.declared.words.ItemWord.TheVariants as item_words
-use Rattle.alf_program.specs.Tree.{Term, Address, Loads, Applies, Nothing, Stores, Jumps, Switches, Calls, Returns, Entry, Labels, Does, Frame, Start, Function, Whole, terms_of}
+use Rattle.alf_program.specs.Tree.{NamedExpression, Address, Load, Apply, Null, Store, Jump, Switch, Call, Return, BodyItem, Label, Do, Allocation, InitialValue, Function, WholeProgram, expressions_of}
 use Rattle.alf_program.specs.Tree as tree
 
 -- how a text departs from the grammar
@@ -272,7 +272,7 @@ label = do
   made n
 
 -- ALLOC = { alloc 32 NAME BITS }
-unfoldable pub alloc : Rule Frame
+unfoldable pub alloc : Rule Allocation
 alloc = do
   one_frame
   word (codes "alloc")
@@ -283,7 +283,7 @@ alloc = do
   made (record { name = n; bits = b })
 
 -- { LIST ALLOC* }
-unfoldable pub allocs : List ℕ → Rule (List Frame)
+unfoldable pub allocs : List ℕ → Rule (List Allocation)
 allocs list = do
   begin list
   frames ← many alf alloc
@@ -366,7 +366,7 @@ ref_place = do
   made (n, o)
 
 -- INIT = { init { ref NAME OFFSET } NUM }
-unfoldable pub init : Rule Start
+unfoldable pub init : Rule InitialValue
 init = do
   begin (codes "init")
   p ← ref_place
@@ -375,7 +375,7 @@ init = do
   made (record { name = p.0; offset = p.1; num = n })
 
 -- { inits INIT* }
-unfoldable pub inits : Rule (List Start)
+unfoldable pub inits : Rule (List InitialValue)
 inits = do
   begin (codes "inits")
   starts ← many alf init
@@ -409,28 +409,28 @@ expr_word w =
     else if bytes_eq w (codes "load") then Some expr_words.Load
     else operator_word w
 
-unfoldable pub unsigned_term : Rule Term
+unfoldable pub unsigned_term : Rule NamedExpression
 unsigned_term = do
   n ← unsigned
   made (tree.Number n)
 
-unfoldable pub signed_term : Rule Term
+unfoldable pub signed_term : Rule NamedExpression
 signed_term = do
   n ← signed
   made (tree.Number n)
 
-unfoldable pub address_term : Rule Term
+unfoldable pub address_term : Rule NamedExpression
 address_term = do
   a ← address_tail
   made (Address a.0 a.1)
 
 -- { load SIZE EXPR }, behind its word; inner is what stands in it as an expression
-unfoldable pub load : Rule Term → Rule Term
+unfoldable pub load : Rule NamedExpression → Rule NamedExpression
 load inner = do
   s ← between 8 64 8
   at ← inner
   closing
-  made (Loads s at)
+  made (Load s at)
 
 abbrev pub least_further : Op → ℕ
 least_further Select = 0
@@ -452,37 +452,37 @@ sizes op count = do
   made (s ∷ ss)
 
 -- { OP SIZE.. EXPR.. }, behind its word, with so many sizes and operands
-unfoldable pub apply : Rule Term → Op → ℕ → ℕ → Rule Term
+unfoldable pub apply : Rule NamedExpression → Op → ℕ → ℕ → Rule NamedExpression
 apply inner op size_count operand_count = do
   ss ← sizes op size_count
   es ← exactly operand_count inner
   closing
-  made (Applies op ss (terms_of es))
+  made (Apply op ss (expressions_of es))
 
-unfoldable pub expr_tail : Rule Term → ExprWord → Rule Term
+unfoldable pub expr_tail : Rule NamedExpression → ExprWord → Rule NamedExpression
 expr_tail inner expr_words.Unsigned = unsigned_term
 expr_tail inner expr_words.Signed = signed_term
 expr_tail inner expr_words.Address = address_term
 expr_tail inner expr_words.Load = load inner
 expr_tail inner (expr_words.Apply op size_count operand_count) = apply inner op size_count operand_count
 
-abbrev pub fits_too_deep : Lexeme → Result Term Fault
+abbrev pub fits_too_deep : Lexeme → Result NamedExpression Fault
 fits_too_deep t = if is_open t.kind then Err (Passes Depth (most_depth + 1)) else Err (misfit t)
 
 -- { .. }, where inner is what stands in it as an expression
-unfoldable pub nested : Rule Term → Rule Term
+unfoldable pub nested : Rule NamedExpression → Rule NamedExpression
 nested inner = do
   opening
   w ← one alf (fits_word expr_word)
   expr_tail inner w
 
 -- EXPR = NUM | ADDR | { load SIZE EXPR } | { OP SIZE.. EXPR.. }, in which at most so many expressions stand in one another
-unfoldable pub expr : ℕ → Rule Term
+unfoldable pub expr : ℕ → Rule NamedExpression
 expr zero = one alf fits_too_deep
 expr (suc depth) = nested (expr depth)
 
 -- an expression that stands in no other
-unfoldable pub whole_expr : Rule Term
+unfoldable pub whole_expr : Rule NamedExpression
 whole_expr = expr most_depth
 
 -- ---- items
@@ -512,25 +512,25 @@ default_arm = do
   made l
 
 -- { switch EXPR TARGET* { default LABEL } }, behind its word
-unfoldable pub switch : Rule Entry
+unfoldable pub switch : Rule BodyItem
 switch = do
   value ← whole_expr
   targets ← many targets_ahead target
   others ← default_arm
   closing
-  made (Does (Switches value targets others))
+  made (Do (Switch value targets others))
 
 unfoldable pub with_word : Rule (Unit {0})
 with_word = word (codes "with")
 
 -- { store EXPR with EXPR }, behind its word
-unfoldable pub store : Rule Entry
+unfoldable pub store : Rule BodyItem
 store = do
   at ← whole_expr
   with_word
   value ← whole_expr
   closing
-  made (Does (Stores at value))
+  made (Do (Store at value))
 
 abbrev pub item_word : List ℕ → Option ItemWord
 item_word w =
@@ -544,50 +544,50 @@ item_word w =
     else None
 
 -- LABEL, behind its word
-unfoldable pub label_item : Rule Entry
+unfoldable pub label_item : Rule BodyItem
 label_item = do
   n ← label_tail
-  made (Labels n)
+  made (Label n)
 
 -- { null }, behind its word
-unfoldable pub null : Rule Entry
+unfoldable pub null : Rule BodyItem
 null = do
   closing
-  made (Does Nothing)
+  made (Do Null)
 
 unfoldable pub leaving : Rule (Unit {0})
 leaving = word (codes "leaving")
 
 -- { jump LABEL leaving 0 }, behind its word
-unfoldable pub jump : Rule Entry
+unfoldable pub jump : Rule BodyItem
 jump = do
   n ← label
   leaving
   fixed 0
   closing
-  made (Does (Jumps n))
+  made (Do (Jump n))
 
 unfoldable pub result_word : Rule (Unit {0})
 result_word = word (codes "result")
 
 -- { call LABEL EXPR* result ADDR? }, behind its word
-unfoldable pub call : Rule Entry
+unfoldable pub call : Rule BodyItem
 call = do
   n ← label
   args ← many alf whole_expr
   result_word
   to ← maybe alf address
   closing
-  made (Does (Calls n args to))
+  made (Do (Call n args to))
 
 -- { return EXPR? }, behind its word
-unfoldable pub returns : Rule Entry
+unfoldable pub returns : Rule BodyItem
 returns = do
   value ← maybe alf whole_expr
   closing
-  made (Does (Returns value))
+  made (Do (Return value))
 
-unfoldable pub item_tail : ItemWord → Rule Entry
+unfoldable pub item_tail : ItemWord → Rule BodyItem
 item_tail item_words.Label = label_item
 item_tail item_words.Null = null
 item_tail item_words.Store = store
@@ -597,7 +597,7 @@ item_tail item_words.Call = call
 item_tail item_words.Return = returns
 
 -- ITEM = LABEL | STMT
-unfoldable pub item : Rule Entry
+unfoldable pub item : Rule BodyItem
 item = do
   opening
   w ← one alf (fits_word item_word)
@@ -606,30 +606,30 @@ item = do
 -- ---- functions
 
 -- a jump, a switch or a return
-abbrev pub is_ending : Entry → Bool
-is_ending (Labels _) = false
-is_ending (Does Nothing) = false
-is_ending (Does (Stores _ _)) = false
-is_ending (Does (Jumps _)) = true
-is_ending (Does (Switches _ _ _)) = true
-is_ending (Does (Calls _ _ _)) = false
-is_ending (Does (Returns _)) = true
+abbrev pub is_ending : BodyItem → Bool
+is_ending (Label _) = false
+is_ending (Do Null) = false
+is_ending (Do (Store _ _)) = false
+is_ending (Do (Jump _)) = true
+is_ending (Do (Switch _ _ _)) = true
+is_ending (Do (Call _ _ _)) = false
+is_ending (Do (Return _)) = true
 
 -- the last item is one
-abbrev pub ends_well : List Entry → Bool
+abbrev pub ends_well : List BodyItem → Bool
 ends_well [] = false
 ends_well (last ∷ []) = is_ending last
 ends_well (_ ∷ next ∷ others) = ends_well (next ∷ others)
 
 -- the brace behind the last item
-abbrev pub fits_close_after : List Entry → Lexeme → Result (Unit {0}) Fault
+abbrev pub fits_close_after : List BodyItem → Lexeme → Result (Unit {0}) Fault
 fits_close_after items t = if ends_well items then fits is_close t else Err (misfit t)
 
-unfoldable pub closing_after : List Entry → Rule (Unit {0})
+unfoldable pub closing_after : List BodyItem → Rule (Unit {0})
 closing_after items = one alf (fits_close_after items)
 
 -- { stmts ITEM* }, of which the last is a jump, a switch or a return
-unfoldable pub stmts : Rule (List Entry)
+unfoldable pub stmts : Rule (List BodyItem)
 stmts = do
   begin (codes "stmts")
   items ← many alf item
@@ -637,7 +637,7 @@ stmts = do
   made items
 
 -- { scope { decls ALLOC* } { inits INIT* } { stmts ITEM* } }
-unfoldable pub scope : Rule (List Frame × List Start × List Entry)
+unfoldable pub scope : Rule (List Allocation × List InitialValue × List BodyItem)
 scope = do
   begin (codes "scope")
   frames ← allocs (codes "decls")
@@ -646,7 +646,7 @@ scope = do
   closing
   made (frames, starts, items)
 
-unfoldable pub arg_decls : Rule (List Frame)
+unfoldable pub arg_decls : Rule (List Allocation)
 arg_decls = allocs (codes "arg_decls")
 
 -- LABEL { arg_decls ALLOC* } { scope .. }, behind the word of a function
@@ -731,7 +731,7 @@ imports = do
   made tt
 
 -- PROGRAM = { alf { macro_defs } { least_addr_unit 8 } little_endian { exports .. } { imports .. } { decls ALLOC* } { inits INIT* } { funcs FUNC* } }
-unfoldable pub program : Rule Whole
+unfoldable pub program : Rule WholeProgram
 program = do
   begin (codes "alf")
   heading

@@ -13,7 +13,7 @@ use Rattle.flow_base.specs.declared.place.Which.{Which}
 use Rattle.alf_tokens.specs.Tokens.{Lexeme, IsTokens}
 use Rattle.alf_text.specs.declared.text_fault.TextFault.{TextFault}
 use Rattle.alf_text.specs.declared.text_fault.TextFault.TheVariants as faults
-use Rattle.alf_program.specs.Tree.{Whole}
+use Rattle.alf_program.specs.Tree.{WholeProgram}
 use Rattle.alf_text.specs.Grammar.{At, Fault, program, most_functions, most_frames, most_bytes}
 use Rattle.alf_text.specs.Grammar as grammar
 
@@ -22,11 +22,11 @@ abbrev pub start : List Lexeme → At
 start tokens = record { ahead = tokens; functions = most_functions; frames = most_frames; bytes = most_bytes }
 
 -- the bytes are a spelling of the program
-abbrev pub SpellsProgram : List ℕ → Whole → Type 0
+abbrev pub SpellsProgram : List ℕ → WholeProgram → Type 0
 SpellsProgram bytes whole = (tokens : List Lexeme) × IsTokens bytes tokens × ((rest : At) × program.Spells (start tokens) whole rest)
 
 -- some text spells the program
-abbrev pub IsSpelled : Whole → Type 0
+abbrev pub IsSpelled : WholeProgram → Type 0
 IsSpelled whole = (bytes : List ℕ) × SpellsProgram bytes whole
 
 -- the bytes are no spelling, and this is where they leave the grammar first
@@ -67,15 +67,15 @@ placed bytes (grammar.OutOfProfile left word) = OutOfProfile (place_of bytes lef
 placed bytes (grammar.Passes which count) = Limit which count
 
 -- the bytes spell the program, or depart so
-abbrev pub Means : List ℕ → Result Whole Departure → Type 0
+abbrev pub Means : List ℕ → Result WholeProgram Departure → Type 0
 Means bytes (Ok whole) = SpellsProgram bytes whole
 Means bytes (Err departure) = (fault : Fault) × DepartsWith bytes fault × (departure ≡ placed bytes fault)
 
 -- exactly one meaning
 pub record HasOneMeaning (bytes : List ℕ) : Type 0 where
-  pub meaning : Result Whole Departure
+  pub meaning : Result WholeProgram Departure
   pub means : Means bytes meaning
-  pub only : (other : Result Whole Departure) → Means bytes other → meaning ≡ other
+  pub only : (other : Result WholeProgram Departure) → Means bytes other → meaning ≡ other
 
 -- the departure that an answer tells, or none for want of memory
 abbrev pub departure_of : TextFault → Option Departure

@@ -8,7 +8,7 @@
 --   SpelledProgramsAreWritten    each program that some text spells is such a program
 use Rattle.std.specs.Prelude.{◌≡◌, ◌<◌, ◌≤◌, ◌*◌, ◌^◌, ◌%◌, ℕ, true, List, [], ◌∷◌, Option, Some, None}
 use Rattle.alf_program.specs.declared.program.Num.{Num}
-use Rattle.alf_program.specs.Tree.{Term, Terms, Number, Address, Loads, Applies, Last, With, Nothing, Stores, Jumps, Switches, Calls, Returns, Entry, Labels, Does, Frame, Start, Function, Whole}
+use Rattle.alf_program.specs.Tree.{NamedExpression, NamedExpressions, Number, Address, Load, Apply, Empty, With, Null, Store, Jump, Switch, Call, Return, BodyItem, Label, Do, Allocation, InitialValue, Function, WholeProgram}
 use Rattle.alf_text.specs.Grammar.{ends_well, most_frame_bytes}
 use Rattle.alf_text.specs.Language.{IsSpelled}
 
@@ -23,14 +23,14 @@ NumIsWritten n = (1 ≤ n.size) × (n.size ≤ 64) × (n.bits < 2 ^ n.size)
 
 abbrev mutual
   -- numbers have sizes with room for them, offsets are below 2^32, and loads are of whole bytes up to 64 bits
-  pub IsWritten : Term → Type 0
+  pub IsWritten : NamedExpression → Type 0
   IsWritten (Number n) = NumIsWritten n
   IsWritten (Address name offset) = offset < 2 ^ 32
-  IsWritten (Loads size at) = (1 ≤ size) × (size ≤ 64) × (size % 8 ≡ 0) × IsWritten at
-  IsWritten (Applies op sizes operands) = AreWritten operands
+  IsWritten (Load size at) = (1 ≤ size) × (size ≤ 64) × (size % 8 ≡ 0) × IsWritten at
+  IsWritten (Apply op sizes operands) = AreWritten operands
 
-  pub AreWritten : Terms → Type 0
-  AreWritten Last = Unit {0}
+  pub AreWritten : NamedExpressions → Type 0
+  AreWritten Empty = Unit {0}
   AreWritten (With term terms) = IsWritten term × AreWritten terms
 
 -- the address that a call's result goes to
@@ -38,21 +38,21 @@ abbrev pub ResultIsWritten : Option (List ℕ × ℕ) → Type 0
 ResultIsWritten None = Unit {0}
 ResultIsWritten (Some to) = to.1 < 2 ^ 32
 
-abbrev pub EntryIsWritten : Entry → Type 0
-EntryIsWritten (Labels label) = Unit {0}
-EntryIsWritten (Does Nothing) = Unit {0}
-EntryIsWritten (Does (Stores at value)) = IsWritten at × IsWritten value
-EntryIsWritten (Does (Jumps label)) = Unit {0}
-EntryIsWritten (Does (Switches value targets others)) = IsWritten value × Each (λ target. NumIsWritten target.0) targets
-EntryIsWritten (Does (Calls label args result)) = Each IsWritten args × ResultIsWritten result
-EntryIsWritten (Does (Returns None)) = Unit {0}
-EntryIsWritten (Does (Returns (Some value))) = IsWritten value
+abbrev pub EntryIsWritten : BodyItem → Type 0
+EntryIsWritten (Label label) = Unit {0}
+EntryIsWritten (Do Null) = Unit {0}
+EntryIsWritten (Do (Store at value)) = IsWritten at × IsWritten value
+EntryIsWritten (Do (Jump label)) = Unit {0}
+EntryIsWritten (Do (Switch value targets others)) = IsWritten value × Each (λ target. NumIsWritten target.0) targets
+EntryIsWritten (Do (Call label args result)) = Each IsWritten args × ResultIsWritten result
+EntryIsWritten (Do (Return None)) = Unit {0}
+EntryIsWritten (Do (Return (Some value))) = IsWritten value
 
 -- a positive multiple of 8 bits, up to the most bytes of a frame
-abbrev pub FrameIsWritten : Frame → Type 0
+abbrev pub FrameIsWritten : Allocation → Type 0
 FrameIsWritten frame = (1 ≤ frame.bits) × (frame.bits % 8 ≡ 0) × (frame.bits ≤ 8 * most_frame_bytes)
 
-abbrev pub StartIsWritten : Start → Type 0
+abbrev pub StartIsWritten : InitialValue → Type 0
 StartIsWritten start = NumIsWritten start.num × (start.offset < 2 ^ 32)
 
 -- what stands in a function, whose last item is a jump, a switch or a return
@@ -63,11 +63,11 @@ pub record FunctionIsWritten (func : Function) : Type 0 where
   pub items : Each EntryIsWritten func.items
   pub ends : ends_well func.items ≡ true
 
-pub record WholeIsWritten (whole : Whole) : Type 0 where
+pub record WholeIsWritten (whole : WholeProgram) : Type 0 where
   pub decls : Each FrameIsWritten whole.decls
   pub inits : Each StartIsWritten whole.inits
   pub funcs : Each FunctionIsWritten whole.funcs
 
 -- each program that some text spells is such a program
 abbrev pub SpelledProgramsAreWritten : Type 0
-SpelledProgramsAreWritten = (whole : Whole) → IsSpelled whole → WholeIsWritten whole
+SpelledProgramsAreWritten = (whole : WholeProgram) → IsSpelled whole → WholeIsWritten whole

@@ -2,7 +2,7 @@
 
 ghost use Rattle.std.specs.Prelude.{◌≡◌, ◌∷◌, map, IfOk, Result};
 ghost use Rattle.grammar.specs.Form.{Form, Gives, one, maybe, exactly};
-ghost use Rattle.alf_program.specs.Tree.{term_of};
+ghost use Rattle.alf_program.specs.Tree.{expression_of};
 ghost use Rattle.std.specs.Option.{option_map};
 ghost use Rattle.alf_ops.specs.Table.{layout_of, size_count};
 ghost use Rattle.alf_text.specs.Grammar.{alf, fits_too_deep, operand_count, unsigned_term, signed_term, address_term, load, further, sizes, apply, expr_tail, nested, expr, whole_expr, least_further, most_further};
@@ -40,7 +40,7 @@ fn most_further(op: Op) -> u32
 impl<'a> Reader<'a> {
     #[tactic(auto, unfolding(crate::specs::Grammar::unsigned_term))]
     fn unsigned_term(&mut self) -> Result<Expr, Departure<'a>>
-        ensures { Gives fault_of (λ x. (term_of x, position self.new)) result (unsigned_term.reading (position self.old)) }
+        ensures { Gives fault_of (λ x. (expression_of x, position self.new)) result (unsigned_term.reading (position self.old)) }
     {
         let num = self.unsigned()?;
         Ok(Expr::Num(num))
@@ -48,7 +48,7 @@ impl<'a> Reader<'a> {
 
     #[tactic(auto, unfolding(crate::specs::Grammar::signed_term))]
     fn signed_term(&mut self) -> Result<Expr, Departure<'a>>
-        ensures { Gives fault_of (λ x. (term_of x, position self.new)) result (signed_term.reading (position self.old)) }
+        ensures { Gives fault_of (λ x. (expression_of x, position self.new)) result (signed_term.reading (position self.old)) }
     {
         let num = self.signed()?;
         Ok(Expr::Num(num))
@@ -56,7 +56,7 @@ impl<'a> Reader<'a> {
 
     #[tactic(auto, unfolding(crate::specs::Grammar::address_term))]
     fn address_term(&mut self) -> Result<Expr, Departure<'a>>
-        ensures { Gives fault_of (λ x. (term_of x, position self.new)) result (address_term.reading (position self.old)) }
+        ensures { Gives fault_of (λ x. (expression_of x, position self.new)) result (address_term.reading (position self.old)) }
     {
         let (name, offset) = self.address_tail()?;
         Ok(Expr::Addr(name, offset))
@@ -64,7 +64,7 @@ impl<'a> Reader<'a> {
 
     // The departure where no further expression may stand in another.
     fn too_deep(&mut self) -> Departure<'a>
-        ensures { Gives fault_of (λ x. (term_of x, position self.new)) (Result.Err result) ((one alf fits_too_deep).reading (position self.old)) }
+        ensures { Gives fault_of (λ x. (expression_of x, position self.new)) (Result.Err result) ((one alf fits_too_deep).reading (position self.old)) }
     {
         let token = self.next();
         if token.kind.is_open() {
@@ -107,7 +107,7 @@ impl<'a> Reader<'a> {
     #[cycle(expr)]
     #[tactic(auto, using(crate::proofs::Exactness::expr_none, crate::proofs::Exactness::expr_more))]
     pub fn expr(&mut self, depth: u32) -> Result<Expr, Departure<'a>>
-        ensures { Gives fault_of (λ x. (term_of x, position self.new)) result ((expr depth).reading (position self.old)) }
+        ensures { Gives fault_of (λ x. (expression_of x, position self.new)) result ((expr depth).reading (position self.old)) }
     {
         if depth == 0 {
             Err(self.too_deep())
@@ -119,7 +119,7 @@ impl<'a> Reader<'a> {
     #[cycle(expr)]
     #[tactic(auto, unfolding(crate::specs::Grammar::nested, crate::specs::Grammar::expr_tail))]
     fn nested(&mut self, depth: u32) -> Result<Expr, Departure<'a>>
-        ensures { Gives fault_of (λ x. (term_of x, position self.new)) result ((nested (expr depth)).reading (position self.old)) }
+        ensures { Gives fault_of (λ x. (expression_of x, position self.new)) result ((nested (expr depth)).reading (position self.old)) }
     {
         self.opening()?;
         match self.expr_word()? {
@@ -134,7 +134,7 @@ impl<'a> Reader<'a> {
     #[cycle(expr)]
     #[tactic(auto, unfolding(crate::specs::Grammar::load))]
     fn load(&mut self, depth: u32) -> Result<Expr, Departure<'a>>
-        ensures { Gives fault_of (λ x. (term_of x, position self.new)) result ((load (expr depth)).reading (position self.old)) }
+        ensures { Gives fault_of (λ x. (expression_of x, position self.new)) result ((load (expr depth)).reading (position self.old)) }
     {
         let size = self.between(8, 64, 8)?;
         let at = self.expr(depth)?;
@@ -145,7 +145,7 @@ impl<'a> Reader<'a> {
     #[cycle(expr)]
     #[tactic(auto, unfolding(crate::specs::Grammar::apply))]
     fn apply(&mut self, op: Op, sizes: u8, operands: u8, depth: u32) -> Result<Expr, Departure<'a>>
-        ensures { Gives fault_of (λ x. (term_of x, position self.new)) result ((apply (expr depth) op sizes operands).reading (position self.old)) }
+        ensures { Gives fault_of (λ x. (expression_of x, position self.new)) result ((apply (expr depth) op sizes operands).reading (position self.old)) }
     {
         let sizes = self.sizes(op, sizes)?;
         let operands = self.operands(u32::from(operands), depth)?;
@@ -155,7 +155,7 @@ impl<'a> Reader<'a> {
 
     #[cycle(expr)]
     fn operands(&mut self, count: u32, depth: u32) -> Result<Vec<Expr>, Departure<'a>>
-        ensures { Gives fault_of (λ x. (map term_of x.items, position self.new)) result ((exactly count (expr depth)).reading (position self.old)) }
+        ensures { Gives fault_of (λ x. (map expression_of x.items, position self.new)) result ((exactly count (expr depth)).reading (position self.old)) }
     {
         let mut operands = Vec::new(self.alloc);
         for _ in 0..count {
@@ -167,7 +167,7 @@ impl<'a> Reader<'a> {
     /// An expression that stands in no other.
     #[tactic(auto, unfolding(crate::specs::Grammar::whole_expr))]
     pub fn whole_expr(&mut self) -> Result<Expr, Departure<'a>>
-        ensures { Gives fault_of (λ x. (term_of x, position self.new)) result (whole_expr.reading (position self.old)) }
+        ensures { Gives fault_of (λ x. (expression_of x, position self.new)) result (whole_expr.reading (position self.old)) }
     {
         let expr = self.expr(MOST_DEPTH)?;
         Ok(expr)
@@ -175,7 +175,7 @@ impl<'a> Reader<'a> {
 
     /// An expression that stands in no other, where a brace opens.
     pub fn maybe_expr(&mut self) -> Result<Option<Expr>, Departure<'a>>
-        ensures { Gives fault_of (λ x. (option_map term_of x, position self.new)) result ((maybe alf whole_expr).reading (position self.old)) }
+        ensures { Gives fault_of (λ x. (option_map expression_of x, position self.new)) result ((maybe alf whole_expr).reading (position self.old)) }
     {
         if !self.at_open() {
             return Ok(None);

@@ -1,7 +1,7 @@
 //! First texts: those whose program is `main` alone.
 
 ghost use Rattle.std.specs.Prelude.{◌≡◌, List, ℕ, map, IsSome, IfOk, IsErrOf};
-ghost use Rattle.alf_program.specs.Tree.{Whole, term_of, terms_of, item_of, frame_of, function_of, whole_of};
+ghost use Rattle.alf_program.specs.Tree.{WholeProgram, expression_of, expressions_of, item_of, allocation_of, function_of, program_of};
 ghost use Rattle.alf_text.specs.Reading.{fault_of};
 ghost use Rattle.alf_text.specs.First.{IsFirst};
 ghost use Rattle.alf_text.specs.FirstTests.{is_named, names_in, frames_fit, is_word, is_number, is_no_carry, is_cell, is_cell_load, is_sum, is_first_term, is_labelled, stands_among, has_number, target_fits, targets_fit, item_fits, items_fit, is_main, is_main_alone, is_first};
@@ -36,8 +36,8 @@ pub enum FirstFault {
 ///
 /// The text is read from its front in one pass, and what it takes of memory is the program alone.
 pub fn read_first(alloc: Global, bytes: &[u8]) -> Result<Program, FirstFault>
-    ensures spelled { IfOk result (λ program. FirstText bytes.now (whole_of program)) }
-    ensures not_first { IsErrOf result FirstFault.NotFirst → (whole : Whole) → FirstText bytes.now whole → ⊥ }
+    ensures spelled { IfOk result (λ program. FirstText bytes.now (program_of program)) }
+    ensures not_first { IsErrOf result FirstFault.NotFirst → (whole : WholeProgram) → FirstText bytes.now whole → ⊥ }
 {
     texts_are_cut_one_way();
     let mut reader = Reader::new(alloc, bytes, NO_LIMITS);
@@ -54,8 +54,8 @@ pub fn read_first(alloc: Global, bytes: &[u8]) -> Result<Program, FirstFault>
 
 /// Each first text spells one program, which is `main` alone.
 pub fn first_texts()
-    ensures one { (bytes : List ℕ) (a b : Whole) → FirstText bytes a → FirstText bytes b → a ≡ b }
-    ensures first { (bytes : List ℕ) (whole : Whole) → FirstText bytes whole → IsFirst whole }
+    ensures one { (bytes : List ℕ) (a b : WholeProgram) → FirstText bytes a → FirstText bytes b → a ≡ b }
+    ensures first { (bytes : List ℕ) (whole : WholeProgram) → FirstText bytes whole → IsFirst whole }
 {
     texts_are_cut_one_way();
 }
@@ -72,7 +72,7 @@ fn told(departure: Departure<'_>) -> FirstFault
 
 // Whether the program has frames of 32 bits and `main` alone, and they fit one another.
 fn is_first(program: &Program) -> bool
-    ensures { result ≡ is_first (whole_of program.now) }
+    ensures { result ≡ is_first (program_of program.now) }
 {
     program.exports.is_empty()
         && program.labels.is_empty()
@@ -83,7 +83,7 @@ fn is_first(program: &Program) -> bool
 
 // Whether there is one function, and it is `main`.
 fn is_main_alone(decls: &[Alloc], funcs: &[Func]) -> bool
-    ensures { result ≡ is_main_alone (names_in (map frame_of decls.now)) (map function_of funcs.now) }
+    ensures { result ≡ is_main_alone (names_in (map allocation_of decls.now)) (map function_of funcs.now) }
 {
     match funcs.split_first() {
         Some((first, others)) => others.is_empty() && is_main(decls, first),
@@ -93,7 +93,7 @@ fn is_main_alone(decls: &[Alloc], funcs: &[Func]) -> bool
 
 // Whether the function is `main`, has its items alone, and they fit.
 fn is_main(decls: &[Alloc], func: &Func) -> bool
-    ensures { result ≡ is_main (names_in (map frame_of decls.now)) (function_of func.now) }
+    ensures { result ≡ is_main (names_in (map allocation_of decls.now)) (function_of func.now) }
 {
     func.name.bytes() == b"main".as_slice()
         && func.args.is_empty()
@@ -105,7 +105,7 @@ fn is_main(decls: &[Alloc], func: &Func) -> bool
 
 // Whether one of the frames has this name.
 fn is_named(decls: &[Alloc], name: &[u8]) -> bool
-    ensures { result ≡ is_named (names_in (map frame_of decls.now)) name.now }
+    ensures { result ≡ is_named (names_in (map allocation_of decls.now)) name.now }
 {
     let mut rest = decls;
     while let Some((first, others)) = rest.split_first() {
@@ -119,7 +119,7 @@ fn is_named(decls: &[Alloc], name: &[u8]) -> bool
 
 // Whether each frame has 32 bits, and no two have one name.
 fn frames_fit(decls: &[Alloc]) -> bool
-    ensures { result ≡ frames_fit (map frame_of decls.now) }
+    ensures { result ≡ frames_fit (map allocation_of decls.now) }
 {
     let mut rest = decls;
     while let Some((first, others)) = rest.split_first() {
@@ -139,7 +139,7 @@ fn is_word(num: &Num) -> bool
 }
 
 fn is_number(expr: &Expr) -> bool
-    ensures { result ≡ is_number (term_of expr.now) }
+    ensures { result ≡ is_number (expression_of expr.now) }
 {
     match expr {
         Expr::Num(num) => is_word(num),
@@ -151,7 +151,7 @@ fn is_number(expr: &Expr) -> bool
 
 // Whether it is the carry 0.
 fn is_no_carry(expr: &Expr) -> bool
-    ensures { result ≡ is_no_carry (term_of expr.now) }
+    ensures { result ≡ is_no_carry (expression_of expr.now) }
 {
     match expr {
         Expr::Num(num) => !num.signed && num.size == 1 && num.bits == 0,
@@ -163,7 +163,7 @@ fn is_no_carry(expr: &Expr) -> bool
 
 // Whether it is the address of the first byte of one of the frames.
 fn is_cell(decls: &[Alloc], expr: &Expr) -> bool
-    ensures { result ≡ is_cell (names_in (map frame_of decls.now)) (term_of expr.now) }
+    ensures { result ≡ is_cell (names_in (map allocation_of decls.now)) (expression_of expr.now) }
 {
     match expr {
         Expr::Num(_) => false,
@@ -175,7 +175,7 @@ fn is_cell(decls: &[Alloc], expr: &Expr) -> bool
 
 // Whether it is a load of one of the frames.
 fn is_cell_load(decls: &[Alloc], expr: &Expr) -> bool
-    ensures { result ≡ is_cell_load (names_in (map frame_of decls.now)) (term_of expr.now) }
+    ensures { result ≡ is_cell_load (names_in (map allocation_of decls.now)) (expression_of expr.now) }
 {
     match expr {
         Expr::Num(_) => false,
@@ -187,7 +187,7 @@ fn is_cell_load(decls: &[Alloc], expr: &Expr) -> bool
 
 // Whether the operands are a load of one of the frames, a number, and the carry 0.
 fn is_sum(decls: &[Alloc], operands: &[Expr]) -> bool
-    ensures { result ≡ is_sum (names_in (map frame_of decls.now)) (terms_of (map term_of operands.now)) }
+    ensures { result ≡ is_sum (names_in (map allocation_of decls.now)) (expressions_of (map expression_of operands.now)) }
 {
     let [load, number, carry] = operands else {
         return false;
@@ -197,7 +197,7 @@ fn is_sum(decls: &[Alloc], operands: &[Expr]) -> bool
 
 // Whether it is a number, a load of one of the frames, or the sum of such a load and a number.
 fn is_first_term(decls: &[Alloc], expr: &Expr) -> bool
-    ensures { result ≡ is_first_term (names_in (map frame_of decls.now)) (term_of expr.now) }
+    ensures { result ≡ is_first_term (names_in (map allocation_of decls.now)) (expression_of expr.now) }
 {
     match expr {
         Expr::Num(num) => is_word(num),
@@ -273,7 +273,7 @@ fn targets_fit(items: &[Item], targets: &[(Num, Name)]) -> bool
 
 // Whether the item is of the first kinds, and fits the frames, the items, and the others behind it.
 fn item_fits(decls: &[Alloc], items: &[Item], others: &[Item], item: &Item) -> bool
-    ensures { result ≡ item_fits (names_in (map frame_of decls.now)) (map item_of items.now) (map item_of others.now) (item_of item.now) }
+    ensures { result ≡ item_fits (names_in (map allocation_of decls.now)) (map item_of items.now) (map item_of others.now) (item_of item.now) }
 {
     match item {
         Item::Label(name) => {
@@ -294,7 +294,7 @@ fn item_fits(decls: &[Alloc], items: &[Item], others: &[Item], item: &Item) -> b
 
 // Whether each of the items is so.
 fn items_fit(decls: &[Alloc], items: &[Item]) -> bool
-    ensures { result ≡ items_fit (names_in (map frame_of decls.now)) (map item_of items.now) (map item_of items.now) }
+    ensures { result ≡ items_fit (names_in (map allocation_of decls.now)) (map item_of items.now) (map item_of items.now) }
 {
     let mut rest = items;
     while let Some((first, others)) = rest.split_first() {

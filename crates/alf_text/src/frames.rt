@@ -2,7 +2,7 @@
 
 ghost use Rattle.std.specs.Prelude.{◌≡◌, map};
 ghost use Rattle.grammar.specs.Form.{Form, Gives};
-ghost use Rattle.alf_program.specs.Tree.{frame_of, start_of};
+ghost use Rattle.alf_program.specs.Tree.{allocation_of, initial_of};
 ghost use Rattle.alf_text.specs.Grammar.{alloc, allocs, init, inits};
 ghost use Rattle.alf_text.specs.Reading.{position, fault_of};
 
@@ -15,7 +15,7 @@ impl<'a> Reader<'a> {
     /// `{ alloc 32 NAME BITS }`.
     #[tactic(auto, unfolding(crate::specs::Grammar::alloc))]
     pub fn alloc(&mut self) -> Result<Alloc, Departure<'a>>
-        ensures { Gives fault_of (λ x. (frame_of x, position self.new)) result (alloc.reading (position self.old)) }
+        ensures { Gives fault_of (λ x. (allocation_of x, position self.new)) result (alloc.reading (position self.old)) }
     {
         self.one_frame()?;
         self.word(b"alloc")?;
@@ -29,7 +29,7 @@ impl<'a> Reader<'a> {
     /// `{ LIST ALLOC* }`.
     #[tactic(auto, unfolding(crate::specs::Grammar::allocs))]
     pub fn allocs(&mut self, list: &[u8]) -> Result<Vec<Alloc>, Departure<'a>>
-        ensures { Gives fault_of (λ x. (map frame_of x.items, position self.new)) result ((allocs list.now).reading (position self.old)) }
+        ensures { Gives fault_of (λ x. (map allocation_of x.items, position self.new)) result ((allocs list.now).reading (position self.old)) }
     {
         self.begin(list)?;
         let allocs = many(self)?;
@@ -40,7 +40,7 @@ impl<'a> Reader<'a> {
     /// `{ init { ref NAME OFFSET } NUM }`.
     #[tactic(auto, unfolding(crate::specs::Grammar::init))]
     pub fn init(&mut self) -> Result<Init, Departure<'a>>
-        ensures { Gives fault_of (λ x. (start_of x, position self.new)) result (init.reading (position self.old)) }
+        ensures { Gives fault_of (λ x. (initial_of x, position self.new)) result (init.reading (position self.old)) }
     {
         self.begin(b"init")?;
         let (name, offset) = self.ref_place()?;
@@ -52,7 +52,7 @@ impl<'a> Reader<'a> {
     /// `{ inits INIT* }`.
     #[tactic(auto, unfolding(crate::specs::Grammar::inits))]
     pub fn inits(&mut self) -> Result<Vec<Init>, Departure<'a>>
-        ensures { Gives fault_of (λ x. (map start_of x.items, position self.new)) result (inits.reading (position self.old)) }
+        ensures { Gives fault_of (λ x. (map initial_of x.items, position self.new)) result (inits.reading (position self.old)) }
     {
         self.begin(b"inits")?;
         let inits = many(self)?;

@@ -2,7 +2,7 @@
 
 ghost use Rattle.std.specs.Prelude.{◌≡◌, map};
 ghost use Rattle.grammar.specs.Form.{Form, Gives};
-ghost use Rattle.alf_program.specs.Tree.{frame_of, start_of, item_of, function_of};
+ghost use Rattle.alf_program.specs.Tree.{allocation_of, initial_of, item_of, function_of};
 ghost use Rattle.alf_text.specs.Grammar.{is_ending, ends_well, closing_after, stmts, scope, arg_decls, function_tail, function, functions};
 ghost use Rattle.alf_text.specs.Reading.{position, fault_of};
 
@@ -60,7 +60,7 @@ impl<'a> Reader<'a> {
 
     #[tactic(auto, unfolding(crate::specs::Grammar::scope))]
     fn scope(&mut self) -> Result<(Vec<Alloc>, Vec<Init>, Vec<Item>), Departure<'a>>
-        ensures { Gives fault_of (λ x. ((map frame_of x.0.items, map start_of x.1.items, map item_of x.2.items), position self.new)) result (scope.reading (position self.old)) }
+        ensures { Gives fault_of (λ x. ((map allocation_of x.0.items, map initial_of x.1.items, map item_of x.2.items), position self.new)) result (scope.reading (position self.old)) }
     {
         self.begin(b"scope")?;
         let decls = self.allocs(b"decls")?;
@@ -72,7 +72,7 @@ impl<'a> Reader<'a> {
 
     #[tactic(auto, unfolding(crate::specs::Grammar::arg_decls))]
     fn arg_decls(&mut self) -> Result<Vec<Alloc>, Departure<'a>>
-        ensures { Gives fault_of (λ x. (map frame_of x.items, position self.new)) result (arg_decls.reading (position self.old)) }
+        ensures { Gives fault_of (λ x. (map allocation_of x.items, position self.new)) result (arg_decls.reading (position self.old)) }
     {
         let args = self.allocs(b"arg_decls")?;
         Ok(args)

@@ -2,7 +2,7 @@
 
 ghost use Rattle.std.specs.Prelude.{◌≡◌, ◌-◌, ◌≤◌, ℕ, not, List, length, take, filter, reverse, Ok, Err, IfOk, IfErr, IfSome, IsSomeAnd};
 ghost use Rattle.std.specs.List.{prefix_len};
-ghost use Rattle.alf_program.specs.Tree.{whole_of};
+ghost use Rattle.alf_program.specs.Tree.{program_of};
 ghost use Rattle.alf_text.specs.Reading.{fault_of};
 ghost use Rattle.alf_text.specs.Language.{Means, HasOneMeaning, departure_of, placed, place_of, place_behind, is_line_feed};
 
@@ -27,7 +27,7 @@ const LIMITS: Counts = Counts {
 /// Reading goes as deep as expressions may stand in one another, and no deeper.
 pub fn read(alloc: Global, bytes: &[u8]) -> Result<Program, TextFault>
     // A text means one thing (`one_meaning`), and this is it.
-    ensures spelled { IfOk result (λ program. Means bytes.now (Ok (whole_of program))) }
+    ensures spelled { IfOk result (λ program. Means bytes.now (Ok (program_of program))) }
     ensures departs { IfErr result (λ fault. IfSome (departure_of fault) (λ departure. Means bytes.now (Err departure))) }
 {
     texts_are_cut_one_way();

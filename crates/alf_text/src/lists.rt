@@ -2,7 +2,7 @@
 
 ghost use Rattle.std.specs.Prelude.{◌≡◌, ◌<◌, map, OnOk};
 ghost use Rattle.grammar.specs.Form.{Form, Gives, many};
-ghost use Rattle.alf_program.specs.Tree.{Term, Entry, Frame, Start, Function, term_of, item_of, frame_of, start_of, function_of};
+ghost use Rattle.alf_program.specs.Tree.{NamedExpression, BodyItem, Allocation, InitialValue, Function, expression_of, item_of, allocation_of, initial_of, function_of};
 ghost use Rattle.alf_text.specs.Grammar.{Rule, alf, left, alloc, init, whole_expr, item, function};
 ghost use Rattle.alf_text.specs.Reading.{position, fault_of};
 
@@ -35,11 +35,11 @@ pub fn many<'a, P: Part<'a>>(reader: &mut Reader<'a>) -> Result<Vec<P>, Departur
 }
 
 impl<'a> Part<'a> for Alloc {
-    ghost Seen = { Frame };
+    ghost Seen = { Allocation };
 
     ghost form = { alloc };
 
-    ghost view = { frame_of };
+    ghost view = { allocation_of };
 
     #[tactic(auto, using(crate::proofs::Exactness::alloc_smaller))]
     fn read(reader: &mut Reader<'a>) -> Result<Self, Departure<'a>> {
@@ -49,11 +49,11 @@ impl<'a> Part<'a> for Alloc {
 }
 
 impl<'a> Part<'a> for Init {
-    ghost Seen = { Start };
+    ghost Seen = { InitialValue };
 
     ghost form = { init };
 
-    ghost view = { start_of };
+    ghost view = { initial_of };
 
     #[tactic(auto, using(crate::proofs::Exactness::init_smaller))]
     fn read(reader: &mut Reader<'a>) -> Result<Self, Departure<'a>> {
@@ -63,11 +63,11 @@ impl<'a> Part<'a> for Init {
 }
 
 impl<'a> Part<'a> for Expr {
-    ghost Seen = { Term };
+    ghost Seen = { NamedExpression };
 
     ghost form = { whole_expr };
 
-    ghost view = { term_of };
+    ghost view = { expression_of };
 
     #[tactic(auto, using(crate::proofs::Exactness::expr_smaller))]
     fn read(reader: &mut Reader<'a>) -> Result<Self, Departure<'a>> {
@@ -77,7 +77,7 @@ impl<'a> Part<'a> for Expr {
 }
 
 impl<'a> Part<'a> for Item {
-    ghost Seen = { Entry };
+    ghost Seen = { BodyItem };
 
     ghost form = { item };
 

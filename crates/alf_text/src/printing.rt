@@ -1,7 +1,7 @@
 //! The canonical text of a program, which spells it.
 
 ghost use Rattle.std.specs.Prelude.{◌≡◌, IfOk};
-ghost use Rattle.alf_program.specs.Tree.{whole_of};
+ghost use Rattle.alf_program.specs.Tree.{program_of};
 ghost use Rattle.alf_printer.specs.Canonical.{canonical_text};
 ghost use Rattle.alf_text.specs.Language.{SpellsProgram, IsSpelled};
 
@@ -16,11 +16,11 @@ use std::alloc::{AllocError, Global};
 /// before its digits, and a signed number that is negative is written by its distance from 0. Takes
 /// memory for the text.
 pub fn print(alloc: Global, program: &Program) -> Result<Vec<u8>, AllocError>
-    ensures text { IfOk result (λ text. text.items ≡ canonical_text (whole_of program.now)) }
+    ensures text { IfOk result (λ text. text.items ≡ canonical_text (program_of program.now)) }
 
     // Where the program was read from a text, the text printed is read as the same program.
-    ensures spelled { IsSpelled (whole_of program.now)
-        → IfOk result (λ text. SpellsProgram text.items (whole_of program.now)) }
+    ensures spelled { IsSpelled (program_of program.now)
+        → IfOk result (λ text. SpellsProgram text.items (program_of program.now)) }
 {
     canonical_texts_are_read_back();
     let text = alf_printer::print(alloc, program)?;

@@ -2,7 +2,7 @@
 
 ghost use Rattle.std.specs.Prelude.{◌≡◌};
 ghost use Rattle.grammar.specs.Form.{Form, Gives};
-ghost use Rattle.alf_program.specs.Tree.{whole_of};
+ghost use Rattle.alf_program.specs.Tree.{program_of};
 ghost use Rattle.alf_text.specs.Grammar.{closing_empty, empty, addr_unit, macro_defs, little_endian, heading, exports, imports, program};
 ghost use Rattle.alf_text.specs.Reading.{position, fault_of};
 
@@ -98,7 +98,7 @@ impl<'a> Reader<'a> {
     /// A whole text.
     #[tactic(auto, unfolding(crate::specs::Grammar::program))]
     pub fn program(&mut self) -> Result<Program, Departure<'a>>
-        ensures { Gives fault_of (λ x. (whole_of x, position self.new)) result (program.reading (position self.old)) }
+        ensures { Gives fault_of (λ x. (program_of x, position self.new)) result (program.reading (position self.old)) }
     {
         self.begin(b"alf")?;
         self.heading()?;

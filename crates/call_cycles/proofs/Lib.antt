@@ -1,6 +1,3 @@
-pub mod Reaching
-pub mod Marks
-pub mod Searching
-pub mod Tails
-pub mod Rows
+-- The files here.
+pub mod Cycling
 pub mod Ranking

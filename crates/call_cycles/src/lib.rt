@@ -9,9 +9,9 @@
 // Why calls have no order.
 mod fault;
 
-// What a function reaches, and ranks made from it.
+// What is found of each function, and ranks made from it.
+mod finding;
 mod ranks;
-mod search;
 
 // What the definitions promise.
 mod laws;

@@ -4,15 +4,15 @@ ghost use Rattle.std.specs.Prelude.{◌<◌, ◌^◌, length, IfOk, IfErr};
 ghost use Rattle.call_cycles.specs.Calls.{CallsWithin, IsRanked, IsFaultOf, calls_of};
 
 use crate::fault::CallFault;
-use crate::search::{Finding, search_from};
+use crate::finding::{Finding, finding_of};
 use std::alloc::Global;
 
 /// A rank for each function, so that each call leads from a higher rank to a lower one.
 ///
 /// `calls` has for each function the numbers of those that it calls, repeats allowed. The rank is
-/// the count of functions that calls lead to. A search starts from each function, the least first,
-/// and the first that comes back to its start ends all: a search takes time linear in functions
-/// and calls, and memory linear in functions.
+/// the count of other functions that calls lead to. What each function reaches is marked, the least
+/// function first, and the first that is called from there ends all: this takes time linear in
+/// functions and calls for each function, and memory linear in functions.
 pub fn call_ranks(alloc: Global, calls: &[Vec<u32>]) -> Result<Vec<u32>, CallFault>
     requires within { CallsWithin (calls_of calls.now) }
     requires count { length calls.now < 2 ^ 32 }
@@ -21,7 +21,7 @@ pub fn call_ranks(alloc: Global, calls: &[Vec<u32>]) -> Result<Vec<u32>, CallFau
 {
     let mut ranks = Vec::new(alloc);
     for function in 0..calls.len() as u32 {
-        match search_from(alloc, calls, function) {
+        match finding_of(alloc, calls, function) {
             Ok(Finding::Rank(rank)) => {
                 if ranks.push(rank).is_err() {
                     return Err(CallFault::Memory);

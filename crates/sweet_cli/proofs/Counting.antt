@@ -3,7 +3,7 @@ use Rattle.std.proofs.Common.{◌≡◌, ◌<◌, ◌+◌, ◌==◌, ℕ, suc, B
 use Rattle.std.proofs.lemmas.List.Sums.{sum_by-cons}
 use Rattle.alf_ops.specs.declared.history.RunFault.{RunFault}
 use Rattle.alf_ops.specs.declared.history.RunFault.TheVariants.{Uninit}
-use Rattle.alf_program.specs.Tree.{Entry}
+use Rattle.alf_program.specs.Tree.{BodyItem}
 use Rattle.sweet_cli.specs.Nodes.{Node, entry, node_at, rank_of}
 use Rattle.sweet_cli.specs.Runs.{places_of, cost_of}
 use Rattle.sweet_cli.specs.Tally.{FaultsAt, IsCount, IsTally}
@@ -28,7 +28,7 @@ cost_rest (first ∷ trace) =
     let one : one_if (not (rank_of first == 0)) + one_if (rank_of first == 0) ≡ 1 = by_test (rank_of first == 0) (λ e. rw e refl) (λ e. rw e refl) in
     omega arith
 
-pub cost_is : (blocks : List (List Entry)) (trace : List Node) (counts : List ℕ) → IsCount blocks trace counts → sum (drop 1 counts) ≡ cost_of trace
+pub cost_is : (blocks : List (List BodyItem)) (trace : List Node) (counts : List ℕ) → IsCount blocks trace counts → sum (drop 1 counts) ≡ cost_of trace
 cost_is blocks trace [] is = absurd (let long = is.long in omega arith)
 cost_is blocks trace (count ∷ counts) is =
     let whole = sum_by-cons (λ x. x) count counts in
@@ -42,7 +42,7 @@ abbrev Counted : List ℕ → List ℕ → List Node → Type 0
 Counted [] counts trace = Unit {0}
 Counted (rank ∷ ranks) counts trace = (get_or counts rank 0 ≡ places_of (node_at rank) trace) × Counted ranks counts trace
 
-counted : (blocks : List (List Entry)) (trace : List Node) (counts ranks : List ℕ) → IsCount blocks trace counts
+counted : (blocks : List (List BodyItem)) (trace : List Node) (counts ranks : List ℕ) → IsCount blocks trace counts
     → ((i : ℕ) → i < length ranks → get_or ranks i 0 < length counts) → Counted ranks counts trace
 counted blocks trace counts [] is low = tt
 counted blocks trace counts (rank ∷ ranks) is low =
@@ -75,7 +75,7 @@ alarm_is trace None (Some rank) ranks h = absurd h
 alarm_is trace (Some cause) None ranks h = absurd h
 alarm_is trace (Some cause) (Some rank) ranks (same, last) = rw (same, last) (alarms_are 0 ranks rank)
 
-pub facts_are : (blocks : List (List Entry)) (trace : List Node) (fault : Option RunFault) (counts : List ℕ) (at : Option ℕ) (ranks : List ℕ) → IsTally blocks trace fault counts at
+pub facts_are : (blocks : List (List BodyItem)) (trace : List Node) (fault : Option RunFault) (counts : List ℕ) (at : Option ℕ) (ranks : List ℕ) → IsTally blocks trace fault counts at
     → ((i : ℕ) → i < length ranks → get_or ranks i 0 < length counts)
     → listed ranks counts at ≡ dead_facts 0 (map node_at ranks) trace ++ (total_facts 0 (map node_at ranks) trace ++ alarm_facts (map node_at ranks) trace fault)
 facts_are blocks trace fault counts at ranks tally low =

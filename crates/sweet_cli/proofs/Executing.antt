@@ -2,7 +2,7 @@
 use Rattle.std.proofs.Common.{◌≡◌, ◌<◌, ◌+◌, ℕ, zero, suc, List, [], ◌∷◌, ◌++◌, ◌⊎◌, inl, inr, Option, None, Some, slice_get, get_or, map, drop, length, refl, ap, ◌∙◌, subst}
 use Rattle.std.specs.Prelude.{option_and_then}
 use Rattle.alf_program.specs.declared.program.Item.{Item}
-use Rattle.alf_program.specs.Tree.{Entry, item_of}
+use Rattle.alf_program.specs.Tree.{BodyItem, item_of}
 use Rattle.alf_text.specs.First.{Each}
 use Rattle.sweet_cli.specs.Memory.{History, executed_one, executed}
 use Rattle.sweet_cli.specs.Resolved.{put_executed, puts_executed, PutWithin, PutsWithin}
@@ -14,7 +14,7 @@ by_option None if_none if_some = if_none refl
 by_option (Some x) if_none if_some = if_some x refl
 
 -- the item, and those behind it
-pub next_item : (P : Entry → Type 0) (items : List Item) (i : ℕ) (d : Item) → i < length items → Each P (map item_of (drop i items))
+pub next_item : (P : BodyItem → Type 0) (items : List Item) (i : ℕ) (d : Item) → i < length items → Each P (map item_of (drop i items))
     → P (item_of (get_or items i d)) × Each P (map item_of (drop (i + 1) items))
 next_item P items i d low each = subst (λ (x : List Item). Each P (map item_of x)) (front items i d low) each
 
@@ -22,7 +22,7 @@ pub within_push : (count : ℕ) (puts : List Put) (put : Put) → PutsWithin cou
 within_push count [] put all one = (one, tt)
 within_push count (first ∷ puts) put all one = (all.0, within_push count puts put all.1 one)
 
-module _ (frames : List (List ℕ)) (item : Entry) (rest : List Entry) (put : Put) (same : (history : History) → executed_one history item ≡ put_executed frames history put) where
+module _ (frames : List (List ℕ)) (item : BodyItem) (rest : List BodyItem) (put : Put) (same : (history : History) → executed_one history item ≡ put_executed frames history put) where
   -- the stores so far, and then one in place of the item
   put_on : (history : History) (puts : List Put) → option_and_then (λ next. executed next (item ∷ rest)) (puts_executed frames history puts)
       ≡ option_and_then (λ next. executed next rest) (puts_executed frames history (puts ++ put ∷ []))

@@ -3,7 +3,7 @@ use Rattle.std.proofs.Common.{◌≡◌, ◌<◌, ◌≤◌, ◌+◌, ◌-◌, �
 use Rattle.std.proofs.lemmas.List.{length-map, map-append}
 use Rattle.std.proofs.lemmas.Option.{slice_get_within}
 use Rattle.alf_program.specs.declared.program.Num.{Num}
-use Rattle.alf_program.specs.Tree.{Term, Jumps, Switches, Returns, Entry, Does}
+use Rattle.alf_program.specs.Tree.{NamedExpression, Jump, Switch, Return, BodyItem, Do}
 use Rattle.alf_check.specs.Blocks.{ends_block}
 use Rattle.sweet_cli.specs.Nodes.{Node, entry, at_block, node_at, rank_of, EndsWith, StandsIn, IsLabelOf, Leads, enters, returns, jumps, switches, falls}
 use Rattle.sweet_cli.specs.declared.blocks.Block.{Block}
@@ -15,7 +15,7 @@ use Rattle.sweet_cli.proofs.Ranks.{in_front, in_last, in_push}
 
 -- ---- rows
 
-module _ (blocks : List (List Entry)) where
+module _ (blocks : List (List BodyItem)) where
   -- the entry leads to the first block
   row_entry : 0 < length blocks → IsRow blocks 0 (1 ∷ [])
   row_entry some = record { leads = leads; all = all; within = within }
@@ -32,14 +32,14 @@ module _ (blocks : List (List Entry)) where
       within to (inr h) = absurd h
 
   -- a block that no statement ends leads to the next one
-  row_falls : (k : ℕ) (last : Entry) → FallsWithin blocks → EndsWith blocks k last → ends_block last ≡ false → IsRow blocks (suc k) (suc (suc k) ∷ [])
+  row_falls : (k : ℕ) (last : BodyItem) → FallsWithin blocks → EndsWith blocks k last → ends_block last ≡ false → IsRow blocks (suc k) (suc (suc k) ∷ [])
   row_falls k last low ends open_ = record { leads = leads; all = all; within = within }
     where
       leads : (to : ℕ) → IsIn (suc (suc k) ∷ []) to → Leads blocks (at_block k) (Some (node_at to))
       leads to (inl e) = subst (λ (n : ℕ). Leads blocks (at_block k) (Some (node_at n))) (sym e) (falls k last ends open_)
       leads to (inr h) = absurd h
 
-      closed : (other : Entry) → EndsWith blocks k other → ends_block other ≡ true → ⊥
+      closed : (other : BodyItem) → EndsWith blocks k other → ends_block other ≡ true → ⊥
       closed other h e = let no : true ≡ false = sym e ∙ ap ends_block (last_one blocks k other last h ends) ∙ open_ in cc
 
       all : (next : Option Node) → Leads blocks (at_block k) next → IfSome next (λ node. IsIn (suc (suc k) ∷ []) (rank_of node))
@@ -52,7 +52,7 @@ module _ (blocks : List (List Entry)) where
       within to (inl e) = let more = low k last ends open_ in omega arith
       within to (inr h) = absurd h
 
-  pub row_next : (k : ℕ) (last : Entry) → FallsWithin blocks → EndsWith blocks k last → ends_block last ≡ false → (row : List ℕ) → row ≡ (k + 2) ∷ [] → IsRow blocks (suc k) row
+  pub row_next : (k : ℕ) (last : BodyItem) → FallsWithin blocks → EndsWith blocks k last → ends_block last ≡ false → (row : List ℕ) → row ≡ (k + 2) ∷ [] → IsRow blocks (suc k) row
   row_next k last low ends open_ row is =
       let same : suc (suc k) ≡ k + 2 = omega arith in
       subst (λ (x : List ℕ). IsRow blocks (suc k) x) (ap (λ (n : ℕ). n ∷ []) same ∙ sym is) (row_falls k last low ends open_)
@@ -97,34 +97,34 @@ module _ (blocks : List (List Entry)) where
       all (Some next) h = (same (rank_of next)).1 (from_edge (Some next) h)
 
   -- a block that ends with a jump leads to the block of its label
-  pub row_jump : (k : ℕ) (label : List ℕ) (row : List ℕ) → EndsWith blocks k (Does (Jumps label))
+  pub row_jump : (k : ℕ) (label : List ℕ) (row : List ℕ) → EndsWith blocks k (Do (Jump label))
       → ((to : ℕ) → IsIn row to ↔ IsTarget blocks [] label to) → IsRow blocks (suc k) row
   row_jump k label row ends same = row_targets k [] label row from_edge to_edge same
     where
       from_edge : (next : Option Node) → Leads blocks (at_block k) next → IfSome next (λ node. IsTarget blocks [] label (rank_of node))
       from_edge next (returns _ h) = tt
       from_edge next (jumps _ to other h there) =
-          let e : Does (Jumps label) ≡ Does (Jumps other) = last_one blocks k _ _ ends h in
+          let e : Do (Jump label) ≡ Do (Jump other) = last_one blocks k _ _ ends h in
           let same : other ≡ label = (let d : label ≡ other = cc in sym d) in
           (to, refl, subst (λ (x : List ℕ). StandsIn blocks to x) same there)
       from_edge next (switches _ to value targets others other h one there) =
-          absurd (let e : Does (Jumps label) ≡ Does (Switches value targets others) = last_one blocks k _ _ ends h in cc)
+          absurd (let e : Do (Jump label) ≡ Do (Switch value targets others) = last_one blocks k _ _ ends h in cc)
       from_edge next (falls _ last h open_) = absurd (let e : true ≡ false = ap ends_block (last_one blocks k _ _ ends h) ∙ open_ in cc)
 
       to_edge : (to : ℕ) → IsTarget blocks [] label to → Leads blocks (at_block k) (Some (node_at to))
       to_edge to (at, is, there) = subst (λ (n : ℕ). Leads blocks (at_block k) (Some (node_at n))) (sym is) (jumps k at label ends there)
 
   -- a block that ends with a switch leads to the block of each of its labels
-  pub row_switch : (k : ℕ) (value : Term) (targets : List (Num × List ℕ)) (others : List ℕ) (row : List ℕ) → EndsWith blocks k (Does (Switches value targets others))
+  pub row_switch : (k : ℕ) (value : NamedExpression) (targets : List (Num × List ℕ)) (others : List ℕ) (row : List ℕ) → EndsWith blocks k (Do (Switch value targets others))
       → ((to : ℕ) → IsIn row to ↔ IsTarget blocks targets others to) → IsRow blocks (suc k) row
   row_switch k value targets others row ends same = row_targets k targets others row from_edge to_edge same
     where
       from_edge : (next : Option Node) → Leads blocks (at_block k) next → IfSome next (λ node. IsTarget blocks targets others (rank_of node))
       from_edge next (returns _ h) = tt
       from_edge next (jumps _ to label h there) =
-          absurd (let e : Does (Switches value targets others) ≡ Does (Jumps label) = last_one blocks k _ _ ends h in cc)
+          absurd (let e : Do (Switch value targets others) ≡ Do (Jump label) = last_one blocks k _ _ ends h in cc)
       from_edge next (switches _ to term cases rest label h one there) =
-          let e : Does (Switches value targets others) ≡ Does (Switches term cases rest) = last_one blocks k _ _ ends h in
+          let e : Do (Switch value targets others) ≡ Do (Switch term cases rest) = last_one blocks k _ _ ends h in
           let a : cases ≡ targets = (let d : targets ≡ cases = cc in sym d) in
           let b : rest ≡ others = (let d : others ≡ rest = cc in sym d) in
           label_target targets others label to (subst (λ (x : List (Num × List ℕ)). IsLabelOf x others label) a (subst (λ (x : List ℕ). IsLabelOf cases x label) b one)) there
@@ -169,10 +169,10 @@ module _ (blocks : List (List Entry)) where
 
 -- ---- the code's blocks
 
-ends_on : (blocks : List (List Entry)) (k : ℕ) (next : Option Node) → Leads blocks (at_block k) next → (last : Entry) × EndsWith blocks k last
-ends_on blocks k next (returns _ h) = (Does (Returns None), h)
-ends_on blocks k next (jumps _ to label h there) = (Does (Jumps label), h)
-ends_on blocks k next (switches _ to value targets others label h one there) = (Does (Switches value targets others), h)
+ends_on : (blocks : List (List BodyItem)) (k : ℕ) (next : Option Node) → Leads blocks (at_block k) next → (last : BodyItem) × EndsWith blocks k last
+ends_on blocks k next (returns _ h) = (Do (Return None), h)
+ends_on blocks k next (jumps _ to label h there) = (Do (Jump label), h)
+ends_on blocks k next (switches _ to value targets others label h one there) = (Do (Switch value targets others), h)
 ends_on blocks k next (falls _ last h open_) = (last, h)
 
 -- a block without a last item leads nowhere
@@ -185,7 +185,7 @@ empty_leads blocks k d low none =
 -- ---- the table
 
 -- the table has the rows of the entry and of the first k blocks
-pub record HasRows (blocks : List (List Entry)) (k : ℕ) (table : List (List ℕ)) : Type 0 where
+pub record HasRows (blocks : List (List BodyItem)) (k : ℕ) (table : List (List ℕ)) : Type 0 where
   pub long : length table ≡ suc k
   pub rows : (rank : ℕ) → rank < length table → IsRow blocks rank (get_or table rank [])
 
@@ -197,7 +197,7 @@ rows_push P (other ∷ table) row all here zero low = all 0 (omega arith)
 rows_push P (other ∷ table) row all here (suc rank) low =
     rows_push (λ n. P (suc n)) table row (λ n h. all (suc n) (omega arith)) here rank (omega arith)
 
-module _ (blocks : List (List Entry)) where
+module _ (blocks : List (List BodyItem)) where
   pub rows_start : (rows : List (Vec ℕ Global)) (first : Vec ℕ Global) → 0 < length blocks → first.items ≡ 1 ∷ [] → rows ≡ first ∷ [] → HasRows blocks 0 (rows_of rows)
   rows_start rows first some one is =
       let same : rows_of rows ≡ (1 ∷ []) ∷ [] = ap (λ (x : List (Vec ℕ Global)). rows_of x) is ∙ ap (λ (x : List ℕ). x ∷ []) one in

@@ -1,7 +1,7 @@
 -- What the search over the table of edges marks is the numbering of the nodes.
 use Rattle.std.proofs.Common.{◌≡◌, ◌<◌, ◌+◌, ℕ, zero, suc, Bool, true, false, List, [], ◌∷◌, inl, inr, Some, Vec, Global, length, map, refl, ap, sym, subst, arith}
 use Rattle.std.proofs.lemmas.List.{length-map}
-use Rattle.alf_program.specs.Tree.{Entry}
+use Rattle.alf_program.specs.Tree.{BodyItem}
 use Rattle.sweet_cli.specs.Nodes.{Node, node_at, rank_of, Leads, Reached, start, step, Ascends, OneOf, IsNumbering}
 use Rattle.sweet_cli.specs.Edges.{IsTable, rows_of}
 use Rattle.sweet_cli.specs.Search.{HasEdge, Reaches, begins, leads_on, IsClosed, IsMarked, IsMarking, marked_from}
@@ -15,7 +15,7 @@ edge_low [] rank to h = absurd h
 edge_low (row ∷ table) zero to h = omega arith
 edge_low (row ∷ table) (suc rank) to h = let low = edge_low table rank to h in omega arith
 
-module _ (blocks : List (List Entry)) (table : List (List ℕ)) (t : IsTable blocks table) where
+module _ (blocks : List (List BodyItem)) (table : List (List ℕ)) (t : IsTable blocks table) where
   -- the entry has a rank
   table_some : 0 < length table
   table_some = let long = t.long in omega arith
@@ -43,7 +43,7 @@ module _ (blocks : List (List Entry)) (table : List (List ℕ)) (t : IsTable blo
       leads_on here ((t.rows (rank_of before) (reaches_low (rank_of before) here)).all (Some node) edge)
 
 -- the code's table has rows
-pub rows_some : (blocks : List (List Entry)) (rows : List (Vec ℕ Global)) → IsTable blocks (rows_of rows) → 0 < length rows
+pub rows_some : (blocks : List (List BodyItem)) (rows : List (Vec ℕ Global)) → IsTable blocks (rows_of rows) → 0 < length rows
 rows_some blocks rows t = let some = table_some blocks (rows_of rows) t in simp length-map at some
 
 -- ---- marks, and the marked ranks in order
@@ -86,7 +86,7 @@ ascends_from n (true ∷ marks) = ascends_above n (suc n) marks (omega arith)
 ascends_from n (false ∷ marks) = ascends_from (suc n) marks
 
 -- the nodes of the marked ranks are the numbering
-pub numbering : (blocks : List (List Entry)) (table : List (List ℕ)) (marks : List Bool) → IsTable blocks table → IsMarking table marks
+pub numbering : (blocks : List (List BodyItem)) (table : List (List ℕ)) (marks : List Bool) → IsTable blocks table → IsMarking table marks
     → IsNumbering blocks (map node_at (marked_from 0 marks))
 numbering blocks table marks t m = record { ascends = ascends_from 0 marks; reached = reached; all = all }
   where

@@ -1,7 +1,7 @@
 -- The items of a first text have one run and one numbering, so that what is exact for one is sound for all.
 use Rattle.std.proofs.Common.{◌≡◌, ◌<◌, ◌+◌, ◌==◌, ◌≢◌, ℕ, suc, false, inl, inr, List, [], ◌∷◌, ◌++◌, Option, None, Some, length, slice_get, length-append, append_assoc, refl, ap, sym, ◌∙◌, subst, arith, rules}
 use Rattle.alf_ops.specs.declared.history.RunFault.{RunFault}
-use Rattle.alf_program.specs.Tree.{Entry}
+use Rattle.alf_program.specs.Tree.{BodyItem}
 use Rattle.alf_text.specs.First.{main_alone, IsFirst}
 use Rattle.alf_check.specs.Blocks.{blocks_of}
 use Rattle.sweet_cli.specs.Nodes.{Node, entry, node_at, Reached, start, step, rank_of, Ascends, OneOf, IsNumbering}
@@ -23,7 +23,7 @@ moved P a b h g e p =
     let history : h ≡ g = cc in
     subst (λ (n : Node). P n g) node (subst (λ (x : History). P a x) history p)
 
-module _ (blocks : List (List Entry)) (one : LabelsAreOne blocks) where
+module _ (blocks : List (List BodyItem)) (one : LabelsAreOne blocks) where
   pub runs_one : {node : Node} {before : History} {s t : List Node} {f g : Option RunFault} → Runs blocks node before s f → Runs blocks node before t g → (s ≡ t) × (f ≡ g)
   runs_one (ends {node = node} {history = before} {fault = f} x) (ends {fault = g} y) =
       (refl, (let e : over f ≡ over g = steps_one blocks one node before _ _ x y in cc))
@@ -48,7 +48,7 @@ module _ (blocks : List (List Entry)) (one : LabelsAreOne blocks) where
       let shorter = past_longer (moved (λ n h. RunsPast blocks n h count) to' to behind' behind e past) more in
       omega arith
 
-module _ (blocks : List (List Entry)) where
+module _ (blocks : List (List BodyItem)) where
   -- each node of a run is reached
   pub among_reached : {node : Node} {before : History} {trace : List Node} {fault : Option RunFault} (n : Node) → Runs blocks node before trace fault → Reached blocks node
       → OneOf trace n → Reached blocks n
@@ -102,7 +102,7 @@ same_nodes (x ∷ xs) (y ∷ ys) up up' to from =
     tail_of x y ys n same less (inl e) = absurd (let h : rank_of n ≡ rank_of x = ap rank_of (e ∙ sym same) in omega arith)
     tail_of x y ys n same less (inr h) = h
 
-pub numbering_one : (blocks : List (List Entry)) (xs ys : List Node) → IsNumbering blocks xs → IsNumbering blocks ys → xs ≡ ys
+pub numbering_one : (blocks : List (List BodyItem)) (xs ys : List Node) → IsNumbering blocks xs → IsNumbering blocks ys → xs ≡ ys
 numbering_one blocks xs ys a b =
     same_nodes xs ys a.ascends b.ascends (λ n h. b.all n (a.reached n h)) (λ n h. a.all n (b.reached n h))
 
@@ -185,7 +185,7 @@ same_facts : (m n s t : List Node) (f g : Option RunFault) → m ≡ n → s ≡
 same_facts m n s t f g e h i = ap (λ (x : List Node). facts_of x s f) e ∙ ap (λ (x : List Node). facts_of n x f) h ∙ ap (λ (x : Option RunFault). facts_of n t x) i
 
 -- where a run faults, the alarm of its last node is among the facts
-has_alarm : (blocks : List (List Entry)) (nodes trace : List Node) (fault : Option RunFault) → IsNumbering blocks nodes → Runs blocks entry [] trace fault
+has_alarm : (blocks : List (List BodyItem)) (nodes trace : List Node) (fault : Option RunFault) → IsNumbering blocks nodes → Runs blocks entry [] trace fault
     → HasAlarm nodes trace fault (facts_of nodes trace fault)
 has_alarm blocks nodes trace None numbered run = tt
 has_alarm blocks nodes trace (Some cause) numbered run =
@@ -199,14 +199,14 @@ has_alarm blocks nodes trace (Some cause) numbered run =
     (there.0, there.1 ∙ sym found.1, fact_behind (dead_facts 0 nodes trace) _ _ (fact_behind (total_facts 0 nodes trace) _ _ alarm))
 
 -- the exact facts are those of each numbering and run
-exact_facts : (frames : List (List ℕ)) (items : List Entry) (findings : Findings) (nodes trace : List Node) (fault : Option RunFault) → IsFirst (main_alone frames items)
+exact_facts : (frames : List (List ℕ)) (items : List BodyItem) (findings : Findings) (nodes trace : List Node) (fault : Option RunFault) → IsFirst (main_alone frames items)
     → IsReportOf items findings → IsNumbering (blocks_of items) nodes → Runs (blocks_of items) entry [] trace fault → facts_of nodes trace fault ≡ findings.facts
 exact_facts frames items findings nodes trace fault first exact numbered run =
     let same = runs_one (blocks_of items) (labels_one frames items first) run exact.run in
     same_facts nodes exact.nodes trace exact.trace fault exact.fault (numbering_one (blocks_of items) nodes exact.nodes numbered exact.numbered) same.0 same.1 ∙ sym exact.facts
 
 -- there is one exact report
-pub report_one : (frames : List (List ℕ)) (items : List Entry) (a b : Findings) → IsFirst (main_alone frames items) → IsReportOf items a → IsReportOf items b → a ≡ b
+pub report_one : (frames : List (List ℕ)) (items : List BodyItem) (a b : Findings) → IsFirst (main_alone frames items) → IsReportOf items a → IsReportOf items b → a ≡ b
 report_one frames items a b first x y =
     let facts : a.facts ≡ b.facts = x.facts ∙ exact_facts frames items b x.nodes x.trace x.fault first y x.numbered x.run in
     let trace = (runs_one (blocks_of items) (labels_one frames items first) x.run y.run).0 in
@@ -215,7 +215,7 @@ report_one frames items a b first x y =
     ap (λ (f : List Fact). made f a.bound) facts ∙ ap (λ (n : ℕ). made b.facts n) bound
 
 -- an exact report is sound
-pub sound_of_exact : (frames : List (List ℕ)) (items : List Entry) (findings : Findings) → IsFirst (main_alone frames items) → IsReportOf items findings → IsSound items findings
+pub sound_of_exact : (frames : List (List ℕ)) (items : List BodyItem) (findings : Findings) → IsFirst (main_alone frames items) → IsReportOf items findings → IsSound items findings
 sound_of_exact frames items findings first exact = record {
   nodes = exact.nodes;
   numbered = exact.numbered;
@@ -233,7 +233,7 @@ sound_of_exact frames items findings first exact = record {
 }
 
 -- a run that is past the turns does not end within them
-pub past_apart : (frames : List (List ℕ)) (items : List Entry) (turns : ℕ) (findings : Findings) → IsFirst (main_alone frames items) → RunsPast (blocks_of items) entry [] turns
+pub past_apart : (frames : List (List ℕ)) (items : List BodyItem) (turns : ℕ) (findings : Findings) → IsFirst (main_alone frames items) → RunsPast (blocks_of items) entry [] turns
     → IsReportWithin items turns findings → ⊥
 past_apart frames items turns findings first past within =
     let longer = past_longer (blocks_of items) (labels_one frames items first) past within.exact.run in

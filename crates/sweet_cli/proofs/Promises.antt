@@ -2,7 +2,7 @@
 use Rattle.std.proofs.Common.{◌≡◌, ℕ, List, Option, None, Some, IfSome, refl, sym, ◌∙◌, subst}
 use Rattle.flow_base.specs.Outside.{Files}
 use Rattle.flow_base.specs.Sinks.{SinkState}
-use Rattle.alf_program.specs.Tree.{Whole}
+use Rattle.alf_program.specs.Tree.{WholeProgram}
 use Rattle.alf_text.specs.First.{main_alone, IsFirst}
 use Rattle.alf_text.specs.FirstText.{FirstText}
 use Rattle.alf_text.specs.CanonicalLaws.{CanonicalTextsSpell}
@@ -17,7 +17,7 @@ use Rattle.sweet_cli.specs.Print.{printing, IsSameProgram}
 use Rattle.sweet_cli.proofs.OneRun.{sound_of_exact}
 
 -- a report that was made is sound
-pub prints_sound : ((bytes : List ℕ) (whole : Whole) → FirstText bytes whole → IsFirst whole) → (file : List ℕ) (turns : ℕ) (told : Option Files) (before : Log) (text : List ℕ) (after : Log)
+pub prints_sound : ((bytes : List ℕ) (whole : WholeProgram) → FirstText bytes whole → IsFirst whole) → (file : List ℕ) (turns : ℕ) (told : Option Files) (before : Log) (text : List ℕ) (after : Log)
     → (analysing file turns).steps.Gives told before text after → IfSome told (λ files. IsSoundReport file files text)
 unfolding analysing first_program_in
 prints_sound firsts file turns None before text after g = tt
@@ -25,7 +25,7 @@ prints_sound firsts file turns (Some files) before text after (whole, mid, (byte
     let found = meant.means in
     let frames = found.0 in
     let items = found.1 in
-    let text_of_main : FirstText bytes (main_alone frames items) = subst (λ (w : Whole). FirstText bytes w) found.2 spelled.means in
+    let text_of_main : FirstText bytes (main_alone frames items) = subst (λ (w : WholeProgram). FirstText bytes w) found.2 spelled.means in
     record {
       bytes = bytes;
       frames = frames;

@@ -2,7 +2,7 @@
 use Rattle.std.proofs.Common.{◌≡◌, ◌≤◌, ◌<◌, ℕ, zero, suc, List, [], ◌∷◌, inl, inr, Option, Some, map, length, drop, get_or, sum, refl, ◌∙◌, arith}
 use Rattle.std.proofs.lemmas.Option.{slice_get_within}
 use Rattle.alf_ops.specs.declared.history.RunFault.{RunFault}
-use Rattle.alf_program.specs.Tree.{Entry}
+use Rattle.alf_program.specs.Tree.{BodyItem}
 use Rattle.alf_text.specs.First.{main_alone, IsFirst}
 use Rattle.alf_check.specs.Blocks.{blocks_of}
 use Rattle.sweet_cli.specs.Nodes.{Node, entry, node_at, rank_of, Leads, enters, jumps, switches, falls, Reached, start, step, OneOf, IsNumbering}
@@ -15,7 +15,7 @@ use Rattle.sweet_cli.proofs.Ranks.{node_rank}
 use Rattle.sweet_cli.proofs.Standing.{some_blocks, falls_within}
 use Rattle.sweet_cli.proofs.Counting.{cost_is, facts_are}
 
-module _ (blocks : List (List Entry)) (some : 0 < length blocks) (low : FallsWithin blocks) where
+module _ (blocks : List (List BodyItem)) (some : 0 < length blocks) (low : FallsWithin blocks) where
   -- what an edge leads to has a rank
   leads_low : (node to : Node) → Leads blocks node (Some to) → rank_of to < suc (length blocks)
   leads_low node to enters = omega arith
@@ -34,7 +34,7 @@ one_of (rank ∷ ranks) zero low = inl refl
 one_of (rank ∷ ranks) (suc i) low = inr (one_of ranks i (omega arith))
 
 -- the ranks that are kept have counts
-pub kept_low : (frames : List (List ℕ)) (items : List Entry) (ranks counts : List ℕ) → IsFirst (main_alone frames items) → IsNumbering (blocks_of items) (map node_at ranks)
+pub kept_low : (frames : List (List ℕ)) (items : List BodyItem) (ranks counts : List ℕ) → IsFirst (main_alone frames items) → IsNumbering (blocks_of items) (map node_at ranks)
     → length counts ≡ suc (length (blocks_of items)) → (i : ℕ) → i < length ranks → get_or ranks i 0 < length counts
 kept_low frames items ranks counts first numbered long i low =
     let rank = get_or ranks i 0 in
@@ -43,7 +43,7 @@ kept_low frames items ranks counts first numbered long i low =
     omega arith
 
 -- the report of a tally is the report of the run
-pub reported : (frames : List (List ℕ)) (items : List Entry) (turns : ℕ) (ranks counts : List ℕ) (at : Option ℕ) (trace : List Node) (fault : Option RunFault) (findings : Findings)
+pub reported : (frames : List (List ℕ)) (items : List BodyItem) (turns : ℕ) (ranks counts : List ℕ) (at : Option ℕ) (trace : List Node) (fault : Option RunFault) (findings : Findings)
     → IsFirst (main_alone frames items) → IsNumbering (blocks_of items) (map node_at ranks) → Runs (blocks_of items) entry [] trace fault → length trace ≤ turns
     → IsTally (blocks_of items) trace fault counts at → findings.facts ≡ listed ranks counts at → findings.bound ≡ sum (drop 1 counts) → IsReportWithin items turns findings
 reported frames items turns ranks counts at trace fault findings first numbered run within tally facts bound = record {

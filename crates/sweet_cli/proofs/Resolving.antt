@@ -3,7 +3,7 @@ use Rattle.std.proofs.Common.{◌≡◌, ◌<◌, ◌+◌, ◌==◌, ℕ, zero, 
 use Rattle.std.proofs.Math.Seq.{take-suc}
 use Rattle.alf_program.specs.declared.program.Alloc.{Alloc}
 use Rattle.alf_program.specs.declared.program.Num.{Num}
-use Rattle.alf_program.specs.Tree.{Entry, names_of}
+use Rattle.alf_program.specs.Tree.{BodyItem, names_of}
 use Rattle.alf_text.specs.First.{Named, EachTarget}
 use Rattle.sweet_cli.specs.Nodes.{StandsIn}
 use Rattle.sweet_cli.specs.Runs.{target_of}
@@ -30,7 +30,7 @@ pub next_target : (P : Num × List ℕ → Type 0) (targets : List (Num × List 
     → P (get_or targets i d) × EachTarget P (drop (i + 1) targets)
 next_target P targets i d low each = subst (λ (x : List (Num × List ℕ)). EachTarget P x) (front targets i d low) each
 
-module _ (blocks : List (List Entry)) where
+module _ (blocks : List (List BodyItem)) where
   -- one more target
   targets_push : (targets : List (Num × List ℕ)) (found : List (ℕ × ℕ)) (target : Num × List ℕ) (to : ℕ × ℕ) → AreTargets blocks targets found → target.0.bits ≡ to.0
       → StandsIn blocks to.1 target.1 → AreTargets blocks (targets ++ target ∷ []) (found ++ to ∷ [])

@@ -6,7 +6,7 @@ use Rattle.std.proofs.lemmas.Grind.{get_or_default_zero, get_or-set_at}
 use Rattle.std.proofs.lemmas.List.{get_or-replicate, length-replicate}
 use Rattle.alf_ops.specs.declared.history.RunFault.{RunFault}
 use Rattle.alf_ops.specs.declared.history.RunFault.TheVariants.{Uninit}
-use Rattle.alf_program.specs.Tree.{Entry}
+use Rattle.alf_program.specs.Tree.{BodyItem}
 use Rattle.sweet_cli.specs.Nodes.{Node, entry, at_block, node_at, rank_of}
 use Rattle.sweet_cli.specs.Memory.{History}
 use Rattle.sweet_cli.specs.Runs.{Steps, onwards, over, Runs, ends, goes_on, RunsPast, here, on, places_of, last_of}
@@ -17,12 +17,12 @@ use Rattle.sweet_cli.proofs.Cutting.{by_test}
 use Rattle.sweet_cli.proofs.Ranks.{node_rank}
 
 -- what completes the run from this node with this history completes the whole
-pub record OnTheWay (blocks : List (List Entry)) (trace : List Node) (node : Node) (history : History) : Type 0 where
+pub record OnTheWay (blocks : List (List BodyItem)) (trace : List Node) (node : Node) (history : History) : Type 0 where
   pub forth : (rest : List Node) (fault : Option RunFault) → Runs blocks node history rest fault → Runs blocks entry [] (trace ++ rest) fault
   pub past : (n : ℕ) → RunsPast blocks node history n → RunsPast blocks entry [] (length trace + n)
 
 -- a run so far, behind this turn
-pub record SoFar (frames : List (List ℕ)) (blocks : List (List Entry)) (counts : List ℕ) (cells : List (Option ℕ)) (at turn : ℕ) : Type 0 where
+pub record SoFar (frames : List (List ℕ)) (blocks : List (List BodyItem)) (counts : List ℕ) (cells : List (Option ℕ)) (at turn : ℕ) : Type 0 where
   pub trace : List Node
   pub history : History
   pub way : OnTheWay blocks trace (node_at at) history
@@ -30,7 +30,7 @@ pub record SoFar (frames : List (List ℕ)) (blocks : List (List Entry)) (counts
   pub long : length trace ≡ turn
   pub count : IsCount blocks trace counts
 
-module _ (blocks : List (List Entry)) (trace : List Node) (node : Node) (history : History) (way : OnTheWay blocks trace node history) where
+module _ (blocks : List (List BodyItem)) (trace : List Node) (node : Node) (history : History) (way : OnTheWay blocks trace node history) where
   pub one_turn : (to : Node) (behind : History) → Steps blocks node history (onwards to behind) → OnTheWay blocks (trace ++ node ∷ []) to behind
   one_turn to behind goes = record {
     forth = λ rest fault h. rw append_assoc (way.forth (node ∷ rest) fault (goes_on goes h));
@@ -50,7 +50,7 @@ module _ (blocks : List (List Entry)) (trace : List Node) (node : Node) (history
       subst (λ (x : ℕ). RunsPast blocks entry [] x) e g
 
 -- what was done at the node, where the cells and the move are known
-pub did_as : (frames : List (List ℕ)) (blocks : List (List Entry)) (at : ℕ) (history : History) (given cells after : List (Option ℕ)) (move out : Move) → given ≡ cells
+pub did_as : (frames : List (List ℕ)) (blocks : List (List BodyItem)) (at : ℕ) (history : History) (given cells after : List (Option ℕ)) (move out : Move) → given ≡ cells
     → AreCells frames history cells → move ≡ out → (AreCells frames history given → Did frames blocks at history after move) → Did frames blocks at history after out
 did_as frames blocks at history given cells after move out same are is did =
     subst (λ (x : Move). Did frames blocks at history after x) is (did (subst (λ (x : List (Option ℕ)). AreCells frames history x) (sym same) are))
@@ -62,7 +62,7 @@ places_push rank at trace =
     same ∙ ap (λ (n : ℕ). places_of (node_at rank) trace + cond (at == n) 1 0) (node_rank rank)
 
 -- one more place of a rank
-pub count_on : (blocks : List (List Entry)) (trace : List Node) (counts : List ℕ) (at one : ℕ) → at < length counts → one ≡ get_or counts at one
+pub count_on : (blocks : List (List BodyItem)) (trace : List Node) (counts : List ℕ) (at one : ℕ) → at < length counts → one ≡ get_or counts at one
     → IsCount blocks trace counts → IsCount blocks (trace ++ node_at at ∷ []) (set counts at (one + 1))
 count_on blocks trace counts at one within is count =
     let zero_is : one ≡ get_or counts at 0 = is ∙ get_or_default_zero counts at one within in
@@ -96,7 +96,7 @@ last_push (other ∷ []) node = refl
 last_push (other ∷ next ∷ trace) node = last_push (next ∷ trace) node
 
 -- no run so far
-pub none_yet : (frames : List (List ℕ)) (blocks : List (List Entry)) (n m : ℕ) (counts : List ℕ) (cells : List (Option ℕ)) → n ≡ suc (length blocks) → m ≡ length frames
+pub none_yet : (frames : List (List ℕ)) (blocks : List (List BodyItem)) (n m : ℕ) (counts : List ℕ) (cells : List (Option ℕ)) → n ≡ suc (length blocks) → m ≡ length frames
     → counts ≡ replicate n 0 → cells ≡ replicate m None → SoFar frames blocks counts cells 0 0
 none_yet frames blocks n m counts cells long many zeros nones =
     let cells_long : length cells ≡ m = ap length nones ∙ length-replicate m None in
@@ -117,7 +117,7 @@ none_yet frames blocks n m counts cells long many zeros nones =
       };
     }
 
-module _ (frames : List (List ℕ)) (blocks : List (List Entry)) (counts : List ℕ) (cells : List (Option ℕ)) (at turn one : ℕ) (low : at ≤ length blocks) (is : one ≡ get_or counts at one)
+module _ (frames : List (List ℕ)) (blocks : List (List BodyItem)) (counts : List ℕ) (cells : List (Option ℕ)) (at turn one : ℕ) (low : at ≤ length blocks) (is : one ≡ get_or counts at one)
     (so : SoFar frames blocks counts cells at turn) where
   counted_on : IsCount blocks (so.trace ++ node_at at ∷ []) (set counts at (one + 1))
   counted_on = let long = so.count.long in count_on blocks so.trace counts at one (omega arith) is so.count

@@ -5,7 +5,7 @@
 --   analyse file turns             the task
 use Rattle.std.specs.Prelude.{◌≡◌, ℕ, List, [], Some, Result, Ok, Err, codes}
 use Rattle.flow_base.specs.Outside.{Files}
-use Rattle.alf_program.specs.Tree.{Entry, Whole}
+use Rattle.alf_program.specs.Tree.{BodyItem, WholeProgram}
 use Rattle.alf_text.specs.First.{main_alone}
 use Rattle.alf_text.specs.FirstText.{FirstText}
 use Rattle.alf_check.specs.Blocks.{blocks_of}
@@ -23,9 +23,9 @@ abbrev pub unbounded : Outcome
 unbounded = record { cause = Unbounded; text = codes "unbounded 0 \"main\":entry\n" }
 
 -- the report of the program's one run, or that it has more nodes than the turns
-abbrev pub RunMeans : Whole → ℕ → Result Findings Outcome → Type 0
-RunMeans whole turns (Ok findings) = (frames : List (List ℕ)) × (items : List Entry) × (whole ≡ main_alone frames items) × IsReportWithin items turns findings
-RunMeans whole turns (Err outcome) = (frames : List (List ℕ)) × (items : List Entry) × (whole ≡ main_alone frames items) × RunsPast (blocks_of items) entry [] turns
+abbrev pub RunMeans : WholeProgram → ℕ → Result Findings Outcome → Type 0
+RunMeans whole turns (Ok findings) = (frames : List (List ℕ)) × (items : List BodyItem) × (whole ≡ main_alone frames items) × IsReportWithin items turns findings
+RunMeans whole turns (Err outcome) = (frames : List (List ℕ)) × (items : List BodyItem) × (whole ≡ main_alone frames items) × RunsPast (blocks_of items) entry [] turns
     × (outcome ≡ unbounded)
 
 unfoldable pub analysing : List ℕ → ℕ → Work (List ℕ)
@@ -38,7 +38,7 @@ analysing file turns = do
 pub record IsSoundReport (file : List ℕ) (files : Files) (text : List ℕ) : Type 0 where
   pub bytes : List ℕ
   pub frames : List (List ℕ)
-  pub items : List Entry
+  pub items : List BodyItem
   pub findings : Findings
   pub told : files file ≡ Some bytes
   pub spelled : FirstText bytes (main_alone frames items)

@@ -4,7 +4,7 @@
 --   Did frames blocks at history cells move   what was done at the node of this rank
 use Rattle.std.specs.Prelude.{◌≡◌, ◌<◌, ℕ, Bool, true, false, List, length, Option, None, Some, get_or}
 use Rattle.alf_ops.specs.declared.history.RunFault.TheVariants.{Uninit}
-use Rattle.alf_program.specs.Tree.{Entry}
+use Rattle.alf_program.specs.Tree.{BodyItem}
 use Rattle.sweet_cli.specs.Nodes.{at_block, node_at}
 use Rattle.sweet_cli.specs.Memory.{History, newest}
 use Rattle.sweet_cli.specs.Runs.{Steps, onwards, over}
@@ -24,7 +24,7 @@ ArePut frames history puts cells true = (behind : History) × (puts_executed fra
 ArePut frames history puts cells false = puts_executed frames history puts ≡ None
 
 -- what was done at the node of this rank
-abbrev pub Did : List (List ℕ) → List (List Entry) → ℕ → History → List (Option ℕ) → Move → Type 0
+abbrev pub Did : List (List ℕ) → List (List BodyItem) → ℕ → History → List (Option ℕ) → Move → Type 0
 Did frames blocks at history cells (Onwards to) =
     (to < length blocks) × (behind : History) × AreCells frames behind cells × Steps blocks (node_at at) history (onwards (at_block to) behind)
 Did frames blocks at history cells Ended = Steps blocks (node_at at) history (over None)

@@ -10,7 +10,7 @@
 use Rattle.std.specs.Prelude.{◌≡◌, ◌<◌, ◌≤◌, ℕ, suc, false, List, [], ◌∷◌, ◌⊎◌, Option, Some, IfSome, Vec, map, length, slice_index_or}
 use Rattle.std.specs.declared.alloc.Global.{Global}
 use Rattle.alf_program.specs.declared.program.Num.{Num}
-use Rattle.alf_program.specs.Tree.{Entry}
+use Rattle.alf_program.specs.Tree.{BodyItem}
 use Rattle.alf_check.specs.Blocks.{ends_block}
 use Rattle.sweet_cli.specs.Nodes.{Node, node_at, rank_of, EndsWith, StandsIn, Leads}
 
@@ -20,30 +20,30 @@ IsIn [] rank = ⊥
 IsIn (other ∷ ranks) rank = (rank ≡ other) ⊎ IsIn ranks rank
 
 -- no label stands in two blocks
-abbrev pub LabelsAreOne : List (List Entry) → Type 0
+abbrev pub LabelsAreOne : List (List BodyItem) → Type 0
 LabelsAreOne blocks = (name : List ℕ) (j k : ℕ) → StandsIn blocks j name → StandsIn blocks k name → j ≡ k
 
 -- a block that no statement ends is not the last
-abbrev pub FallsWithin : List (List Entry) → Type 0
-FallsWithin blocks = (k : ℕ) (last : Entry) → EndsWith blocks k last → ends_block last ≡ false → suc k < length blocks
+abbrev pub FallsWithin : List (List BodyItem) → Type 0
+FallsWithin blocks = (k : ℕ) (last : BodyItem) → EndsWith blocks k last → ends_block last ≡ false → suc k < length blocks
 
 -- the rank is that of a block in which the label stands
-abbrev pub IsRankOf : List (List Entry) → List ℕ → ℕ → Type 0
+abbrev pub IsRankOf : List (List BodyItem) → List ℕ → ℕ → Type 0
 IsRankOf blocks label rank = (k : ℕ) × (rank ≡ suc k) × StandsIn blocks k label
 
 -- the rank is that of a block in which the label of a target stands, or that of every other value
-abbrev pub IsTarget : List (List Entry) → List (Num × List ℕ) → List ℕ → ℕ → Type 0
+abbrev pub IsTarget : List (List BodyItem) → List (Num × List ℕ) → List ℕ → ℕ → Type 0
 IsTarget blocks [] others rank = IsRankOf blocks others rank
 IsTarget blocks (target ∷ targets) others rank = IsRankOf blocks target.1 rank ⊎ IsTarget blocks targets others rank
 
 -- the row has exactly the ranks to which the node of this rank leads
-pub record IsRow (blocks : List (List Entry)) (rank : ℕ) (row : List ℕ) : Type 0 where
+pub record IsRow (blocks : List (List BodyItem)) (rank : ℕ) (row : List ℕ) : Type 0 where
   pub leads : (to : ℕ) → IsIn row to → Leads blocks (node_at rank) (Some (node_at to))
   pub all : (next : Option Node) → Leads blocks (node_at rank) next → IfSome next (λ node. IsIn row (rank_of node))
   pub within : (to : ℕ) → IsIn row to → to ≤ length blocks
 
 -- the table has such a row for each rank
-pub record IsTable (blocks : List (List Entry)) (table : List (List ℕ)) : Type 0 where
+pub record IsTable (blocks : List (List BodyItem)) (table : List (List ℕ)) : Type 0 where
   pub long : length table ≡ suc (length blocks)
   pub rows : (rank : ℕ) → rank < length table → IsRow blocks rank (slice_index_or table rank [])
 

@@ -8,7 +8,7 @@
 --   IsReportWithin items turns findings   the same, and the run has no more nodes than the turns
 use Rattle.std.specs.Prelude.{◌≡◌, ◌≤◌, ◌==◌, ℕ, suc, List, [], ◌∷◌, ◌++◌, ◌⊎◌, length, if◌then◌else◌, Option, None, Some, option_map, unwrap_or, slice_get}
 use Rattle.alf_ops.specs.declared.history.RunFault.{RunFault}
-use Rattle.alf_program.specs.Tree.{Entry}
+use Rattle.alf_program.specs.Tree.{BodyItem}
 use Rattle.alf_check.specs.Blocks.{blocks_of}
 use Rattle.sweet_cli.specs.Nodes.{Node, entry, rank_of, IsNumbering}
 use Rattle.sweet_cli.specs.Runs.{Runs, RunsPast, places_of, cost_of, last_of}
@@ -50,7 +50,7 @@ abbrev pub findings_of : Report → Findings
 findings_of report = record { facts = report.facts.items; bound = report.count_bound }
 
 -- every run of the items ends, and one does; the nodes have numbers; each fact holds of every run, its fault has an alarm, and it costs no more than the bound
-pub record IsSound (items : List Entry) (findings : Findings) : Type 0 where
+pub record IsSound (items : List BodyItem) (findings : Findings) : Type 0 where
   -- the numbers of the nodes
   pub nodes : List Node
   pub numbered : IsNumbering (blocks_of items) nodes
@@ -85,7 +85,7 @@ alarm_facts nodes trace None = []
 alarm_facts nodes trace (Some cause) = alarms_at 0 nodes (last_of trace) cause
 
 -- the report of the one run
-pub record IsReportOf (items : List Entry) (findings : Findings) : Type 0 where
+pub record IsReportOf (items : List BodyItem) (findings : Findings) : Type 0 where
   pub nodes : List Node
   pub trace : List Node
   pub fault : Option RunFault
@@ -95,6 +95,6 @@ pub record IsReportOf (items : List Entry) (findings : Findings) : Type 0 where
   pub bound : findings.bound ≡ cost_of trace
 
 -- the report of the one run, which has no more nodes than the turns
-pub record IsReportWithin (items : List Entry) (turns : ℕ) (findings : Findings) : Type 0 where
+pub record IsReportWithin (items : List BodyItem) (turns : ℕ) (findings : Findings) : Type 0 where
   pub exact : IsReportOf items findings
   pub within : length exact.trace ≤ turns

@@ -4,7 +4,7 @@
 --   print file                      the task
 use Rattle.std.specs.Prelude.{◌≡◌, ℕ, List, Some}
 use Rattle.flow_base.specs.Outside.{Files}
-use Rattle.alf_program.specs.Tree.{Whole}
+use Rattle.alf_program.specs.Tree.{WholeProgram}
 use Rattle.alf_text.specs.Language.{SpellsProgram}
 use Rattle.alf_text.specs.Canonical.{canonical_text}
 use Rattle.work.specs.Work.{Work, done, ◌>>=◌}
@@ -19,7 +19,7 @@ printing file = do
 -- the text spells the program that the file spells
 pub record IsSameProgram (file : List ℕ) (files : Files) (text : List ℕ) : Type 0 where
   pub bytes : List ℕ
-  pub whole : Whole
+  pub whole : WholeProgram
   pub told : files file ≡ Some bytes
   pub spelled : SpellsProgram bytes whole
   pub again : SpellsProgram text whole

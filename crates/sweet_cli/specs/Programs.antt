@@ -6,7 +6,7 @@
 --   FirstMeans bytes meaning     the program of a first text, or the one line of every other text
 --   first_program_in file        a file is read, and the program of its first text
 use Rattle.std.specs.Prelude.{◌≡◌, ℕ, List, Result, Ok, Err, codes}
-use Rattle.alf_program.specs.Tree.{Whole}
+use Rattle.alf_program.specs.Tree.{WholeProgram}
 use Rattle.alf_text.specs.FirstText.{FirstText}
 use Rattle.alf_text.specs.Language.{Departure, Means}
 use Rattle.work.specs.declared.reading.Role.TheVariants.{Program}
@@ -23,11 +23,11 @@ abbrev pub program_bytes : List ℕ → Work (List ℕ)
 program_bytes file = reads Program file most_bytes (codes "fault 13 limit bytes 1048577\n")
 
 -- the program that the bytes spell, or the line of their first departure from the grammar
-abbrev pub ProgramMeans : List ℕ → Result Whole Outcome → Type 0
+abbrev pub ProgramMeans : List ℕ → Result WholeProgram Outcome → Type 0
 ProgramMeans bytes (Ok whole) = Means bytes (Ok whole)
 ProgramMeans bytes (Err outcome) = (departure : Departure) × Means bytes (Err departure) × (outcome ≡ refused (fault_line departure))
 
-unfoldable pub program_in : List ℕ → Work Whole
+unfoldable pub program_in : List ℕ → Work WholeProgram
 program_in file = do
   bytes ← program_bytes file
   judged (ProgramMeans bytes)
@@ -37,11 +37,11 @@ abbrev pub not_first : Outcome
 not_first = refused (codes "fault 10 syntax 1 1\n")
 
 -- the program of a first text, or that it is none
-abbrev pub FirstMeans : List ℕ → Result Whole Outcome → Type 0
+abbrev pub FirstMeans : List ℕ → Result WholeProgram Outcome → Type 0
 FirstMeans bytes (Ok whole) = FirstText bytes whole
-FirstMeans bytes (Err outcome) = ((whole : Whole) → FirstText bytes whole → ⊥) × (outcome ≡ not_first)
+FirstMeans bytes (Err outcome) = ((whole : WholeProgram) → FirstText bytes whole → ⊥) × (outcome ≡ not_first)
 
-unfoldable pub first_program_in : List ℕ → Work Whole
+unfoldable pub first_program_in : List ℕ → Work WholeProgram
 first_program_in file = do
   bytes ← program_bytes file
   judged (FirstMeans bytes)

@@ -22,7 +22,7 @@ use Rattle.std.specs.Option.{option_map}
 use Rattle.alf_ops.specs.Words.{value}
 use Rattle.alf_ops.specs.declared.operator.Op.TheVariants.{Add}
 use Rattle.alf_program.specs.declared.program.Num.{Num}
-use Rattle.alf_program.specs.Tree.{Term, Terms, Number, Address, Loads, Applies, Nothing, Jumps, Stores, Switches, Calls, Returns, Entry, Labels, Does}
+use Rattle.alf_program.specs.Tree.{NamedExpression, NamedExpressions, Number, Address, Load, Apply, Null, Jump, Store, Switch, Call, Return, BodyItem, Label, Do}
 use Rattle.alf_text.specs.First.{IsWord, IsFirstItem, NamesFrames, Each, EachTarget}
 use Rattle.alf_check.specs.Blocks.{ends_block}
 use Rattle.sweet_cli.specs.Nodes.{at_block, EndsWith, StandsIn}
@@ -48,15 +48,15 @@ operand_value frames history (Cell i) = newest history (name_at frames i)
 operand_value frames history (Sum i n) = option_map (λ word. (word + n) % 2 ^ 32) (newest history (name_at frames i))
 
 -- the value of the sum of these operands of 32 bits
-abbrev pub sum_value : History → Terms → Option ℕ
+abbrev pub sum_value : History → NamedExpressions → Option ℕ
 sum_value history operands = option_map (value Add (32 ∷ [])) (values_of history operands)
 
 -- a number of 32 bits
-abbrev pub IsNumber : Term → Type 0
+abbrev pub IsNumber : NamedExpression → Type 0
 IsNumber (Number n) = IsWord 32 n
 IsNumber (Address frame offset) = ⊥
-IsNumber (Loads size at) = ⊥
-IsNumber (Applies op sizes operands) = ⊥
+IsNumber (Load size at) = ⊥
+IsNumber (Apply op sizes operands) = ⊥
 
 -- the history behind a store
 abbrev pub put_executed : List (List ℕ) → History → Put → Option History
@@ -83,38 +83,38 @@ PutsWithin count (put ∷ puts) = PutWithin count put × PutsWithin count puts
 -- ---- ends
 
 -- the label stands in one of the blocks
-abbrev pub Stands : List (List Entry) → List ℕ → Type 0
+abbrev pub Stands : List (List BodyItem) → List ℕ → Type 0
 Stands blocks label = (k : ℕ) × StandsIn blocks k label
 
 -- each label that the item leads to stands in one of the blocks
-abbrev pub IsLedIn : List (List Entry) → Entry → Type 0
-IsLedIn blocks (Labels name) = Unit {0}
-IsLedIn blocks (Does Nothing) = Unit {0}
-IsLedIn blocks (Does (Stores at value)) = Unit {0}
-IsLedIn blocks (Does (Jumps label)) = Stands blocks label
-IsLedIn blocks (Does (Switches value targets others)) = EachTarget (λ target. Stands blocks target.1) targets × Stands blocks others
-IsLedIn blocks (Does (Calls label args result)) = Unit {0}
-IsLedIn blocks (Does (Returns value)) = Unit {0}
+abbrev pub IsLedIn : List (List BodyItem) → BodyItem → Type 0
+IsLedIn blocks (Label name) = Unit {0}
+IsLedIn blocks (Do Null) = Unit {0}
+IsLedIn blocks (Do (Store at value)) = Unit {0}
+IsLedIn blocks (Do (Jump label)) = Stands blocks label
+IsLedIn blocks (Do (Switch value targets others)) = EachTarget (λ target. Stands blocks target.1) targets × Stands blocks others
+IsLedIn blocks (Do (Call label args result)) = Unit {0}
+IsLedIn blocks (Do (Return value)) = Unit {0}
 
 -- what the last item of a block keeps
-pub record LeadsWell (frames : List (List ℕ)) (blocks : List (List Entry)) (k : ℕ) (last : Entry) : Type 0 where
+pub record LeadsWell (frames : List (List ℕ)) (blocks : List (List BodyItem)) (k : ℕ) (last : BodyItem) : Type 0 where
   pub kind : IsFirstItem last
   pub declared : NamesFrames frames last
   pub led : IsLedIn blocks last
   pub on : ends_block last ≡ false → suc k < length blocks
 
 -- the block of this number ends with an item, and has a code
-pub record CanResolve (frames : List (List ℕ)) (blocks : List (List Entry)) (k : ℕ) : Type 0 where
-  pub block : List Entry
+pub record CanResolve (frames : List (List ℕ)) (blocks : List (List BodyItem)) (k : ℕ) : Type 0 where
+  pub block : List BodyItem
   pub is : slice_get blocks k ≡ Some block
   pub each : Each IsFirstItem block
   pub declared : Each (NamesFrames frames) block
-  pub last : Entry
+  pub last : BodyItem
   pub ends : EndsWith blocks k last
-  pub leads : (item : Entry) → EndsWith blocks k item → LeadsWell frames blocks k item
+  pub leads : (item : BodyItem) → EndsWith blocks k item → LeadsWell frames blocks k item
 
 -- the targets of a switch, with numbers of blocks in place of labels
-abbrev pub AreTargets : List (List Entry) → List (Num × List ℕ) → List (ℕ × ℕ) → Type 0
+abbrev pub AreTargets : List (List BodyItem) → List (Num × List ℕ) → List (ℕ × ℕ) → Type 0
 AreTargets blocks [] [] = Unit {0}
 AreTargets blocks [] (to ∷ found) = ⊥
 AreTargets blocks (target ∷ targets) [] = ⊥
@@ -126,35 +126,35 @@ chosen [] others n = others
 chosen (to ∷ found) others n = if to.0 == n then to.1 else chosen found others n
 
 -- the block of this number ends with a switch on this cell, to these blocks
-pub record IsChoice (frames : List (List ℕ)) (blocks : List (List Entry)) (k cell : ℕ) (found : List (ℕ × ℕ)) (rest : ℕ) : Type 0 where
+pub record IsChoice (frames : List (List ℕ)) (blocks : List (List BodyItem)) (k cell : ℕ) (found : List (ℕ × ℕ)) (rest : ℕ) : Type 0 where
   pub low : cell < length frames
-  pub on : Term
+  pub on : NamedExpression
   pub targets : List (Num × List ℕ)
   pub others : List ℕ
-  pub ends : EndsWith blocks k (Does (Switches on targets others))
+  pub ends : EndsWith blocks k (Do (Switch on targets others))
   pub loads : (history : History) → value_of history on ≡ newest history (name_at frames cell)
   pub leads : (n : ℕ) → StandsIn blocks (chosen found rest n) (target_of targets others n)
 
 -- control goes from a block to another
-abbrev pub LeadsOn : List (List Entry) → ℕ → ℕ → Type 0
+abbrev pub LeadsOn : List (List BodyItem) → ℕ → ℕ → Type 0
 LeadsOn blocks k to =
     (to < length blocks) × ((before behind : History) → Executes blocks k before (Some behind) → Steps blocks (at_block k) before (onwards (at_block to) behind))
 
 -- the end of the block of this number
-abbrev pub IsEnd : List (List ℕ) → List (List Entry) → ℕ → End → Type 0
+abbrev pub IsEnd : List (List ℕ) → List (List BodyItem) → ℕ → End → Type 0
 IsEnd frames blocks k (To to) = LeadsOn blocks k to
 IsEnd frames blocks k (Choose cell found rest) = IsChoice frames blocks k cell found.items rest
-IsEnd frames blocks k Stop = EndsWith blocks k (Does (Returns None))
+IsEnd frames blocks k Stop = EndsWith blocks k (Do (Return None))
 
 -- the code of the block of this number
-pub record IsCodeOf (frames : List (List ℕ)) (blocks : List (List Entry)) (k : ℕ) (code : Code) : Type 0 where
-  pub block : List Entry
+pub record IsCodeOf (frames : List (List ℕ)) (blocks : List (List BodyItem)) (k : ℕ) (code : Code) : Type 0 where
+  pub block : List BodyItem
   pub is : slice_get blocks k ≡ Some block
   pub within : PutsWithin (length frames) code.puts.items
   pub same : (history : History) → executed history block ≡ puts_executed frames history code.puts.items
   pub end : IsEnd frames blocks k code.end
 
 -- the codes of all blocks, in order
-pub record AreCodes (frames : List (List ℕ)) (blocks : List (List Entry)) (codes : List Code) : Type 0 where
+pub record AreCodes (frames : List (List ℕ)) (blocks : List (List BodyItem)) (codes : List Code) : Type 0 where
   pub long : length codes ≡ length blocks
   pub each : (k : ℕ) (code : Code) → slice_get codes k ≡ Some code → IsCodeOf frames blocks k code

@@ -9,7 +9,7 @@ use Rattle.std.specs.Prelude.{◌≡◌, ℕ, suc, false, not, ◌==◌, List, [
 use Rattle.alf_ops.specs.declared.history.RunFault.{RunFault}
 use Rattle.alf_ops.specs.declared.history.RunFault.TheVariants.{Uninit}
 use Rattle.alf_program.specs.declared.program.Num.{Num}
-use Rattle.alf_program.specs.Tree.{Term, Jumps, Switches, Returns, Entry, Does}
+use Rattle.alf_program.specs.Tree.{NamedExpression, Jump, Switch, Return, BodyItem, Do}
 use Rattle.alf_check.specs.Blocks.{ends_block}
 use Rattle.sweet_cli.specs.Nodes.{Node, entry, at_block, EndsWith, StandsIn, rank_of}
 use Rattle.sweet_cli.specs.Memory.{History, value_of, executed}
@@ -20,8 +20,8 @@ pub data Step : Type 0 where
   over : Option RunFault → Step
 
 -- the items of the block are executed from this history to that one
-pub record Executes (blocks : List (List Entry)) (k : ℕ) (before : History) (behind : Option History) : Type 0 where
-  pub block : List Entry
+pub record Executes (blocks : List (List BodyItem)) (k : ℕ) (before : History) (behind : Option History) : Type 0 where
+  pub block : List BodyItem
   pub is : slice_get blocks k ≡ Some block
   pub so : executed before block ≡ behind
 
@@ -31,35 +31,35 @@ target_of [] others n = others
 target_of (target ∷ targets) others n = if target.0.bits == n then target.1 else target_of targets others n
 
 -- what a run does at a node
-pub data Steps (blocks : List (List Entry)) : Node → History → Step → Type 0 where
+pub data Steps (blocks : List (List BodyItem)) : Node → History → Step → Type 0 where
   -- the entry leads to the first block
   enters : {history : History} → Steps blocks entry history (onwards (at_block 0) history)
   -- a statement loads from a frame without a store
   faults : (k : ℕ) {history : History} → Executes blocks k history None → Steps blocks (at_block k) history (over (Some Uninit))
   -- a return ends the run
-  returns : (k : ℕ) {before behind : History} → Executes blocks k before (Some behind) → EndsWith blocks k (Does (Returns None)) → Steps blocks (at_block k) before (over None)
+  returns : (k : ℕ) {before behind : History} → Executes blocks k before (Some behind) → EndsWith blocks k (Do (Return None)) → Steps blocks (at_block k) before (over None)
   -- a jump leads to the block in which its label stands
-  jumps : (k to : ℕ) (label : List ℕ) {before behind : History} → Executes blocks k before (Some behind) → EndsWith blocks k (Does (Jumps label)) → StandsIn blocks to label
+  jumps : (k to : ℕ) (label : List ℕ) {before behind : History} → Executes blocks k before (Some behind) → EndsWith blocks k (Do (Jump label)) → StandsIn blocks to label
       → Steps blocks (at_block k) before (onwards (at_block to) behind)
   -- a switch leads to the block of its target's label
-  switches : (k to n : ℕ) (value : Term) (targets : List (Num × List ℕ)) (others : List ℕ) {before behind : History} → Executes blocks k before (Some behind)
-      → EndsWith blocks k (Does (Switches value targets others)) → value_of behind value ≡ Some n → StandsIn blocks to (target_of targets others n)
+  switches : (k to n : ℕ) (value : NamedExpression) (targets : List (Num × List ℕ)) (others : List ℕ) {before behind : History} → Executes blocks k before (Some behind)
+      → EndsWith blocks k (Do (Switch value targets others)) → value_of behind value ≡ Some n → StandsIn blocks to (target_of targets others n)
       → Steps blocks (at_block k) before (onwards (at_block to) behind)
   -- a switch loads from a frame without a store
-  switch_faults : (k : ℕ) (value : Term) (targets : List (Num × List ℕ)) (others : List ℕ) {before behind : History} → Executes blocks k before (Some behind)
-      → EndsWith blocks k (Does (Switches value targets others)) → value_of behind value ≡ None → Steps blocks (at_block k) before (over (Some Uninit))
+  switch_faults : (k : ℕ) (value : NamedExpression) (targets : List (Num × List ℕ)) (others : List ℕ) {before behind : History} → Executes blocks k before (Some behind)
+      → EndsWith blocks k (Do (Switch value targets others)) → value_of behind value ≡ None → Steps blocks (at_block k) before (over (Some Uninit))
   -- a block that no statement ends leads to the next one
-  falls : (k : ℕ) (last : Entry) {before behind : History} → Executes blocks k before (Some behind) → EndsWith blocks k last → ends_block last ≡ false
+  falls : (k : ℕ) (last : BodyItem) {before behind : History} → Executes blocks k before (Some behind) → EndsWith blocks k last → ends_block last ≡ false
       → Steps blocks (at_block k) before (onwards (at_block (suc k)) behind)
 
 -- the run from this node to its end has these nodes, and ends with this fault, or with none
-pub data Runs (blocks : List (List Entry)) : Node → History → List Node → Option RunFault → Type 0 where
+pub data Runs (blocks : List (List BodyItem)) : Node → History → List Node → Option RunFault → Type 0 where
   ends : {node : Node} {history : History} {fault : Option RunFault} → Steps blocks node history (over fault) → Runs blocks node history (node ∷ []) fault
   goes_on : {node to : Node} {before behind : History} {nodes : List Node} {fault : Option RunFault} → Steps blocks node before (onwards to behind)
       → Runs blocks to behind nodes fault → Runs blocks node before (node ∷ nodes) fault
 
 -- the run from this node has more nodes than this
-pub data RunsPast (blocks : List (List Entry)) : Node → History → ℕ → Type 0 where
+pub data RunsPast (blocks : List (List BodyItem)) : Node → History → ℕ → Type 0 where
   here : {node : Node} {history : History} → RunsPast blocks node history 0
   on : {node to : Node} {before behind : History} {count : ℕ} → Steps blocks node before (onwards to behind) → RunsPast blocks to behind count
       → RunsPast blocks node before (suc count)

@@ -5,7 +5,7 @@
 use Rattle.std.specs.Prelude.{◌≡◌, ◌<◌, ℕ, suc, List, length, Option, None, Some, slice_index, sum}
 use Rattle.alf_ops.specs.declared.history.RunFault.{RunFault}
 use Rattle.alf_ops.specs.declared.history.RunFault.TheVariants.{Uninit}
-use Rattle.alf_program.specs.Tree.{Entry}
+use Rattle.alf_program.specs.Tree.{BodyItem}
 use Rattle.sweet_cli.specs.Nodes.{Node, node_at}
 use Rattle.sweet_cli.specs.Runs.{places_of, last_of}
 
@@ -17,12 +17,12 @@ FaultsAt trace (Some cause) None = ⊥
 FaultsAt trace (Some cause) (Some rank) = (cause ≡ Uninit) × (last_of trace ≡ Some (node_at rank))
 
 -- the counts have for each rank how often its node stands in the run
-pub record IsCount (blocks : List (List Entry)) (trace : List Node) (counts : List ℕ) : Type 0 where
+pub record IsCount (blocks : List (List BodyItem)) (trace : List Node) (counts : List ℕ) : Type 0 where
   pub long : length counts ≡ suc (length blocks)
   pub each : (rank : ℕ) → rank < length counts → slice_index counts rank ≡ places_of (node_at rank) trace
   pub all : sum counts ≡ length trace
 
 -- and the run faults at this rank, if it does
-pub record IsTally (blocks : List (List Entry)) (trace : List Node) (fault : Option RunFault) (counts : List ℕ) (at : Option ℕ) : Type 0 where
+pub record IsTally (blocks : List (List BodyItem)) (trace : List Node) (fault : Option RunFault) (counts : List ℕ) (at : Option ℕ) : Type 0 where
   pub count : IsCount blocks trace counts
   pub ended : FaultsAt trace fault at

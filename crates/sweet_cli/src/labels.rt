@@ -1,5 +1,5 @@
 ghost use Rattle.std.specs.Prelude.{◌≡◌, ℕ, map, IfSome, IfNone, IsTrue, ◌↔◌};
-ghost use Rattle.alf_program.specs.Tree.{Labels, item_of};
+ghost use Rattle.alf_program.specs.Tree.{Label, item_of};
 ghost use Rattle.alf_text.specs.First.{Among};
 ghost use Rattle.sweet_cli.specs.Nodes.{StandsIn};
 ghost use Rattle.sweet_cli.specs.Cut.{block_meant};
@@ -23,7 +23,7 @@ pub fn block_of_label(blocks: &[Block<'_>], label: &Name) -> Option<usize>
 
 // Whether the label stands among the items.
 fn has_label(items: &[Item], label: &Name) -> bool
-    ensures { IsTrue result ↔ Among (map item_of items.now) (Labels label.now) }
+    ensures { IsTrue result ↔ Among (map item_of items.now) (Label label.now) }
 {
     for item in items {
         if is_label_of(item, label) {
@@ -34,7 +34,7 @@ fn has_label(items: &[Item], label: &Name) -> bool
 }
 
 fn is_label_of(item: &Item, label: &Name) -> bool
-    ensures { IsTrue result ↔ (item_of item.now ≡ Labels label.now) }
+    ensures { IsTrue result ↔ (item_of item.now ≡ Label label.now) }
 {
     match item {
         Item::Label(name) => name.bytes() == label.bytes(),

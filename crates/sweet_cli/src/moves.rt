@@ -1,5 +1,5 @@
 ghost use Rattle.std.specs.Prelude.{◌≡◌, ◌≤◌, ◌<◌, ℕ, suc, List, Some, length};
-ghost use Rattle.alf_program.specs.Tree.{Entry};
+ghost use Rattle.alf_program.specs.Tree.{BodyItem};
 ghost use Rattle.alf_text.specs.First.{NamesDiffer};
 ghost use Rattle.sweet_cli.specs.Memory.{History};
 ghost use Rattle.sweet_cli.specs.Runs.{Executes};
@@ -23,8 +23,8 @@ pub enum Move {
 /// Does what a run does at the node of this rank.
 pub fn step(codes: &[Code], cells: &mut [Option<u32>], at: usize) -> Move
     requires within { at ≤ length codes.now }
-    requires codes { (frames : List (List ℕ)) × (blocks : List (List Entry)) × (0 < length blocks) × AreCodes frames blocks codes.now × (length cells.old ≡ length frames) }
-    ensures { (frames : List (List ℕ)) (blocks : List (List Entry)) (history : History) → (0 < length blocks) → AreCodes frames blocks codes.now
+    requires codes { (frames : List (List ℕ)) × (blocks : List (List BodyItem)) × (0 < length blocks) × AreCodes frames blocks codes.now × (length cells.old ≡ length frames) }
+    ensures { (frames : List (List ℕ)) (blocks : List (List BodyItem)) (history : History) → (0 < length blocks) → AreCodes frames blocks codes.now
         → NamesDiffer frames → AreCells frames history cells.old → Did frames blocks at history cells.new result }
 {
     if at == 0 {
@@ -40,8 +40,8 @@ pub fn step(codes: &[Code], cells: &mut [Option<u32>], at: usize) -> Move
 
 // What a run does behind the stores of a block with this end.
 fn move_behind(cells: &[Option<u32>], end: &End) -> Move
-    requires { (frames : List (List ℕ)) × (blocks : List (List Entry)) × (k : ℕ) × IsEnd frames blocks k end.now × (length cells.now ≡ length frames) }
-    ensures { (frames : List (List ℕ)) (blocks : List (List Entry)) (k : ℕ) (before behind : History) → IsEnd frames blocks k end.now
+    requires { (frames : List (List ℕ)) × (blocks : List (List BodyItem)) × (k : ℕ) × IsEnd frames blocks k end.now × (length cells.now ≡ length frames) }
+    ensures { (frames : List (List ℕ)) (blocks : List (List BodyItem)) (k : ℕ) (before behind : History) → IsEnd frames blocks k end.now
         → Executes blocks k before (Some behind) → AreCells frames behind cells.now → Did frames blocks (suc k) before cells.now result }
 {
     match end {

@@ -1,5 +1,5 @@
 ghost use Rattle.std.specs.Prelude.{◌≡◌, ◌<◌, map, length, IfSome, IfNone, Some};
-ghost use Rattle.alf_program.specs.Tree.{Address, Loads, item_of, term_of, terms_of, names_of};
+ghost use Rattle.alf_program.specs.Tree.{Address, Load, item_of, expression_of, expressions_of, names_of};
 ghost use Rattle.alf_text.specs.First.{IsFirstItem, IsFirstTerm, IsCell, IsCellLoad, IsLoadAndNumber, NamesFrames, IsDeclared, AreDeclared, Named};
 ghost use Rattle.sweet_cli.specs.Memory.{History, value_of, executed_one};
 ghost use Rattle.sweet_cli.specs.Resolved.{name_at, operand_value, OperandWithin, put_executed, PutWithin, IsNumber, sum_value};
@@ -48,10 +48,10 @@ pub fn put_of(decls: &[Alloc], item: &Item) -> Option<Put>
 
 // The value of an expression.
 fn operand_of(decls: &[Alloc], value: &Expr) -> Operand
-    requires first { IsFirstTerm (term_of value.now) }
-    requires declared { IsDeclared (names_of decls.now) (term_of value.now) }
+    requires first { IsFirstTerm (expression_of value.now) }
+    requires declared { IsDeclared (names_of decls.now) (expression_of value.now) }
     ensures within { OperandWithin (length decls.now) result }
-    ensures same { (history : History) → value_of history (term_of value.now) ≡ operand_value (names_of decls.now) history result }
+    ensures same { (history : History) → value_of history (expression_of value.now) ≡ operand_value (names_of decls.now) history result }
 {
     match value {
         Expr::Num(number) => Operand::Word(number.bits as u32),
@@ -63,10 +63,10 @@ fn operand_of(decls: &[Alloc], value: &Expr) -> Operand
 
 // The sum of a load and a number.
 fn sum_of(decls: &[Alloc], operands: &[Expr]) -> Operand
-    requires first { IsLoadAndNumber (terms_of (map term_of operands.now)) }
-    requires declared { AreDeclared (names_of decls.now) (terms_of (map term_of operands.now)) }
+    requires first { IsLoadAndNumber (expressions_of (map expression_of operands.now)) }
+    requires declared { AreDeclared (names_of decls.now) (expressions_of (map expression_of operands.now)) }
     ensures within { OperandWithin (length decls.now) result }
-    ensures same { (history : History) → sum_value history (terms_of (map term_of operands.now)) ≡ operand_value (names_of decls.now) history result }
+    ensures same { (history : History) → sum_value history (expressions_of (map expression_of operands.now)) ≡ operand_value (names_of decls.now) history result }
 {
     Operand::Sum(
         cell_of_load(decls, &operands[0]),
@@ -76,8 +76,8 @@ fn sum_of(decls: &[Alloc], operands: &[Expr]) -> Operand
 
 // The word of a number.
 fn word_of_number(number: &Expr) -> u32
-    requires { IsNumber (term_of number.now) }
-    ensures { (history : History) → value_of history (term_of number.now) ≡ Some result }
+    requires { IsNumber (expression_of number.now) }
+    ensures { (history : History) → value_of history (expression_of number.now) ≡ Some result }
 {
     match number {
         Expr::Num(number) => number.bits as u32,
@@ -89,10 +89,10 @@ fn word_of_number(number: &Expr) -> u32
 
 /// The cell of a load.
 pub fn cell_of_load(decls: &[Alloc], load: &Expr) -> usize
-    requires first { IsCellLoad (term_of load.now) }
-    requires declared { IsDeclared (names_of decls.now) (term_of load.now) }
+    requires first { IsCellLoad (expression_of load.now) }
+    requires declared { IsDeclared (names_of decls.now) (expression_of load.now) }
     ensures within { result < length decls.now }
-    ensures is { term_of load.now ≡ Loads 32 (Address (name_at (names_of decls.now) result) 0) }
+    ensures is { expression_of load.now ≡ Load 32 (Address (name_at (names_of decls.now) result) 0) }
 {
     match load {
         Expr::Num(_) => unreachable!(),
@@ -104,10 +104,10 @@ pub fn cell_of_load(decls: &[Alloc], load: &Expr) -> usize
 
 // The cell of an address.
 fn cell_of(decls: &[Alloc], at: &Expr) -> usize
-    requires first { IsCell (term_of at.now) }
-    requires declared { IsDeclared (names_of decls.now) (term_of at.now) }
+    requires first { IsCell (expression_of at.now) }
+    requires declared { IsDeclared (names_of decls.now) (expression_of at.now) }
     ensures within { result < length decls.now }
-    ensures is { term_of at.now ≡ Address (name_at (names_of decls.now) result) 0 }
+    ensures is { expression_of at.now ≡ Address (name_at (names_of decls.now) result) 0 }
 {
     match at {
         Expr::Num(_) => unreachable!(),

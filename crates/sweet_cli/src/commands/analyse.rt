@@ -1,7 +1,7 @@
 //! `analyse FILE`: the report of the program's one run.
 
 ghost use Rattle.std.specs.Prelude.{◌≡◌, map, IfOk, IfSome};
-ghost use Rattle.alf_program.specs.Tree.{item_of, names_of, whole_of};
+ghost use Rattle.alf_program.specs.Tree.{item_of, names_of, program_of};
 ghost use Rattle.alf_text.specs.First.{main_alone, IsFirst};
 ghost use Rattle.work.specs.Works.{Works, Judges};
 ghost use Rattle.sweet_cli.specs.Facts.{findings_of};
@@ -51,8 +51,8 @@ fn analysing<F: Shelf>(
 
 // The report of the program's one run.
 fn run_report(alloc: Global, program: &Program, turns: u32) -> Result<Report, Stop>
-    requires { IsFirst (whole_of program.now) }
-    ensures { Judges (RunMeans (whole_of program.now) turns) (λ report. findings_of report) result }
+    requires { IsFirst (program_of program.now) }
+    ensures { Judges (RunMeans (program_of program.now) turns) (λ report. findings_of report) result }
 {
     let report = report_of(alloc, &program.decls, items_of_main(program), turns)?;
     match report {
@@ -67,8 +67,8 @@ fn run_report(alloc: Global, program: &Program, turns: u32) -> Result<Report, St
 
 // The items of the program's one function.
 fn items_of_main(program: &Program) -> &[Item]
-    requires { IsFirst (whole_of program.now) }
-    ensures { whole_of program.now ≡ main_alone (names_of program.now.decls.items) (map item_of result.now) }
+    requires { IsFirst (program_of program.now) }
+    ensures { program_of program.now ≡ main_alone (names_of program.now.decls.items) (map item_of result.now) }
 {
     &program.funcs[0].items
 }

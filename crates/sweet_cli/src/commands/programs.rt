@@ -1,7 +1,7 @@
 //! The program that a command reads.
 
 ghost use Rattle.std.specs.Prelude.{IfOk};
-ghost use Rattle.alf_program.specs.Tree.{whole_of};
+ghost use Rattle.alf_program.specs.Tree.{program_of};
 ghost use Rattle.alf_text.specs.First.{IsFirst};
 ghost use Rattle.work.specs.Works.{Works, Judges};
 ghost use Rattle.sweet_cli.specs.Programs.{program_bytes, ProgramMeans, program_in, FirstMeans, first_program_in};
@@ -32,7 +32,7 @@ fn program_bytes<F: Shelf>(alloc: Global, file: &str, shelf: &mut F) -> Result<V
 /// The program that the file spells.
 #[tactic(auto, unfolding(crate::specs::Programs::program_in))]
 pub fn program_in<F: Shelf>(alloc: Global, file: &str, shelf: &mut F) -> Result<Program, Stop>
-    ensures { Works (program_in file.now) (λ program. whole_of program) (F.state shelf.old) result (F.state shelf.new) }
+    ensures { Works (program_in file.now) (λ program. program_of program) (F.state shelf.old) result (F.state shelf.new) }
 {
     let bytes = program_bytes(alloc, file, shelf)?;
     spelled(alloc, &bytes)
@@ -40,7 +40,7 @@ pub fn program_in<F: Shelf>(alloc: Global, file: &str, shelf: &mut F) -> Result<
 
 // The program that the bytes spell.
 fn spelled(alloc: Global, bytes: &[u8]) -> Result<Program, Stop>
-    ensures { Judges (ProgramMeans bytes.now) (λ program. whole_of program) result }
+    ensures { Judges (ProgramMeans bytes.now) (λ program. program_of program) result }
 {
     one_meaning();
     match read(alloc, bytes) {
@@ -55,8 +55,8 @@ fn spelled(alloc: Global, bytes: &[u8]) -> Result<Program, Stop>
 /// The program of the first text in the file.
 #[tactic(auto, unfolding(crate::specs::Programs::first_program_in))]
 pub fn first_program_in<F: Shelf>(alloc: Global, file: &str, shelf: &mut F) -> Result<Program, Stop>
-    ensures work { Works (first_program_in file.now) (λ program. whole_of program) (F.state shelf.old) result (F.state shelf.new) }
-    ensures first { IfOk result (λ program. IsFirst (whole_of program)) }
+    ensures work { Works (first_program_in file.now) (λ program. program_of program) (F.state shelf.old) result (F.state shelf.new) }
+    ensures first { IfOk result (λ program. IsFirst (program_of program)) }
 {
     first_texts();
     let bytes = program_bytes(alloc, file, shelf)?;
@@ -65,7 +65,7 @@ pub fn first_program_in<F: Shelf>(alloc: Global, file: &str, shelf: &mut F) -> R
 
 // The program of a first text.
 fn first(alloc: Global, bytes: &[u8]) -> Result<Program, Stop>
-    ensures { Judges (FirstMeans bytes.now) (λ program. whole_of program) result }
+    ensures { Judges (FirstMeans bytes.now) (λ program. program_of program) result }
 {
     first_texts();
     match read_first(alloc, bytes) {

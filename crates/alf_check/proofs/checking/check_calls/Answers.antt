@@ -1,6 +1,6 @@
 use Rattle.std.proofs.Common.{◌≡◌, ℕ, List, Vec, subst, sym, rules}
 use Rattle.std.specs.declared.alloc.Global.{Global}
-use Rattle.alf_program.specs.Tree.{whole_of}
+use Rattle.alf_program.specs.Tree.{program_of}
 use Rattle.call_cycles.specs.Calls.{CallsWithin, IsRanked, calls_of}
 use Rattle.alf_check.specs.Checking.{calls_in}
 use Rattle.alf_check.proofs.checking.check_calls.Goals as goal
@@ -11,5 +11,5 @@ call_ranks-requires-clause-within c =
 
 pub returns-in-Ok-call_ranks-clause-ranked : goal.returns-in-Ok-call_ranks-clause-ranked
 returns-in-Ok-call_ranks-clause-ranked c =
-    let are : calls_of c.as_slice-calls.result.now ≡ calls_in (whole_of c.args.program.now) = search rules in
+    let are : calls_of c.as_slice-calls.result.now ≡ calls_in (program_of c.args.program.now) = search rules in
     (c.in-Ok-call_ranks.field-0.items, subst (λ (calls : List (List ℕ)). IsRanked calls c.in-Ok-call_ranks.field-0.items) are c.in-Ok-call_ranks.ensures.ranked)

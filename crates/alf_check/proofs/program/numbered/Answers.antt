@@ -1,5 +1,5 @@
 use Rattle.std.proofs.Common.{subst, sym, rules}
-use Rattle.alf_program.specs.Tree.{function_of, whole_of}
+use Rattle.alf_program.specs.Tree.{function_of, program_of}
 use Rattle.alf_check.specs.Kept.{IsKept}
 use Rattle.alf_check.specs.Checking.{calls_in, Passes}
 use Rattle.alf_check.proofs.Kept.{kept}
@@ -8,7 +8,7 @@ use Rattle.alf_check.proofs.program.numbered.Goals as goal
 
 pub invariant_of-result : goal.invariant_of-result
 invariant_of-result c =
-    let whole = whole_of c.args.program.now in
+    let whole = program_of c.args.program.now in
     let many = length_numbered function_of c.in_ok-frames.frames.items c.in_ok-funcs.funcs.items c.args.program.now.funcs.items (search rules) in
     let passes : Passes whole c.args.root.now = record { sound = c.requires.sound; falls = c.ranked_calls_have_no_cycle.ensures (calls_in whole) c.requires.ranked.0 c.requires.ranked.1; starts = c.requires.starts } in
     let keeps = kept whole c.args.root.now c.requires.ranked.0 c.requires.spelled c.requires.written passes c.requires.ranked.1 in
@@ -20,4 +20,4 @@ invariant_of-result c =
     }
 
 pub returns : goal.returns
-returns c = made (whole_of c.args.program.now) c.args.root.now _ _ _ _ _ _ (search rules) (search rules) (search rules) (search rules) (search rules) (search rules)
+returns c = made (program_of c.args.program.now) c.args.root.now _ _ _ _ _ _ (search rules) (search rules) (search rules) (search rules) (search rules) (search rules)

@@ -1,5 +1,5 @@
 use Rattle.std.proofs.Common.{◌≡◌, length}
-use Rattle.alf_ops.specs.Runs.{is_running}
+use Rattle.alf_ops.specs.Histories.{is_running}
 use Rattle.alf_ops.proofs.loads.runs.Given as goal
 
 abbrev pub invariant-loop-event : goal.invariant-loop-event

@@ -1,11 +1,11 @@
 use Rattle.std.proofs.Common.{◌≡◌, ◌≢◌, ℕ, false, List, [], ◌∷◌, length, map, refl, sym, arith}
 use Rattle.alf_program.specs.declared.program.Expr.{Expr}
-use Rattle.alf_program.specs.Tree.{term_of, terms_of}
+use Rattle.alf_program.specs.Tree.{expression_of, expressions_of}
 use Rattle.alf_text.specs.FirstTests.{is_sum}
 use Rattle.alf_text.proofs.first.is_sum.Goals as goal
 
 -- fewer or more operands
-others : (frames : List (List ℕ)) (xs : List Expr) → length xs ≢ 3 → is_sum frames (terms_of (map term_of xs)) ≡ false
+others : (frames : List (List ℕ)) (xs : List Expr) → length xs ≢ 3 → is_sum frames (expressions_of (map expression_of xs)) ≡ false
 others frames [] n = refl
 others frames (x ∷ []) n = refl
 others frames (x ∷ y ∷ []) n = refl

@@ -1,7 +1,7 @@
 use Rattle.std.proofs.Common.{◌≡◌, false, Ok, Err, Option, Some, None, IfSome, IsSomeAnd, sym, subst}
 use Rattle.grammar.specs.Form.{Fails}
 use Rattle.alf_tokens.specs.Cutting.{tokens_of}
-use Rattle.alf_program.specs.Tree.{whole_of}
+use Rattle.alf_program.specs.Tree.{program_of}
 use Rattle.alf_text.specs.Grammar.{At, Fault, program}
 use Rattle.alf_text.specs.Reading.{position, fault_of}
 use Rattle.alf_text.specs.Language.{start, Departure, departure_of, placed, Means}
@@ -10,8 +10,8 @@ use Rattle.alf_text.proofs.language.read.Goals as goal
 
 pub returns-in-Ok-clause-spelled : goal.returns-in-Ok-clause-spelled
 returns-in-Ok-clause-spelled c =
-    let e : program.reading (start (tokens_of false c.args.bytes.now)) ≡ Ok (whole_of c.in-Ok.program, position c.program.new.self) = subst (λ (p : At). program.reading p ≡ Ok (whole_of c.in-Ok.program, position c.program.new.self)) c.new-reader.ensures c.in-Ok.ensures in
-    read_means c.texts_are_cut_one_way.ensures.cut c.texts_are_cut_one_way.ensures.one c.args.bytes.now (Ok (whole_of c.in-Ok.program, position c.program.new.self)) e
+    let e : program.reading (start (tokens_of false c.args.bytes.now)) ≡ Ok (program_of c.in-Ok.program, position c.program.new.self) = subst (λ (p : At). program.reading p ≡ Ok (program_of c.in-Ok.program, position c.program.new.self)) c.new-reader.ensures c.in-Ok.ensures in
+    read_means c.texts_are_cut_one_way.ensures.cut c.texts_are_cut_one_way.ensures.one c.args.bytes.now (Ok (program_of c.in-Ok.program, position c.program.new.self)) e
 
 pub returns-in-Err-clause-departs : goal.returns-in-Err-clause-departs
 returns-in-Err-clause-departs c =

@@ -1,6 +1,6 @@
 use Rattle.std.proofs.Common.{arith}
 use Rattle.call_cycles.specs.Calls.{calls_of}
-use Rattle.call_cycles.proofs.Rows.{rows_long}
+use Rattle.walks.specs.TableLaws.{rows_long}
 use Rattle.call_cycles.proofs.Ranking.{all_ranked, first_cycle}
 use Rattle.call_cycles.proofs.ranks.call_ranks.Goals as goal
 

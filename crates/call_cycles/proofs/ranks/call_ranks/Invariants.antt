@@ -1,6 +1,6 @@
 use Rattle.std.proofs.Common.{◌≡◌, ◌<◌, ℕ, length, get_or}
 use Rattle.call_cycles.specs.Calls.{calls_of}
-use Rattle.call_cycles.specs.Search.{IsRankOf}
+use Rattle.call_cycles.specs.Findings.{IsRankOf}
 use Rattle.call_cycles.proofs.ranks.call_ranks.Given as goal
 
 abbrev pub invariant-loop-function : goal.invariant-loop-function

@@ -1,7 +1,7 @@
 use Rattle.std.proofs.Common.{◌≡◌, ◌<◌, ℕ, List, Bool, Vec, Global, length, map, sym, subst}
 use Rattle.std.proofs.lemmas.List.{length-map}
 use Rattle.std.proofs.lemmas.Result.{IfOk-weaker}
-use Rattle.alf_program.specs.Tree.{Entry, item_of}
+use Rattle.alf_program.specs.Tree.{BodyItem, item_of}
 use Rattle.alf_check.specs.Blocks.{blocks_of}
 use Rattle.sweet_cli.specs.Nodes.{node_at, IsNumbering}
 use Rattle.sweet_cli.specs.Cut.{block_meant}
@@ -15,11 +15,11 @@ pub edge_table-requires : goal.edge_table-requires
 edge_table-requires c =
     let cut = sym c.requires.cut in
     let (frames, first) = c.requires.first in
-    let some = subst (λ (x : List (List Entry)). 0 < length x) cut (some_blocks frames _ first) in
+    let some = subst (λ (x : List (List BodyItem)). 0 < length x) cut (some_blocks frames _ first) in
     record {
       some = simp length-map at some;
-      labels = subst (λ (x : List (List Entry)). LabelsAreOne x) cut (labels_one frames _ first);
-      falls = subst (λ (x : List (List Entry)). FallsWithin x) cut (falls_within frames _ first);
+      labels = subst (λ (x : List (List BodyItem)). LabelsAreOne x) cut (labels_one frames _ first);
+      falls = subst (λ (x : List (List BodyItem)). FallsWithin x) cut (falls_within frames _ first);
     }
 
 pub reached-requires : goal.reached-requires
@@ -30,7 +30,7 @@ reached-requires c =
 pub returns : goal.returns
 returns c =
     let table = rows_of c.in_ok-table.table.items in
-    let is : IsTable (blocks_of (map item_of c.args.items.now)) table = subst (λ (x : List (List Entry)). IsTable x table) c.requires.cut c.in_ok-table.ensures in
+    let is : IsTable (blocks_of (map item_of c.args.items.now)) table = subst (λ (x : List (List BodyItem)). IsTable x table) c.requires.cut c.in_ok-table.ensures in
     let marks = subst (λ (x : List Bool). IsMarking (rows_of c.deref.result.now) x) (sym c.deref-2.ensures.value) c.in_ok-marks.ensures in
     let marking = subst (λ (x : List (Vec ℕ Global)). IsMarking (rows_of x) c.deref-2.result.now) c.deref.ensures.value marks in
     IfOk-weaker c.marked.result (λ ranks. ranks.items ≡ marked_from 0 c.deref-2.result.now) (λ ranks. IsNumbering (blocks_of (map item_of c.args.items.now)) (map node_at ranks.items))

@@ -1,6 +1,6 @@
 use Rattle.std.proofs.Common.{arith, List, map, length, ap, sym, subst}
 use Rattle.std.proofs.lemmas.List.{length-map}
-use Rattle.alf_program.specs.Tree.{Entry, item_of, names_of}
+use Rattle.alf_program.specs.Tree.{BodyItem, item_of, names_of}
 use Rattle.sweet_cli.specs.Cut.{block_meant}
 use Rattle.sweet_cli.specs.Resolved.{CanResolve}
 use Rattle.sweet_cli.proofs.Standing.{kept, some_blocks}
@@ -11,7 +11,7 @@ pub codes-requires : goal.codes-requires
 codes-requires c =
     let long = length-map c.args.blocks.now block_meant in
     let same = ap length c.requires.cut in
-    λ k low. subst (λ (x : List (List Entry)). CanResolve (names_of c.args.decls.now) x k) (sym c.requires.cut)
+    λ k low. subst (λ (x : List (List BodyItem)). CanResolve (names_of c.args.decls.now) x k) (sym c.requires.cut)
     (can_resolve (names_of c.args.decls.now) (map item_of c.args.items.now) c.requires.first k (omega arith))
 
 pub counted-requires-clause-some : goal.counted-requires-clause-some

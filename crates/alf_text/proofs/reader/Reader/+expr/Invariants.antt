@@ -1,6 +1,6 @@
 use Rattle.std.proofs.Common.{◌+◌, ◌*◌, map}
 use Rattle.grammar.specs.Rows.{CountSoFar}
-use Rattle.alf_program.specs.Tree.{term_of}
+use Rattle.alf_program.specs.Tree.{expression_of}
 use Rattle.alf_text.specs.Grammar.{expr}
 use Rattle.alf_text.specs.Reading.{position}
 use Rattle.alf_text.proofs.reader.Reader.+expr.Given as goal
@@ -21,4 +21,4 @@ abbrev pub decreases-operands : goal.decreases-operands
 decreases-operands l = 4 * l.depth + 1
 
 abbrev pub invariant-operands-loop : goal.invariant-operands-loop
-invariant-operands-loop l = CountSoFar (expr l.depth) l.count l.counter (map term_of l.operands.items) (position l.self) (position l.fn.self)
+invariant-operands-loop l = CountSoFar (expr l.depth) l.count l.counter (map expression_of l.operands.items) (position l.self) (position l.fn.self)

@@ -4,7 +4,7 @@ use Rattle.std.specs.Prelude.{nat_le, nat_lt}
 use Rattle.std.proofs.lemmas.Bool.{leb-true, ltb-false}
 use Rattle.std.proofs.lemmas.Bool.Decides.{nat_tests}
 use Rattle.std.proofs.Math.Pow.{pow_mono}
-use Rattle.flow_base.specs.Digits.{front_digits, number_of}
+use Rattle.flow_base.specs.Digits.{prefix_digits, number_of}
 use Rattle.grammar.specs.Form.{InARow, AtMostOne, exactly}
 use Rattle.grammar.specs.Exact.{ok_is, ok_no_err}
 use Rattle.alf_tokens.specs.Tokens.{Lexeme, is_number, is_open}
@@ -48,7 +48,7 @@ from_bounds least most step (Some m) n low e =
     (λ t. absurd (let k : None ≡ Some n = rw t at e in cc))
 
 pub between_bounds : (least most step : ℕ) (text : List ℕ) (n : ℕ) → number_between least most step text ≡ Some n → IsBetween least most step n
-between_bounds least most step text n e = from_bounds least most step (number_within most (front_digits text)) n (within most (front_digits text)) e
+between_bounds least most step text n e = from_bounds least most step (number_within most (prefix_digits text)) n (within most (prefix_digits text)) e
 
 pub some_of : {A : Type 0} (t : Lexeme) (o : Option A) (x : A) → or_outside t o ≡ Ok x → o ≡ Some x
 some_of t None x h = ok_no_err x (outside t) h
@@ -71,7 +71,7 @@ size_fits at rest n h = let b = between_fits 1 64 1 at rest n h in (b.0, b.1)
 pub below_fits : (most : ℕ) (t : Lexeme) (n : ℕ) → fits_below most t ≡ Ok n → n ≤ most
 below_fits most t n e =
     by_test (is_number t.kind)
-    (λ k. number_is (number_within most (front_digits t.text)) (within most (front_digits t.text) n) (rw k at e))
+    (λ k. number_is (number_within most (prefix_digits t.text)) (within most (prefix_digits t.text) n) (rw k at e))
     (λ k. ok_no_err n (misfit t) (rw k at e))
   where
     number_is : (o : Option ℕ) → (o ≡ Some n → n ≤ most) → or_number t.left o ≡ Ok n → n ≤ most

@@ -7,7 +7,7 @@
 use Rattle.std.specs.Prelude.{ℕ, zero, suc, ◌+◌, ◌-◌, ◌/◌, ◌%◌, ◌^◌, ◌&&◌, ◌==◌, List, [], ◌∷◌, length, Bool, true, false, Result, Ok, Err, Option, Some, None, nat_le, nat_lt, if◌then◌else◌, codes}
 use Rattle.std.specs.Option.{option_map}
 use Rattle.std.specs.Str.{bytes_eq}
-use Rattle.flow_base.specs.Digits.{front_digits, number_of}
+use Rattle.flow_base.specs.Digits.{prefix_digits, number_of}
 use Rattle.flow_base.specs.declared.place.Which.{Which}
 use Rattle.flow_base.specs.declared.place.Which.TheVariants.{Depth, Functions, Frames, FrameBytes, AllBytes}
 use Rattle.grammar.specs.Source.{Source}
@@ -133,7 +133,7 @@ or_number left (Some n) = Ok n
 or_number left None = Err (Number left)
 
 abbrev pub fits_below : ℕ → Lexeme → Result ℕ Fault
-fits_below most t = if is_number t.kind then or_number t.left (number_within most (front_digits t.text)) else Err (misfit t)
+fits_below most t = if is_number t.kind then or_number t.left (number_within most (prefix_digits t.text)) else Err (misfit t)
 
 -- ---- single tokens
 
@@ -158,7 +158,7 @@ from_least least step None = None
 from_least least step (Some n) = if nat_le least n && (n % step == 0) then Some n else None
 
 abbrev pub number_between : ℕ → ℕ → ℕ → List ℕ → Option ℕ
-number_between least most step text = from_least least step (number_within most (front_digits text))
+number_between least most step text = from_least least step (number_within most (prefix_digits text))
 
 -- a number from the least to the most, a multiple of the step, however it is written
 unfoldable pub between : ℕ → ℕ → ℕ → Rule ℕ

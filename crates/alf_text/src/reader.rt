@@ -1,7 +1,7 @@
 //! A place in a text, and what is read of single tokens there.
 
 ghost use Rattle.std.specs.Prelude.{◌≡◌, ◌<◌, ◌≤◌, false, IfOk, IfSome};
-ghost use Rattle.flow_base.specs.Digits.{front_digits};
+ghost use Rattle.flow_base.specs.Digits.{prefix_digits};
 ghost use Rattle.grammar.specs.Form.{Form, Gives, one};
 ghost use Rattle.alf_tokens.specs.Ahead.{lexeme};
 ghost use Rattle.alf_tokens.specs.Cutting.{tokens_of};
@@ -34,7 +34,7 @@ pub struct Reader<'a> {
 
 /// The number that the digits write, where it is at most so much.
 fn number_within(text: &[u8], most: u128) -> Option<u128>
-    ensures value { result ≡ number_within most (front_digits text.now) }
+    ensures value { result ≡ number_within most (prefix_digits text.now) }
     ensures within { IfSome result (λ number. number ≤ most) }
 {
     let (number, _) = digits(text, 0, most)?;

@@ -1,3 +1,4 @@
+-- Shared lemmas.
 pub mod Cutting
 pub mod Named
 pub mod Standing
@@ -18,5 +19,5 @@ pub mod OneRun
 pub mod Counting
 pub mod Reported
 pub mod Numbers
-pub mod Answered
-pub mod OneAnswer
+pub mod Judged
+pub mod Promises

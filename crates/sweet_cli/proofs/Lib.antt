@@ -18,6 +18,5 @@ pub mod Turning
 pub mod OneRun
 pub mod Counting
 pub mod Reported
-pub mod Numbers
 pub mod Judged
 pub mod Promises

@@ -2,7 +2,6 @@
 
 -- words
 pub mod Words
-pub mod Meant
 
 -- nodes, memory, runs
 pub mod Nodes

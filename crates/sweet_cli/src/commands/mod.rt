@@ -3,7 +3,7 @@
 ghost use Rattle.std.specs.Prelude.{◌≡◌, map, string_bytes, IfOk, IfSome};
 ghost use Rattle.work.specs.Run.{Answers, ending_of};
 ghost use Rattle.work.specs.Works.{Works};
-ghost use Rattle.sweet_cli.specs.Meant.{command_meant};
+ghost use Rattle.sweet_cli.specs.Words.{command_meant};
 ghost use Rattle.sweet_cli.specs.Table.{task_for, task_of};
 ghost use Rattle.sweet_cli.specs.Task.{KeepsPromise};
 
@@ -11,7 +11,7 @@ mod analyse;
 mod print;
 mod programs;
 
-use crate::words::{Command, read_command};
+use crate::words::{Command, WordsFault, read};
 use flow_base::Shelf;
 use std::alloc::Global;
 use work::{Answer, Stop, Why, stopped};
@@ -34,9 +34,10 @@ fn words_text<F: Shelf>(alloc: Global, words: &[String], shelf: &mut F) -> Resul
     ensures work { Works (task_of (map string_bytes words.now)).work (λ text. text.items) (F.state shelf.old) result (F.state shelf.new) }
     ensures promise { IfOk result (λ text. IfSome (F.state shelf.old).files (λ files. (task_of (map string_bytes words.now)).Promise files text.items)) }
 {
-    match read_command(words) {
-        Some(command) => command_text(alloc, command, shelf),
-        None => Err(stopped(alloc, Why::Usage, "fault usage\n")),
+    match read(alloc, words) {
+        Ok(command) => command_text(alloc, command, shelf),
+        Err(WordsFault::Usage) => Err(stopped(alloc, Why::Usage, "fault usage\n")),
+        Err(WordsFault::Memory) => Err(Stop::Memory),
     }
 }
 
@@ -50,7 +51,7 @@ fn command_text<F: Shelf>(
     ensures promise { IfOk result (λ text. IfSome (F.state shelf.old).files (λ files. (task_for (command_meant command.entry)).Promise files text.items)) }
 {
     match command {
-        Command::Analyse(file, turns) => analyse::analyse(alloc, file, turns, shelf),
-        Command::Print(file) => print::print(alloc, file, shelf),
+        Command::Analyse { file, turns } => analyse::analyse(alloc, file, turns, shelf),
+        Command::Print { file } => print::print(alloc, file, shelf),
     }
 }

@@ -6,7 +6,7 @@ use Rattle.std.specs.Str.{bytes_eq}
 use Rattle.std.proofs.lemmas.Bool.{leb-true}
 use Rattle.std.proofs.lemmas.Bool.Decides.{nat_tests}
 use Rattle.std.proofs.lemmas.List.Elements.{All-nil, All-cons}
-use Rattle.flow_base.specs.Digits.{front_digits, number_of}
+use Rattle.flow_base.specs.Digits.{prefix_digits, number_of}
 use Rattle.flow_base.specs.declared.place.Which.TheVariants.{Functions, Frames, FrameBytes, AllBytes}
 use Rattle.grammar.specs.Exact.{ok_is, ok_no_err}
 use Rattle.grammar.specs.Each.{Each}
@@ -113,7 +113,7 @@ from_bounds least most step (Some m) n low e =
     (λ t. absurd (let k : None ≡ Some n = rw t at e in cc))
 
 between_bounds : (least most step : ℕ) (text : List ℕ) (n : ℕ) → number_between least most step text ≡ Some n → IsBetween least most step n
-between_bounds least most step text n e = from_bounds least most step (number_within most (front_digits text)) n (within most (front_digits text)) e
+between_bounds least most step text n e = from_bounds least most step (number_within most (prefix_digits text)) n (within most (prefix_digits text)) e
 
 some_of : {A : Type 0} (t : Lexeme) (o : Option A) (x : A) → or_outside t o ≡ Ok x → o ≡ Some x
 some_of t None x h = ok_no_err x (outside t) h
@@ -128,7 +128,7 @@ fits_some table t x e =
 below_fits : (most : ℕ) (t : Lexeme) (n : ℕ) → fits_below most t ≡ Ok n → n ≤ most
 below_fits most t n e =
     by_test (is_kind kinds.Number t.kind)
-    (λ k. number_is (number_within most (front_digits t.text)) (within most (front_digits t.text) n) (rw k at e))
+    (λ k. number_is (number_within most (prefix_digits t.text)) (within most (prefix_digits t.text) n) (rw k at e))
     (λ k. ok_no_err n (misfit t) (rw k at e))
   where
     number_is : (o : Option ℕ) → (o ≡ Some n → n ≤ most) → or_number t.left o ≡ Ok n → n ≤ most

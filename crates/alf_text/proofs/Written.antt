@@ -8,7 +8,7 @@ use Rattle.std.proofs.Math.Nat.{pow-succ', mod-eq_of_lt}
 use Rattle.std.proofs.lemmas.Bool.{le-leb, leb-true, leb-false}
 use Rattle.std.proofs.lemmas.Slice.Eq.{bytes_eq-Decides}
 use Rattle.std.proofs.lemmas.List.Elements.{All-head, All-tail}
-use Rattle.flow_base.specs.Digits.{front_digits}
+use Rattle.flow_base.specs.Digits.{prefix_digits}
 use Rattle.grammar.specs.Form.{exactly_form}
 use Rattle.grammar.specs.Each.{Each}
 use Rattle.grammar.specs.Keeping.{any_each}
@@ -132,14 +132,14 @@ some_power s = pow_mono {i = 0} {j = s} (omega arith)
 pub half_power : (s : ℕ) → 1 ≤ s → 2 ^ s ≡ 2 * 2 ^ (s - 1)
 half_power s some = let e : s ≡ suc (s - 1) = omega arith in ap (λ (n : ℕ). 2 ^ n) e ∙ pow-succ' 2 (s - 1)
 
-offset_own : (o : ℕ) → o < 2 ^ 32 → number_within (2 ^ 32 - 1) (front_digits (decimal o)) ≡ Some o
+offset_own : (o : ℕ) → o < 2 ^ 32 → number_within (2 ^ 32 - 1) (prefix_digits (decimal o)) ≡ Some o
 offset_own o lt = decimal_within (2 ^ 32 - 1) o (omega (arith, lt)) (omega (arith, lt))
 
 unsigned_reads : (s b : ℕ) → IsSize s → b < 2 ^ s → (more : List Lexeme) (room : Room)
     → unsigned.form.reading (place (tokens_before more (a_number s ∷ a_number b ∷ closes ∷ [])) room) ≡ Ok (record { signed = false; size = s; bits = b }, place more room)
 unfolding unsigned size between at_most closing
 unsigned_reads s b w lt more room =
-    let own : number_within (2 ^ s - 1) (front_digits (decimal b)) ≡ Some b = decimal_within (2 ^ s - 1) b (omega (arith, low_power s w.1)) (omega (arith, lt)) in
+    let own : number_within (2 ^ s - 1) (prefix_digits (decimal b)) ≡ Some b = decimal_within (2 ^ s - 1) b (omega (arith, low_power s w.1)) (omega (arith, lt)) in
     rw (size_own s w, own) refl
 
 signed_reads : (s b : ℕ) → IsSize s → b < 2 ^ s → (more : List Lexeme) (room : Room)
@@ -152,12 +152,12 @@ signed_reads s b w lt more room = by_sign (is_negative s b) refl
     by_sign true e =
         let half = half_power s w.0 in
         let low : distance s b ≤ 2 ^ (s - 1) = omega (arith, half, leb-true _ _ e) in
-        let own : number_within (2 ^ (s - 1)) (front_digits (decimal (distance s b))) ≡ Some (distance s b) = decimal_within (2 ^ (s - 1)) (distance s b) (omega (arith, low, half, low_power s w.1, some_power (s - 1))) low in
+        let own : number_within (2 ^ (s - 1)) (prefix_digits (decimal (distance s b))) ≡ Some (distance s b) = decimal_within (2 ^ (s - 1)) (distance s b) (omega (arith, low, half, low_power s w.1, some_power (s - 1))) low in
         let back : (2 ^ s - distance s b) % 2 ^ s ≡ b = let same : 2 ^ s - distance s b ≡ b = omega (arith, lt) in rw same (mod-eq_of_lt lt) in
         rw (e, size_own s w, own, back) refl
     by_sign false e =
         let low : b ≤ 2 ^ (s - 1) - 1 = omega (arith, leb-false _ _ e) in
-        let own : number_within (2 ^ (s - 1) - 1) (front_digits (decimal b)) ≡ Some b = decimal_within (2 ^ (s - 1) - 1) b (omega (arith, lt, low_power s w.1)) low in
+        let own : number_within (2 ^ (s - 1) - 1) (prefix_digits (decimal b)) ≡ Some b = decimal_within (2 ^ (s - 1) - 1) b (omega (arith, lt, low_power s w.1)) low in
         rw (e, size_own s w, own) refl
 
 num_reads : (n : Num) → NumIsWritable n → (more : List Lexeme) (room : Room) → num.form.reading (place (tokens_before more (num_marks n)) room) ≡ Ok (n, place more room)

@@ -5,7 +5,7 @@
 --   fits, fits_word, fits_number, fits_name   one token, which fits its place or is the departure
 use Rattle.std.specs.Prelude.{ℕ, zero, suc, ◌+◌, ◌-◌, ◌/◌, ◌%◌, ◌^◌, ◌&&◌, ◌==◌, List, [], ◌∷◌, length, Bool, true, false, Result, Ok, Err, Option, Some, None, nat_le, if◌then◌else◌, codes}
 use Rattle.std.specs.Str.{bytes_eq}
-use Rattle.flow_base.specs.Digits.{front_digits, number_of}
+use Rattle.flow_base.specs.Digits.{prefix_digits, number_of}
 use Rattle.flow_base.specs.declared.place.Which.{Which}
 use Rattle.flow_base.specs.declared.place.Which.TheVariants.{Depth, Functions, Frames, FrameBytes, AllBytes}
 use Rattle.grammar.specs.Form.{At, first, after}
@@ -102,7 +102,7 @@ or_number left (Some n) = Ok n
 or_number left None = Err (Number left)
 
 abbrev pub fits_below : ℕ → Lexeme → Result ℕ Fault
-fits_below most t = if is_kind kinds.Number t.kind then or_number t.left (number_within most (front_digits t.text)) else Err (misfit t)
+fits_below most t = if is_kind kinds.Number t.kind then or_number t.left (number_within most (prefix_digits t.text)) else Err (misfit t)
 
 -- nothing is left
 abbrev pub is_over : Option Lexeme → Result (Unit {0}) Fault
@@ -135,7 +135,7 @@ from_least least step None = None
 from_least least step (Some n) = if nat_le least n && (n % step == 0) then Some n else None
 
 abbrev pub number_between : ℕ → ℕ → ℕ → List ℕ → Option ℕ
-number_between least most step text = from_least least step (number_within most (front_digits text))
+number_between least most step text = from_least least step (number_within most (prefix_digits text))
 
 -- a number from the least to the most, a multiple of the step, however it is written
 unfoldable pub between : ℕ → ℕ → ℕ → Rule true ℕ

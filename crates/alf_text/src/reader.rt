@@ -2,7 +2,7 @@
 
 ghost use Rattle.std.specs.Prelude.{◌≡◌, ◌≤◌, ◌<◌, None, Some, IfOk, IfErr, IfSome};
 ghost use Rattle.std.specs.Option.{option_map};
-ghost use Rattle.flow_base.specs.Digits.{front_digits};
+ghost use Rattle.flow_base.specs.Digits.{prefix_digits};
 ghost use Rattle.grammar.specs.Form.{first, after};
 ghost use Rattle.alf_tokens.specs.Tokens.{tokens_of};
 ghost use Rattle.alf_tokens.specs.Ahead.{lexeme};
@@ -34,7 +34,7 @@ pub struct Reader<'a> {
 
 /// The number that the digits write, where it is at most so much.
 fn number_within(text: &[u8], most: u128) -> Option<u128>
-    ensures value { result ≡ number_within most (front_digits text.now) }
+    ensures value { result ≡ number_within most (prefix_digits text.now) }
     ensures within { IfSome result (λ number. number ≤ most) }
 {
     let (number, _) = digits(text, 0, most)?;

@@ -1,5 +1,6 @@
 -- `analyse FILE`: the report of the program's one run.
 --   RunMeans whole turns meaning   the report of the run, or that it has more nodes than the turns
+--   report_in file turns           a file is read, and the report of its program's run made
 --   analysing file turns           the order of work
 --   IsSoundReport file files text  the promise: the text is a report that is sound for the program that the file spells
 --   analyse file turns             the task
@@ -28,10 +29,15 @@ RunMeans whole turns (Ok findings) = (frames : List (List ℕ)) × (items : List
 RunMeans whole turns (Err outcome) = (frames : List (List ℕ)) × (items : List BodyItem) × (whole ≡ main_alone frames items) × RunsPast (blocks_of items) entry [] turns
     × (outcome ≡ unbounded)
 
+-- a file is read, and the report of its program's run made
+unfoldable pub report_in : List ℕ → ℕ → Work Findings
+report_in file turns = do
+  whole ← first_program_in file
+  judged (RunMeans whole turns)
+
 unfoldable pub analysing : List ℕ → ℕ → Work (List ℕ)
 analysing file turns = do
-  whole ← first_program_in file
-  findings ← judged (RunMeans whole turns)
+  findings ← report_in file turns
   done (report_text findings)
 
 -- the text is a report that is sound for the program that the file spells

@@ -5,7 +5,7 @@ ghost use Rattle.alf_program.specs.Tree.{item_of, names_of, program_of};
 ghost use Rattle.alf_text.specs.First.{main_alone, IsFirst};
 ghost use Rattle.work.specs.Works.{Works, Judges};
 ghost use Rattle.sweet_cli.specs.Facts.{findings_of};
-ghost use Rattle.sweet_cli.specs.Analyse.{RunMeans, analysing, IsSoundReport};
+ghost use Rattle.sweet_cli.specs.Analyse.{RunMeans, report_in, analysing, IsSoundReport};
 
 use crate::Report;
 use crate::analysis::report_of;
@@ -43,10 +43,23 @@ fn analysing<F: Shelf>(
 ) -> Result<Vec<u8>, Stop>
     ensures { Works (analysing file.now turns) (λ text. text.items) (F.state shelf.old) result (F.state shelf.new) }
 {
-    let program = first_program_in(alloc, file, shelf)?;
-    let report = run_report(alloc, &program, turns)?;
+    let report = report_in(alloc, file, turns, shelf)?;
     let text = text_of(alloc, &report)?;
     Ok(text.into_bytes())
+}
+
+// The report of the run of the program that is read.
+#[tactic(auto, unfolding(crate::specs::Analyse::report_in))]
+fn report_in<F: Shelf>(
+    alloc: Global,
+    file: &str,
+    turns: u32,
+    shelf: &mut F,
+) -> Result<Report, Stop>
+    ensures { Works (report_in file.now turns) (λ report. findings_of report) (F.state shelf.old) result (F.state shelf.new) }
+{
+    let program = first_program_in(alloc, file, shelf)?;
+    run_report(alloc, &program, turns)
 }
 
 // The report of the program's one run.

@@ -3,11 +3,11 @@
 --   low_before   the nodes up to one that is before a node are before it
 --   high_after   the nodes from one on that is after a node are after it
 --   found_at     a node that is none other's neighbour is found
-use Rattle.std.proofs.Common.{◌≡◌, ◌<◌, ◌≤◌, ◌+◌, ℕ, suc, Option, Some, None, List, length, AllPairs, get_or, slice_get, refl, ap, sym, ◌∙◌, subst, inl, inr, arith, ⊎_elim}
+use Rattle.std.proofs.Common.{◌≡◌, ◌<◌, ◌≤◌, ◌+◌, ℕ, Some, List, length, AllPairs, get_or, slice_get, ap, sym, ◌∙◌, subst, inl, inr, arith}
 use Rattle.std.specs.declared.cmp.Ordering.TheVariants.{Less, Equal, Greater}
 use Rattle.std.proofs.lemmas.Bool.{cases_lt}
 use Rattle.std.proofs.lemmas.List.{length-map, get_or-map}
-use Rattle.std.proofs.lemmas.Option.{slice_get-get_or, get_or_from_slice_get}
+use Rattle.std.proofs.lemmas.Option.{slice_get-get_or}
 use Rattle.flow_graph.specs.Nodes.{Node}
 use Rattle.flow_graph.specs.Numbering.{node_cmp, IsBefore}
 use Rattle.flow_graph.specs.Places.{node_of, nodes_of}
@@ -32,7 +32,7 @@ module _ (places : List Place) (m : ℕ) (place : Place) (inside : m < length pl
     low_before less k low = elim (cases_lt k m) [
       | inl under ↦ let long = nodes_long places in
           before_before (get_or (nodes_of places) k node) (node_of place) node
-            (subst (λ (n : Node). IsBefore (get_or (nodes_of places) k node) n) (stands_is node) (ascends k m node under (omega arith))) less
+          (subst (λ (n : Node). IsBefore (get_or (nodes_of places) k node) n) (stands_is node) (ascends k m node under (omega arith))) less
       | inr same ↦ let e : k ≡ m = omega arith in subst (λ (n : Node). IsBefore n node) (sym (ap (λ (j : ℕ). get_or (nodes_of places) j node) e ∙ stands_is node)) less
     ]
 
@@ -41,7 +41,7 @@ module _ (places : List Place) (m : ℕ) (place : Place) (inside : m < length pl
     high_after greater k high within = elim (cases_lt m k) [
       | inl over ↦
           before_before node (node_of place) (get_or (nodes_of places) k node) (after_is (node_of place) node greater)
-            (subst (λ (n : Node). IsBefore n (get_or (nodes_of places) k node)) (stands_is node) (ascends m k node over within))
+          (subst (λ (n : Node). IsBefore n (get_or (nodes_of places) k node)) (stands_is node) (ascends m k node over within))
       | inr same ↦ let e : k ≡ m = omega arith in
           subst (λ (n : Node). IsBefore node n) (sym (ap (λ (j : ℕ). get_or (nodes_of places) j node) e ∙ stands_is node)) (after_is (node_of place) node greater)
     ]

@@ -6,12 +6,12 @@
 --   grown_none, grown_more   nodes grow by none, and by one more
 --   grown_as        new nodes told otherwise
 --   overflow_more   so with too many
-use Rattle.std.proofs.Common.{◌≡◌, ◌≢◌, ◌<◌, ◌≤◌, ◌+◌, ◌-◌, ◌⊎◌, ℕ, suc, List, [], ◌∷◌, ◌++◌, map, length, length-append, Option, Some, None, slice_get, get_or, take, drop, Contains, All, AllPairs, inl, inr, refl, ap, sym, ◌∙◌, subst, arith}
+use Rattle.std.proofs.Common.{◌≡◌, ◌≢◌, ◌<◌, ◌≤◌, ◌+◌, ◌-◌, ◌⊎◌, ℕ, List, [], ◌∷◌, ◌++◌, map, length, length-append, get_or, take, drop, Contains, AllPairs, inl, inr, refl, ap, sym, ◌∙◌, subst, arith}
 use Rattle.std.specs.List.{insert}
 use Rattle.std.proofs.lemmas.Bool.{cases_lt}
 use Rattle.std.proofs.lemmas.List.{take-append-drop, take-map, drop-map, map-append}
 use Rattle.std.proofs.lemmas.List.Edits.{length-insert, get_or-insert_below, get_or-insert_at, get_or-insert_above}
-use Rattle.std.proofs.lemmas.List.Elements.{Contains-append_left, Contains-append_right, Contains-append_cases, Contains-push, Contains-push_cases, Contains-get_or, All-cons, All-contains}
+use Rattle.std.proofs.lemmas.List.Elements.{Contains-append_left, Contains-append_right, Contains-append_cases, Contains-push, Contains-push_cases, All-cons, All-contains}
 use Rattle.std.proofs.lemmas.List.Kept.{AllPairs-cons}
 use Rattle.lists.specs.Members.{first_member, further_member, first_or_further, all_members}
 use Rattle.walks.specs.ListLaws.{same_default}
@@ -66,17 +66,17 @@ module _ (nodes : List Node) (node : Node) (at : ℕ) where
           elim (cases_lt j at) [
             | inl low ↦
                 subst (λ (n : Node). IsBefore n (get_or (insert nodes at node) j d)) (sym (get_or-insert_below nodes at node d i (omega arith) within))
-                  (subst (λ (n : Node). IsBefore (get_or nodes i d) n) (sym (get_or-insert_below nodes at node d j low within)) (ascends i j d before (omega arith)))
+                (subst (λ (n : Node). IsBefore (get_or nodes i d) n) (sym (get_or-insert_below nodes at node d j low within)) (ascends i j d before (omega arith)))
             | inr high ↦ elim (cases_lt at j) [
               | inl over ↦
                   let later : get_or (insert nodes at node) j d ≡ get_or nodes (j - 1) d =
-                      ap (λ (k : ℕ). get_or (insert nodes at node) k d) (let e : j ≡ j - 1 + 1 = omega arith in e) ∙ get_or-insert_above nodes at node d (j - 1) (omega arith) within in
+                  ap (λ (k : ℕ). get_or (insert nodes at node) k d) (let e : j ≡ j - 1 + 1 = omega arith in e) ∙ get_or-insert_above nodes at node d (j - 1) (omega arith) within in
                   subst (λ (n : Node). IsBefore (get_or (insert nodes at node) i d) n) (sym later) (elim (cases_lt i at) [
                     | inl under ↦ subst (λ (n : Node). IsBefore n (get_or nodes (j - 1) d)) (sym (get_or-insert_below nodes at node d i under within)) (ascends i (j - 1) d (omega arith) (omega arith))
                     | inr above ↦ elim (cases_lt at i) [
                       | inl past ↦
                           let earlier : get_or (insert nodes at node) i d ≡ get_or nodes (i - 1) d =
-                              ap (λ (k : ℕ). get_or (insert nodes at node) k d) (let e : i ≡ i - 1 + 1 = omega arith in e) ∙ get_or-insert_above nodes at node d (i - 1) (omega arith) within in
+                          ap (λ (k : ℕ). get_or (insert nodes at node) k d) (let e : i ≡ i - 1 + 1 = omega arith in e) ∙ get_or-insert_above nodes at node d (i - 1) (omega arith) within in
                           subst (λ (n : Node). IsBefore n (get_or nodes (j - 1) d)) (sym earlier) (ascends (i - 1) (j - 1) d (omega arith) (omega arith))
                       | inr same ↦
                           let e : i ≡ at = omega arith in
@@ -86,7 +86,7 @@ module _ (nodes : List Node) (node : Node) (at : ℕ) where
               | inr same ↦
                   let e : j ≡ at = omega arith in
                   subst (λ (n : Node). IsBefore (get_or (insert nodes at node) i d) n) (sym (ap (λ (k : ℕ). get_or (insert nodes at node) k d) e ∙ get_or-insert_at nodes at node d within))
-                    (subst (λ (n : Node). IsBefore n node) (sym (get_or-insert_below nodes at node d i (omega arith) within)) (gap_before i d (omega arith)))
+                  (subst (λ (n : Node). IsBefore n node) (sym (get_or-insert_below nodes at node d i (omega arith) within)) (gap_before i d (omega arith)))
             ]
           ]
 

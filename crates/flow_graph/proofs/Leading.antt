@@ -3,15 +3,15 @@
 --   block_low      its block is there
 --   for_place      what is known of a block of this path is known of the place
 --   back_goals     where a return leads
-use Rattle.std.proofs.Common.{◌≡◌, ◌<◌, ◌≤◌, ℕ, List, [], ◌∷◌, reverse, length, Option, Some, None, slice_get, refl, ap, sym, ◌∙◌, subst, arith}
+use Rattle.std.proofs.Common.{◌≡◌, ◌<◌, ℕ, List, [], ◌∷◌, reverse, length, Option, Some, None, ap, sym, ◌∙◌, subst}
 use Rattle.std.proofs.lemmas.List.{reverse-reverse}
-use Rattle.alf_check.specs.CheckedPrograms.{NumberedProgram, NumberedBlock, BlockEnding, Call, blocks_at}
+use Rattle.alf_check.specs.CheckedPrograms.{NumberedProgram, BlockEnding, blocks_at}
 use Rattle.alf_check.specs.Kept.{IsKept}
 use Rattle.flow_graph.specs.Nodes.{Node, Goal, block_node, ending_at, function_at, IsKeptNode, Leads, ReturnLeads, BackLeads}
-use Rattle.flow_graph.specs.Paths.{IsCall, IsCallPath, HasBlock, next_of}
+use Rattle.flow_graph.specs.Paths.{IsCallPath, HasBlock, next_of}
 use Rattle.flow_graph.specs.PathLaws.{kept_is_placed}
 use Rattle.flow_graph.specs.Places.{node_at, node_of}
-use Rattle.flow_graph.specs.Goals.{IsGoalIn, GoalsHave, GoesAfter, GoesBack, AreGoals}
+use Rattle.flow_graph.specs.Goals.{GoesBack, AreGoals}
 use Rattle.flow_graph.specs.declared.place.Place.{Place}
 use Rattle.flow_graph.specs.declared.goals.Goals.{Goals}
 use Rattle.flow_graph.proofs.Targets.{one_goal}
@@ -34,7 +34,7 @@ module _ (program : NumberedProgram) (keeps : IsKept program) (place : Place) (k
     pub for_place : (goals : Option Goals) → AreGoals program (block_node (reverse p) b) goals → AreGoals program (node_of place) goals
     for_place goals h =
         subst (λ (block : Option ℕ). AreGoals program (node_at place.path.items block) goals) (sym some)
-          (subst (λ (q : List ℕ). AreGoals program (node_at q (Some b)) goals) same h)
+        (subst (λ (q : List ℕ). AreGoals program (node_at q (Some b)) goals) same h)
 
 module _ (program : NumberedProgram) (node : Node) where
   -- where a return leads
@@ -48,7 +48,7 @@ module _ (program : NumberedProgram) (node : Node) where
       let call = calls.0 in
       let next_is : next_of (ending_at program (function_at program path) b) ≡ call.next = ap next_of call.ends in
       let node_is : node_at (reverse path) (Some (next_of (ending_at program (function_at program path) b))) ≡ block_node path call.next =
-          ap (λ (q : List ℕ). block_node q (next_of (ending_at program (function_at program path) b))) (reverse-reverse path) ∙ ap (λ (n : ℕ). block_node path n) next_is in
+      ap (λ (q : List ℕ). block_node q (next_of (ending_at program (function_at program path) b))) (reverse-reverse path) ∙ ap (λ (n : ℕ). block_node path n) next_is in
       one_goal program node goals (reverse path) (Some (next_of (ending_at program (function_at program path) b))) goes
-        (λ goal e. from goal (subst (λ (ending : Option BlockEnding). BackLeads path ending goal) (sym call.ends) (e ∙ ap (λ (n : Node). Some n) node_is)))
-        (λ goal h. let back : goal ≡ Some (block_node path call.next) = subst (λ (ending : Option BlockEnding). BackLeads path ending goal) call.ends (leads goal h) in back ∙ ap (λ (n : Node). Some n) (sym node_is))
+      (λ goal e. from goal (subst (λ (ending : Option BlockEnding). BackLeads path ending goal) (sym call.ends) (e ∙ ap (λ (n : Node). Some n) node_is)))
+      (λ goal h. let back : goal ≡ Some (block_node path call.next) = subst (λ (ending : Option BlockEnding). BackLeads path ending goal) call.ends (leads goal h) in back ∙ ap (λ (n : Node). Some n) (sym node_is))

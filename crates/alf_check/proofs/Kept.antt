@@ -1,80 +1,140 @@
 -- Programs that pass the checks keep the rules.
-use Rattle.std.proofs.Common.{◌≡◌, ◌<◌, ℕ, suc, true, List, [], ◌∷◌, ◌++◌, flat_map, length, slice_get, slice_index_or, Contains, Option, Some, None, option_map, unwrap_or, refl, ap, sym, ◌∙◌, subst}
+use Rattle.std.proofs.Common.{◌≡◌, ◌≢◌, ◌≤◌, ◌<◌, ◌+◌, ℕ, suc, true, List, [], ◌∷◌, ◌++◌, flat_map, length, get_or, slice_get, All, AllPairs, Contains, Option, Some, None, unwrap_or, refl, ap, sym, ◌∙◌, subst, arith}
+use Rattle.std.specs.List.{range_with_len}
 use Rattle.std.specs.Str.{bytes_eq}
-use Rattle.std.proofs.lemmas.List.Elements.{All-append}
-use Rattle.std.proofs.lemmas.Option.{slice_get-map, slice_get_within, get_or_from_slice_get}
-use Rattle.alf_program.specs.Tree.{BodyItem, Label, Do, Allocation, InitialValue, Function, WholeProgram}
-use Rattle.alf_program.specs.Tree as text
+use Rattle.std.proofs.lemmas.Bool.{cases_lt}
+use Rattle.std.proofs.lemmas.List.{length-map, length-append}
+use Rattle.std.proofs.lemmas.List.FromFn.{length-range_with_len, get_or-range_with_len}
+use Rattle.std.proofs.lemmas.Option.{same_Some, slice_get_within, slice_get-get_or}
+use Rattle.lists.specs.Members.{contained, placed, all_members}
+use Rattle.lists.specs.Images.{all_images}
+use Rattle.alf_program.specs.Tree.{Allocation, InitialValue, Function, WholeProgram}
+use Rattle.alf_names.specs.Places.{function_place}
 use Rattle.call_cycles.specs.Calls.{IsRanked}
-use Rattle.alf_faults.specs.Sizes.{is_export_size}
 use Rattle.alf_check.specs.declared.rows.FrameRow.{FrameRow}
-use Rattle.alf_check.specs.Numbers.{frame_rows, frame_number, func_number}
-use Rattle.alf_check.specs.Numbered.{numbered_func, numbered_frames, numbered}
+use Rattle.alf_check.specs.CheckedPrograms.{NumberedFunction}
+use Rattle.alf_check.specs.Numbers.{row_for, frame_rows, first_frame, func_number, numbers_in}
+use Rattle.alf_check.specs.Numbered.{numbered_init, numbered_function, export_number, numbered}
+use Rattle.alf_check.specs.Blocks.{blocks_of}
 use Rattle.alf_check.specs.Checking.{called_by, calls_in, Passes}
 use Rattle.alf_text.specs.Language.{IsSpelled}
-use Rattle.alf_text.specs.Spelled.{FunctionIsWritten, WholeIsWritten}
-use Rattle.alf_check.specs.Kept.{OwnsFrame, IsGlobal, InitFits, IsRankedBy, KeepsFunction, IsKept}
-use Rattle.alf_check.proofs.KeptMembers.{of_each, at_front, all_images, joined, standing}
-use Rattle.alf_check.proofs.KeptFaults.{IsSound, sound}
-use Rattle.alf_check.proofs.KeptFrames.{row_for}
-use Rattle.alf_check.proofs.KeptSeen.{global_init, global_export, arg_at, decl_at, own_init}
-use Rattle.alf_check.proofs.KeptCuts.{some_block, cut_well}
-use Rattle.alf_check.proofs.KeptParts.{numbers_at, length_funcs, length_all, function_at, length_blocks, block_at, function_of_block, last_among}
-use Rattle.alf_check.proofs.KeptCalls.{call_end, one_size}
-use Rattle.alf_check.proofs.KeptBlocks.{keeps_blocks}
+use Rattle.alf_check.specs.Kept.{KeepsFrame, IsFrameOf, InitFits, KeepsExport, KeepsFunction, HasFrame, KeepsFrames, IsBounded, IsKept}
+use Rattle.alf_check.proofs.Written.{FrameIsWritten, StartIsWritten, FunctionIsWritten, WholeIsWritten}
+use Rattle.alf_check.proofs.Faultless.{IsSound, sound, exactly}
+use Rattle.alf_check.proofs.Standing.{of_each, stands, place_there, at_cases, range_parts}
+use Rattle.alf_check.proofs.FramePlaces.{own_frames, own_at, row_cases, row_of_owner, names_apart}
+use Rattle.alf_check.proofs.SeenFrames.{global_init_fits, own_init_fits, export_keeps}
+use Rattle.alf_check.proofs.Cuts.{some_block, cut_well}
+use Rattle.alf_check.proofs.Parts.{count_functions, count_blocks, there, of_function}
+use Rattle.alf_check.proofs.CallsFit.{one_size}
+use Rattle.alf_check.proofs.KeptBlocks.{keeps_block}
 
-module _ (whole : WholeProgram) (root : List ℕ) (written : WholeIsWritten whole) (s : IsSound whole) where
-  -- a frame of a function
-  owns : (k : ℕ) (frame : Allocation) → slice_get (frame_rows whole) (frame_number (frame_rows whole) (Some k) frame.name) ≡ Some (row_for (Some k) frame)
-      → OwnsFrame (frame_rows whole) k (frame_number (frame_rows whole) (Some k) frame.name)
-  owns k frame at = (row_for (Some k) frame, at, refl)
+-- ---- frames
 
-  -- a function keeps the rules
-  keeps_function : (k : ℕ) (func : Function) → slice_get whole.funcs k ≡ Some func → KeepsFunction (numbered whole root) k (numbered_func (frame_number (frame_rows whole) (Some k)) func)
-  keeps_function k func at =
-      let number = frame_number (frame_rows whole) (Some k) in
-      let own = OwnsFrame (frame_rows whole) k in
+-- the bits of a frame that is written
+written_row : (owner : Option ℕ) (frame : Allocation) → FrameIsWritten frame → KeepsFrame (row_for owner frame)
+written_row owner frame written = let some = written.0 in let bytes = written.1 in let most = written.2 in record { some = omega arith; most = omega arith; bytes = bytes }
+
+-- a member of numbers that follow one another
+in_range : (first n f : ℕ) → Contains (range_with_len first n) f → (i : ℕ) × (i < n) × (f ≡ first + i)
+in_range first n f c =
+    let long = length-range_with_len first n in
+    let low : c.0 < n = let inside : c.0 < length (range_with_len first n) = c.1 in omega arith in
+    (c.0, low, sym c.2 ∙ get_or-range_with_len first n c.0 f low)
+
+-- and such a number is a member
+range_has : (first n i f : ℕ) → i < n → f ≡ first + i → Contains (range_with_len first n) f
+range_has first n i f low is = let long = length-range_with_len first n in (i, omega arith, get_or-range_with_len first n i f low ∙ sym is)
+
+range_apart : (first n : ℕ) → AllPairs (λ f g. f ≢ g) (range_with_len first n)
+range_apart first n i j d low high same =
+    let long = length-range_with_len first n in
+    let inside : j < n = omega arith in
+    let here = get_or-range_with_len first n i d (omega arith) in
+    let later = get_or-range_with_len first n j d inside in
+    absurd (omega arith)
+
+module _ (whole : WholeProgram) (root ranks : List ℕ) (written : WholeIsWritten whole) (s : IsSound whole) where
+  own_written : (func : Function) (i : ℕ) (frame : Allocation) → FunctionIsWritten func → slice_get (own_frames func) i ≡ Some frame → FrameIsWritten frame
+  own_written func i frame w at =
+      at_cases func.args func.decls i frame at (λ arg. of_each FrameIsWritten func.args i frame w.args arg) (λ j e decl. of_each FrameIsWritten func.decls j frame w.decls decl)
+
+  keeps_row : (f : ℕ) (row : FrameRow) → slice_get (frame_rows whole) f ≡ Some row → KeepsFrame row
+  keeps_row f row at =
+      row_cases whole f row at (λ g. subst KeepsFrame g.row_is (written_row None g.frame (of_each FrameIsWritten whole.decls f g.frame written.decls g.at)))
+      (λ k own. subst KeepsFrame own.row_is (written_row (Some k) own.frame (own_written own.func own.i own.frame (of_each FunctionIsWritten whole.funcs k own.func written.funcs own.at) own.own)))
+
+  has_frame : (f k : ℕ) (row : FrameRow) → slice_get (frame_rows whole) f ≡ Some row → row.owner ≡ Some k → HasFrame (numbered whole root ranks) k f
+  has_frame f k row at owned =
+      let own = row_of_owner whole k f row at owned in
+      let low = slice_get_within (own_frames own.func) own.i own.frame own.own in
+      let count = length-append own.func.args own.func.decls in
       record {
-        others = numbered_frames number func.decls;
-        arguments_first = refl;
-        owned = All-append own (numbered_frames number func.args) (numbered_frames number func.decls)
-            (all_images own (λ frame. number frame.name) func.args (λ frame c. owns k frame (arg_at whole s k func at frame c)))
-            (all_images own (λ frame. number frame.name) func.decls (λ frame c. owns k frame (decl_at whole s k func at frame c)));
-        inits = all_images (λ init. Contains (numbered_frames number func.args ++ numbered_frames number func.decls) init.frame × InitFits (frame_rows whole) init) (λ init. record { frame = number init.name; offset = init.offset; num = init.num }) func.inits
-            (own_init whole s k func at);
-        some = subst (λ (n : ℕ). 0 < n) (sym (length_blocks whole root k func at)) (some_block (cut_well func.items (of_each FunctionIsWritten whole.funcs k func written.funcs at).ends));
-        blocks = keeps_blocks whole root s written.funcs k func at;
-        returns = one_size whole root s k func at;
+        function = numbered_function whole (first_frame whole k) own.func;
+        at = there whole root ranks k own.func own.at;
+        among = range_has (first_frame whole k) (length own.func.args + length own.func.decls) own.i f (omega arith) own.place;
       }
 
-  -- each call of a block is one of its function's calls
-  called_in : (k : ℕ) (func : Function) → slice_get whole.funcs k ≡ Some func → (item : BodyItem) → Contains func.items item → (f : ℕ) → Contains (called_by whole.funcs item) f → Contains (slice_index_or (calls_in whole) k []) f
-  called_in k func at item c f d =
-      subst (λ (xs : List ℕ). Contains xs f)
-      (sym (get_or_from_slice_get (calls_in whole) k (flat_map (called_by whole.funcs) func.items) [] (slice_get-map (λ func. flat_map (called_by whole.funcs) func.items) whole.funcs k ∙ ap (option_map (λ func. flat_map (called_by whole.funcs) func.items)) at)))
-      (joined (called_by whole.funcs) func.items item f c d)
+  keeps_frames : KeepsFrames (numbered whole root ranks)
+  keeps_frames = record {
+    each = all_members KeepsFrame (frame_rows whole) (λ row c. keeps_row c.0 row (placed (frame_rows whole) row c));
+    own = has_frame;
+    names = names_apart whole s;
+  }
 
-  ranked_by : (ranks : List ℕ) → IsRanked (calls_in whole) ranks → IsRankedBy (numbered whole root) ranks
-  ranked_by ranks r k b f next block args result is end =
-      let owner = function_of_block whole root k b block is in
-      let here = block_at whole root k owner.0 owner.1 b block is in
-      let call = call_end (numbers_at whole root k owner.0) (suc b) here.last f args result next (here.end ∙ end) in
-      let item = subst (Contains owner.0.items) call.3 (last_among whole root k owner.0 b block here) in
-      let number = func_number whole.funcs call.0 in
-      r.falls k f (called_in k owner.0 owner.1 (Do (text.Call call.0 call.1 call.2)) item f (subst (Contains (number ∷ [])) call.4 (at_front number [])))
+  -- ---- functions
 
-pub kept : (whole : WholeProgram) (root ranks : List ℕ) → IsSpelled whole → WholeIsWritten whole → Passes whole root → IsRanked (calls_in whole) ranks → IsKept (numbered whole root)
-kept whole root ranks spelled written passes ranked =
+  owns : (k : ℕ) (func : Function) → slice_get whole.funcs k ≡ Some func → (f : ℕ) → Contains (range_with_len (first_frame whole k) (length func.args + length func.decls)) f → IsFrameOf (frame_rows whole) (Some k) f
+  owns k func at f c =
+      let r = in_range (first_frame whole k) (length func.args + length func.decls) f c in
+      let count = length-append func.args func.decls in
+      let low : r.0 < length (own_frames func) = let inside = r.1 in omega arith in
+      let frame = get_or (own_frames func) r.0 (record { name = []; bits = 0 }) in
+      record { row = row_for (Some k) frame; at = own_at whole k func r.0 f frame at (slice_get-get_or (own_frames func) r.0 (record { name = []; bits = 0 }) low) r.2; owned = refl }
+
+  keeps_function : IsRanked (calls_in whole) ranks → (k : ℕ) (func : Function) → slice_get whole.funcs k ≡ Some func → KeepsFunction (numbered whole root ranks) k (numbered_function whole (first_frame whole k) func)
+  keeps_function ranked k func at =
+      let first = first_frame whole k in
+      let w = of_each FunctionIsWritten whole.funcs k func written.funcs at in
+      let count = count_blocks (numbers_in whole first func) 0 (blocks_of func.items) in
+      let some = some_block (cut_well func.items w.ends) in
+      record {
+        others = range_with_len (first + length func.args) (length func.decls);
+        arguments_first = range_parts first (length func.args) (length func.decls);
+        owned = all_members (IsFrameOf (frame_rows whole) (Some k)) (range_with_len first (length func.args + length func.decls)) (owns k func at);
+        apart = range_apart first (length func.args + length func.decls);
+        inits = all_images (InitFits (frame_rows whole) (Some k)) (numbered_init (first + length func.args) func.decls) func.inits
+            (λ init c. own_init_fits whole k func at init ((s.funcs k func at).inits init c) (of_each StartIsWritten func.inits c.0 init w.inits (placed func.inits init c)));
+        some = omega arith;
+        blocks = keeps_block whole root ranks s written.funcs ranked k func at;
+        returns = one_size whole s k func at w.items;
+      }
+
+  names_differ : (k j : ℕ) (f g : NumberedFunction) → slice_get (numbered whole root ranks).funcs k ≡ Some f → slice_get (numbered whole root ranks).funcs j ≡ Some g → f.name ≡ g.name → k ≡ j
+  names_differ k j f g at there same =
+      let x = of_function whole root ranks k f at in
+      let y = of_function whole root ranks j g there in
+      let names : x.0.name ≡ y.0.name = ap (λ (z : NumberedFunction). z.name) x.2 ∙ same ∙ ap (λ (z : NumberedFunction). z.name) (sym y.2) in
+      same_Some k j (sym (exactly k (function_place whole.funcs x.0.name) (s.funcs k x.0 x.1).alone) ∙ ap (function_place whole.funcs) names ∙ exactly j (function_place whole.funcs y.0.name) (s.funcs j y.0 y.1).alone)
+
+pub kept : (whole : WholeProgram) (root ranks : List ℕ) → IsSpelled whole → WholeIsWritten whole → Passes whole root → IsRanked (calls_in whole) ranks → IsBounded (numbered whole root ranks) → IsKept (numbered whole root ranks)
+kept whole root ranks spelled written passes ranked bounded =
     let s = sound whole passes.sound in
-    let start = standing (λ func. bytes_eq func.name root) whole.funcs passes.starts in
-    let low = slice_get_within whole.funcs start.0 start.1 start.3 in
+    let start = place_there (function_place whole.funcs root) passes.starts in
+    let low = slice_get_within whole.funcs start.0 _ (stands (λ (func : Function). bytes_eq func.name root) whole.funcs start.0 start.1).at in
+    let count = count_functions whole (length whole.decls) whole.funcs in
+    let calls = length-map whole.funcs (λ func. flat_map (called_by whole.funcs) func.items) in
+    let one_each = ranked.one_each in
     record {
       checked = record { whole = whole; root = root; spelled = spelled; passes = passes; numbers = refl };
-      root = subst (λ (n : ℕ). func_number whole.funcs root < n) (sym (length_funcs whole root)) (subst (λ (n : ℕ). n < length whole.funcs) (sym (ap (λ (o : Option ℕ). unwrap_or o 0) start.2)) low);
-      one_each = length_all whole root ∙ sym (length_funcs whole root);
-      functions = λ k row at. let f = function_at whole root k row at in subst (KeepsFunction (numbered whole root) k) f.2 (keeps_function whole root written s k f.0 f.1);
-      inits = all_images (λ init. IsGlobal (frame_rows whole) init.frame × InitFits (frame_rows whole) init) (λ init. record { frame = frame_number (frame_rows whole) None init.name; offset = init.offset; num = init.num }) whole.inits (global_init whole s);
-      exports = all_images (λ f. (row : FrameRow) × (slice_get (frame_rows whole) f ≡ Some row) × (row.owner ≡ None) × (is_export_size row.bits ≡ true)) (frame_number (frame_rows whole) None) whole.exports (global_export whole s);
-      ranks = ranks;
-      ranked = ranked_by whole root written s ranks ranked;
+      bounded = bounded;
+      frames = keeps_frames whole root ranks written s;
+      functions = λ k function at. let f = of_function whole root ranks k function at in subst (KeepsFunction (numbered whole root ranks) k) f.2 (keeps_function whole root ranks written s ranked k f.0 f.1);
+      names = names_differ whole root ranks written s;
+      inits = all_images (InitFits (frame_rows whole) None) (numbered_init 0 whole.decls) whole.inits
+          (λ init c. global_init_fits whole init (s.inits init c) (of_each StartIsWritten whole.inits c.0 init written.inits (placed whole.inits init c)));
+      exports = all_images (KeepsExport (frame_rows whole)) (export_number whole) whole.exports (λ name c. export_keeps whole name (s.exports name c));
+      root = let is = ap (λ (o : Option ℕ). unwrap_or o 0) start.1 in omega arith;
+      ranked = omega arith;
+      ranks_low = λ k below. let within = ranked.within k (omega arith) in omega arith;
     }

@@ -10,7 +10,7 @@ use Rattle.alf_program.specs.Tree as text
 use Rattle.alf_check.specs.declared.rows.Term.{Term as Numbered}
 use Rattle.alf_check.specs.declared.rows.Term.TheFolds.{fold-roll-Term}
 use Rattle.alf_check.specs.declared.rows.Term.TheVariants as terms
-use Rattle.alf_check.specs.Resolved.{tree_of, numbered_step}
+use Rattle.alf_check.specs.CheckedPrograms.{term_of, term_step}
 
 numbered_each : (frame : List ℕ → ℕ) (ts : List NamedExpression) → expressions_of (map (with_frames frame) ts) ≡ all_with_frames frame (expressions_of ts)
 numbered_each frame [] = refl
@@ -19,8 +19,8 @@ numbered_each frame (t ∷ ts) = ap (λ (x : NumberedExpressions). With (with_fr
 pub text_applies : (op : Op) (sizes : Vec ℕ Global) (operands : Vec Expr Global) → expression_of (exprs.Apply op sizes operands) ≡ text.Apply op sizes.items (expressions_of (map expression_of operands.items))
 text_applies op sizes operands = ap expression_of (sym (exprs.rolls-Apply op sizes operands)) ∙ fold-roll-Expr NamedExpression expression_step _
 
-pub applies : (op : Op) (sizes : Vec ℕ Global) (operands : Vec Numbered Global) → tree_of (terms.Apply op sizes operands) ≡ Apply op sizes.items (expressions_of (map tree_of operands.items))
-applies op sizes operands = ap tree_of (sym (terms.rolls-Apply op sizes operands)) ∙ fold-roll-Term NumberedExpression numbered_step _
+pub applies : (op : Op) (sizes : Vec ℕ Global) (operands : Vec Numbered Global) → term_of (terms.Apply op sizes operands) ≡ Apply op sizes.items (expressions_of (map term_of operands.items))
+applies op sizes operands = ap term_of (sym (terms.rolls-Apply op sizes operands)) ∙ fold-roll-Term NumberedExpression term_step _
 
 -- an operator with the same sizes and with numbered operands
 pub applied : (frame : List ℕ → ℕ) (op : Op) (sizes copied : List ℕ) (ts : List NamedExpression) (trees : List NumberedExpression) → copied ≡ sizes → trees ≡ map (with_frames frame) ts

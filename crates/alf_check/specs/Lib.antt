@@ -1,8 +1,13 @@
 pub mod Blocks
-pub mod Resolved
+pub mod CheckedPrograms
 pub mod Numbers
 pub mod Numbered
 pub mod Cut
 pub mod Names
 pub mod Checking
 pub mod Kept
+pub mod KeptLaws
+pub mod Lookups
+pub mod Inputs
+pub mod Shapes
+pub mod Rows

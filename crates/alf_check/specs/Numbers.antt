@@ -1,19 +1,27 @@
--- Numbers of names. A name that stands for nothing has number 0.
---   frame_rows whole             the frames: the global ones first, then function by function its arguments and its declarations
---   frame_number rows owner name the number of the frame of this name that is global, or of the function of this number
---   func_number funcs name       the number of the function of this name
---   block_number items label     the number of the block in which the label stands
---   Numbers, numbers_with        what each name in a function stands for
-use Rattle.std.specs.Prelude.{ℕ, suc, ◌==◌, ◌&&◌, Bool, true, false, List, [], ◌∷◌, ◌++◌, map, Option, Some, None, is_some, unwrap_or}
-use Rattle.std.specs.Str.{bytes_eq}
+-- Numbers of names, by where they stand. A name that stands for nothing has number 0.
+--   frame_rows whole           the frames: the global ones first, then function by function its arguments and its declarations
+--   frames_among funcs         how many frames the functions have
+--   frames_before funcs k      how many those before function k have
+--   first_frame whole k        the number of the first frame of function k
+--   placed start frames name   the number of the first of the frames that has the name, where the first of all has number start
+--   frame_number globals args decls first_arg first_decl name   the number of a frame that is global, or an argument or a declaration of a function
+--   func_number funcs name     the number of the function of this name
+--   block_number items label   the number of the block in which the label stands
+--   Numbers, numbers_in        what each name in a function stands for
+use Rattle.std.specs.Prelude.{ℕ, zero, suc, ◌+◌, Bool, List, [], ◌∷◌, ◌++◌, map, length, Option, Some, None, is_some, unwrap_or}
+use Rattle.std.specs.Option.{option_map}
 use Rattle.alf_program.specs.Tree.{BodyItem, Allocation, Function, WholeProgram}
-use Rattle.alf_names.specs.Places.{place_of, function_place, label_place}
+use Rattle.alf_names.specs.Places.{place_of, frame_place, function_place, label_place}
 use Rattle.alf_check.specs.declared.rows.FrameRow.{FrameRow}
 use Rattle.alf_check.specs.Blocks.{blocks_of}
 
+-- the row of a frame of this owner
+abbrev pub row_for : Option ℕ → Allocation → FrameRow
+row_for owner frame = record { owner = owner; name = frame.name; bits = frame.bits }
+
 -- the frames of one owner
 abbrev pub rows_of : Option ℕ → List Allocation → List FrameRow
-rows_of owner frames = map (λ frame. record { owner = owner; name = frame.name; bits = frame.bits }) frames
+rows_of owner frames = map (row_for owner) frames
 
 -- the frames of functions, of which the first has this number
 abbrev pub rows_from : ℕ → List Function → List FrameRow
@@ -23,17 +31,29 @@ rows_from k (func ∷ funcs) = rows_of (Some k) func.args ++ (rows_of (Some k) f
 abbrev pub frame_rows : WholeProgram → List FrameRow
 frame_rows whole = rows_of None whole.decls ++ rows_from 0 whole.funcs
 
--- a frame is seen where it is global, and in its own function
-abbrev pub is_seen : Option ℕ → Option ℕ → Bool
-is_seen viewer None = true
-is_seen None (Some owner) = false
-is_seen (Some viewer) (Some owner) = owner == viewer
+-- how many frames the functions have
+abbrev pub frames_among : List Function → ℕ
+frames_among [] = 0
+frames_among (func ∷ funcs) = (length func.args + length func.decls) + frames_among funcs
 
-abbrev pub is_seen_as : Option ℕ → List ℕ → FrameRow → Bool
-is_seen_as viewer name row = is_seen viewer row.owner && bytes_eq row.name name
+-- how many frames the functions before function k have
+abbrev pub frames_before : List Function → ℕ → ℕ
+frames_before [] k = 0
+frames_before (func ∷ funcs) zero = 0
+frames_before (func ∷ funcs) (suc k) = (length func.args + length func.decls) + frames_before funcs k
 
-abbrev pub frame_number : List FrameRow → Option ℕ → List ℕ → ℕ
-frame_number rows viewer name = unwrap_or (place_of (is_seen_as viewer name) rows) 0
+-- the number of the first frame of function k
+abbrev pub first_frame : WholeProgram → ℕ → ℕ
+first_frame whole k = length whole.decls + frames_before whole.funcs k
+
+-- the number of the first of the frames that has the name, where the first of all has number start
+abbrev pub placed : ℕ → List Allocation → List ℕ → Option ℕ
+placed start frames name = option_map (λ place. start + place) (frame_place frames name)
+
+-- the number of a frame that is global, or an argument or a declaration of a function
+abbrev pub frame_number : List Allocation → List Allocation → List Allocation → ℕ → ℕ → List ℕ → ℕ
+frame_number globals args decls first_arg first_decl name =
+    unwrap_or (placed 0 globals name) (unwrap_or (placed first_arg args name) (unwrap_or (placed first_decl decls name) 0))
 
 abbrev pub func_number : List Function → List ℕ → ℕ
 func_number funcs name = unwrap_or (function_place funcs name) 0
@@ -51,6 +71,10 @@ pub record Numbers : Type 0 where
   pub func : List ℕ → ℕ
   pub block : List ℕ → ℕ
 
--- in function k, with these frames and functions
-abbrev pub numbers_with : List FrameRow → List Function → ℕ → Function → Numbers
-numbers_with rows funcs k func = record { frame = frame_number rows (Some k); func = func_number funcs; block = block_number func.items }
+-- in a function whose first frame has this number
+abbrev pub numbers_in : WholeProgram → ℕ → Function → Numbers
+numbers_in whole first func = record {
+  frame = frame_number whole.decls func.args func.decls first (first + length func.args);
+  func = func_number whole.funcs;
+  block = block_number func.items;
+}

@@ -1,7 +1,9 @@
+//! The blocks of a function.
+
 ghost use Rattle.std.specs.Prelude.{◌≡◌, ◌<◌, map, length, IfOk};
 ghost use Rattle.alf_program.specs.Tree.{item_of};
 ghost use Rattle.alf_check.specs.Blocks.{blocks_of};
-ghost use Rattle.alf_check.specs.Resolved.{block_of};
+ghost use Rattle.alf_check.specs.CheckedPrograms.{block_of};
 ghost use Rattle.alf_check.specs.Numbered.{numbered_block, numbered_blocks};
 ghost use Rattle.alf_check.specs.Names.{numbers_of};
 

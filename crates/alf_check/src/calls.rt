@@ -1,3 +1,5 @@
+//! Calls among functions.
+
 ghost use Rattle.std.specs.Prelude.{◌≡◌, ◌<◌, ◌^◌, ◌++◌, map, length, IfOk, OnOk};
 ghost use Rattle.std.specs.List.{flat_map};
 ghost use Rattle.alf_program.specs.Tree.{function_of, item_of};

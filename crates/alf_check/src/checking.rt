@@ -1,3 +1,5 @@
+//! Checks of a program, in the order in which they are told.
+
 ghost use Rattle.std.specs.Prelude.{◌≡◌, ◌<◌, ℕ, List, [], Some, IsSome, map, length, IfOk, IfErr, OnOk};
 ghost use Rattle.alf_program.specs.Tree.{function_of, program_of};
 ghost use Rattle.alf_text.specs.Language.{IsSpelled};
@@ -5,8 +7,8 @@ ghost use Rattle.alf_names.specs.Places.{function_place};
 ghost use Rattle.alf_faults.specs.Fault.{earliest};
 ghost use Rattle.alf_faults.specs.Faults.{faults_in};
 ghost use Rattle.alf_faults.specs.Told.{fault_of};
-ghost use Rattle.call_cycles.specs.Calls.{CallsWithin, IsRanked, calls_of};
-ghost use Rattle.alf_check.specs.Resolved.{resolved_of};
+ghost use Rattle.call_cycles.specs.Calls.{CallsWithin, IsRanked, OnCycle, calls_of};
+ghost use Rattle.alf_check.specs.CheckedPrograms.{seen};
 ghost use Rattle.alf_check.specs.Numbered.{numbered};
 ghost use Rattle.alf_check.specs.Checking.{Passes, IsTold, calls_among, calls_in, name_at};
 
@@ -31,7 +33,7 @@ use std::alloc::{AllocError, Global};
 pub fn check(alloc: Global, program: Program, root: &str) -> Result<Checked, CheckFault>
     requires spelled { IsSpelled (program_of program) }
     ensures passes { IfOk result (λ checked. Passes (program_of program) root.now) }
-    ensures numbered { IfOk result (λ checked. resolved_of checked ≡ numbered (program_of program) root.now) }
+    ensures numbered { IfOk result (λ checked. seen checked ≡ numbered (program_of program) root.now (seen checked).ranks) }
     ensures told { IfErr result (λ fault. IsTold (program_of program) root.now fault) }
 {
     spelled_programs_are_written();
@@ -40,13 +42,14 @@ pub fn check(alloc: Global, program: Program, root: &str) -> Result<Checked, Che
     if let Err(fault) = check_items(alloc, &program) {
         return Err(fault);
     }
-    if let Err(fault) = check_calls(alloc, &program) {
-        return Err(fault);
-    }
+    let ranks = match check_calls(alloc, &program) {
+        Ok(ranks) => ranks,
+        Err(fault) => return Err(fault),
+    };
     if let Err(fault) = check_root(alloc, &program, root) {
         return Err(fault);
     }
-    match numbered(alloc, &program, root) {
+    match numbered(alloc, &program, root, ranks) {
         Ok(checked) => Ok(checked),
         Err(_) => Err(CheckFault::Memory),
     }
@@ -66,10 +69,10 @@ fn check_items(alloc: Global, program: &Program) -> Result<(), CheckFault>
     }
 }
 
-// That no calls lead from a function back to it.
-fn check_calls(alloc: Global, program: &Program) -> Result<(), CheckFault>
+// Ranks of the functions, which show that no calls lead from a function back to it.
+fn check_calls(alloc: Global, program: &Program) -> Result<Vec<u32>, CheckFault>
     requires { faults_in (program_of program.now) ≡ [] }
-    ensures ranked { OnOk result ((ranks : List ℕ) × IsRanked (calls_in (program_of program.now)) ranks) }
+    ensures ranked { IfOk result (λ ranks. IsRanked (calls_in (program_of program.now)) ranks.items) }
     ensures told { IfErr result (λ fault. (root : List ℕ) → IsTold (program_of program.now) root fault) }
 {
     let funcs = program.funcs.as_slice();
@@ -78,7 +81,7 @@ fn check_calls(alloc: Global, program: &Program) -> Result<(), CheckFault>
     };
     let calls = calls.as_slice();
     match call_ranks(alloc, calls) {
-        Ok(_) => Ok(()),
+        Ok(ranks) => Ok(ranks),
         Err(CallFault::Cycle(path)) => match names_along(alloc, funcs, &path) {
             Ok(names) => Err(CheckFault::Recursion(names)),
             Err(_) => Err(CheckFault::Memory),
@@ -122,11 +125,10 @@ fn name_at(funcs: &[Func], number: u32) -> &[u8]
 // That there is a function of this name.
 fn check_root(alloc: Global, program: &Program, root: &[u8]) -> Result<(), CheckFault>
     requires sound { faults_in (program_of program.now) ≡ [] }
-    requires ranked { (ranks : List ℕ) × IsRanked (calls_in (program_of program.now)) ranks }
+    requires acyclic { (f : ℕ) → OnCycle (calls_in (program_of program.now)) f → ⊥ }
     ensures starts { OnOk result (IsSome (function_place (program_of program.now).funcs root.now)) }
     ensures told { IfErr result (λ fault. IsTold (program_of program.now) root.now fault) }
 {
-    ranked_calls_have_no_cycle();
     match function_named(&program.funcs, root) {
         Some(_) => Ok(()),
         None => match Name::new(alloc, root) {

@@ -1,3 +1,5 @@
+//! Counts below 2^32 - 1.
+
 ghost use Rattle.std.specs.Prelude.{◌≡◌, ◌<◌, suc, length, IfOk, OnOk};
 
 use std::alloc::AllocError;

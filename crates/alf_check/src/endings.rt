@@ -1,8 +1,10 @@
+//! How blocks end.
+
 ghost use Rattle.std.specs.Prelude.{◌≡◌, map, IfOk};
 ghost use Rattle.std.specs.Option.{option_map};
 ghost use Rattle.alf_program.specs.Tree.{Do, item_of, expression_of, with_frames};
 ghost use Rattle.alf_program.specs.Tree as text;
-ghost use Rattle.alf_check.specs.Resolved.{Switch, end_of};
+ghost use Rattle.alf_check.specs.CheckedPrograms.{Switch, end_of};
 ghost use Rattle.alf_check.specs.Numbered.{numbered_targets, numbered_end, end_by};
 ghost use Rattle.alf_check.specs.Names.{numbers_of};
 

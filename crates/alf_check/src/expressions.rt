@@ -1,6 +1,8 @@
+//! Expressions with numbers in place of names.
+
 ghost use Rattle.std.specs.Prelude.{◌≡◌, map, IfOk};
 ghost use Rattle.alf_program.specs.Tree.{expression_of, with_frames};
-ghost use Rattle.alf_check.specs.Resolved.{tree_of};
+ghost use Rattle.alf_check.specs.CheckedPrograms.{term_of};
 ghost use Rattle.alf_check.specs.Names.{numbers_of};
 
 use crate::lookup::Names;
@@ -11,7 +13,7 @@ use std::alloc::{AllocError, Global};
 /// The expression, with the number of each frame.
 #[cycle(expressions)]
 pub fn term(alloc: Global, names: &Names<'_>, expr: &Expr) -> Result<Term, AllocError>
-    ensures { IfOk result (λ term. tree_of term ≡ with_frames (numbers_of names.now).frame (expression_of expr.now)) }
+    ensures { IfOk result (λ term. term_of term ≡ with_frames (numbers_of names.now).frame (expression_of expr.now)) }
 {
     match expr {
         Expr::Num(num) => Ok(Term::Num(*num)),
@@ -30,7 +32,7 @@ pub fn term(alloc: Global, names: &Names<'_>, expr: &Expr) -> Result<Term, Alloc
 /// The expressions in their order.
 #[cycle(expressions)]
 pub fn terms(alloc: Global, names: &Names<'_>, exprs: &[Expr]) -> Result<Vec<Term>, AllocError>
-    ensures { IfOk result (λ terms. map tree_of terms.items ≡ map (with_frames (numbers_of names.now).frame) (map expression_of exprs.now)) }
+    ensures { IfOk result (λ terms. map term_of terms.items ≡ map (with_frames (numbers_of names.now).frame) (map expression_of exprs.now)) }
 {
     let mut terms = Vec::new(alloc);
     for expr in exprs {

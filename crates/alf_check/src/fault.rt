@@ -1,3 +1,5 @@
+//! Why a program does not pass.
+
 use flow_base::Name;
 use std::fmt::{self, Debug, Formatter, Write};
 use thiserror::Error;

@@ -4,14 +4,14 @@
 //! come before those of the functions. A function's blocks are numbered by themselves.
 #![tactic(auto)]
 
-// What a numbered program is made of.
+// What a checked program is made of.
 mod rows;
 
 // Numbers of names.
 mod count;
 mod lookup;
 
-// Frames and functions.
+// Frames, and what they hold at first.
 mod tables;
 
 // Blocks.
@@ -34,4 +34,4 @@ pub use checking::check;
 pub use cut::split_block;
 pub use fault::CheckFault;
 pub use program::Checked;
-pub use rows::{Act, Block, BlockEnd, FrameRow, FuncRow, InitRow, Term};
+pub use rows::{Act, Block, BlockEnd, FrameRow, FuncRow, InitRow, InputRow, Term};

@@ -1,23 +1,29 @@
-ghost use Rattle.std.specs.Prelude.{◌≡◌, ◌<◌, ◌^◌, ℕ, map, length, IfSome};
-ghost use Rattle.alf_names.specs.Places.{place_of};
-ghost use Rattle.alf_program.specs.Tree.{item_of, function_of};
+//! Numbers of the names in a function.
+
+ghost use Rattle.std.specs.Prelude.{◌≡◌, ◌<◌, ◌+◌, ◌^◌, map, length};
+ghost use Rattle.alf_program.specs.Tree.{allocation_of, item_of, function_of};
 ghost use Rattle.alf_check.specs.Cut.{numbers_along};
-ghost use Rattle.alf_check.specs.Numbers.{is_seen, is_seen_as, frame_number, func_number, block_number};
+ghost use Rattle.alf_check.specs.Numbers.{placed, frame_number, func_number, block_number};
 
-use crate::rows::FrameRow;
-use alf_names::{Labels, function_named};
-use alf_program::Func;
+use alf_names::{Labels, frame_named, function_named};
+use alf_program::{Alloc, Func};
 
-/// What stands for the names in a function: the frames of the program and the function's number,
-/// the functions, the labels, and for each item of the function the number of its block.
+/// What stands for the names in a function: the global frames, its arguments and its declarations
+/// with the numbers of the first of each, the functions, the labels, and for each item of the
+/// function the number of its block.
 #[derive(Drop)]
 pub struct Names<'a> {
-    pub frames: &'a [FrameRow],
-    pub owner: u32,
+    pub globals: &'a [Alloc],
+    pub args: &'a [Alloc],
+    pub decls: &'a [Alloc],
+    pub first_arg: u32,
+    pub first_decl: u32,
     pub funcs: &'a [Func],
     pub labels: Labels<'a>,
     pub blocks: Vec<u32>,
-    ghost few_frames: { length frames.now < 2 ^ 32 },
+    ghost few_globals: { length globals.now < 2 ^ 32 },
+    ghost few_args: { first_arg + length args.now < 2 ^ 32 },
+    ghost few_decls: { first_decl + length decls.now < 2 ^ 32 },
     ghost few_funcs: { length funcs.now < 2 ^ 32 },
     ghost numbered: { blocks.items ≡ numbers_along 0 (map item_of labels) },
 }
@@ -30,7 +36,13 @@ impl<'a> Names<'a> {
     pub fn frame(&self, name: &[u8]) -> u32
         ensures { result ≡ (numbers_of self.now).frame name.now }
     {
-        frame_number(self.frames, Some(self.owner), name)
+        if let Some(number) = placed(0, self.globals, name) {
+            return number;
+        }
+        if let Some(number) = placed(self.first_arg, self.args, name) {
+            return number;
+        }
+        placed(self.first_decl, self.decls, name).unwrap_or(0)
     }
 
     /// The number of a function.
@@ -60,33 +72,14 @@ fn block_number(labels: &Labels<'_>, blocks: &[u32], label: &[u8]) -> u32
     }
 }
 
-/// The number of the frame of this name that is global, or of the function of this number.
-pub fn frame_number(rows: &[FrameRow], viewer: Option<u32>, name: &[u8]) -> u32
-    requires { length rows.now < 2 ^ 32 }
-    ensures { result ≡ frame_number rows.now viewer name.now }
+/// The number of the first of the frames that has the name, where the first of all has this one.
+pub fn placed(start: u32, frames: &[Alloc], name: &[u8]) -> Option<u32>
+    requires { start + length frames.now < 2 ^ 32 }
+    ensures { result ≡ placed start (map allocation_of frames.now) name.now }
 {
-    match seen_place(rows, viewer, name) {
-        Some(place) => place as u32,
-        None => 0,
-    }
-}
-
-// The place of that frame, if there is one.
-fn seen_place(rows: &[FrameRow], viewer: Option<u32>, name: &[u8]) -> Option<usize>
-    ensures first { result ≡ place_of (is_seen_as viewer name.now) rows.now }
-    ensures within { IfSome result (λ place. place < length rows.now) }
-{
-    rows.iter().position(|row| is_seen(viewer, row.owner) && row.name.bytes() == name)
-}
-
-// Whether a frame of this owner is seen from the function of this number, or from all of them.
-fn is_seen(viewer: Option<u32>, owner: Option<u32>) -> bool
-    ensures { result ≡ is_seen viewer owner }
-{
-    match (viewer, owner) {
-        (_, None) => true,
-        (None, Some(_)) => false,
-        (Some(viewer), Some(owner)) => owner == viewer,
+    match frame_named(frames, name) {
+        Some(place) => Some(start + place as u32),
+        None => None,
     }
 }
 

@@ -1,85 +1,102 @@
-ghost use Rattle.std.specs.Prelude.{◌≡◌, ◌<◌, ◌^◌, Some, map, length, All, IfOk};
+//! Functions with numbers in place of names.
+
+ghost use Rattle.std.specs.Prelude.{◌≡◌, ◌<◌, ◌+◌, ◌^◌, map, length, All, IfOk};
 ghost use Rattle.alf_program.specs.Tree.{program_of, function_of};
 ghost use Rattle.alf_check.specs.Blocks.{blocks_of};
-ghost use Rattle.alf_check.specs.Numbers.{numbers_with};
-ghost use Rattle.alf_check.specs.Numbered.{numbered_blocks, blocks_with, funcs_from};
-ghost use Rattle.alf_check.specs.Resolved.{block_of, row_of};
+ghost use Rattle.alf_check.specs.Numbers.{frames_among, numbers_in};
+ghost use Rattle.alf_check.specs.Numbered.{numbered_blocks, numbered_function, functions_from};
+ghost use Rattle.alf_check.specs.CheckedPrograms.{block_of, function_in};
+ghost use Rattle.alf_check.specs.declared.rows.FuncParts.{FuncParts};
+ghost use Rattle.alf_check.specs.Rows.{IsRow};
 
 use crate::body::blocks;
-use crate::count::next_number;
 use crate::cut::numbers_along;
 use crate::lookup::Names;
-use crate::rows::{Block, FrameRow, FuncRow};
-use crate::tables::func_row;
+use crate::rows::{Block, FuncParts, FuncRow};
+use crate::tables::{init_rows, numbers_from};
 use alf_names::Labels;
-use alf_program::Func;
+use alf_program::{Func, Program};
+use flow_base::Name;
 use std::alloc::{AllocError, Global};
 
 /// The functions in their order.
-pub fn func_rows(
-    alloc: Global,
-    rows: &[FrameRow],
-    funcs: &[Func],
-) -> Result<Vec<FuncRow>, AllocError>
-    requires { length rows.now < 2 ^ 32 }
-    ensures { IfOk result (λ numbered. map row_of numbered.items ≡ funcs_from rows.now 0 (map function_of funcs.now)) }
+pub fn all_functions(alloc: Global, program: &Program) -> Result<Vec<FuncParts>, AllocError>
+    requires frames { length (program_of program.now).decls + frames_among (program_of program.now).funcs < 4294967295 }
+    requires funcs { length program.now.funcs.items < 4294967295 }
+    ensures are { IfOk result (λ functions. map function_in functions.items
+        ≡ functions_from (program_of program.now) (length (program_of program.now).decls) (program_of program.now).funcs) }
+    ensures few { IfOk result (λ functions. All (λ (parts : FuncParts). length parts.blocks.items < 4294967295) functions.items) }
 {
-    let mut numbered = Vec::new(alloc);
-    let mut number = 0;
-    let mut rest = funcs;
+    let mut functions = Vec::new(alloc);
+    let mut first = program.decls.len() as u32;
+    let mut rest = program.funcs.as_slice();
     while let Some((func, others)) = rest.split_first() {
-        let row = func_row(alloc, rows, number, func)?;
-        numbered.push(row)?;
-        number = next_number(number)?;
+        functions.push(function(alloc, program, first, func)?)?;
+        first += (func.args.len() + func.decls.len()) as u32;
         rest = others;
     }
-    Ok(numbered)
+    Ok(functions)
 }
 
-/// The blocks of each function, in the order of the functions.
-pub fn all_blocks(
+// The function whose first frame has this number.
+fn function(
     alloc: Global,
-    rows: &[FrameRow],
-    funcs: &[Func],
-) -> Result<Vec<Vec<Block>>, AllocError>
-    requires rows { length rows.now < 2 ^ 32 }
-    requires funcs { length funcs.now < 2 ^ 32 }
-    ensures are { IfOk result (λ numbered. map (λ blocks. map block_of blocks.items) numbered.items
-        ≡ blocks_with rows.now (map function_of funcs.now) 0 (map function_of funcs.now)) }
-    ensures few { IfOk result (λ numbered. All (λ blocks. length blocks.items < 4294967295) numbered.items) }
+    program: &Program,
+    first: u32,
+    func: &Func,
+) -> Result<FuncParts, AllocError>
+    requires globals { length program.now.decls.items < 4294967295 }
+    requires funcs { length program.now.funcs.items < 4294967295 }
+    requires frames { first + (length func.now.args.items + length func.now.decls.items) < 4294967295 }
+    ensures is { IfOk result (λ parts. function_in parts ≡ numbered_function (program_of program.now) first (function_of func.now)) }
+    ensures few { IfOk result (λ parts. length parts.blocks.items < 4294967295) }
 {
-    let mut numbered = Vec::new(alloc);
-    let mut number = 0;
-    let mut rest = funcs;
-    while let Some((func, others)) = rest.split_first() {
-        let blocks = func_blocks(alloc, rows, funcs, number, func)?;
-        numbered.push(blocks)?;
-        number = next_number(number)?;
-        rest = others;
-    }
-    Ok(numbered)
+    let row = row(alloc, first, func)?;
+    let blocks = func_blocks(alloc, program, first, func)?;
+    Ok(FuncParts { row, blocks })
 }
 
-// The blocks of the function of this number.
+// Its name, its frames and what they hold at first.
+fn row(alloc: Global, first: u32, func: &Func) -> Result<FuncRow, AllocError>
+    requires { first + (length func.now.args.items + length func.now.decls.items) < 4294967295 }
+    ensures { IfOk result (λ row. IsRow first (function_of func.now) row) }
+{
+    let name = Name::new(alloc, func.name.bytes())?;
+    let count = func.args.len() as u32;
+    let args = numbers_from(alloc, first, count)?;
+    let frames = numbers_from(alloc, first, count + func.decls.len() as u32)?;
+    let inits = init_rows(alloc, first + count, &func.decls, &func.inits)?;
+    Ok(FuncRow {
+        name,
+        args,
+        frames,
+        inits,
+    })
+}
+
+// Its blocks.
 fn func_blocks(
     alloc: Global,
-    rows: &[FrameRow],
-    funcs: &[Func],
-    number: u32,
+    program: &Program,
+    first: u32,
     func: &Func,
 ) -> Result<Vec<Block>, AllocError>
-    requires rows { length rows.now < 2 ^ 32 }
-    requires funcs { length funcs.now < 2 ^ 32 }
+    requires globals { length program.now.decls.items < 4294967295 }
+    requires funcs { length program.now.funcs.items < 4294967295 }
+    requires frames { first + (length func.now.args.items + length func.now.decls.items) < 4294967295 }
     ensures are { IfOk result (λ blocks. map block_of blocks.items
-        ≡ numbered_blocks (numbers_with rows.now (map function_of funcs.now) number (function_of func.now)) 0 (blocks_of (function_of func.now).items)) }
+        ≡ numbered_blocks (numbers_in (program_of program.now) first (function_of func.now)) 0 (blocks_of (function_of func.now).items)) }
     ensures few { IfOk result (λ blocks. length blocks.items < 4294967295) }
 {
     let labels = Labels::new(alloc, &func.items)?;
     let along = numbers_along(alloc, &func.items)?;
     let names = Names {
-        frames: rows,
-        owner: number,
-        funcs,
+        globals: &program.decls,
+        args: &func.args,
+        decls: &func.decls,
+        first_arg: first,
+        first_decl: first + func.args.len() as u32,
+        funcs: &program.funcs,
         labels,
         blocks: along,
     };

@@ -1,3 +1,5 @@
+//! What a checked program is made of.
+
 use alf_ops::Op;
 use alf_program::Num;
 use flow_base::Name;
@@ -41,7 +43,7 @@ pub enum BlockEnd {
     /// other value.
     Switch(Term, Vec<(u64, u32)>, u32),
     /// A call of a function with arguments, then the frame and the offset of its result, and the
-    /// block behind it.
+    /// block after it.
     Call {
         func: u32,
         args: Vec<Term>,
@@ -51,7 +53,7 @@ pub enum BlockEnd {
     Return(Option<Term>),
 }
 
-/// Statements that follow one another, and what comes behind them.
+/// Statements that follow one another, and what comes after them.
 #[derive(Drop)]
 pub struct Block {
     pub stmts: Vec<Act>,
@@ -66,6 +68,17 @@ pub struct InitRow {
     pub num: Num,
 }
 
+/// A cell whose word a run is given: the frame, the offset in bytes and the size in bits, and the
+/// least and the greatest number that the word may stand for.
+#[derive(Clone, Copy, Debug, PartialEq, Eq)]
+pub struct InputRow {
+    pub frame: u32,
+    pub offset: u32,
+    pub size: u32,
+    pub low: i128,
+    pub high: i128,
+}
+
 /// A function: its name, the frames of its arguments, all its frames with those first, and what they
 /// hold at first.
 #[derive(Drop)]
@@ -74,4 +87,11 @@ pub struct FuncRow {
     pub args: Vec<u32>,
     pub frames: Vec<u32>,
     pub inits: Vec<InitRow>,
+}
+
+/// A function with its blocks.
+#[derive(Drop)]
+pub struct FuncParts {
+    pub row: FuncRow,
+    pub blocks: Vec<Block>,
 }

@@ -1,8 +1,10 @@
+//! Statements that control goes through.
+
 ghost use Rattle.std.specs.Prelude.{◌≡◌, ◌++◌, map, IfOk, OnOk};
 ghost use Rattle.std.specs.List.{flat_map};
 ghost use Rattle.alf_program.specs.Tree.{item_of, expression_of, with_frames};
-ghost use Rattle.alf_check.specs.Resolved.{Store, step_of};
-ghost use Rattle.alf_check.specs.Numbered.{steps_by};
+ghost use Rattle.alf_check.specs.CheckedPrograms.{Store, act_of};
+ghost use Rattle.alf_check.specs.Numbered.{statements_by};
 ghost use Rattle.alf_check.specs.Names.{numbers_of};
 
 use crate::expressions::term;
@@ -13,7 +15,7 @@ use std::alloc::{AllocError, Global};
 
 /// What control goes through at the items.
 pub fn acts(alloc: Global, names: &Names<'_>, items: &[Item]) -> Result<Vec<Act>, AllocError>
-    ensures { IfOk result (λ acts. map step_of acts.items ≡ flat_map (steps_by (numbers_of names.now).frame) (map item_of items.now)) }
+    ensures { IfOk result (λ acts. map act_of acts.items ≡ flat_map (statements_by (numbers_of names.now).frame) (map item_of items.now)) }
 {
     let mut acts = Vec::new(alloc);
     for item in items {
@@ -29,7 +31,7 @@ fn push_act(
     names: &Names<'_>,
     item: &Item,
 ) -> Result<(), AllocError>
-    ensures { OnOk result (map step_of acts.new.items ≡ map step_of acts.old.items ++ steps_by (numbers_of names.now).frame (item_of item.now)) }
+    ensures { OnOk result (map act_of acts.new.items ≡ map act_of acts.old.items ++ statements_by (numbers_of names.now).frame (item_of item.now)) }
 {
     match item {
         Item::Label(_) => {}
@@ -45,7 +47,7 @@ fn push_act(
 
 // A store.
 fn store(alloc: Global, names: &Names<'_>, at: &Expr, value: &Expr) -> Result<Act, AllocError>
-    ensures { IfOk result (λ act. step_of act ≡ Store (with_frames (numbers_of names.now).frame (expression_of at.now)) (with_frames (numbers_of names.now).frame (expression_of value.now))) }
+    ensures { IfOk result (λ act. act_of act ≡ Store (with_frames (numbers_of names.now).frame (expression_of at.now)) (with_frames (numbers_of names.now).frame (expression_of value.now))) }
 {
     let at = term(alloc, names, at)?;
     let value = term(alloc, names, value)?;

@@ -1,12 +1,14 @@
-ghost use Rattle.std.specs.Prelude.{◌≡◌, ◌<◌, ◌^◌, ◌++◌, Some, map, length, Option, ℕ, IfOk, OnOk};
+//! Frames, and what they hold at first.
+
+ghost use Rattle.std.specs.Prelude.{◌≡◌, ◌<◌, ◌+◌, ◌^◌, ◌++◌, Some, map, length, Option, ℕ, IfOk, OnOk};
+ghost use Rattle.std.specs.List.{range_with_len};
 ghost use Rattle.alf_program.specs.Tree.{allocation_of, function_of, initial_of, program_of};
-ghost use Rattle.alf_check.specs.Numbers.{rows_of, rows_from, frame_rows, frame_number};
-ghost use Rattle.alf_check.specs.Numbered.{numbered_frames, numbered_func, numbered_inits};
-ghost use Rattle.alf_check.specs.Resolved.{row_of};
+ghost use Rattle.alf_check.specs.Numbers.{rows_of, rows_from, frame_rows};
+ghost use Rattle.alf_check.specs.Numbered.{numbered_inits, export_number};
 
 use crate::count::{few, next_number};
-use crate::lookup::frame_number;
-use crate::rows::{FrameRow, FuncRow, InitRow};
+use crate::lookup::placed;
+use crate::rows::{FrameRow, InitRow};
 use alf_program::{Alloc, Func, Init, Program};
 use flow_base::Name;
 use std::alloc::{AllocError, Global};
@@ -55,75 +57,31 @@ fn push_rows(
     Ok(())
 }
 
-/// The function of this number.
-pub fn func_row(
-    alloc: Global,
-    rows: &[FrameRow],
-    number: u32,
-    func: &Func,
-) -> Result<FuncRow, AllocError>
-    requires { length rows.now < 2 ^ 32 }
-    ensures { IfOk result (λ row. row_of row ≡ numbered_func (frame_number rows.now (Some number)) (function_of func.now)) }
-{
-    let name = Name::new(alloc, func.name.bytes())?;
-    let args = frame_numbers(alloc, rows, number, &[], &func.args)?;
-    let frames = frame_numbers(alloc, rows, number, &func.args, &func.decls)?;
-    let inits = init_rows(alloc, rows, Some(number), &func.inits)?;
-    Ok(FuncRow {
-        name,
-        args,
-        frames,
-        inits,
-    })
-}
-
-// The numbers of the frames of a function: those of one list, then those of another.
-fn frame_numbers(
-    alloc: Global,
-    rows: &[FrameRow],
-    owner: u32,
-    first: &[Alloc],
-    others: &[Alloc],
-) -> Result<Vec<u32>, AllocError>
-    requires { length rows.now < 2 ^ 32 }
-    ensures { IfOk result (λ numbers. let number = frame_number rows.now (Some owner) in
-        numbers.items ≡ numbered_frames number (map allocation_of first.now) ++ numbered_frames number (map allocation_of others.now)) }
+/// So many numbers that follow one another.
+pub fn numbers_from(alloc: Global, start: u32, count: u32) -> Result<Vec<u32>, AllocError>
+    requires { start + count < 2 ^ 32 }
+    ensures { IfOk result (λ numbers. numbers.items ≡ range_with_len start count) }
 {
     let mut numbers = Vec::new(alloc);
-    push_numbers(&mut numbers, rows, owner, first)?;
-    push_numbers(&mut numbers, rows, owner, others)?;
+    for number in start..start + count {
+        numbers.push(number)?;
+    }
     Ok(numbers)
 }
 
-// Adds the numbers of the frames of a function.
-fn push_numbers(
-    numbers: &mut Vec<u32>,
-    rows: &[FrameRow],
-    owner: u32,
-    frames: &[Alloc],
-) -> Result<(), AllocError>
-    requires { length rows.now < 2 ^ 32 }
-    ensures { OnOk result (numbers.new.items ≡ numbers.old.items ++ numbered_frames (frame_number rows.now (Some owner)) (map allocation_of frames.now)) }
-{
-    for frame in frames {
-        numbers.push(frame_number(rows, Some(owner), frame.name.bytes()))?;
-    }
-    Ok(())
-}
-
-/// What frames hold at first that are seen from the function of this number, or from all of them.
+/// What the frames hold at first, of which the first has this number.
 pub fn init_rows(
     alloc: Global,
-    rows: &[FrameRow],
-    viewer: Option<u32>,
+    start: u32,
+    frames: &[Alloc],
     inits: &[Init],
 ) -> Result<Vec<InitRow>, AllocError>
-    requires { length rows.now < 2 ^ 32 }
-    ensures { IfOk result (λ numbered. numbered.items ≡ numbered_inits (frame_number rows.now viewer) (map initial_of inits.now)) }
+    requires { start + length frames.now < 2 ^ 32 }
+    ensures { IfOk result (λ numbered. numbered.items ≡ numbered_inits start (map allocation_of frames.now) (map initial_of inits.now)) }
 {
     let mut numbered = Vec::new(alloc);
     for init in inits {
-        let frame = frame_number(rows, viewer, init.name.bytes());
+        let frame = placed(start, frames, init.name.bytes()).unwrap_or(0);
         numbered.push(InitRow {
             frame,
             offset: init.offset,
@@ -133,18 +91,16 @@ pub fn init_rows(
     Ok(numbered)
 }
 
-/// The numbers of global frames.
-pub fn global_numbers(
-    alloc: Global,
-    rows: &[FrameRow],
-    names: &[Name],
-) -> Result<Vec<u32>, AllocError>
-    requires { length rows.now < 2 ^ 32 }
-    ensures { IfOk result (λ numbers. numbers.items ≡ map (frame_number rows.now None) names.now) }
+/// The numbers of the exported frames.
+pub fn export_numbers(alloc: Global, program: &Program) -> Result<Vec<u32>, AllocError>
+    requires { length program.now.decls.items < 2 ^ 32 }
+    ensures numbers { IfOk result (λ numbers. numbers.items ≡ map (export_number (program_of program.now)) (program_of program.now).exports) }
+    ensures few { IfOk result (λ numbers. length numbers.items < 4294967295) }
 {
     let mut numbers = Vec::new(alloc);
-    for name in names {
-        numbers.push(frame_number(rows, None, name.bytes()))?;
+    for name in &program.exports {
+        numbers.push(placed(0, &program.decls, name.bytes()).unwrap_or(0))?;
     }
+    few(&numbers)?;
     Ok(numbers)
 }

@@ -1,3 +1,6 @@
 pub mod Operands
 pub mod EarliestFaults
 pub mod Reading
+pub mod FaultLists
+pub mod FaultParts
+pub mod FaultItems

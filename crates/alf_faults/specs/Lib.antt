@@ -6,4 +6,5 @@ pub mod Unknowns
 pub mod Sizes
 pub mod Faults
 pub mod Told
+pub mod NoFault
 pub mod Scopes

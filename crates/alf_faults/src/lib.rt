@@ -27,6 +27,9 @@ mod unknown_names;
 mod first_faults;
 mod function_faults;
 
+// What the definitions promise.
+mod laws;
+
 pub use first_faults::first_fault;
 pub use item_faults::ItemFault;
-pub use term_sizes::term_size;
+pub use laws::no_fault_is_by_parts;

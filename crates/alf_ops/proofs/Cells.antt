@@ -42,7 +42,8 @@ module _ (from : ℕ → Option Byte) (offset size : ℕ) where
       let some : list_any is_empty (map from (bytes_of offset size)) ≡ true = some_pass is_empty from offset (size / 8) byte ends.0 ends.1 (ap is_empty none) in
       rw some refl
 
-  module _ (full : (byte : ℕ) → is_byte_of offset size byte ≡ true → from byte ≢ None) (other : ℕ) (inside : is_byte_of offset size other ≡ true) (apart : is_from offset size (from other) ≡ false) where
+  module _ (full : (byte : ℕ) → is_byte_of offset size byte ≡ true → from byte ≢ None) (other : ℕ) (inside : is_byte_of offset size other ≡ true)
+      (apart : is_from offset size (from other) ≡ false) where
     all_full : list_any is_empty (map from (bytes_of offset size)) ≡ false
     all_full = none_passes is_empty from offset (size / 8) (λ byte low high. not_empty (from byte) (full byte (in_cell offset size byte low high)))
 
@@ -59,28 +60,36 @@ module _ (from : ℕ → Option Byte) (offset size : ℕ) where
         let some : list_any of_pointer (map from (bytes_of offset size)) ≡ true = some_pass of_pointer from offset (size / 8) byte ends.0 ends.1 pointer in
         rw (all_full, not_whole, some) refl
 
-    word_bytes : ((byte : ℕ) → is_byte_of offset size byte ≡ true → of_pointer (from byte) ≡ false) → cell_in from offset size ≡ Ok (Int size (word_of (map from (bytes_of offset size))))
+    word_bytes : ((byte : ℕ) → is_byte_of offset size byte ≡ true → of_pointer (from byte) ≡ false)
+        → cell_in from offset size ≡ Ok (Int size (word_of (map from (bytes_of offset size))))
     word_bytes words =
-        let none : list_any of_pointer (map from (bytes_of offset size)) ≡ false = none_passes of_pointer from offset (size / 8) (λ byte low high. words byte (in_cell offset size byte low high)) in
+        let none : list_any of_pointer (map from (bytes_of offset size)) ≡ false =
+        none_passes of_pointer from offset (size / 8) (λ byte low high. words byte (in_cell offset size byte low high)) in
         rw (all_full, not_whole, none) refl
 
-pub load_empty : (row : FrameShape) (frames : List FrameShape) (history : List RunEvent) (frame offset size byte : ℕ) → IsCellOf row frames history frame offset size → is_byte_of offset size byte ≡ true
+pub load_empty : (row : FrameShape) (frames : List FrameShape) (history : List RunEvent) (frame offset size byte : ℕ)
+    → IsCellOf row frames history frame offset size → is_byte_of offset size byte ≡ true
     → origin row.owner frame history byte ≡ None → load frames history (Ptr frame offset) size ≡ Err Uninit
 load_empty row frames history frame offset size byte is inside none =
     load_cell row frames history frame offset size is ∙ empty_byte (origin row.owner frame history) offset size byte inside none
 
-pub load_pointer : (row : FrameShape) (frames : List FrameShape) (history : List RunEvent) (frame offset size byte : ℕ) (left : Byte) → IsCellOf row frames history frame offset size → IsOfSeveral row.owner history frame offset size
-    → is_byte_of offset size byte ≡ true → origin row.owner frame history byte ≡ Some left → is_pointer left.value ≡ true → load frames history (Ptr frame offset) size ≡ Err Mixed
+pub load_pointer : (row : FrameShape) (frames : List FrameShape) (history : List RunEvent) (frame offset size byte : ℕ) (left : Byte)
+    → IsCellOf row frames history frame offset size → IsOfSeveral row.owner history frame offset size
+    → is_byte_of offset size byte ≡ true → origin row.owner frame history byte ≡ Some left → is_pointer left.value ≡ true
+    → load frames history (Ptr frame offset) size ≡ Err Mixed
 load_pointer row frames history frame offset size byte left is several inside comes pointer =
     load_cell row frames history frame offset size is
     ∙ pointer_byte (origin row.owner frame history) offset size several.full several.other several.inside several.apart byte inside (ap of_pointer comes ∙ pointer)
 
-pub load_word : (row : FrameShape) (frames : List FrameShape) (history : List RunEvent) (frame offset size : ℕ) → IsCellOf row frames history frame offset size → IsOfSeveral row.owner history frame offset size
-    → ((byte : ℕ) (left : Byte) → is_byte_of offset size byte ≡ true → origin row.owner frame history byte ≡ Some left → is_pointer left.value ≡ false) → GivesWord row.owner frames history frame offset size
+pub load_word : (row : FrameShape) (frames : List FrameShape) (history : List RunEvent) (frame offset size : ℕ)
+    → IsCellOf row frames history frame offset size → IsOfSeveral row.owner history frame offset size
+    → ((byte : ℕ) (left : Byte) → is_byte_of offset size byte ≡ true → origin row.owner frame history byte ≡ Some left → is_pointer left.value ≡ false)
+    → GivesWord row.owner frames history frame offset size
 load_word row frames history frame offset size is several words = record {
   word = word_of (map (origin row.owner frame history) (bytes_of offset size));
   gives = load_cell row frames history frame offset size is
-      ∙ word_bytes (origin row.owner frame history) offset size several.full several.other several.inside several.apart (λ byte inside. no_pointer (origin row.owner frame history byte) (λ left comes. words byte left inside comes));
+      ∙ word_bytes (origin row.owner frame history) offset size several.full several.other several.inside several.apart
+      (λ byte inside. no_pointer (origin row.owner frame history byte) (λ left comes. words byte left inside comes));
   below = word_below_size (origin row.owner frame history) offset size;
   bytes = byte_at (origin row.owner frame history) offset (size / 8);
 }
@@ -113,7 +122,8 @@ module _ (from : ℕ → Option Byte) (offset size bits place width : ℕ) (smal
       let comes : (byte : ℕ) → is_byte_of (offset + place) width byte ≡ true → from byte ≡ Some (left_by offset size (Int size bits) byte) =
       λ byte inside. (let ends = cell_ends (offset + place) width byte inside in each byte ends.0 ends.1) in
       let eights : 8 * (width / 8) ≡ width = omega (arith, is.1) in
-      word_bytes from (offset + place) width (λ byte inside none. none_some (sym none ∙ comes byte inside)) (offset + place) (in_cell (offset + place) width (offset + place) (omega arith) first) apart (λ byte inside. ap of_pointer (comes byte inside))
+      word_bytes from (offset + place) width (λ byte inside none. none_some (sym none ∙ comes byte inside))
+      (offset + place) (in_cell (offset + place) width (offset + place) (omega arith) first) apart (λ byte inside. ap of_pointer (comes byte inside))
       ∙ ap (λ (n : ℕ). Ok (Int width n)) (stored_word from offset size bits (offset + place) place (width / 8) refl each ∙ ap (λ (n : ℕ). bits / 2 ^ (8 * place) % 2 ^ n) eights)
     where
       none_some : {left : Byte} → None ≡ Some left → ⊥
@@ -124,7 +134,8 @@ module _ (from : ℕ → Option Byte) (offset size bits place width : ℕ) (smal
       (λ same. let parts = and_parts _ _ same in whole_read (eqb-true place 0 parts.0) (eqb-true width size parts.1))
       (λ other. part_read (λ none same. false≢true (sym other ∙ and_from _ _ (eq-eqb place 0 none) (eq-eqb width size same))))
 
-pub reads_back : (frames : List FrameShape) (history after : List RunEvent) (frame offset size bits place width : ℕ) → store frames history (Ptr frame offset) (Int size bits) ≡ Ok after → bits < 2 ^ size → IsCell width → 8 * place + width ≤ size
+pub reads_back : (frames : List FrameShape) (history after : List RunEvent) (frame offset size bits place width : ℕ)
+    → store frames history (Ptr frame offset) (Int size bits) ≡ Ok after → bits < 2 ^ size → IsCell width → 8 * place + width ≤ size
     → load frames after (Ptr frame (offset + place)) width ≡ Ok (Int width (bits / 2 ^ (8 * place) % 2 ^ width))
 reads_back frames history after frame offset size bits place width is small cell within =
     let s = is_stored frames history after frame offset (Int size bits) is in
@@ -135,7 +146,8 @@ reads_back frames history after frame offset size bits place width is small cell
     ∙ (let covered : is_byte_of offset size byte ≡ true = in_cell offset size byte (omega arith) (omega (arith, cell.1)) in rw covered refl))
 
 -- a cell of a table whose bytes are of sound stores gives a value of its size
-by_reading : (from : ℕ → Option Byte) (offset size : ℕ) (value : Value) (r : Result Value RunFault) → IsTable from → IsCell size → r ≡ cell_in from offset size → Reading (map from (bytes_of offset size)) offset size r → r ≡ Ok value → FitsValue size value
+by_reading : (from : ℕ → Option Byte) (offset size : ℕ) (value : Value) (r : Result Value RunFault) → IsTable from → IsCell size
+    → r ≡ cell_in from offset size → Reading (map from (bytes_of offset size)) offset size r → r ≡ Ok value → FitsValue size value
 by_reading from offset size value r table cell same (reads_empty none e) is = let f : Err Uninit ≡ Ok value = sym e ∙ is in cc
 by_reading from offset size value r table cell same (reads_whole some whole e) is =
     let one = table offset size cell whole in
@@ -149,7 +161,8 @@ by_reading from offset size value r table cell same (reads_word some many words 
     subst (λ (x : Value). FitsValue size x) w (refl, word_below_size from offset size)
 
 -- a load of a sound history gives a value of the size that is loaded
-pub load_fits : (frames : List FrameShape) (history : List RunEvent) (place value : Value) (size : ℕ) → IsSound history → IsCell size → load frames history place size ≡ Ok value → FitsValue size value
+pub load_fits : (frames : List FrameShape) (history : List RunEvent) (place value : Value) (size : ℕ) → IsSound history → IsCell size
+    → load frames history place size ≡ Ok value → FitsValue size value
 load_fits frames history (Int own word) value size sound cell is = cc
 load_fits frames history (Ptr frame offset) value size sound cell is =
     let c = cell_loaded frames history frame offset size value is in

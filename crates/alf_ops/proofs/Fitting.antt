@@ -43,7 +43,8 @@ module _ {A B : Type 0} (R : A → B → Type 0) where
     λ places. each_place xs ys (at places),
   )
     where
-      at : (length ys ≤ 3) × FitsAt R (slice_get xs 0) (slice_get ys 0) × FitsAt R (slice_get xs 1) (slice_get ys 1) × FitsAt R (slice_get xs 2) (slice_get ys 2) → (i : ℕ) → FitsAt R (slice_get xs i) (slice_get ys i)
+      at : (length ys ≤ 3) × FitsAt R (slice_get xs 0) (slice_get ys 0) × FitsAt R (slice_get xs 1) (slice_get ys 1) × FitsAt R (slice_get xs 2) (slice_get ys 2)
+          → (i : ℕ) → FitsAt R (slice_get xs i) (slice_get ys i)
       at places zero = places.1
       at places (suc zero) = places.2
       at places (suc (suc zero)) = places.3

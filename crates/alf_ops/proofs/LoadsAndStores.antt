@@ -24,7 +24,8 @@ pub cell_loaded : (frames : List FrameShape) (history : List RunEvent) (frame of
     → (row : FrameShape) × IsCellOf row frames history frame offset size
 cell_loaded frames history frame offset size value is = of_row (slice_get frames frame) refl is
   where
-    of_row : (row : Option FrameShape) → slice_get frames frame ≡ row → loaded history size (address_in row history frame offset size) ≡ Ok value → (row : FrameShape) × IsCellOf row frames history frame offset size
+    of_row : (row : Option FrameShape) → slice_get frames frame ≡ row → loaded history size (address_in row history frame offset size) ≡ Ok value
+        → (row : FrameShape) × IsCellOf row frames history frame offset size
     of_row None known is = cc
     of_row (Some row) known is = by_test (is_active row.owner history)
         (λ active. by_test (fits_in row.bits offset size)
@@ -53,18 +54,21 @@ is_stored frames history after frame offset value is = of_row (slice_get frames 
         (λ dead. let e : Err Dead ≡ Ok after = rw dead at is in cc)
 
 -- a store makes no frame active, nor ends one
-pub active_stored : (owner : Option ℕ) (frame offset size : ℕ) (value : Value) (history : List RunEvent) → is_active owner (Store frame offset size value ∷ history) ≡ is_active owner history
+pub active_stored : (owner : Option ℕ) (frame offset size : ℕ) (value : Value) (history : List RunEvent)
+    → is_active owner (Store frame offset size value ∷ history) ≡ is_active owner history
 active_stored None frame offset size value history = refl
 active_stored (Some function) frame offset size value history = refl
 
 -- the table of the frame after the store
-pub stored_table : (row : FrameShape) (frames : List FrameShape) (history after : List RunEvent) (frame offset : ℕ) (value : Value) → IsStored row frames history after frame offset value
+pub stored_table : (row : FrameShape) (frames : List FrameShape) (history after : List RunEvent) (frame offset : ℕ) (value : Value)
+    → IsStored row frames history after frame offset value
     → (byte : ℕ) → origin row.owner frame after byte ≡ put offset (size_of value) value (origin row.owner frame history) byte
 stored_table row frames history after frame offset value is byte =
     ap (λ (events : List RunEvent). origin row.owner frame events byte) is.after_is ∙ origin_stored row.owner frame offset (size_of value) value history byte
 
 -- a cell of the frame lies in it after the store, too
-pub cell_after : (row : FrameShape) (frames : List FrameShape) (history after : List RunEvent) (frame offset : ℕ) (value : Value) (place size : ℕ) → IsStored row frames history after frame offset value
+pub cell_after : (row : FrameShape) (frames : List FrameShape) (history after : List RunEvent) (frame offset : ℕ) (value : Value) (place size : ℕ)
+    → IsStored row frames history after frame offset value
     → place * 8 + size ≤ row.bits → IsCellOf row frames after frame place size
 cell_after row frames history after frame offset value place size is within = record {
   known = is.cell.known;
@@ -72,47 +76,56 @@ cell_after row frames history after frame offset value place size is within = re
   within = within;
 }
 
-pub store_then_load : (frames : List FrameShape) (history after : List RunEvent) (place value : Value) → 0 < size_of value / 8 → store frames history place value ≡ Ok after → load frames after place (size_of value) ≡ Ok value
+pub store_then_load : (frames : List FrameShape) (history after : List RunEvent) (place value : Value) → 0 < size_of value / 8
+    → store frames history place value ≡ Ok after → load frames after place (size_of value) ≡ Ok value
 store_then_load frames history after (Int size bits) value some is = cc
 store_then_load frames history after (Ptr frame offset) value some is =
     let s = is_stored frames history after frame offset value is in
     load_cell s.0 frames after frame offset (size_of value) (cell_after s.0 frames history after frame offset value offset (size_of value) s.1 s.1.cell.within)
-    ∙ same_cell (origin s.0.owner frame after) (put offset (size_of value) value (origin s.0.owner frame history)) offset (size_of value) (λ byte low high. stored_table s.0 frames history after frame offset value s.1 byte)
+    ∙ same_cell (origin s.0.owner frame after) (put offset (size_of value) value (origin s.0.owner frame history)) offset (size_of value)
+    (λ byte low high. stored_table s.0 frames history after frame offset value s.1 byte)
     ∙ put_same (origin s.0.owner frame history) offset (size_of value) value some
 
--- two histories after which a frame is active alike and the cell gives the same
+-- after both histories the frames of the owner are active or not, and the cell gives the same
+record GivesSame (owner : Option ℕ) (after history : List RunEvent) (frame offset size : ℕ) : Type 0 where
+  pub active : is_active owner after ≡ is_active owner history
+  pub cell : cell_in (origin owner frame after) offset size ≡ cell_in (origin owner frame history) offset size
+
+-- then a load does
 load_same : (row : Option FrameShape) (after history : List RunEvent) (frame offset size : ℕ)
-    → ((own : FrameShape) → row ≡ Some own → (is_active own.owner after ≡ is_active own.owner history) × (cell_in (origin own.owner frame after) offset size ≡ cell_in (origin own.owner frame history) offset size))
+    → ((own : FrameShape) → row ≡ Some own → GivesSame own.owner after history frame offset size)
     → loaded after size (address_in row after frame offset size) ≡ loaded history size (address_in row history frame offset size)
 load_same None after history frame offset size agree = refl
 load_same (Some row) after history frame offset size agree =
     let same = agree row refl in
     by_test (is_active row.owner history)
     (λ active. by_test (fits_in row.bits offset size)
-    (λ fits. rw (same.0, active, fits) same.1)
-    (λ over. rw (same.0, active, over) refl))
-    (λ dead. rw (same.0, dead) refl)
+    (λ fits. rw (same.active, active, fits) same.cell)
+    (λ over. rw (same.active, active, over) refl))
+    (λ dead. rw (same.active, dead) refl)
 
-pub store_elsewhere : (frames : List FrameShape) (history after : List RunEvent) (frame offset : ℕ) (value : Value) (other place size : ℕ) → store frames history (Ptr frame offset) value ≡ Ok after
+pub store_elsewhere : (frames : List FrameShape) (history after : List RunEvent) (frame offset : ℕ) (value : Value) (other place size : ℕ)
+    → store frames history (Ptr frame offset) value ≡ Ok after
     → (frame ≢ other) ⊎ ((place + size / 8 ≤ offset) ⊎ (offset + size_of value / 8 ≤ place))
     → load frames after (Ptr other place) size ≡ load frames history (Ptr other place) size
 store_elsewhere frames history after frame offset value other place size is apart =
     let s = is_stored frames history after frame offset value is in
     subst (λ (events : List RunEvent). load frames events (Ptr other place) size ≡ load frames history (Ptr other place) size) (sym s.1.after_is)
-    (load_same (slice_get frames other) (Store frame offset (size_of value) value ∷ history) history other place size
-    (λ own known. (
-      active_stored own.owner frame offset (size_of value) value history,
-      elim (cases_eq frame other) [
+    (load_same (slice_get frames other) (Store frame offset (size_of value) value ∷ history) history other place size (λ own known. record {
+      active = active_stored own.owner frame offset (size_of value) value history;
+      cell = elim (cases_eq frame other) [
         | inl same ↦ in_frame own.owner same (elim apart [ inl differ ↦ absurd (differ same) | inr there ↦ there ])
-        | inr differ ↦ same_cell (origin own.owner other (Store frame offset (size_of value) value ∷ history)) (origin own.owner other history) place size (λ byte low high. origin_elsewhere own.owner other frame offset (size_of value) value history byte differ)
-      ],
-    )))
+        | inr differ ↦ same_cell (origin own.owner other (Store frame offset (size_of value) value ∷ history)) (origin own.owner other history) place size
+            (λ byte low high. origin_elsewhere own.owner other frame offset (size_of value) value history byte differ)
+      ];
+    }))
   where
     in_frame : (owner : Option ℕ) → frame ≡ other → (place + size / 8 ≤ offset) ⊎ (offset + size_of value / 8 ≤ place)
         → cell_in (origin owner other (Store frame offset (size_of value) value ∷ history)) place size ≡ cell_in (origin owner other history) place size
     in_frame owner same apart =
         same_cell (origin owner other (Store frame offset (size_of value) value ∷ history)) (put offset (size_of value) value (origin owner other history)) place size
-        (λ byte low high. subst (λ (f : ℕ). origin owner other (Store f offset (size_of value) value ∷ history) byte ≡ put offset (size_of value) value (origin owner other history) byte) (sym same) (origin_stored owner other offset (size_of value) value history byte))
+        (λ byte low high. subst (λ (f : ℕ). origin owner other (Store f offset (size_of value) value ∷ history) byte ≡ put offset (size_of value) value (origin owner other history) byte)
+        (sym same) (origin_stored owner other offset (size_of value) value history byte))
         ∙ put_other (origin owner other history) offset (size_of value) value place size apart
 
 -- ---- functions entered and left
@@ -129,27 +142,34 @@ not_mine : (owner : Option ℕ) (function : ℕ) → owner ≢ Some function →
 not_mine None function differ = refl
 not_mine (Some own) function differ = ne_eqb own function (λ e. differ (ap Some e))
 
-pub enter_empties : (frames : List FrameShape) (history : List RunEvent) (function frame : ℕ) (row : FrameShape) (offset size : ℕ) → slice_get frames frame ≡ Some row → row.owner ≡ Some function → offset * 8 + size ≤ row.bits
+pub enter_empties : (frames : List FrameShape) (history : List RunEvent) (function frame : ℕ) (row : FrameShape) (offset size : ℕ)
+    → slice_get frames frame ≡ Some row → row.owner ≡ Some function → offset * 8 + size ≤ row.bits
     → load frames (Enter function ∷ history) (Ptr frame offset) size ≡ Err Uninit
 enter_empties frames history function frame row offset size known owned within =
     let active : is_active row.owner (Enter function ∷ history) ≡ true = rw owned (let e : function ≡ function = refl in rw (eq-eqb function function e) refl) in
     load_cell row frames (Enter function ∷ history) frame offset size (record { known = known; active = active; within = within })
     ∙ empty_cell (origin row.owner frame (Enter function ∷ history)) offset (size / 8) size (λ byte. rw (mine row.owner function owned) refl)
 
-entered_active : (owner : Option ℕ) (function : ℕ) (history : List RunEvent) → owner ≢ Some function → is_active owner (Enter function ∷ history) ≡ is_active owner history
+entered_active : (owner : Option ℕ) (function : ℕ) (history : List RunEvent) → owner ≢ Some function
+    → is_active owner (Enter function ∷ history) ≡ is_active owner history
 entered_active None function history differ = refl
 entered_active (Some own) function history differ = rw (ne_eqb function own (λ e. differ (ap Some (sym e)))) refl
 
-pub enter_keeps : (frames : List FrameShape) (history : List RunEvent) (function frame : ℕ) (row : FrameShape) (offset size : ℕ) → slice_get frames frame ≡ Some row → row.owner ≢ Some function
+pub enter_keeps : (frames : List FrameShape) (history : List RunEvent) (function frame : ℕ) (row : FrameShape) (offset size : ℕ)
+    → slice_get frames frame ≡ Some row → row.owner ≢ Some function
     → load frames (Enter function ∷ history) (Ptr frame offset) size ≡ load frames history (Ptr frame offset) size
 enter_keeps frames history function frame row offset size known differ =
     rw known (load_same (Some row) (Enter function ∷ history) history frame offset size (λ own is.
-    subst (λ (x : FrameShape). (is_active x.owner (Enter function ∷ history) ≡ is_active x.owner history) × (cell_in (origin x.owner frame (Enter function ∷ history)) offset size ≡ cell_in (origin x.owner frame history) offset size))
-    (let same : row ≡ own = cc in same)
-    (entered_active row.owner function history differ, same_cell (origin row.owner frame (Enter function ∷ history)) (origin row.owner frame history) offset size (λ byte low high. rw (not_mine row.owner function differ) refl))))
+    subst (λ (x : FrameShape). GivesSame x.owner (Enter function ∷ history) history frame offset size) (let same : row ≡ own = cc in same)
+    (record {
+      active = entered_active row.owner function history differ;
+      cell = same_cell (origin row.owner frame (Enter function ∷ history)) (origin row.owner frame history) offset size
+          (λ byte low high. rw (not_mine row.owner function differ) refl);
+    })))
 
 -- a store of a value that fits keeps a history sound
-pub store_sound : (frames : List FrameShape) (history after : List RunEvent) (place value : Value) → IsSound history → FitsValue (size_of value) value → store frames history place value ≡ Ok after → IsSound after
+pub store_sound : (frames : List FrameShape) (history after : List RunEvent) (place value : Value) → IsSound history → FitsValue (size_of value) value
+    → store frames history place value ≡ Ok after → IsSound after
 store_sound frames history after (Int size bits) value sound fits is = cc
 store_sound frames history after (Ptr frame offset) value sound fits is =
     let s = is_stored frames history after frame offset value is in

@@ -67,7 +67,8 @@ pub word_kept : (m n a : ℕ) → m ≤ n → a < 2 ^ m → sign (signed m a) �
 word_kept m n a wider below low = rw (signed_low m a low below) (grind (arith, pow_mono wider, mod_small))
 
 -- a negative word shifted to lower places, rounded down
-pub word_shifted : (size a b : ℕ) → a < 2 ^ size → sign (signed size a) ≡ true → 2 ^ size - 1 - (2 ^ size - 1 - a) / 2 ^ b ≡ word size (int_div_euclid (signed size a) (pos (2 ^ b)))
+pub word_shifted : (size a b : ℕ) → a < 2 ^ size → sign (signed size a) ≡ true
+    → 2 ^ size - 1 - (2 ^ size - 1 - a) / 2 ^ b ≡ word size (int_div_euclid (signed size a) (pos (2 ^ b)))
 word_shifted size a b below high =
     let e : 2 ^ size - suc a ≡ 2 ^ size - 1 - a = omega arith in
     let f : (2 ^ size - 1 - a) / 2 ^ b ≤ 2 ^ size - 1 - a = shr_le (2 ^ size - 1 - a) b in

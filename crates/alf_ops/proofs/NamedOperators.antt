@@ -21,9 +21,10 @@ use Rattle.alf_ops.specs.Names.{operator_named, name_of, operators, spelling, Te
 -- none is found exactly where no row has the name
 pub none_is_named : (rows : List OpRow) (name : List ℕ) → IsNone (operator_named rows name) ↔ All (λ row. name_of row ≢ name) rows
 none_is_named rows name =
-    let none = find_none (λ row. bytes_eq (name_of row) name) rows in (
-      λ missing. All-weaker (λ row. bytes_eq (name_of row) name ≡ false) (λ row. name_of row ≢ name) (λ row other. differ row other) rows (none.0 (no_row (find (λ row. bytes_eq (name_of row) name) rows) missing)),
-      λ all. no_operator (find (λ row. bytes_eq (name_of row) name) rows) (none.1 (All-weaker (λ row. name_of row ≢ name) (λ row. bytes_eq (name_of row) name ≡ false) (λ row other. fails row other) rows all)),
+    let none = find_none (λ row. bytes_eq (name_of row) name) rows in
+    let found = find (λ row. bytes_eq (name_of row) name) rows in (
+      λ missing. All-weaker (λ row. bytes_eq (name_of row) name ≡ false) (λ row. name_of row ≢ name) differ rows (none.0 (no_row found missing)),
+      λ all. no_operator found (none.1 (All-weaker (λ row. name_of row ≢ name) (λ row. bytes_eq (name_of row) name ≡ false) fails rows all)),
     )
   where
     differ : (row : OpRow) → bytes_eq (name_of row) name ≡ false → name_of row ≢ name

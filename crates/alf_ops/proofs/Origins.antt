@@ -16,7 +16,8 @@ not_true false e = refl
 
 module _ (owner : Option ℕ) (frame byte : ℕ) where
   -- an event that leaves the byte alone is passed over
-  passed_over : (event : RunEvent) (history : List RunEvent) → leaves_alone owner frame byte event ≡ true → origin owner frame (event ∷ history) byte ≡ origin owner frame history byte
+  passed_over : (event : RunEvent) (history : List RunEvent) → leaves_alone owner frame byte event ≡ true
+      → origin owner frame (event ∷ history) byte ≡ origin owner frame history byte
   passed_over (Enter entered) history alone = rw (not_true (is_owner owner entered) alone) refl
   passed_over (Leave left) history alone = refl
   passed_over (Store f o s v) history alone = by_test (f == frame)
@@ -26,7 +27,8 @@ module _ (owner : Option ℕ) (frame byte : ℕ) where
       (λ there. rw there refl)
 
   -- an event more that leaves the byte alone
-  extended : (event : RunEvent) (history : List RunEvent) (offset size : ℕ) (value : Value) → leaves_alone owner frame byte event ≡ true → NewestStore owner history frame byte offset size value → NewestStore owner (event ∷ history) frame byte offset size value
+  extended : (event : RunEvent) (history : List RunEvent) (offset size : ℕ) (value : Value) → leaves_alone owner frame byte event ≡ true
+      → NewestStore owner history frame byte offset size value → NewestStore owner (event ∷ history) frame byte offset size value
   extended event history offset size value alone found = record {
     newer = event ∷ found.newer;
     older = found.older;
@@ -36,7 +38,8 @@ module _ (owner : Option ℕ) (frame byte : ℕ) where
   }
 
   -- the store comes first
-  first_store : (f o s : ℕ) (v : Value) (history : List RunEvent) (offset size : ℕ) (value : Value) → f ≡ frame → is_byte_of o s byte ≡ true → left_by o s v byte ≡ left_by offset size value byte → NewestStore owner (Store f o s v ∷ history) frame byte offset size value
+  first_store : (f o s : ℕ) (v : Value) (history : List RunEvent) (offset size : ℕ) (value : Value) → f ≡ frame → is_byte_of o s byte ≡ true
+      → left_by o s v byte ≡ left_by offset size value byte → NewestStore owner (Store f o s v ∷ history) frame byte offset size value
   first_store f o s v history offset size value ff inside same =
       let oo : o ≡ offset = ap (λ (b : Byte). b.offset) same in
       let ss : s ≡ size = ap (λ (b : Byte). b.size) same in
@@ -49,7 +52,8 @@ module _ (owner : Option ℕ) (frame byte : ℕ) where
         covers = sym (λ i. is_byte_of (oo i) (ss i) byte) ∙ inside;
       }
 
-  found_newest : (history : List RunEvent) (offset size : ℕ) (value : Value) → origin owner frame history byte ≡ Some (left_by offset size value byte) → NewestStore owner history frame byte offset size value
+  found_newest : (history : List RunEvent) (offset size : ℕ) (value : Value) → origin owner frame history byte ≡ Some (left_by offset size value byte)
+      → NewestStore owner history frame byte offset size value
   found_newest [] offset size value e = cc
   found_newest (Enter entered ∷ history) offset size value e = by_test (is_owner owner entered)
       (λ same. let f : None ≡ Some (left_by offset size value byte) = rw same at e in cc)
@@ -72,7 +76,8 @@ module _ (owner : Option ℕ) (frame byte : ℕ) where
       let parts = and_parts _ _ alone in
       passed_over event (newer ++ Store frame offset size value ∷ older) parts.0 ∙ is_newest newer older offset size value parts.1 covers
 
-  pub comes_from_newest : (history : List RunEvent) (offset size : ℕ) (value : Value) → (origin owner frame history byte ≡ Some (left_by offset size value byte)) ↔ NewestStore owner history frame byte offset size value
+  pub comes_from_newest : (history : List RunEvent) (offset size : ℕ) (value : Value)
+      → (origin owner frame history byte ≡ Some (left_by offset size value byte)) ↔ NewestStore owner history frame byte offset size value
   comes_from_newest history offset size value = (
     found_newest history offset size value,
     λ found. ap (λ (events : List RunEvent). origin owner frame events byte) found.split ∙ is_newest found.newer found.older offset size value found.alone found.covers,

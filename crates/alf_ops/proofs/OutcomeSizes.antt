@@ -26,7 +26,8 @@ add_fits m sum (Ptr f o) (Ptr g p) v small fits_a fits_b is = cc
 
 subtract_fits : (m difference : ℕ) (a b v : Value) → difference < 2 ^ m → FitsValue m a → subtract_rule m difference a b ≡ Ok v → FitsValue m v
 subtract_fits m difference (Int s x) b v small fits is = cc
-subtract_fits m difference (Ptr f o) (Int s x) v small fits is = let e : Ptr f difference ≡ v = cc in subst (λ (w : Value). FitsValue m w) e (fits.0, subst (λ (n : ℕ). difference < 2 ^ n) fits.0 small)
+subtract_fits m difference (Ptr f o) (Int s x) v small fits is =
+    let e : Ptr f difference ≡ v = cc in subst (λ (w : Value). FitsValue m w) e (fits.0, subst (λ (n : ℕ). difference < 2 ^ n) fits.0 small)
 subtract_fits m difference (Ptr f o) (Ptr g p) v small fits is = by_test (f == g)
     (λ same. let e : Ok (Int m difference) ≡ Ok v = rw same at is in let w : Int m difference ≡ v = cc in subst (λ (x : Value). FitsValue m x) w (refl, small))
     (λ other. let e : Err Pointers ≡ Ok v = rw other at is in cc)
@@ -68,35 +69,49 @@ sum_only r true v is = cc
 sum_only r false v is = is
 
 module _ (sizes : List ℕ) (values : List Value) (v : Value) where
+  abbrev a : Value
+  a = operand_at values 0
+
+  abbrev b : Value
+  b = operand_at values 1
+
+  abbrev c : Value
+  c = operand_at values 2
+
+  -- the operator's word at the words and offsets
+  abbrev word_at : Op → ℕ
+  word_at op = applied op sizes a b c
+
   fits_at : (op : Op) (i : ℕ) → EachValueFits (operand_sizes op sizes) values → FitsAt FitsValue (slice_get (operand_sizes op sizes) i) (slice_get values i)
   fits_at op i fits = at_place FitsValue (operand_sizes op sizes) values i fits
 
-  below : (op : Op) → applied op sizes (operand_at values 0) (operand_at values 1) (operand_at values 2) < 2 ^ size_of_result op sizes
+  below : (op : Op) → word_at op < 2 ^ size_of_result op sizes
   below op = word_below (size_of_result op sizes) _
 
-  rule_fits : (op : Op) → EachValueFits (operand_sizes op sizes) values → by_rule op sizes (operand_at values 0) (operand_at values 1) (operand_at values 2) ≡ Ok v → FitsValue (size_of_result op sizes) v
-  rule_fits op = elim op as (λ (op : Op). EachValueFits (operand_sizes op sizes) values → by_rule op sizes (operand_at values 0) (operand_at values 1) (operand_at values 2) ≡ Ok v → FitsValue (size_of_result op sizes) v) [
-    | Add ↦ λ fits is. add_fits (slice_index sizes 0) (applied Add sizes (operand_at values 0) (operand_at values 1) (operand_at values 2)) (operand_at values 0) (operand_at values 1) v (below Add)
-        (placed_fits (slice_index sizes 0) values 0 (fits_at Add 0 fits)) (placed_fits (slice_index sizes 0) values 1 (fits_at Add 1 fits)) (sum_only _ (is_pointer (operand_at values 2)) v is)
-    | Sub ↦ λ fits is. subtract_fits (slice_index sizes 0) (applied Sub sizes (operand_at values 0) (operand_at values 1) (operand_at values 2)) (operand_at values 0) (operand_at values 1) v (below Sub)
-        (placed_fits (slice_index sizes 0) values 0 (fits_at Sub 0 fits)) (sum_only _ (is_pointer (operand_at values 2)) v is)
-    | Eq ↦ λ fits is. equality_fits 0 (applied Eq sizes (operand_at values 0) (operand_at values 1) (operand_at values 2)) (operand_at values 0) (operand_at values 1) v (omega arith) (below Eq) is
-    | Neq ↦ λ fits is. equality_fits 1 (applied Neq sizes (operand_at values 0) (operand_at values 1) (operand_at values 2)) (operand_at values 0) (operand_at values 1) v (omega arith) (below Neq) is
-    | ULt ↦ λ fits is. order_fits (applied ULt sizes (operand_at values 0) (operand_at values 1) (operand_at values 2)) (operand_at values 0) (operand_at values 1) v (below ULt) is
-    | ULe ↦ λ fits is. order_fits (applied ULe sizes (operand_at values 0) (operand_at values 1) (operand_at values 2)) (operand_at values 0) (operand_at values 1) v (below ULe) is
-    | UGt ↦ λ fits is. order_fits (applied UGt sizes (operand_at values 0) (operand_at values 1) (operand_at values 2)) (operand_at values 0) (operand_at values 1) v (below UGt) is
-    | UGe ↦ λ fits is. order_fits (applied UGe sizes (operand_at values 0) (operand_at values 1) (operand_at values 2)) (operand_at values 0) (operand_at values 1) v (below UGe) is
-    | If ↦ λ fits is. choice_fits (slice_index sizes 0) (operand_at values 0) (operand_at values 1) (operand_at values 2) v
+  rule_fits : (op : Op) → EachValueFits (operand_sizes op sizes) values
+      → by_rule op sizes a b c ≡ Ok v → FitsValue (size_of_result op sizes) v
+  rule_fits op = elim op as (λ (op : Op). EachValueFits (operand_sizes op sizes) values → by_rule op sizes a b c ≡ Ok v → FitsValue (size_of_result op sizes) v) [
+    | Add ↦ λ fits is. add_fits (slice_index sizes 0) (word_at Add) a b v (below Add)
+        (placed_fits (slice_index sizes 0) values 0 (fits_at Add 0 fits)) (placed_fits (slice_index sizes 0) values 1 (fits_at Add 1 fits)) (sum_only _ (is_pointer c) v is)
+    | Sub ↦ λ fits is. subtract_fits (slice_index sizes 0) (word_at Sub) a b v (below Sub)
+        (placed_fits (slice_index sizes 0) values 0 (fits_at Sub 0 fits)) (sum_only _ (is_pointer c) v is)
+    | Eq ↦ λ fits is. equality_fits 0 (word_at Eq) a b v (omega arith) (below Eq) is
+    | Neq ↦ λ fits is. equality_fits 1 (word_at Neq) a b v (omega arith) (below Neq) is
+    | ULt ↦ λ fits is. order_fits (word_at ULt) a b v (below ULt) is
+    | ULe ↦ λ fits is. order_fits (word_at ULe) a b v (below ULe) is
+    | UGt ↦ λ fits is. order_fits (word_at UGt) a b v (below UGt) is
+    | UGe ↦ λ fits is. order_fits (word_at UGe) a b v (below UGe) is
+    | If ↦ λ fits is. choice_fits (slice_index sizes 0) a b c v
         (placed_fits (slice_index sizes 0) values 1 (fits_at If 1 fits)) (placed_fits (slice_index sizes 0) values 2 (fits_at If 2 fits)) is
     | _ ↦ λ fits is. cc
   ]
 
-  words_fit : (op : Op) → at_words op sizes (operand_at values 0) (operand_at values 1) (operand_at values 2) ≡ Ok v → FitsValue (size_of_result op sizes) v
-  words_fit op is = by_test (divides op && (bits_of (operand_at values 1) == 0))
+  words_fit : (op : Op) → at_words op sizes a b c ≡ Ok v → FitsValue (size_of_result op sizes) v
+  words_fit op is = by_test (divides op && (bits_of b == 0))
       (λ zero. let e : Err Divide ≡ Ok v = rw zero at is in cc)
       (λ other.
-      let e : Ok (Int (size_of_result op sizes) (applied op sizes (operand_at values 0) (operand_at values 1) (operand_at values 2))) ≡ Ok v = rw other at is in
-      let w : Int (size_of_result op sizes) (applied op sizes (operand_at values 0) (operand_at values 1) (operand_at values 2)) ≡ v = cc in
+      let e : Ok (Int (size_of_result op sizes) (word_at op)) ≡ Ok v = rw other at is in
+      let w : Int (size_of_result op sizes) (word_at op) ≡ v = cc in
       subst (λ (x : Value). FitsValue (size_of_result op sizes) x) w (refl, below op))
 
   pub outcome_fits : (op : Op) → EachValueFits (operand_sizes op sizes) values → outcome op sizes values ≡ Ok v → FitsValue (size_of_result op sizes) v

@@ -38,7 +38,8 @@ rotated_word size k a within below =
     (mod-mul-add (a / 2 ^ (size - k)) (2 ^ k * 2 ^ (size - k)) (a % 2 ^ (size - k) * 2 ^ k + a / 2 ^ (size - k)) fits)
 
 -- the place where a bit goes
-moved : (size k place : ℕ) → k ≤ size → place < size → ((place + k < size) × ((place + k) % size ≡ place + k)) ⊎ ((size ≤ place + k) × ((place + k) % size ≡ place + k - size))
+moved : (size k place : ℕ) → k ≤ size → place < size
+    → ((place + k < size) × ((place + k) % size ≡ place + k)) ⊎ ((size ≤ place + k) × ((place + k) % size ≡ place + k - size))
 moved size k place within inside = ⊎_elim
     (λ (below : place + k < size). inl (below, mod-eq_of_lt below))
     (λ (past : size ≤ place + k). let less : place + k - size < size = omega arith in inr (past, mod-eq-sub-mod past ∙ mod-eq_of_lt less))

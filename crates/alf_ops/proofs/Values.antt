@@ -24,7 +24,8 @@ each_fits (size ∷ sizes) [] fits = fits
 each_fits (size ∷ sizes) (value ∷ values) fits = (bits_fit size value fits.0, each_fits sizes values fits.1)
 
 -- up to three values by their places
-by_places : (values : List Value) → length values ≤ 3 → map bits_of values ≡ take (length values) (bits_of (operand_at values 0) ∷ bits_of (operand_at values 1) ∷ bits_of (operand_at values 2) ∷ [])
+by_places : (values : List Value) → length values ≤ 3
+    → map bits_of values ≡ take (length values) (bits_of (operand_at values 0) ∷ bits_of (operand_at values 1) ∷ bits_of (operand_at values 2) ∷ [])
 by_places [] few = refl
 by_places (a ∷ []) few = refl
 by_places (a ∷ b ∷ []) few = refl

@@ -31,12 +31,14 @@ reads_twos_complement size a positive below =
 read_back : (size a : ℕ) → 1 ≤ size → a < 2 ^ size → word size (signed size a) ≡ a
 read_back size a positive below = (reads_twos_complement size a positive below).0
 
-pub signed_lesser_is : (size a b : ℕ) → 1 ≤ size → a < 2 ^ size → b < 2 ^ size → word size (int_min (signed size a) (signed size b)) ≡ (if int_lt (signed size b) (signed size a) then b else a)
+pub signed_lesser_is : (size a b : ℕ) → 1 ≤ size → a < 2 ^ size → b < 2 ^ size
+    → word size (int_min (signed size a) (signed size b)) ≡ (if int_lt (signed size b) (signed size a) then b else a)
 signed_lesser_is size a b positive below_a below_b = by_test (int_lt (signed size b) (signed size a))
     (λ e. rw e (read_back size b positive below_b))
     (λ e. rw e (read_back size a positive below_a))
 
-pub signed_greater_is : (size a b : ℕ) → 1 ≤ size → a < 2 ^ size → b < 2 ^ size → word size (int_max (signed size a) (signed size b)) ≡ (if int_lt (signed size b) (signed size a) then a else b)
+pub signed_greater_is : (size a b : ℕ) → 1 ≤ size → a < 2 ^ size → b < 2 ^ size
+    → word size (int_max (signed size a) (signed size b)) ≡ (if int_lt (signed size b) (signed size a) then a else b)
 signed_greater_is size a b positive below_a below_b = by_test (int_lt (signed size b) (signed size a))
     (λ e. rw e (read_back size a positive below_a))
     (λ e. rw e (read_back size b positive below_b))

@@ -12,7 +12,7 @@ pub mod Table
 pub mod Tables
 pub mod TwosComplement
 pub mod Values
-pub mod WordLaws
 pub mod WholeCells
 pub mod WordBytes
+pub mod WordLaws
 pub mod Words

@@ -14,8 +14,10 @@ use Rattle.lists.specs.Tests.{by_test}
 pub data Reading (taken : List (Option Byte)) (offset size : ℕ) (r : Result Value RunFault) : Type 0 where
   reads_empty : list_any is_empty taken ≡ true → r ≡ Err Uninit → Reading taken offset size r
   reads_whole : list_any is_empty taken ≡ false → list_all (is_from offset size) taken ≡ true → r ≡ first_value taken → Reading taken offset size r
-  reads_pointers : list_any is_empty taken ≡ false → list_all (is_from offset size) taken ≡ false → list_any of_pointer taken ≡ true → r ≡ Err Mixed → Reading taken offset size r
-  reads_word : list_any is_empty taken ≡ false → list_all (is_from offset size) taken ≡ false → list_any of_pointer taken ≡ false → r ≡ Ok (Int size (word_of taken)) → Reading taken offset size r
+  reads_pointers : list_any is_empty taken ≡ false → list_all (is_from offset size) taken ≡ false → list_any of_pointer taken ≡ true → r ≡ Err Mixed
+      → Reading taken offset size r
+  reads_word : list_any is_empty taken ≡ false → list_all (is_from offset size) taken ≡ false → list_any of_pointer taken ≡ false
+      → r ≡ Ok (Int size (word_of taken)) → Reading taken offset size r
 
 -- a cell is read in one of these ways
 pub reading : (from : ℕ → Option Byte) (offset size : ℕ) → Reading (map from (bytes_of offset size)) offset size (cell_in from offset size)

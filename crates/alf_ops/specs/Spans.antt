@@ -20,7 +20,8 @@ offsets_step at (suc count) some =
     rw (one, next) refl
 
 -- two tables that agree on so many bytes give the same lists
-pub same_bytes : {A : Type 0} (f g : ℕ → A) (offset count : ℕ) → ((byte : ℕ) → offset ≤ byte → byte < offset + count → f byte ≡ g byte) → map f (offsets offset count) ≡ map g (offsets offset count)
+pub same_bytes : {A : Type 0} (f g : ℕ → A) (offset count : ℕ) → ((byte : ℕ) → offset ≤ byte → byte < offset + count → f byte ≡ g byte)
+    → map f (offsets offset count) ≡ map g (offsets offset count)
 same_bytes f g offset zero agree = refl
 same_bytes f g offset (suc count) agree =
     let here : f offset ≡ g offset = agree offset (omega arith) (omega arith) in
@@ -41,7 +42,8 @@ module _ {A : Type 0} (test : A → Bool) (f : ℕ → A) where
       elim (cases_eq byte offset) [ inl same ↦ subst (λ (b : ℕ). test (f b) ≡ true) (sym same) parts.0 | inr other ↦ each_passes (suc offset) count parts.1 byte (omega arith) (omega arith) ]
 
   -- what no byte passes, none passes
-  pub none_passes : (offset count : ℕ) → ((byte : ℕ) → offset ≤ byte → byte < offset + count → test (f byte) ≡ false) → list_any test (map f (offsets offset count)) ≡ false
+  pub none_passes : (offset count : ℕ) → ((byte : ℕ) → offset ≤ byte → byte < offset + count → test (f byte) ≡ false)
+      → list_any test (map f (offsets offset count)) ≡ false
   none_passes offset zero each = refl
   none_passes offset (suc count) each = or_from _ _ (each offset (omega arith) (omega arith)) (none_passes (suc offset) count (λ byte low high. each byte (omega arith) (omega arith)))
 
@@ -53,7 +55,8 @@ module _ {A : Type 0} (test : A → Bool) (f : ℕ → A) where
       elim (cases_eq byte offset) [ inl same ↦ subst (λ (b : ℕ). test (f b) ≡ false) (sym same) parts.0 | inr other ↦ each_fails (suc offset) count parts.1 byte (omega arith) (omega arith) ]
 
   -- where some passes, there is a byte that does
-  pub one_passes : (offset count : ℕ) → list_any test (map f (offsets offset count)) ≡ true → (byte : ℕ) × (offset ≤ byte) × (byte < offset + count) × (test (f byte) ≡ true)
+  pub one_passes : (offset count : ℕ) → list_any test (map f (offsets offset count)) ≡ true
+      → (byte : ℕ) × (offset ≤ byte) × (byte < offset + count) × (test (f byte) ≡ true)
   one_passes offset zero some = absurd (false≢true some)
   one_passes offset (suc count) some = by_test (test (f offset))
       (λ here. (offset, omega arith, omega arith, here))
@@ -63,7 +66,8 @@ module _ {A : Type 0} (test : A → Bool) (f : ℕ → A) where
       (found.0, omega (arith, found.1), omega (arith, found.2), found.3))
 
   -- where not all pass, there is a byte that does not
-  pub one_fails : (offset count : ℕ) → list_all test (map f (offsets offset count)) ≡ false → (byte : ℕ) × (offset ≤ byte) × (byte < offset + count) × (test (f byte) ≡ false)
+  pub one_fails : (offset count : ℕ) → list_all test (map f (offsets offset count)) ≡ false
+      → (byte : ℕ) × (offset ≤ byte) × (byte < offset + count) × (test (f byte) ≡ false)
   one_fails offset zero some = absurd (false≢true (sym some))
   one_fails offset (suc count) some = by_test (test (f offset))
       (λ here.
@@ -74,4 +78,5 @@ module _ {A : Type 0} (test : A → Bool) (f : ℕ → A) where
 
   -- a byte that passes is some
   pub some_pass : (offset count byte : ℕ) → offset ≤ byte → byte < offset + count → test (f byte) ≡ true → list_any test (map f (offsets offset count)) ≡ true
-  some_pass offset count byte low high passes = by_test (list_any test (map f (offsets offset count))) (λ yes. yes) (λ no. absurd (false≢true (sym (each_fails offset count no byte low high) ∙ passes)))
+  some_pass offset count byte low high passes =
+      by_test (list_any test (map f (offsets offset count))) (λ yes. yes) (λ no. absurd (false≢true (sym (each_fails offset count no byte low high) ∙ passes)))

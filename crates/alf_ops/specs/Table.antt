@@ -125,7 +125,8 @@ row_of SMax = binary (codes "s_max") (λ s a b. int_max (signed s a) (signed s b
 -- the operators in the order of the table
 abbrev pub operators : List Op
 operators =
-    Neg ∷ Not ∷ Add ∷ Sub ∷ CAdd ∷ CSub ∷ UMul ∷ SMul ∷ UDiv ∷ SDiv ∷ UMod ∷ SMod ∷ LShift ∷ RShift ∷ RShiftA ∷ And ∷ Or ∷ Xor ∷ Eq ∷ Neq ∷ ULt ∷ ULe ∷ UGt ∷ UGe ∷ SLt ∷ SLe ∷ SGt ∷ SGe ∷ SExt ∷ ZExt ∷ Trunc ∷ Select ∷ Conc ∷ If ∷ RotL ∷ RotR ∷ UMin ∷ UMax ∷ SMin ∷ SMax ∷ []
+    Neg ∷ Not ∷ Add ∷ Sub ∷ CAdd ∷ CSub ∷ UMul ∷ SMul ∷ UDiv ∷ SDiv ∷ UMod ∷ SMod ∷ LShift ∷ RShift ∷ RShiftA ∷ And ∷ Or ∷ Xor ∷ Eq ∷ Neq ∷ ULt
+    ∷ ULe ∷ UGt ∷ UGe ∷ SLt ∷ SLe ∷ SGt ∷ SGe ∷ SExt ∷ ZExt ∷ Trunc ∷ Select ∷ Conc ∷ If ∷ RotL ∷ RotR ∷ UMin ∷ UMax ∷ SMin ∷ SMax ∷ []
 
 -- the operator's name
 abbrev pub spelling : Op → List ℕ

@@ -50,24 +50,29 @@ pub put_same : (from : ℕ → Option Byte) (offset size : ℕ) (value : Value) 
 put_same from offset size value some = whole_cell (put offset size value from) offset size value some (λ byte low high. rw (in_cell offset size byte low high) refl)
 
 -- a store leaves a byte that it does not cover
-pub put_elsewhere : (from : ℕ → Option Byte) (offset size : ℕ) (value : Value) (byte : ℕ) → is_byte_of offset size byte ≡ false → put offset size value from byte ≡ from byte
+pub put_elsewhere : (from : ℕ → Option Byte) (offset size : ℕ) (value : Value) (byte : ℕ) → is_byte_of offset size byte ≡ false
+    → put offset size value from byte ≡ from byte
 put_elsewhere from offset size value byte other = rw other refl
 
 -- tables that agree on the bytes of a cell hold the same in it
-pub same_cell : (f g : ℕ → Option Byte) (offset size : ℕ) → ((byte : ℕ) → offset ≤ byte → byte < offset + size / 8 → f byte ≡ g byte) → cell_in f offset size ≡ cell_in g offset size
+pub same_cell : (f g : ℕ → Option Byte) (offset size : ℕ) → ((byte : ℕ) → offset ≤ byte → byte < offset + size / 8 → f byte ≡ g byte)
+    → cell_in f offset size ≡ cell_in g offset size
 same_cell f g offset size agree = ap (λ (taken : List (Option Byte)). contents taken offset size) (same_bytes f g offset (size / 8) agree)
 
 -- a store leaves a cell that shares no byte with it
-pub put_other : (from : ℕ → Option Byte) (offset size : ℕ) (value : Value) (place width : ℕ) → (place + width / 8 ≤ offset) ⊎ (offset + size / 8 ≤ place) → cell_in (put offset size value from) place width ≡ cell_in from place width
+pub put_other : (from : ℕ → Option Byte) (offset size : ℕ) (value : Value) (place width : ℕ)
+    → (place + width / 8 ≤ offset) ⊎ (offset + size / 8 ≤ place) → cell_in (put offset size value from) place width ≡ cell_in from place width
 put_other from offset size value place width apart =
     same_cell (put offset size value from) from place width
     (λ byte low high. put_elsewhere from offset size value byte (elim apart [ inl below ↦ below_cell offset size byte (omega arith) | inr above ↦ above_cell offset size byte (omega arith) ]))
 
 -- the table of a frame after a store in it, and in another
-pub origin_stored : (owner : Option ℕ) (frame offset size : ℕ) (value : Value) (history : List RunEvent) (byte : ℕ) → origin owner frame (Store frame offset size value ∷ history) byte ≡ put offset size value (origin owner frame history) byte
+pub origin_stored : (owner : Option ℕ) (frame offset size : ℕ) (value : Value) (history : List RunEvent) (byte : ℕ)
+    → origin owner frame (Store frame offset size value ∷ history) byte ≡ put offset size value (origin owner frame history) byte
 origin_stored owner frame offset size value history byte = rw (eq-eqb frame frame refl) refl
 
-pub origin_elsewhere : (owner : Option ℕ) (frame other offset size : ℕ) (value : Value) (history : List RunEvent) (byte : ℕ) → other ≢ frame → origin owner frame (Store other offset size value ∷ history) byte ≡ origin owner frame history byte
+pub origin_elsewhere : (owner : Option ℕ) (frame other offset size : ℕ) (value : Value) (history : List RunEvent) (byte : ℕ) → other ≢ frame
+    → origin owner frame (Store other offset size value ∷ history) byte ≡ origin owner frame history byte
 origin_elsewhere owner frame other offset size value history byte apart = rw (ne_eqb other frame apart) refl
 
 -- a byte of a cell that comes from a store of exactly this cell: the newest such store
@@ -80,12 +85,15 @@ one_store owner frame [] offset size first second one other in_one in_two from_o
 one_store owner frame (Enter entered ∷ history) offset size first second one other in_one in_two from_one from_two o1 s1 o2 s2 = by_test (is_owner owner entered)
     (λ mine. let e : None ≡ Some one = rw mine at from_one in cc)
     (λ not_mine. one_store owner frame history offset size first second one other in_one in_two (rw not_mine at from_one) (rw not_mine at from_two) o1 s1 o2 s2)
-one_store owner frame (Leave left ∷ history) offset size first second one other in_one in_two from_one from_two o1 s1 o2 s2 = one_store owner frame history offset size first second one other in_one in_two from_one from_two o1 s1 o2 s2
+one_store owner frame (Leave left ∷ history) offset size first second one other in_one in_two from_one from_two o1 s1 o2 s2 =
+    one_store owner frame history offset size first second one other in_one in_two from_one from_two o1 s1 o2 s2
 one_store owner frame (Store f o s v ∷ history) offset size first second one other in_one in_two from_one from_two o1 s1 o2 s2 = by_test (f == frame)
     (λ here. put_one (rw here at from_one) (rw here at from_two) (λ a b. one_store owner frame history offset size first second one other in_one in_two a b o1 s1 o2 s2))
     (λ there. one_store owner frame history offset size first second one other in_one in_two (rw there at from_one) (rw there at from_two) o1 s1 o2 s2)
   where
-    put_one : put o s v (origin owner frame history) first ≡ Some one → put o s v (origin owner frame history) second ≡ Some other → (origin owner frame history first ≡ Some one → origin owner frame history second ≡ Some other → one.value ≡ other.value) → one.value ≡ other.value
+    put_one : put o s v (origin owner frame history) first ≡ Some one → put o s v (origin owner frame history) second ≡ Some other
+        → (origin owner frame history first ≡ Some one → origin owner frame history second ≡ Some other → one.value ≡ other.value)
+        → one.value ≡ other.value
     put_one one_is two_is older = by_test (is_byte_of o s first)
         (λ covers_one.
         let a : Some (left_by o s v first) ≡ Some one = rw covers_one at one_is in

@@ -46,7 +46,8 @@ pub record KnowsPlace (byte : ℕ) (stored : Byte) : Type 0 where
   pub fits : FitsValue stored.size stored.value
 
 -- each byte of a sound history does
-pub knows : (owner : Option ℕ) (frame : ℕ) (history : List RunEvent) (byte : ℕ) (stored : Byte) → IsSound history → origin owner frame history byte ≡ Some stored → KnowsPlace byte stored
+pub knows : (owner : Option ℕ) (frame : ℕ) (history : List RunEvent) (byte : ℕ) (stored : Byte) → IsSound history
+    → origin owner frame history byte ≡ Some stored → KnowsPlace byte stored
 knows owner frame [] byte stored sound is = cc
 knows owner frame (Enter function ∷ history) byte stored sound is = by_test (is_owner owner function)
     (λ mine. let e : None ≡ Some stored = rw mine at is in cc)
@@ -56,7 +57,8 @@ knows owner frame (Store f o s v ∷ history) byte stored sound is = by_test (f 
     (λ here. in_frame (rw here at is) (λ e. knows owner frame history byte stored sound.1 e))
     (λ there. knows owner frame history byte stored sound.1 (rw there at is))
   where
-    in_frame : put o s v (origin owner frame history) byte ≡ Some stored → (origin owner frame history byte ≡ Some stored → KnowsPlace byte stored) → KnowsPlace byte stored
+    in_frame : put o s v (origin owner frame history) byte ≡ Some stored → (origin owner frame history byte ≡ Some stored → KnowsPlace byte stored)
+        → KnowsPlace byte stored
     in_frame e older = by_test (is_byte_of o s byte)
         (λ inside.
         let same : Some (left_by o s v byte) ≡ Some stored = rw inside at e in
@@ -86,14 +88,16 @@ origin_is_table owner frame history sound offset size is whole = go (origin owne
               also byte inside first at o s (origin owner frame history byte) refl (from_cell byte ends.0 ends.1);
         }
       where
-        also : (byte : ℕ) → is_byte_of offset size byte ≡ true → (first : Byte) → origin owner frame history offset ≡ Some first → first.offset ≡ offset → first.size ≡ size
+        also : (byte : ℕ) → is_byte_of offset size byte ≡ true → (first : Byte) → origin owner frame history offset ≡ Some first
+            → first.offset ≡ offset → first.size ≡ size
             → (stored : Option Byte) → origin owner frame history byte ≡ stored → is_from offset size stored ≡ true → stored ≡ Some (left_by offset size first.value byte)
         also byte inside first at o s None is h = absurd (false≢true h)
         also byte inside first at o s (Some stored) is h =
             let parts = and_parts _ _ h in
             let p : stored.offset ≡ offset = eqb-true stored.offset offset parts.0 in
             let t : stored.size ≡ size = eqb-true stored.size size parts.1 in
-            let v : stored.value ≡ first.value = one_store owner frame history offset size byte offset stored first inside (in_cell offset size offset (omega arith) (omega (arith, cell_ends offset size byte inside))) is at p t o s in
+            let v : stored.value ≡ first.value =
+            one_store owner frame history offset size byte offset stored first inside (in_cell offset size offset (omega arith) (omega (arith, cell_ends offset size byte inside))) is at p t o s in
             let k = knows owner frame history byte stored sound is in
             let place : stored.place ≡ byte - offset = k.place ∙ ap (λ (n : ℕ). byte - n) p in
             ap Some (same_byte stored (left_by offset size first.value byte) p t v place)
@@ -106,8 +110,10 @@ pub whole_word : (from : ℕ → Option Byte) (offset size own bits : ℕ) → I
     → ((byte : ℕ) → is_byte_of offset size byte ≡ true → from byte ≡ Some (left_by offset size (Int own bits) byte))
     → (list_any of_pointer (map from (bytes_of offset size)) ≡ false) × (own ≡ size) × (word_of (map from (bytes_of offset size)) ≡ bits)
 whole_word from offset size own bits is fits each =
-    let at : (byte : ℕ) → offset ≤ byte → byte < offset + size / 8 → from byte ≡ Some (left_by offset size (Int own bits) byte) = λ byte low high. each byte (in_cell offset size byte low high) in
-    let same : (byte : ℕ) → offset ≤ byte → byte < offset + size / 8 → from byte ≡ Some (left_by offset size (Int size bits) byte) = λ byte low high. subst (λ (n : ℕ). from byte ≡ Some (left_by offset size (Int n bits) byte)) fits.0 (at byte low high) in
+    let at : (byte : ℕ) → offset ≤ byte → byte < offset + size / 8 → from byte ≡ Some (left_by offset size (Int own bits) byte) =
+    λ byte low high. each byte (in_cell offset size byte low high) in
+    let same : (byte : ℕ) → offset ≤ byte → byte < offset + size / 8 → from byte ≡ Some (left_by offset size (Int size bits) byte) =
+    λ byte low high. subst (λ (n : ℕ). from byte ≡ Some (left_by offset size (Int n bits) byte)) fits.0 (at byte low high) in
     let w : word_of (map from (bytes_of offset size)) ≡ bits / 2 ^ (8 * 0) % 2 ^ (8 * (size / 8)) = stored_word from offset size bits offset 0 (size / 8) (omega arith) same in
     let n : 8 * (size / 8) ≡ size = omega (arith, is.1) in
     let small : bits / 2 ^ (8 * 0) % 2 ^ size ≡ bits = ap (λ (k : ℕ). k % 2 ^ size) (div-one bits) ∙ mod-eq_of_lt fits.1 in (

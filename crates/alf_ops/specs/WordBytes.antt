@@ -53,7 +53,8 @@ high_byte high low place small =
     ∙ ap (λ (n : ℕ). n / 2 ^ (8 * place) % 256) (shr_high high 8 low small)
 
 -- a byte of the word of bytes is the byte that stands there
-pub byte_at : (from : ℕ → Option Byte) (offset count place : ℕ) → place < count → byte_of place (word_of (map from (offsets offset count))) ≡ bits_at (from (offset + place))
+pub byte_at : (from : ℕ → Option Byte) (offset count place : ℕ) → place < count
+    → byte_of place (word_of (map from (offsets offset count))) ≡ bits_at (from (offset + place))
 byte_at from offset zero place low = absurd (omega arith)
 byte_at from offset (suc count) zero low =
     let here : offset ≡ offset + 0 = omega arith in
@@ -70,13 +71,15 @@ pub stored_word : (from : ℕ → Option Byte) (offset size bits : ℕ) (start p
     → word_of (map from (offsets start count)) ≡ bits / 2 ^ (8 * place) % 2 ^ (8 * count)
 stored_word from offset size bits start place zero at each = omega arith
 stored_word from offset size bits start place (suc count) at each =
-    let rest : word_of (map from (offsets (suc start) count)) ≡ bits / 2 ^ (8 * suc place) % 2 ^ (8 * count) = stored_word from offset size bits (suc start) (suc place) count (omega arith) (λ byte low high. each byte (omega arith) (omega arith)) in
+    let rest : word_of (map from (offsets (suc start) count)) ≡ bits / 2 ^ (8 * suc place) % 2 ^ (8 * count) =
+    stored_word from offset size bits (suc start) (suc place) count (omega arith) (λ byte low high. each byte (omega arith) (omega arith)) in
     let here : bits_at (from start) ≡ byte_of (start - offset) bits = ap bits_at (each start (omega arith) (omega arith)) in
     let p : start - offset ≡ place = omega arith in
     let low : bits_at (from start) ≡ bits / 2 ^ (8 * place) % 2 ^ 8 = here ∙ ap (λ (n : ℕ). byte_of n bits) p in
     let shift : 8 * suc place ≡ 8 * place + 8 = omega arith in
     let wide : 8 * suc count ≡ 8 * count + 8 = omega arith in
     let high : bits / 2 ^ (8 * suc place) ≡ bits / 2 ^ (8 * place) / 2 ^ 8 = ap (λ (n : ℕ). bits / 2 ^ n) shift ∙ sym (shr-shr bits (8 * place) 8) in
-    let whole : bits / 2 ^ (8 * place) % 2 ^ (8 * suc count) ≡ (bits / 2 ^ (8 * place) / 2 ^ 8 % 2 ^ (8 * count)) * 2 ^ 8 + bits / 2 ^ (8 * place) % 2 ^ 8 = ap (λ (n : ℕ). bits / 2 ^ (8 * place) % 2 ^ n) wide ∙ mod-pow-add (bits / 2 ^ (8 * place)) (8 * count) 8 in
+    let whole : bits / 2 ^ (8 * place) % 2 ^ (8 * suc count) ≡ (bits / 2 ^ (8 * place) / 2 ^ 8 % 2 ^ (8 * count)) * 2 ^ 8 + bits / 2 ^ (8 * place) % 2 ^ 8 =
+    ap (λ (n : ℕ). bits / 2 ^ (8 * place) % 2 ^ n) wide ∙ mod-pow-add (bits / 2 ^ (8 * place)) (8 * count) 8 in
     let upper : word_of (map from (offsets (suc start) count)) ≡ bits / 2 ^ (8 * place) / 2 ^ 8 % 2 ^ (8 * count) = rest ∙ ap (λ (n : ℕ). n % 2 ^ (8 * count)) high in
     omega arith

@@ -1,34 +1,13 @@
 //! Cycles and ranks, worked out by hand.
 
-ghost use Rattle.std.specs.Prelude.{◌<◌, IsTrue, All};
-ghost use Rattle.call_cycles.specs.Calls.{CallsWithin, calls_of};
-
 use call_cycles::{CallFault, call_ranks, ranked_calls_have_no_cycle};
 use std::alloc::{AllocError, Global};
 use std::process::Abort;
 use std::test::Fail;
-
-/// Whether each number is below the count.
-fn are_below(numbers: &[u32], count: usize) -> bool
-    ensures { IsTrue result → All (λ n. n < count) numbers.now }
-{
-    numbers.iter().all(|number| (*number as usize) < count)
-}
-
-/// Whether each function that is called is one of them.
-fn is_whole(calls: &[Vec<u32>]) -> bool
-    ensures { IsTrue result → CallsWithin (calls_of calls.now) }
-{
-    for callees in calls {
-        if !are_below(callees, calls.len()) {
-            return false;
-        }
-    }
-    true
-}
+use walks::is_closed;
 
 /// The rows as lists of their own.
-fn lists(alloc: Global, rows: &[&[u32]]) -> Result<Vec<Vec<u32>>, AllocError> {
+pub fn lists(alloc: Global, rows: &[&[u32]]) -> Result<Vec<Vec<u32>>, AllocError> {
     let mut calls = Vec::new(alloc);
     for row in rows {
         calls.push(row.to_vec(alloc)?)?;
@@ -47,7 +26,7 @@ enum Answer {
 /// The answer for these calls.
 fn answer_of(rt: &impl Abort, alloc: Global, calls: &[Vec<u32>]) -> Answer {
     assert!(rt;
-        is_whole(calls),
+        is_closed(calls),
         "a function that is called is none of them"
     );
     assert!(rt; calls.len() < 1000, "there are too many functions");

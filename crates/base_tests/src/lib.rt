@@ -1,4 +1,4 @@
-//! Tests of `flow_base`, `alf_ops` and `call_cycles`. Without tests this library is empty.
+//! Tests of `flow_base`, `alf_ops`, `walks`, `call_cycles` and `sweet_words`. Without tests this library is empty.
 #![tactic(auto)]
 
 // Files and sinks, names and digits.
@@ -11,6 +11,12 @@ mod operators;
 #[cfg(test)]
 mod values;
 
-// Cycles of calls.
+// Walks over tables, and cycles of calls.
 #[cfg(test)]
 mod cycles;
+#[cfg(test)]
+mod tables;
+
+// Words of the command line.
+#[cfg(test)]
+mod words;

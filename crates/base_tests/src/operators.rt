@@ -1,44 +1,11 @@
 //! Values from outside: each is computed by hand or by the rules' own words.
 
-ghost use Rattle.std.specs.Prelude.{IsSome, IsTrue, drop, ◌≤◌, ◌<◌, ◌^◌};
-ghost use Rattle.alf_ops.specs.Table.{result_size, operand_sizes};
-ghost use Rattle.alf_ops.specs.Pointers.{FitsValue, EachValueFits};
-ghost use Rattle.alf_ops.specs.Words.{EachFits};
-
 use alf_ops::{
-    Divide, Event, Frame, OPS, Op, OpRow, RunFault, Value, apply, apply_to_values, find,
-    load_after, operand, rows, shape,
+    Divide, FrameShape, OPS, Op, OpRow, RunEvent, RunFault, Value, apply, apply_to_values, find,
+    fits, load_after, operand, rows, shape, values_fit,
 };
 use std::process::Abort;
 use std::test::Fail;
-
-/// Whether the word is below 2 to the size.
-#[tactic(auto, using(crate::proofs::Operands::below_wide))]
-fn is_below(word: u64, size: u32) -> bool
-    ensures { IsTrue result → word < 2 ^ size }
-{
-    if size < 64 { word < 1 << size } else { true }
-}
-
-/// Whether these are the operands from operand i on.
-#[tactic(auto, using(alf_ops::specs::OperandLaws::operands_end))]
-fn fits_from(op: Op, sizes: &[u32], i: u32, args: &[u64]) -> bool
-    requires { IsSome (result_size op sizes.now) }
-    ensures { IsTrue result → EachFits (drop i (operand_sizes op sizes.now)) args.now }
-{
-    let Some((first, others)) = args.split_first() else {
-        return operand(op, sizes, i).is_none();
-    };
-    match operand(op, sizes, i) {
-        None => false,
-        Some(size) => {
-            if i >= 3 || !is_below(*first, size) {
-                return false;
-            }
-            fits_from(op, sizes, i + 1, others)
-        }
-    }
-}
 
 /// The operator's word, or None where it divides by 0.
 pub(crate) fn word_of(rt: &impl Abort, op: Op, sizes: &[u32], args: &[u64]) -> Option<u64> {
@@ -46,10 +13,7 @@ pub(crate) fn word_of(rt: &impl Abort, op: Op, sizes: &[u32], args: &[u64]) -> O
         shape(op, sizes).is_some(),
         "{op:?} has no result at {sizes:?}"
     );
-    assert!(rt;
-        fits_from(op, sizes, 0, args),
-        "{args:?} are no operands of {op:?}"
-    );
+    assert!(rt; fits(op, sizes, args), "{args:?} are no operands of {op:?}");
     apply(op, sizes, args).ok()
 }
 
@@ -57,7 +21,7 @@ pub(crate) fn word_of(rt: &impl Abort, op: Op, sizes: &[u32], args: &[u64]) -> O
 /// its operands, 0 where there is none.
 type Row = (Op, usize, [u32; 4], u32, [u32; 4]);
 
-static SHAPES: [Row; 32] = [
+static SHAPES: [Row; 37] = [
     (Op::UMul, 2, [32, 32, 0, 0], 64, [32, 32, 0, 0]),
     (Op::UMul, 2, [40, 40, 0, 0], 0, [0, 0, 0, 0]),
     (Op::SMul, 2, [64, 1, 0, 0], 0, [0, 0, 0, 0]),
@@ -90,6 +54,11 @@ static SHAPES: [Row; 32] = [
     (Op::Select, 2, [32, 0, 0, 0], 0, [0, 0, 0, 0]),
     (Op::Select, 4, [32, 0, 31, 0], 0, [0, 0, 0, 0]),
     (Op::If, 1, [16, 0, 0, 0], 16, [1, 16, 16, 0]),
+    (Op::UMin, 1, [8, 0, 0, 0], 8, [8, 8, 0, 0]),
+    (Op::UMax, 2, [8, 8, 0, 0], 0, [0, 0, 0, 0]),
+    (Op::SMin, 1, [64, 0, 0, 0], 64, [64, 64, 0, 0]),
+    (Op::SMin, 1, [65, 0, 0, 0], 0, [0, 0, 0, 0]),
+    (Op::SMax, 1, [1, 0, 0, 0], 1, [1, 1, 0, 0]),
 ];
 
 #[test]
@@ -147,7 +116,7 @@ fn a_name_stands_for_its_operator(rt: HostRuntime) -> Result<(), Fail> {
 /// A store of a word of 32 bits.
 macro_rules! stored {
     ($frame:literal, $offset:literal, $bits:literal) => {
-        Event::Store {
+        RunEvent::Store {
             frame: $frame,
             offset: $offset,
             size: 32,
@@ -156,31 +125,31 @@ macro_rules! stored {
     };
 }
 
-const FRAMES: [Frame; 3] = [
-    Frame {
+const FRAMES: [FrameShape; 3] = [
+    FrameShape {
         owner: None,
         bits: 64,
     },
-    Frame {
+    FrameShape {
         owner: Some(7),
         bits: 32,
     },
-    Frame {
+    FrameShape {
         owner: Some(8),
         bits: 32,
     },
 ];
 
 /// The newest event first.
-const EVENTS: [Event; 11] = [
+const EVENTS: [RunEvent; 11] = [
     stored!(1, 0, 6),
-    Event::Enter(7),
-    Event::Leave(8),
-    Event::Enter(8),
-    Event::Leave(7),
+    RunEvent::Enter(7),
+    RunEvent::Leave(8),
+    RunEvent::Enter(8),
+    RunEvent::Leave(7),
     stored!(1, 0, 5),
-    Event::Enter(7),
-    Event::Store {
+    RunEvent::Enter(7),
+    RunEvent::Store {
         frame: 0,
         offset: 2,
         size: 8,
@@ -191,6 +160,46 @@ const EVENTS: [Event; 11] = [
     stored!(0, 4, 2),
 ];
 
+/// Frames of 128 and of 32 bits.
+const WIDE_FRAMES: [FrameShape; 2] = [
+    FrameShape {
+        owner: None,
+        bits: 128,
+    },
+    FrameShape {
+        owner: None,
+        bits: 32,
+    },
+];
+
+/// A store of a word at an offset of a frame.
+macro_rules! put {
+    ($frame:literal, $offset:literal, $size:literal, $bits:literal) => {
+        RunEvent::Store {
+            frame: $frame,
+            offset: $offset,
+            size: $size,
+            value: Value::Int { size: $size, bits: $bits },
+        }
+    };
+}
+
+/// Stores that share bytes, the newest first. Afterwards the bytes of frame 0 are, from offset 0 on,
+/// 01 02 03 cd ab 06 ef be 11, then three of the pointer, then four without a store.
+const OVERLAPS: [RunEvent; 6] = [
+    put!(0, 8, 8, 0x11),
+    RunEvent::Store {
+        frame: 0,
+        offset: 8,
+        size: 32,
+        value: NEAR,
+    },
+    put!(0, 6, 16, 0xbeef),
+    put!(0, 3, 16, 0xabcd),
+    put!(0, 0, 64, 0x0807060504030201),
+    put!(1, 0, 8, 5),
+];
+
 /// How many of the newest events have not happened yet, the cell's frame, offset and size, what a
 /// load of it gives, and why.
 type LoadCase = (usize, u32, u32, u32, Result<Value, RunFault>, &'static str);
@@ -199,12 +208,15 @@ macro_rules! load {
     ($skipped:literal [$frame:literal $offset:literal $size:literal] gives $bits:literal, $why:literal) => {
         ($skipped, $frame, $offset, $size, Ok(Value::Int { size: $size, bits: $bits }), $why)
     };
+    ($skipped:literal [$frame:literal $offset:literal $size:literal] is $value:ident, $why:literal) => {
+        ($skipped, $frame, $offset, $size, Ok($value), $why)
+    };
     ($skipped:literal [$frame:literal $offset:literal $size:literal] faults $fault:ident, $why:literal) => {
         ($skipped, $frame, $offset, $size, Err(RunFault::$fault), $why)
     };
 }
 
-const LOADS: [LoadCase; 19] = [
+const LOADS: [LoadCase; 20] = [
     load!(0 [3 0 32] faults Dead, "there is no such frame"),
     load!(0 [2 0 32] faults Dead, "the function was left"),
     load!(0 [2 8 32] faults Dead, "dead comes before bounds"),
@@ -215,35 +227,68 @@ const LOADS: [LoadCase; 19] = [
     load!(1 [1 0 32] faults Uninit, "what was stored before it was entered again is gone"),
     load!(0 [0 4 32] gives 4, "the newest of two stores"),
     load!(9 [0 4 32] gives 2, "the older of them, before the newer"),
-    load!(0 [0 0 32] faults Mixed, "a newer store shares a byte"),
+    load!(0 [0 0 32] gives 589827, "3 with 9 in its third byte"),
     load!(8 [0 0 32] gives 3, "before that store"),
     load!(0 [0 2 8] gives 9, "the narrow cell"),
-    load!(8 [0 0 64] faults Mixed, "a wider cell"),
-    load!(8 [0 0 16] faults Mixed, "a narrower cell"),
+    load!(8 [0 0 64] gives 17179869187, "4 above 3"),
+    load!(8 [0 0 16] gives 3, "the low half of 3"),
     load!(0 [0 5 32] faults Bounds, "one byte too far"),
     load!(0 [0 4 64] faults Bounds, "four bytes too far"),
     load!(0 [0 4294967295 8] faults Bounds, "the greatest offset"),
     load!(11 [0 0 32] faults Uninit, "before any event"),
+    load!(11 [0 5 32] faults Bounds, "bounds comes before uninit"),
 ];
+
+const OVERLAP_LOADS: [LoadCase; 19] = [
+    load!(0 [0 0 64] gives 0xbeef06abcd030201, "eight bytes of three stores"),
+    load!(0 [0 2 16] gives 0xcd03, "two bytes of two stores"),
+    load!(0 [0 3 16] gives 0xabcd, "the very cell of a store"),
+    load!(0 [0 4 16] gives 0x06ab, "the high byte of one store below a byte of an older one"),
+    load!(0 [0 7 8] gives 0xbe, "the high byte of a store"),
+    load!(0 [0 6 8] gives 0xef, "the low byte of a store"),
+    load!(3 [0 2 16] gives 0xcd03, "before the newer of two stores"),
+    load!(4 [0 0 64] gives 0x0807060504030201, "the whole store"),
+    load!(4 [0 1 32] gives 0x05040302, "bytes within one store"),
+    load!(1 [0 8 32] is NEAR, "the pointer"),
+    load!(1 [0 8 8] faults Mixed, "a byte of a pointer"),
+    load!(1 [0 6 32] faults Mixed, "bytes of a word and of a pointer"),
+    load!(1 [0 8 64] faults Uninit, "uninit comes before mixed"),
+    load!(0 [0 8 32] faults Mixed, "a pointer with a byte of a word in it"),
+    load!(0 [0 8 8] gives 0x11, "that byte"),
+    load!(0 [0 8 16] faults Mixed, "that byte and one of the pointer"),
+    load!(0 [0 11 16] faults Uninit, "a byte of the pointer and one without a store"),
+    load!(0 [1 0 32] faults Uninit, "one byte of four has a store"),
+    load!(0 [1 0 8] gives 5, "the byte that has it"),
+];
+
+/// Loads after events answer as these cases say.
+fn check_loads(rt: &impl Abort, frames: &[FrameShape], events: &[RunEvent], cases: &[LoadCase]) {
+    for (skipped, frame, offset, size, expected, why) in cases {
+        assert!(rt; *skipped <= events.len() && 8 <= *size && *size <= 64);
+        let place = Value::Ptr {
+            frame: *frame,
+            offset: *offset,
+        };
+        let answer = load_after(frames, &events[*skipped..], place, *size);
+        assert_eq!(rt; answer, *expected, "{why}");
+    }
+}
 
 #[test]
 fn a_load_answers_by_the_events(rt: HostRuntime) -> Result<(), Fail> {
-    let (frames, events, cases) = (FRAMES, EVENTS, LOADS);
-    for (skipped, frame, offset, size, expected, why) in cases {
-        assert!(rt; skipped <= 11);
-        let answer = load_after(
-            &frames,
-            &events[skipped..],
-            Value::Ptr { frame, offset },
-            size,
-        );
-        assert_eq!(rt; answer, expected, "{why}");
-    }
+    check_loads(&rt, &FRAMES, &EVENTS, &LOADS);
+    let (frames, events) = (FRAMES, EVENTS);
     assert_eq!(rt;
         load_after(&frames, &events, FOUR, 32),
         Err(RunFault::Kind),
         "a word is no address"
     );
+    Ok(())
+}
+
+#[test]
+fn a_load_reads_the_bytes_of_several_stores(rt: HostRuntime) -> Result<(), Fail> {
+    check_loads(&rt, &WIDE_FRAMES, &OVERLAPS, &OVERLAP_LOADS);
     Ok(())
 }
 
@@ -274,7 +319,7 @@ const NOTHING: Value = Value::Int { size: 32, bits: 0 };
 /// An operator at one or two sizes of 32, its operands and how many there are, and the outcome.
 type PointerCase = (Op, usize, [Value; 3], usize, Result<Value, RunFault>);
 
-const POINTERS: [PointerCase; 21] = [
+const POINTERS: [PointerCase; 45] = [
     (Op::Add, 1, [NEAR, FOUR, ZERO], 3, Ok(FAR)),
     (Op::Add, 1, [FOUR, NEAR, ZERO], 3, Ok(FAR)),
     (Op::Add, 1, [NEAR, FAR, ZERO], 3, Err(RunFault::Kind)),
@@ -296,37 +341,31 @@ const POINTERS: [PointerCase; 21] = [
     (Op::If, 1, [ZERO, NEAR, FOUR], 3, Ok(FOUR)),
     (Op::Neg, 1, [NEAR, ZERO, ZERO], 1, Err(RunFault::Kind)),
     (Op::Neg, 1, [NOTHING, ZERO, ZERO], 1, Ok(NOTHING)),
+    (Op::Eq, 1, [NOTHING, NEAR, ZERO], 2, Err(RunFault::Kind)),
+    (Op::Neq, 1, [NEAR, NEAR, ZERO], 2, Ok(ZERO)),
+    (Op::Neq, 1, [NEAR, FAR, ZERO], 2, Ok(ONE)),
+    (Op::Neq, 1, [NEAR, NOTHING, ZERO], 2, Err(RunFault::Kind)),
+    (Op::Neq, 1, [NOTHING, NEAR, ZERO], 2, Err(RunFault::Kind)),
+    (Op::ULt, 1, [FAR, NEAR, ZERO], 2, Ok(ZERO)),
+    (Op::ULt, 1, [NEAR, FOUR, ZERO], 2, Err(RunFault::Kind)),
+    (Op::ULt, 1, [FOUR, NEAR, ZERO], 2, Err(RunFault::Kind)),
+    (Op::ULt, 1, [NEAR, OTHER, ZERO], 2, Err(RunFault::Pointers)),
+    (Op::ULe, 1, [NEAR, NEAR, ZERO], 2, Ok(ONE)),
+    (Op::ULe, 1, [NEAR, FOUR, ZERO], 2, Err(RunFault::Kind)),
+    (Op::ULe, 1, [FOUR, NEAR, ZERO], 2, Err(RunFault::Kind)),
+    (Op::UGt, 1, [FAR, NEAR, ZERO], 2, Ok(ONE)),
+    (Op::UGt, 1, [NEAR, FOUR, ZERO], 2, Err(RunFault::Kind)),
+    (Op::UGt, 1, [FOUR, NEAR, ZERO], 2, Err(RunFault::Kind)),
+    (Op::UGe, 1, [NEAR, FAR, ZERO], 2, Ok(ZERO)),
+    (Op::UGe, 1, [NEAR, FOUR, ZERO], 2, Err(RunFault::Kind)),
+    (Op::UGe, 1, [FOUR, NEAR, ZERO], 2, Err(RunFault::Kind)),
+    (Op::UMin, 1, [NEAR, FAR, ZERO], 2, Err(RunFault::Kind)),
+    (Op::UMax, 1, [NEAR, FOUR, ZERO], 2, Err(RunFault::Kind)),
+    (Op::SMin, 1, [FOUR, NEAR, ZERO], 2, Err(RunFault::Kind)),
+    (Op::SMax, 1, [NEAR, NEAR, ZERO], 2, Err(RunFault::Kind)),
+    (Op::If, 1, [ONE, FOUR, NEAR], 3, Ok(FOUR)),
+    (Op::If, 1, [ZERO, FOUR, NEAR], 3, Ok(NEAR)),
 ];
-
-/// Whether the value has the size.
-fn is_of(value: Value, size: u32) -> bool
-    ensures { IsTrue result → FitsValue size value }
-{
-    match value {
-        Value::Int { size: own, bits } => own == size && is_below(bits, size),
-        Value::Ptr { .. } => size == 32,
-    }
-}
-
-/// Whether these are the operands from operand i on.
-#[tactic(auto, using(alf_ops::specs::OperandLaws::operands_end))]
-fn values_fit_from(op: Op, sizes: &[u32], i: u32, values: &[Value]) -> bool
-    requires { IsSome (result_size op sizes.now) }
-    ensures { IsTrue result → EachValueFits (drop i (operand_sizes op sizes.now)) values.now }
-{
-    let Some((first, others)) = values.split_first() else {
-        return operand(op, sizes, i).is_none();
-    };
-    match operand(op, sizes, i) {
-        None => false,
-        Some(size) => {
-            if i >= 3 || !is_of(*first, size) {
-                return false;
-            }
-            values_fit_from(op, sizes, i + 1, others)
-        }
-    }
-}
 
 /// The operator's outcome at these values.
 fn outcome_of(rt: &impl Abort, op: Op, sizes: &[u32], values: &[Value]) -> Result<Value, RunFault> {
@@ -335,7 +374,7 @@ fn outcome_of(rt: &impl Abort, op: Op, sizes: &[u32], values: &[Value]) -> Resul
         "{op:?} has no result at {sizes:?}"
     );
     assert!(rt;
-        values_fit_from(op, sizes, 0, values),
+        values_fit(op, sizes, values),
         "{values:?} are no operands of {op:?}"
     );
     apply_to_values(op, sizes, values)

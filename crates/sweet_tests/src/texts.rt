@@ -311,7 +311,11 @@ const OPERATORS: &str =
 { return { conc 32 16 { dec_unsigned 32 0 } { dec_unsigned 32 1 } } }
 { return { if 32 { dec_unsigned 32 0 } { dec_unsigned 32 1 } { dec_unsigned 32 2 } } }
 { return { rot_l 32 16 { dec_unsigned 32 0 } { dec_unsigned 32 1 } } }
-{ return { rot_r 32 16 { dec_unsigned 32 0 } { dec_unsigned 32 1 } } } } } } } }
+{ return { rot_r 32 16 { dec_unsigned 32 0 } { dec_unsigned 32 1 } } }
+{ return { u_min 32 { dec_unsigned 32 0 } { dec_unsigned 32 1 } } }
+{ return { u_max 32 { dec_unsigned 32 0 } { dec_unsigned 32 1 } } }
+{ return { s_min 32 { dec_unsigned 32 0 } { dec_unsigned 32 1 } } }
+{ return { s_max 32 { dec_unsigned 32 0 } { dec_unsigned 32 1 } } } } } } } }
 "#;
 
 const RETURNS_TWICE: &str =

@@ -5,7 +5,8 @@ ghost use Rattle.walks.specs.Tables.{IsClosed, rows_of};
 
 /// Whether each node to which one leads has a row. Takes time linear in the table.
 pub fn is_closed(table: &[Vec<u32>]) -> bool
-    ensures { IsTrue result ↔ IsClosed (rows_of table.now) }
+    ensures closed { IsTrue result → IsClosed (rows_of table.now) }
+    ensures only { IsClosed (rows_of table.now) → IsTrue result }
 {
     for row in table {
         if !are_below(row, table.len()) {

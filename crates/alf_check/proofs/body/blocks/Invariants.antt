@@ -1,7 +1,7 @@
 use Rattle.std.proofs.Common.{◌≡◌, ◌<◌, ◌++◌, map, length}
 use Rattle.alf_program.specs.Tree.{item_of}
 use Rattle.alf_check.specs.Blocks.{blocks_of}
-use Rattle.alf_check.specs.Resolved.{block_of}
+use Rattle.alf_check.specs.CheckedPrograms.{block_of}
 use Rattle.alf_check.specs.Numbered.{numbered_blocks}
 use Rattle.alf_check.specs.Names.{numbers_of}
 use Rattle.alf_check.proofs.body.blocks.Given as goal

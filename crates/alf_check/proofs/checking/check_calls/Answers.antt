@@ -12,4 +12,4 @@ call_ranks-requires-clause-within c =
 pub returns-in-Ok-call_ranks-clause-ranked : goal.returns-in-Ok-call_ranks-clause-ranked
 returns-in-Ok-call_ranks-clause-ranked c =
     let are : calls_of c.as_slice-calls.result.now ≡ calls_in (program_of c.args.program.now) = search rules in
-    (c.in-Ok-call_ranks.field-0.items, subst (λ (calls : List (List ℕ)). IsRanked calls c.in-Ok-call_ranks.field-0.items) are c.in-Ok-call_ranks.ensures.ranked)
+    subst (λ (calls : List (List ℕ)). IsRanked calls c.in-Ok-call_ranks.ranks.items) are c.in-Ok-call_ranks.ensures.ranked

@@ -1,23 +1,27 @@
-use Rattle.std.proofs.Common.{subst, sym, rules}
+use Rattle.std.proofs.Common.{◌≡◌, ◌<◌, length, map, subst, sym, ap, arith, rules}
+use Rattle.std.proofs.lemmas.List.{length-map}
 use Rattle.alf_program.specs.Tree.{function_of, program_of}
-use Rattle.alf_check.specs.Kept.{IsKept}
-use Rattle.alf_check.specs.Checking.{calls_in, Passes}
+use Rattle.alf_check.specs.CheckedPrograms.{CheckedParts, seen}
+use Rattle.alf_check.specs.Numbered.{numbered}
+use Rattle.alf_check.specs.Kept.{IsBounded, IsKept}
+use Rattle.alf_check.proofs.FramePlaces.{count_rows}
 use Rattle.alf_check.proofs.Kept.{kept}
-use Rattle.alf_check.proofs.Whole.{length_numbered, made}
+use Rattle.alf_check.proofs.Making.{made, bounded}
 use Rattle.alf_check.proofs.program.numbered.Goals as goal
+
+pub all_functions-requires-clause-frames : goal.all_functions-requires-clause-frames
+all_functions-requires-clause-frames c =
+    let count = count_rows (program_of c.args.program.now) in
+    let rows = ap length c.in_ok-frames.ensures.rows in
+    let few = c.in_ok-frames.ensures.few in
+    omega arith
 
 pub invariant_of-result : goal.invariant_of-result
 invariant_of-result c =
     let whole = program_of c.args.program.now in
-    let many = length_numbered function_of c.in_ok-frames.frames.items c.in_ok-funcs.funcs.items c.args.program.now.funcs.items (search rules) in
-    let passes : Passes whole c.args.root.now = record { sound = c.requires.sound; falls = c.ranked_calls_have_no_cycle.ensures (calls_in whole) c.requires.ranked.0 c.requires.ranked.1; starts = c.requires.starts } in
-    let keeps = kept whole c.args.root.now c.requires.ranked.0 c.requires.spelled c.requires.written passes c.requires.ranked.1 in
-    record {
-      few_funcs = search rules;
-      few_blocks = c.in_ok-blocks.ensures.few;
-      kept = subst IsKept (sym (made whole c.args.root.now c.in_ok-frames.frames.items c.in_ok-funcs.funcs.items c.in_ok-blocks.blocks.items c.in_ok-inits.inits.items c.in_ok-exports.exports.items c.func_number.result
-          (search rules) (search rules) (search rules) (search rules) (search rules) (search rules))) keeps;
-    }
-
-pub returns : goal.returns
-returns c = made (program_of c.args.program.now) c.args.root.now _ _ _ _ _ _ (search rules) (search rules) (search rules) (search rules) (search rules) (search rules)
+    let parts : CheckedParts = record { frames = c.in_ok-frames.frames.items; funcs = c.in_ok-funcs.funcs.items; inits = c.in_ok-inits.inits.items; exports = c.in_ok-exports.exports.items; root = c.func_number.result; ranks = c.args.ranks.items } in
+    let is : seen parts ≡ numbered whole c.args.root.now parts.ranks = made whole c.args.root.now parts (search rules) (search rules) (search rules) (search rules) (search rules) in
+    let long = length-map c.args.program.now.funcs.items function_of in
+    let funcs : length whole.funcs < 4294967295 = let few : length c.args.program.now.funcs.items < 4294967295 = search rules in omega arith in
+    let few = bounded whole parts (search rules) c.in_ok-frames.ensures.few funcs c.in_ok-exports.ensures.few c.in_ok-funcs.ensures.few in
+    subst IsKept (sym is) (kept whole c.args.root.now parts.ranks c.requires.spelled c.requires.written c.requires.passes c.requires.ranked (subst IsBounded is few))

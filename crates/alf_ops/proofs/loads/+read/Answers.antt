@@ -24,6 +24,7 @@ overflow_mul-result-in-Some t c =
 
 pub overflow_add-result : goal.overflow_add-result
 overflow_add-result t c =
-    let wide : c.read-rest.result.word * 256 + c.byte_in-low.result < 2 ^ (8 * c.args.count) = wider c.read-rest.result.word c.args.count c.byte_in-low.result (omega arith) c.read-rest.ensures.small c.byte_in-low.ensures.small in
+    let wide : c.read-rest.result.word * 256 + c.byte_in-low.result < 2 ^ (8 * c.args.count) =
+    wider c.read-rest.result.word c.args.count c.byte_in-low.result (omega arith) c.read-rest.ensures.small c.byte_in-low.ensures.small in
     let small : 2 ^ (8 * c.args.count) ≤ 2 ^ 64 = within_word c.args.count c.requires.few in
     omega arith

@@ -11,14 +11,14 @@ loop-row-preserved c =
     (subst (λ (xs : List ℕ). All (λ n. n < length c.args.table.now) xs) (sym is) (c.are_below.ensures.0 c.if-not-are_below.false))
 
 pub returns-then-not-are_below : goal.returns-then-not-are_below
-returns-then-not-are_below c = (
-  λ is. absurd (let e : false ≡ true = is in cc),
-  λ closed. absurd (
+returns-then-not-are_below c = record {
+  closed = λ is. absurd (let e : false ≡ true = is in cc);
+  only = λ closed. absurd (
       let yes = c.are_below.ensures.1 (row_low c.args.table.now c.loop-row.row-index c.row-item.result c.deref.result.now c.loop-row-test.true c.row-item.is c.deref.ensures.value closed) in
       let e : false ≡ true = sym c.if-not-are_below.true ∙ yes in
       cc
-      ),
-)
+      );
+}
 
 pub returns : goal.returns
-returns c = (λ is. rows_closed c.args.table.now (λ u low. c.loop-row.invariant u (omega arith)), λ closed. refl)
+returns c = record { closed = λ is. rows_closed c.args.table.now (λ u low. c.loop-row.invariant u (omega arith)); only = λ closed. refl }

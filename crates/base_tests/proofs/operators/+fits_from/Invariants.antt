@@ -1,5 +1,0 @@
-use Rattle.std.proofs.Common.{length}
-use Rattle.base_tests.proofs.operators.+fits_from.Given as goal
-
-abbrev pub decreases-fits_from : goal.decreases-fits_from
-decreases-fits_from l = length l.args.now

@@ -1,0 +1,36 @@
+-- The commands, and what each takes after its name.
+--   Text      a word, as its bytes
+--   Form      a command: its name, its positionals, its options with a value, its flags
+--   named     the first of some names that is this text
+--   forms     the table of the commands
+--   form_named  the form of a command by its name
+use Rattle.std.specs.Prelude.{ℕ, List, [], ◌∷◌, Option, find, codes}
+use Rattle.std.specs.Str.{bytes_eq}
+
+abbrev pub Text : Type 0
+Text = List ℕ
+
+-- a command: each positional is required, and an option may be left out
+pub record Form : Type 0 where
+  pub name : Text
+  pub positionals : List Text
+  pub values : List Text
+  pub flags : List Text
+
+-- the first of the names that is this text
+abbrev pub named : Text → List Text → Option Text
+named text names = find (λ name. bytes_eq name text) names
+
+abbrev pub analyse_form : Form
+analyse_form = record { name = codes "analyse"; positionals = codes "file" ∷ []; values = codes "turns" ∷ []; flags = [] }
+
+abbrev pub print_form : Form
+print_form = record { name = codes "print"; positionals = codes "file" ∷ []; values = []; flags = [] }
+
+-- the commands that are built
+abbrev pub forms : List Form
+forms = analyse_form ∷ print_form ∷ []
+
+-- the form of the command that the word names
+abbrev pub form_named : Text → List Form → Option Form
+form_named word table = find (λ form. bytes_eq form.name word) table

@@ -1,0 +1,32 @@
+-- The values of options and positionals.
+--   is_number        one to twenty digits, and nothing else
+--   number_in        the number of the text, where it is in a range
+--   number_or        the same of an option, with the number that stands where it is left out
+--   program_file     the file of a program, which is none of C
+use Rattle.std.specs.Prelude.{ℕ, Bool, ◌&&◌, nat_le, nat_eq, length, Option, None, Some, if◌then◌else◌, codes}
+use Rattle.std.specs.Char.{is_ascii_digit}
+use Rattle.std.specs.List.{list_all, ends_with}
+use Rattle.std.specs.Str.Parse.{digits_value}
+use Rattle.sweet_words.specs.Forms.{Text}
+
+-- one to twenty digits, and nothing else
+abbrev pub is_number : Text → Bool
+is_number text = nat_le 1 (length text) && (nat_le (length text) 20 && list_all is_ascii_digit text)
+
+-- the number that the digits write, in decimal
+abbrev pub number_of : Text → ℕ
+number_of text = digits_value 10 text
+
+-- the number of the text, from the least to the most
+abbrev pub number_in : ℕ → ℕ → Text → Option ℕ
+number_in least most text = if is_number text && (nat_le least (number_of text) && nat_le (number_of text) most) then Some (number_of text) else None
+
+-- the same, or `other` where the option is left out
+abbrev pub number_or : ℕ → ℕ → ℕ → Option Text → Option ℕ
+number_or other least most None = Some other
+number_or other least most (Some text) = number_in least most text
+
+-- a file that is told as a program: one whose name ends in `.c` is none
+abbrev pub program_file : Option Text → Option Text
+program_file None = None
+program_file (Some file) = if ends_with nat_eq file (codes ".c") then None else Some file

@@ -1,0 +1,26 @@
+//! The commands, and what each takes after its name.
+
+/// A command: the name that is its first word, its positionals, which are all required, its
+/// options with a value, and its flags.
+pub struct Form {
+    pub name: &'static str,
+    pub positionals: &'static [&'static str],
+    pub values: &'static [&'static str],
+    pub flags: &'static [&'static str],
+}
+
+/// The commands that are built: a further command is a further row.
+pub static FORMS: [Form; 2] = [
+    Form {
+        name: "analyse",
+        positionals: &["file"],
+        values: &["turns"],
+        flags: &[],
+    },
+    Form {
+        name: "print",
+        positionals: &["file"],
+        values: &[],
+        flags: &[],
+    },
+];

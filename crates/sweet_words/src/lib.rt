@@ -1,0 +1,22 @@
+//! The words of the command line, read by one command of `clap`.
+//!
+//! `read` takes the words after the program's name and gives the command that they are. Words are a
+//! command exactly where `clap` takes them and the values have their forms: its clauses say so in
+//! the words of `specs/`, which know no parser.
+#![tactic(auto)]
+
+// The commands and what each takes, as `clap` reads them.
+mod forms;
+mod program;
+
+// What the words give.
+mod command;
+mod reading;
+mod values;
+
+// Laws of words.
+mod laws;
+
+pub use command::Command;
+pub use laws::options_stand_freely;
+pub use reading::{WordsFault, read};

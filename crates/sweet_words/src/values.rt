@@ -1,0 +1,60 @@
+//! The values of positionals and options.
+ghost use Rattle.std.specs.Prelude.{◌≡◌, ◌<◌, option_map};
+ghost use Rattle.std.specs.Char.{is_ascii_digit};
+ghost use Rattle.std.specs.List.{list_all};
+ghost use Rattle.sweet_words.specs.Numbers.{is_number, number_in, number_or, program_file as file_told};
+
+const MOST_DIGITS: usize = 20;
+
+// The file of a program: none where its name ends in `.c`, since no command takes C yet.
+pub fn program_file<'a>(text: Option<&'a str>) -> Option<&'a str>
+    ensures { option_map (λ s. s.now) result ≡ file_told (option_map (λ s. s.now) text.entry) }
+{
+    let file = text?;
+    if file.as_bytes().ends_with(b".c") {
+        return None;
+    }
+    Some(file)
+}
+
+// The number of the option, or `other` where it is left out.
+pub fn number(text: Option<&str>, other: u32, least: u32, most: u32) -> Option<u32>
+    ensures { result ≡ number_or other least most (option_map (λ s. s.now) text.entry) }
+{
+    match text {
+        Some(text) => number_within(text, least, most),
+        None => Some(other),
+    }
+}
+
+fn number_within(text: &str, least: u32, most: u32) -> Option<u32>
+    ensures { result ≡ number_in least most text.now }
+{
+    if !is_numeral(text) {
+        return None;
+    }
+    let number = text.parse::<u32>().ok()?;
+    if number < least || number > most {
+        return None;
+    }
+    Some(number)
+}
+
+// Whether the text is one to twenty digits, and nothing else.
+fn is_numeral(text: &str) -> bool
+    ensures { result ≡ is_number text.now }
+{
+    let bytes = text.as_bytes();
+    !bytes.is_empty() && bytes.len() <= MOST_DIGITS && are_digits(bytes)
+}
+
+fn are_digits(bytes: &[u8]) -> bool
+    ensures { result ≡ list_all is_ascii_digit bytes.now }
+{
+    for byte in bytes {
+        if !byte.is_ascii_digit() {
+            return false;
+        }
+    }
+    true
+}

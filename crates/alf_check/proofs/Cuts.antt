@@ -9,7 +9,7 @@ use Rattle.lists.specs.Members.{contained, no_member, first_member, further_memb
 use Rattle.lists.specs.Tests.{by_test}
 use Rattle.alf_check.specs.Blocks.{begins_between, joined, blocks_of}
 use Rattle.alf_check.specs.Numbers.{has_label, block_number}
-use Rattle.alf_check.proofs.Written.{is_ending, ends_well}
+use Rattle.alf_program.specs.Writable.{is_ending, ends_well}
 use Rattle.alf_check.proofs.Standing.{some_place, stands, place_there}
 
 pub data IsCut : List BodyItem → List (List BodyItem) → Type 0 where

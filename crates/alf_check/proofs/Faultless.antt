@@ -2,7 +2,7 @@
 --   IsSoundItem whole k func i item   the item, item i of function k, has nothing twice, names what stands somewhere, and keeps the size rules
 --   IsSoundFunction whole k func      no two functions have the name of function k, nor two frames that it sees one name, and its parts are sound
 --   IsSound whole                     no two global frames have one name, and the parts of the program are sound
-use Rattle.std.proofs.Common.{◌≡◌, ◌+◌, ℕ, zero, suc, Bool, true, false, not, ◌||◌, List, [], ◌∷◌, ◌++◌, Contains, flat_map, slice_get, Option, Some, None, zero-add, ap, sym, ◌∙◌, subst, refl, eqb-true, arith}
+use Rattle.std.proofs.Common.{◌≡◌, ◌+◌, ℕ, zero, suc, Bool, true, false, not, List, [], ◌∷◌, ◌++◌, Contains, flat_map, slice_get, Option, Some, None, zero-add, ap, sym, subst, refl, eqb-true, arith}
 use Rattle.std.proofs.lemmas.Bool.{false≢true, or_parts}
 use Rattle.std.proofs.lemmas.Option.{none-some, same_Some}
 use Rattle.lists.specs.Members.{no_member, first_or_further}

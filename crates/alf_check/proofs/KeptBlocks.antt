@@ -1,5 +1,5 @@
 -- Blocks that keep the rules.
-use Rattle.std.proofs.Common.{◌≡◌, ◌≢◌, ◌<◌, ◌%◌, ◌==◌, ◌^◌, ℕ, suc, Bool, true, false, List, [], ◌∷◌, ◌++◌, map, flat_map, slice_get, slice_index_or, All, AllPairs, Contains, Option, Some, None, is_some, option_map, unwrap_or, zero-add, refl, ap, sym, ◌∙◌, subst, eqb-true, eq-eqb, arith}
+use Rattle.std.proofs.Common.{◌≡◌, ◌≢◌, ◌<◌, ◌%◌, ◌==◌, ◌^◌, ℕ, suc, Bool, true, false, List, [], ◌∷◌, ◌++◌, map, flat_map, slice_get, slice_index_or, All, IfSome, AllPairs, Contains, Option, Some, None, is_some, option_map, unwrap_or, refl, ap, sym, ◌∙◌, subst, eqb-true, eq-eqb, arith}
 use Rattle.std.specs.Str.{bytes_eq}
 use Rattle.std.specs.List.{list_any}
 use Rattle.std.proofs.lemmas.Bool.{false≢true, and_parts, or_parts}
@@ -20,13 +20,13 @@ use Rattle.alf_faults.specs.Unknowns.{is_frame, unknown_in, unknown_among, unkno
 use Rattle.alf_faults.specs.Returns.{first_return}
 use Rattle.alf_faults.specs.Sizes.{targets_have, targets_fit, arguments_fit, agrees_behind, fits_function, fits_place}
 use Rattle.alf_check.specs.Blocks.{blocks_of}
-use Rattle.alf_check.specs.CheckedPrograms.{NumberedBlock, NumberedProgram, Call, Null, Store}
+use Rattle.alf_check.specs.CheckedPrograms.{NumberedBlock, NumberedProgram, Null, Store}
 use Rattle.alf_check.specs.Numbers.{Numbers, frame_rows, first_frame, func_number, block_number, numbers_in}
 use Rattle.alf_check.specs.Numbered.{numbered_function, numbered_targets, statements_by, end_by, numbered}
 use Rattle.alf_check.specs.Checking.{called_by, calls_in}
 use Rattle.alf_check.specs.Kept.{HasSize, KeepsStatement, GoesOn, TargetKeeps, CallKeeps, ReturnKeeps, KeepsEnding, KeepsBlock, KeepsResult, IsBlockOf}
 use Rattle.alf_check.specs.KeptLaws.{size_within, cell_from}
-use Rattle.alf_check.proofs.Written.{Each, NumIsWritten, IsWritten, ResultIsWritten, EntryIsWritten, FunctionIsWritten, is_ending}
+use Rattle.alf_program.specs.Writable.{AddressIsWritable, ExpressionIsWritable, TargetIsWritable, ItemIsWritable, is_ending, FunctionIsWritable}
 use Rattle.alf_check.proofs.Faultless.{IsSound, no_parts, when_not, when_none, exactly}
 use Rattle.alf_check.proofs.Standing.{of_each, same_name, Stands, stands, place_there}
 use Rattle.alf_check.proofs.SeenFrames.{arg_at, sees}
@@ -88,7 +88,7 @@ targets_apart block earlier (first ∷ targets) none =
 
 -- ---- a function
 
-module _ (whole : WholeProgram) (root ranks : List ℕ) (sound : IsSound whole) (written : Each FunctionIsWritten whole.funcs) (ranked : IsRanked (calls_in whole) ranks)
+module _ (whole : WholeProgram) (root ranks : List ℕ) (sound : IsSound whole) (written : All FunctionIsWritable whole.funcs) (ranked : IsRanked (calls_in whole) ranks)
     (k : ℕ) (func : Function) (at : slice_get whole.funcs k ≡ Some func) where
   abbrev program : NumberedProgram
   program = numbered whole root ranks
@@ -96,14 +96,14 @@ module _ (whole : WholeProgram) (root ranks : List ℕ) (sound : IsSound whole) 
   abbrev numbers : Numbers
   numbers = numbers_in whole (first_frame whole k) func
 
-  is_written : FunctionIsWritten func
-  is_written = of_each FunctionIsWritten whole.funcs k func written at
+  is_written : FunctionIsWritable func
+  is_written = of_each FunctionIsWritable whole.funcs k func written at
 
-  item_is_written : (i : ℕ) (item : BodyItem) → slice_get func.items i ≡ Some item → EntryIsWritten item
-  item_is_written i item is = of_each EntryIsWritten func.items i item is_written.items is
+  item_is_written : (i : ℕ) (item : BodyItem) → slice_get func.items i ≡ Some item → ItemIsWritable item
+  item_is_written i item is = of_each ItemIsWritable func.items i item is_written.items is
 
-  has_size : (t : NamedExpression) (size : ℕ) → IsWritten t → unknown_in whole func t ≡ [] → term_size t ≡ Some size → HasSize (frame_rows whole) k size (with_frames numbers.frame t)
-  has_size t size is none has = sized whole func (frame_rows whole) k numbers.frame (sees whole k func at) t size is none has
+  has_size : (t : NamedExpression) (size : ℕ) → ExpressionIsWritable t → unknown_in whole func t ≡ [] → term_size t ≡ Some size → HasSize (frame_rows whole) k size (with_frames numbers.frame t)
+  has_size t size is none has = sized whole func (frame_rows whole) k numbers.frame (sees whole k func at) t size is.parts none has
 
   -- ---- statements
 
@@ -135,9 +135,9 @@ module _ (whole : WholeProgram) (root ranks : List ℕ) (sound : IsSound whole) 
   leads label none =
       subst (λ (n : ℕ). block_number func.items label < n) (sym (count_at whole root ranks k func at)) (block_within func.items label (when_not (is_some (label_place func.items label)) (Unknown label) none))
 
-  keeps_result : (result : Option (List ℕ × ℕ)) → ResultIsWritten result → unknown_result whole func result ≡ [] → KeepsResult (frame_rows whole) k (option_map (λ to. (numbers.frame to.0, to.1)) result)
+  keeps_result : (result : Option (List ℕ × ℕ)) → IfSome result AddressIsWritable → unknown_result whole func result ≡ [] → KeepsResult (frame_rows whole) k (option_map (λ to. (numbers.frame to.0, to.1)) result)
   keeps_result None fits none = tt
-  keeps_result (Some to) fits none = record { sees = sees whole k func at to.0 (when_not (is_frame whole func to.0) (Unknown to.0) none); offset_fits = fits }
+  keeps_result (Some to) fits none = record { sees = sees whole k func at to.0 (when_not (is_frame whole func to.0) (Unknown to.0) none); offset_fits = fits.offset }
 
   -- a call is one of its function's calls, and leads to a lower rank
   lower : (i : ℕ) (item : BodyItem) (f : ℕ) → slice_get func.items i ≡ Some item → Contains (called_by whole.funcs item) f → slice_index_or ranks f 0 < slice_index_or ranks k 0
@@ -158,7 +158,7 @@ module _ (whole : WholeProgram) (root ranks : List ℕ) (sound : IsSound whole) 
       let p = place.0 in
       let found : Stands (λ (f : Function). bytes_eq f.name label) whole.funcs p = stands (λ (f : Function). bytes_eq f.name label) whole.funcs p place.1 in
       let called = found.member in
-      let called_written = of_each FunctionIsWritten whole.funcs p called written found.at in
+      let called_written = of_each FunctionIsWritable whole.funcs p called written found.at in
       let fits : fits_function p (Some called) k i args (is_some result) ≡ true =
       ap (λ (o : Option Function). fits_function p o k i args (is_some result)) (sym found.at) ∙ ap (λ (o : Option ℕ). fits_place whole.funcs o k i args (is_some result)) (sym place.1) ∙ item.fits
       in
@@ -169,10 +169,10 @@ module _ (whole : WholeProgram) (root ranks : List ℕ) (sound : IsSound whole) 
         function = numbered_function whole (first_frame whole p) called;
         at = there whole root ranks p called found.at;
         lower = lower i (Do (text.Call label args result)) p is (subst (Contains (func_number whole.funcs label ∷ [])) number (first_member (func_number whole.funcs label) []));
-        args_keep = fit whole func (frame_rows whole) k numbers.frame (sees whole k func at) (Some p) (first_frame whole p) called.args args tests.0 operands.0 w.0 called_written.args (arg_at whole p called found.at);
+        args_keep = fit whole func (frame_rows whole) k numbers.frame (sees whole k func at) (Some p) (first_frame whole p) called.args args tests.0 operands.0 w.1 called_written.args (arg_at whole p called found.at);
         gives = result_fits whole sound p called found.at called_written.items result to
             (λ r first. agreed whole sound k func i label args result at is p called found.at (same_name called.name label found.passed) r first tests.1);
-        result_keeps = keeps_result result w.1 operands.1;
+        result_keeps = keeps_result result w.2 operands.1;
         goes_on = on;
       })
 
@@ -196,7 +196,7 @@ module _ (whole : WholeProgram) (root ranks : List ℕ) (sound : IsSound whole) 
         size = size.0;
         value_has = has_size value size.0 w.0 names.0 size.1;
         targets_keep = all_images (TargetKeeps program k size.0) (λ target. (target.0.bits, block_number func.items target.1)) targets (λ target c. record {
-          fits = subst (λ (z : ℕ). target.0.bits < 2 ^ z) (target_size size.0 targets size.2 target c) (of_each (λ (t : Num × List ℕ). NumIsWritten t.0) targets c.0 target w.1 (placed targets target c)).2;
+          fits = subst (λ (z : ℕ). target.0.bits < 2 ^ z) (target_size size.0 targets size.2 target c) (of_each TargetIsWritable targets c.0 target w.1 (placed targets target c)).num.fits;
           there = leads target.1 (none_targets func.items targets labels.0 target c);
         });
         apart = targets_apart (block_number func.items) [] targets item.once;

@@ -1,5 +1,5 @@
 -- Frames that names stand for, and what they hold at first.
-use Rattle.std.proofs.Common.{◌≡◌, ◌≤◌, ◌+◌, ◌*◌, ◌%◌, ◌==◌, ◌||◌, ℕ, true, false, List, [], ◌∷◌, ◌++◌, length, nat_le, slice_get, Contains, Option, Some, None, is_some, option_map, unwrap_or, zero-add, refl, ap, sym, ◌∙◌, subst, inl, inr, eqb-true, leb-true, arith}
+use Rattle.std.proofs.Common.{◌≡◌, ◌+◌, ◌*◌, ◌%◌, ◌==◌, ◌||◌, ℕ, true, List, [], length, nat_le, slice_get, Option, Some, None, is_some, option_map, unwrap_or, zero-add, refl, ap, sym, ◌∙◌, inl, inr, eqb-true, leb-true, arith}
 use Rattle.std.specs.Str.{bytes_eq}
 use Rattle.std.proofs.lemmas.Bool.{false≢true, and_parts}
 use Rattle.alf_program.specs.declared.program.Num.{Num}
@@ -10,14 +10,14 @@ use Rattle.alf_faults.specs.Unknowns.{is_frame}
 use Rattle.alf_faults.specs.Sizes.{start_fits, is_export_size}
 use Rattle.alf_faults.specs.Faults.{frame_at, start_faults, start_faults_at, export_faults, export_faults_at}
 use Rattle.alf_check.specs.declared.rows.FrameRow.{FrameRow}
-use Rattle.alf_check.specs.Numbers.{row_for, frame_rows, first_frame, placed, frame_number}
+use Rattle.alf_check.specs.Numbers.{row_for, frame_rows, first_frame, frame_number}
 use Rattle.alf_check.specs.Numbered.{numbered_init, export_number}
-use Rattle.alf_check.specs.Kept.{IsSize, IsCellSize, IsWordOf, SeesFrame, InitFits, KeepsExport}
+use Rattle.alf_check.specs.Kept.{IsWordOf, SeesFrame, InitFits, KeepsExport}
 use Rattle.alf_check.specs.KeptLaws.{cell_from}
-use Rattle.alf_check.proofs.Written.{NumIsWritten, StartIsWritten}
+use Rattle.alf_program.specs.Writable.{NumIsWritable, InitialIsWritable}
 use Rattle.alf_check.proofs.Faultless.{when_not}
-use Rattle.alf_check.proofs.Standing.{Stands, stands, at_left, at_right}
-use Rattle.alf_check.proofs.FramePlaces.{own_frames, global_at, own_at}
+use Rattle.alf_check.proofs.Standing.{stands, at_left, at_right}
+use Rattle.alf_check.proofs.FramePlaces.{global_at, own_at}
 
 -- ---- frames of a name
 
@@ -82,17 +82,17 @@ found_frame frames name faults unknown none = by_place (frame_place frames name)
         record { i = i; frame = s.member; place = e; at = s.at; none = ap faults (sym s.at) ∙ ap (λ (o : Option ℕ). faults (frame_at frames o)) (sym e) ∙ none }
 
 -- a number that is written has its size
-pub word_of : (num : Num) → NumIsWritten num → IsWordOf num.size num
-word_of num written = record { same = refl; sized = record { some = written.0; most = written.1 }; fits = written.2 }
+pub word_of : (num : Num) → NumIsWritable num → IsWordOf num.size num
+word_of num written = record { same = refl; sized = record { some = written.some; most = written.small }; fits = written.fits }
 
 -- what one of these frames holds at first lies in it
 pub init_fits : (rows : List FrameRow) (owner : Option ℕ) (start : ℕ) (frames : List Allocation) → ((i : ℕ) (frame : Allocation) → slice_get frames i ≡ Some frame → slice_get rows (start + i) ≡ Some (row_for owner frame))
-    → (init : InitialValue) → start_faults frames init ≡ [] → StartIsWritten init → InitFits rows owner (numbered_init start frames init)
+    → (init : InitialValue) → start_faults frames init ≡ [] → InitialIsWritable init → InitFits rows owner (numbered_init start frames init)
 init_fits rows owner start frames standing init none written =
     let f = found_frame frames init.name (start_faults_at init) (λ e. cc) none in
     let fits = when_not (start_fits f.frame.bits init) (Size init.name None) f.none in
     let parts = and_parts ((init.num.size % 8) == 0) (nat_le (8 * init.offset + init.num.size) f.frame.bits) fits in
-    let word = word_of init.num written.0 in
+    let word = word_of init.num written.num in
     record {
       row = row_for owner f.frame;
       at = ap (λ (o : Option ℕ). slice_get rows (unwrap_or (option_map (λ p. start + p) o) 0)) f.place ∙ standing f.i f.frame f.at;
@@ -103,11 +103,11 @@ init_fits rows owner start frames standing init none written =
     }
 
 -- what a global frame holds at first
-pub global_init_fits : (whole : WholeProgram) (init : InitialValue) → start_faults whole.decls init ≡ [] → StartIsWritten init → InitFits (frame_rows whole) None (numbered_init 0 whole.decls init)
+pub global_init_fits : (whole : WholeProgram) (init : InitialValue) → start_faults whole.decls init ≡ [] → InitialIsWritable init → InitFits (frame_rows whole) None (numbered_init 0 whole.decls init)
 global_init_fits whole = init_fits (frame_rows whole) None 0 whole.decls (decl_of_all whole)
 
 -- and a frame of a function
-pub own_init_fits : (whole : WholeProgram) (k : ℕ) (func : Function) → slice_get whole.funcs k ≡ Some func → (init : InitialValue) → start_faults func.decls init ≡ [] → StartIsWritten init
+pub own_init_fits : (whole : WholeProgram) (k : ℕ) (func : Function) → slice_get whole.funcs k ≡ Some func → (init : InitialValue) → start_faults func.decls init ≡ [] → InitialIsWritable init
     → InitFits (frame_rows whole) (Some k) (numbered_init (first_frame whole k + length func.args) func.decls init)
 own_init_fits whole k func at = init_fits (frame_rows whole) (Some k) (first_frame whole k + length func.args) func.decls (decl_at whole k func at)
 

@@ -1,5 +1,5 @@
 -- Sizes of numbered expressions.
-use Rattle.std.proofs.Common.{◌≡◌, ◌≤◌, ◌<◌, ◌+◌, ◌-◌, ℕ, Bool, true, false, cond, ◌&&◌, nat_le, nat_lt, List, [], length, drop, slice_index, ◌==◌, Option, Some, None, IsSome, is_some, is_none, option_map, refl, ap, sym, subst, leb-true, arith}
+use Rattle.std.proofs.Common.{◌≡◌, ◌<◌, ◌+◌, ℕ, Bool, true, false, cond, ◌&&◌, nat_le, nat_lt, List, [], length, drop, slice_index, ◌==◌, Option, Some, None, IsSome, is_some, is_none, option_map, refl, ap, sym, subst, leb-true, arith}
 use Rattle.std.proofs.lemmas.Bool.{false≢true, and_parts}
 use Rattle.std.proofs.lemmas.Bool.Decides.{nat_tests}
 use Rattle.std.proofs.lemmas.Option.{same_Some, cond_some}
@@ -15,7 +15,7 @@ use Rattle.alf_faults.specs.Unknowns.{is_frame, unknown_in, unknown_among, entry
 use Rattle.alf_check.specs.declared.rows.FrameRow.{FrameRow}
 use Rattle.alf_check.specs.Kept.{IsSize, IsWordOf, SeesFrame, HasSize, HaveSizes, GivesSize}
 use Rattle.alf_check.specs.KeptLaws.{cell_from}
-use Rattle.alf_check.proofs.Written.{IsWritten, AreWritten, EntryIsWritten}
+use Rattle.alf_program.specs.Writable.{PartsAreWritable, AllPartsAreWritable, ItemIsWritable}
 use Rattle.alf_check.proofs.Faultless.{no_parts, when_not, exactly}
 use Rattle.alf_check.proofs.SeenFrames.{word_of}
 
@@ -71,17 +71,17 @@ no_size (Some size) e = absurd (false≢true e)
 module _ (whole : WholeProgram) (func : Function) (rows : List FrameRow) (k : ℕ) (frame : List ℕ → ℕ) (known : (name : List ℕ) → is_frame whole func name ≡ true → SeesFrame rows k (frame name)) where
   mutual
     -- an expression that names what stands somewhere has its size
-    pub sized : (t : NamedExpression) (size : ℕ) → IsWritten t → unknown_in whole func t ≡ [] → term_size t ≡ Some size → HasSize rows k size (with_frames frame t)
+    pub sized : (t : NamedExpression) (size : ℕ) → PartsAreWritable t → unknown_in whole func t ≡ [] → term_size t ≡ Some size → HasSize rows k size (with_frames frame t)
     sized (Number n) size written none is = subst (λ (z : ℕ). IsWordOf z n) (same_Some n.size size is) (word_of n written)
-    sized (Address name offset) size written none is = record { same = same_Some 32 size is; offset_fits = written; sees = known name (when_not (is_frame whole func name) (Unknown name) none) }
+    sized (Address name offset) size written none is = record { same = same_Some 32 size is; offset_fits = written.offset; sees = known name (when_not (is_frame whole func name) (Unknown name) none) }
     sized (Load bits at) size written none is =
         let c = cond_some (is_exactly 32 (term_size at)) bits size is in
-        record { same = c.1; cell = cell_from bits (record { some = written.0; most = written.1 }) written.2; address = sized at 32 written.3 none (exactly 32 (term_size at) c.0) }
+        record { same = c.1; cell = cell_from bits (record { some = written.0.some; most = written.0.small }) written.0.bytes; address = sized at 32 written.1 none (exactly 32 (term_size at) c.0) }
     sized (Apply op sizes operands) size written none is =
         let c = chosen (operands_fit op sizes 0 operands) (result_size op sizes) size is in
-        record { result_is = c.1; sized = operator_sized op sizes size c.1; operands = each_sized operands op sizes 0 written (ap is_some c.1) none c.0 }
+        record { result_is = c.1; sized = operator_sized op sizes size c.1; operands = each_sized operands op sizes 0 written.2 (ap is_some c.1) none c.0 }
 
-    each_sized : (ts : NamedExpressions) (op : Op) (sizes : List ℕ) (i : ℕ) → AreWritten ts → IsSome (result_size op sizes) → unknown_among whole func ts ≡ [] → operands_fit op sizes i ts ≡ true
+    each_sized : (ts : NamedExpressions) (op : Op) (sizes : List ℕ) (i : ℕ) → AllPartsAreWritable ts → IsSome (result_size op sizes) → unknown_among whole func ts ≡ [] → operands_fit op sizes i ts ≡ true
         → HaveSizes rows k (drop i (operand_sizes op sizes)) (all_with_frames frame ts)
     each_sized Empty op sizes i written typed none fits = rw (operands_end op sizes i typed (no_size (operand_size op sizes i) fits)) tt
     each_sized (With t ts) op sizes i written typed none fits =
@@ -91,7 +91,7 @@ module _ (whole : WholeProgram) (func : Function) (rows : List FrameRow) (k : �
         rw (operands_go_on op sizes i same.0 same.1) (sized t same.0 written.0 parts.0 same.2, each_sized ts op sizes (i + 1) written.1 typed parts.1 tests.1)
 
   -- what a return gives
-  pub gives_size : (value : Option NamedExpression) (size : ℕ) → EntryIsWritten (Do (Return value)) → entry_unknowns whole func (Do (Return value)) ≡ [] → return_size value ≡ Some size
+  pub gives_size : (value : Option NamedExpression) (size : ℕ) → ItemIsWritable (Do (Return value)) → entry_unknowns whole func (Do (Return value)) ≡ [] → return_size value ≡ Some size
       → GivesSize rows k size (option_map (with_frames frame) value)
   gives_size None size written none is = sym (same_Some 0 size is)
-  gives_size (Some t) size written none is = sized t size written none is
+  gives_size (Some t) size written none is = sized t size written.parts none is

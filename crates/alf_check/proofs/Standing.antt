@@ -1,20 +1,19 @@
 -- What stands at the place of the first that passes a test, and in parts of a list.
-use Rattle.std.proofs.Common.{◌≡◌, ◌+◌, ◌<◌, ℕ, zero, suc, Bool, true, false, List, [], ◌∷◌, ◌++◌, length, slice_get, Contains, if◌then◌else◌, Option, Some, None, is_some, option_map, refl, ap, sym, ◌∙◌, subst, arith}
+use Rattle.std.proofs.Common.{◌≡◌, ◌+◌, ℕ, zero, suc, Bool, true, List, [], ◌∷◌, ◌++◌, length, slice_get, Contains, Option, Some, None, is_some, option_map, refl, ap, sym, ◌∙◌, subst, arith}
 use Rattle.std.specs.Str.{bytes_eq}
 use Rattle.std.specs.List.{range_with_len}
 use Rattle.std.proofs.lemmas.Bool.{false≢true}
 use Rattle.std.proofs.lemmas.Option.{none-some, same_Some}
 use Rattle.std.proofs.lemmas.Slice.Eq.{bytes_eq-Decides}
-use Rattle.lists.specs.Members.{no_member, first_or_further}
+use Rattle.std.specs.List.{All}
+use Rattle.std.proofs.lemmas.List.Elements.{All-contains}
+use Rattle.lists.specs.Members.{contained, no_member, first_or_further}
 use Rattle.lists.specs.Tests.{by_test}
 use Rattle.alf_names.specs.Places.{place_of}
-use Rattle.alf_check.proofs.Written.{Each}
 
 -- it holds of a member if of each
-pub of_each : {A : Type 0} (Holds : A → Type 0) (xs : List A) (k : ℕ) (x : A) → Each Holds xs → slice_get xs k ≡ Some x → Holds x
-of_each Holds [] k x each at = absurd (none-some x at)
-of_each Holds (first ∷ xs) zero x each at = subst Holds (same_Some first x at) each.0
-of_each Holds (first ∷ xs) (suc k) x each at = of_each Holds xs k x each.1 at
+pub of_each : {A : Type 0} (Holds : A → Type 0) (xs : List A) (k : ℕ) (x : A) → All Holds xs → slice_get xs k ≡ Some x → Holds x
+of_each Holds xs k x each at = All-contains Holds xs x each (contained xs k x at)
 
 -- ---- names
 

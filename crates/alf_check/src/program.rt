@@ -3,8 +3,7 @@
 ghost use Rattle.std.specs.Prelude.{◌≡◌, ◌<◌, ◌^◌, ℕ, List, [], map, length, All, IfOk, IsSome, slice_get, Some, None};
 ghost use Rattle.std.specs.Coded.{codes};
 ghost use Rattle.alf_program.specs.Tree.{program_of};
-ghost use Rattle.alf_text.specs.Language.{IsSpelled};
-ghost use Rattle.alf_text.specs.Spelled.{WholeIsWritten};
+ghost use Rattle.alf_program.specs.Writable.{IsWritable};
 ghost use Rattle.alf_check.specs.Checking.{calls_in, Passes};
 ghost use Rattle.call_cycles.specs.Calls.{IsRanked};
 ghost use Rattle.alf_check.specs.Kept.{KeepsBlock, KeepsExport, KeepsFrames, InitFits, IsKept};
@@ -158,8 +157,7 @@ pub(crate) fn numbered(
     root: &[u8],
     ranks: Vec<u32>,
 ) -> Result<Checked, AllocError>
-    requires spelled { IsSpelled (program_of program.now) }
-    requires written { WholeIsWritten (program_of program.now) }
+    requires writable { IsWritable (program_of program.now) }
     requires passes { Passes (program_of program.now) root.now }
     requires ranked { IsRanked (calls_in (program_of program.now)) ranks.items }
     ensures { IfOk result (λ checked. seen checked ≡ numbered (program_of program.now) root.now (seen checked).ranks) }

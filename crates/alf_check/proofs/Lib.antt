@@ -2,8 +2,6 @@ pub mod Labelled
 pub mod Operands
 pub mod Cutting
 pub mod Called
-pub mod Written
-pub mod Faultless
 pub mod Standing
 pub mod FramePlaces
 pub mod SeenFrames

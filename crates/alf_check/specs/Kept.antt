@@ -14,14 +14,14 @@
 --   KeepsFrames program      the frames do, and each is where its owner has it
 --   KeepsExport rows f       so does an exported frame
 --   IsBounded program        its counts are below 2^32 - 1
---   IsChecked program        the program is one that some text spells and that passes the checks, with numbers in place of names
+--   IsChecked program        the program is one that some text can spell and that passes the checks, with numbers in place of names
 --   IsKept program           the whole program keeps the rules
 use Rattle.std.specs.Prelude.{◌≡◌, ◌≢◌, ◌<◌, ◌≤◌, ◌+◌, ◌*◌, ◌%◌, ◌^◌, ◌⊎◌, ℕ, suc, true, List, [], ◌∷◌, ◌++◌, length, All, AllPairs, Contains, Option, Some, None, slice_get}
 use Rattle.std.specs.List.{AllZip}
 use Rattle.alf_ops.specs.Table.{result_size, operand_sizes}
 use Rattle.alf_program.specs.declared.program.Num.{Num}
 use Rattle.alf_program.specs.Tree.{NumberedExpression, NumberedExpressions, Number, Address, Load, Apply, Empty, With, WholeProgram}
-use Rattle.alf_text.specs.Language.{IsSpelled}
+use Rattle.alf_program.specs.Writable.{IsWritable}
 use Rattle.alf_faults.specs.Sizes.{is_export_size}
 use Rattle.alf_check.specs.declared.rows.FrameRow.{FrameRow}
 use Rattle.alf_check.specs.declared.rows.InitRow.{InitRow}
@@ -251,11 +251,11 @@ pub record KeepsFrames (program : NumberedProgram) : Type 0 where
   pub own : (f k : ℕ) (row : FrameRow) → slice_get program.frames f ≡ Some row → row.owner ≡ Some k → HasFrame program k f
   pub names : (k f g : ℕ) (a b : FrameRow) → slice_get program.frames f ≡ Some a → slice_get program.frames g ≡ Some b → IsSeen k a → IsSeen k b → a.name ≡ b.name → f ≡ g
 
--- the program is one that some text spells and that passes the checks, with numbers in place of names
+-- the program is one that some text can spell and that passes the checks, with numbers in place of names
 pub record IsChecked (program : NumberedProgram) : Type 0 where
   pub whole : WholeProgram
   pub root : List ℕ
-  pub spelled : IsSpelled whole
+  pub writable : IsWritable whole
   pub passes : Passes whole root
   pub numbers : program ≡ numbered whole root program.ranks
 

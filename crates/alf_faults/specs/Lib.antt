@@ -7,4 +7,5 @@ pub mod Sizes
 pub mod Faults
 pub mod Told
 pub mod NoFault
+pub mod NoFaultLaws
 pub mod Scopes

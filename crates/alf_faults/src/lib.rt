@@ -11,6 +11,7 @@
 // What is found, and what is told of it.
 mod findings;
 mod item_faults;
+mod item_places;
 
 // Sizes of expressions and returns, and what is looked up around an item.
 mod returns;

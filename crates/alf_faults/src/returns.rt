@@ -2,8 +2,9 @@
 
 ghost use Rattle.std.specs.Prelude.{◌≡◌, map, IfOk};
 ghost use Rattle.alf_program.specs.Tree.{item_of, function_of};
-ghost use Rattle.alf_faults.specs.Returns.{return_of, first_return, returns_of, agrees, is_before, is_disagreeing, is_breach, has_breach, is_breached};
+ghost use Rattle.alf_faults.specs.Returns.{return_of, first_return, returns_of, agrees, is_disagreeing, is_breach, has_breach, is_breached};
 
+use crate::item_places::{ItemPlace, is_before};
 use crate::term_sizes::{is_bytes, return_size};
 use alf_program::{Func, Item, Stmt};
 use std::alloc::{AllocError, Global};
@@ -70,13 +71,6 @@ pub fn agrees(has_result: bool, first: FirstReturn) -> bool
     }
 }
 
-/// Whether an item of a function stands before another item of another function.
-pub fn is_before(func: usize, item: usize, other_func: usize, other_item: usize) -> bool
-    ensures { result ≡ is_before func item other_func other_item }
-{
-    func < other_func || func == other_func && item < other_item
-}
-
 /// Whether a call that stands before this return of function `place` does not agree with it.
 pub fn is_breached(funcs: &[Func], name: &[u8], first: FirstReturn, place: usize) -> bool
     ensures { result ≡ is_breached (map function_of funcs.now) name.now first place }
@@ -94,7 +88,15 @@ fn has_breach(name: &[u8], first: FirstReturn, place: usize, caller: usize, item
     ensures { result ≡ has_breach name.now first place caller (map item_of items.now) }
 {
     for (at, item) in items.iter().enumerate() {
-        if is_before(caller, at, place, first.item) && is_disagreeing(name, first, item) {
+        let call = ItemPlace {
+            func: caller,
+            item: at,
+        };
+        let found = ItemPlace {
+            func: place,
+            item: first.item,
+        };
+        if is_before(call, found) && is_disagreeing(name, first, item) {
             return true;
         }
     }

@@ -8,7 +8,8 @@ ghost use Rattle.alf_faults.specs.Scopes.{IsScope};
 ghost use Rattle.alf_faults.specs.Sizes.{targets_have, targets_fit, arguments_fit, agrees_behind, call_fits, breaks_calls, return_fits, entry_fits};
 
 use crate::findings::is_exactly;
-use crate::returns::{FirstReturn, agrees, is_before, is_breached};
+use crate::item_places::{ItemPlace, is_before};
+use crate::returns::{FirstReturn, agrees, is_breached};
 use crate::scopes::Scope;
 use crate::term_sizes::{is_bytes, is_size, return_size, same_size, term_size};
 use alf_names::function_named;
@@ -73,8 +74,10 @@ fn call_fits(scope: &Scope, place: usize, label: &Name, args: &[Expr], has_resul
         && agrees_behind(
             called,
             scope.returns[called],
-            scope.place,
-            place,
+            ItemPlace {
+                func: scope.place,
+                item: place,
+            },
             has_result,
         )
 }
@@ -100,14 +103,19 @@ fn arguments_fit(frames: &[Alloc], args: &[Expr]) -> bool
 fn agrees_behind(
     called: usize,
     first: Option<FirstReturn>,
-    func: usize,
-    item: usize,
+    call: ItemPlace,
     has_result: bool,
 ) -> bool
-    ensures { result ≡ agrees_behind called first func item has_result }
+    ensures { result ≡ agrees_behind called first call.func call.item has_result }
 {
     match first {
-        Some(first) => !is_before(called, first.item, func, item) || agrees(has_result, first),
+        Some(first) => {
+            let found = ItemPlace {
+                func: called,
+                item: first.item,
+            };
+            !is_before(found, call) || agrees(has_result, first)
+        }
         None => true,
     }
 }
@@ -122,24 +130,26 @@ fn return_fits(scope: &Scope, place: usize, value: &Option<Expr>) -> bool
     match scope.first {
         Some(first) => {
             same_size(first.size, return_size(value))
-                && !breaks_calls(scope.program, scope.place, &scope.func.name, place, first)
+                && !breaks_calls(
+                    scope.program,
+                    &scope.func.name,
+                    ItemPlace {
+                        func: scope.place,
+                        item: place,
+                    },
+                    first,
+                )
         }
         None => false,
     }
 }
 
-// Whether item `item` of function `place` is this return, the function is the first of its name,
-// and a call before it does not agree with it.
-fn breaks_calls(
-    program: &Program,
-    place: usize,
-    name: &Name,
-    item: usize,
-    first: FirstReturn,
-) -> bool
-    ensures { result ≡ breaks_calls (program_of program.now) place name.now item first }
+// Whether the item of the function of this name is this return, the function is the first of its
+// name, and a call before it does not agree with it.
+fn breaks_calls(program: &Program, name: &Name, at: ItemPlace, first: FirstReturn) -> bool
+    ensures { result ≡ breaks_calls (program_of program.now) at.func name.now at.item first }
 {
-    first.item == item
-        && is_exactly(place, function_named(&program.funcs, name.bytes()))
-        && is_breached(&program.funcs, name.bytes(), first, place)
+    first.item == at.item
+        && is_exactly(at.func, function_named(&program.funcs, name.bytes()))
+        && is_breached(&program.funcs, name.bytes(), first, at.func)
 }

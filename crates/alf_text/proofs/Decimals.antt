@@ -6,7 +6,7 @@ use Rattle.std.specs.Char.{is_ascii_digit}
 use Rattle.std.proofs.lemmas.Bool.{le-leb}
 use Rattle.std.proofs.lemmas.Fmt.{decimal_by_steps, length-decimal-le}
 use Rattle.std.proofs.lemmas.List.Folds.{list_all-append}
-use Rattle.flow_base.specs.Digits.{front_while, front_digits, number_after, number_of}
+use Rattle.flow_base.specs.Digits.{prefix_while, prefix_digits, number_after, number_of}
 use Rattle.alf_tokens.specs.Printed.{is_number_text}
 use Rattle.alf_text.specs.Grammar.{number_within}
 
@@ -43,11 +43,11 @@ decimal_text n lt =
     let short : leb (length (decimal n)) 20 ≡ true = le-leb _ _ (length-decimal-le 20 n (omega arith) (omega (arith, lt)) lt) in
     rw (some, short) w.digits
 
-front_all : (ds : List ℕ) → list_all is_ascii_digit ds ≡ true → front_digits ds ≡ ds
+front_all : (ds : List ℕ) → list_all is_ascii_digit ds ≡ true → prefix_digits ds ≡ ds
 front_all [] h = refl
 front_all (d ∷ ds) h = by_test (is_ascii_digit d) (front_all ds) h
   where
-    by_test : (t : Bool) → (list_all is_ascii_digit ds ≡ true → front_digits ds ≡ ds) → t && list_all is_ascii_digit ds ≡ true → cond t (d ∷ front_while is_ascii_digit ds) [] ≡ d ∷ ds
+    by_test : (t : Bool) → (list_all is_ascii_digit ds ≡ true → prefix_digits ds ≡ ds) → t && list_all is_ascii_digit ds ≡ true → cond t (d ∷ prefix_while is_ascii_digit ds) [] ≡ d ∷ ds
     by_test true more h = ap (λ (xs : List ℕ). d ∷ xs) (more h)
     by_test false more h = absurd cc
 
@@ -56,7 +56,7 @@ within_some most n [] e some le = absurd (omega arith)
 within_some most n (d ∷ ds) e some le = let l : leb n most ≡ true = le-leb _ _ le in rw (e, l) refl
 
 -- the digits of a number are read as the number
-pub decimal_within : (most n : ℕ) → n < 2 ^ 64 → n ≤ most → number_within most (front_digits (decimal n)) ≡ Some n
+pub decimal_within : (most n : ℕ) → n < 2 ^ 64 → n ≤ most → number_within most (prefix_digits (decimal n)) ≡ Some n
 decimal_within most n lt le =
     let w = decimal_writes n lt in
     rw (front_all (decimal n) w.digits) (within_some most n (decimal n) w.number w.some le)

@@ -1,10 +1,13 @@
+-- Shared lemmas: the reader's, first texts, and which programs some text spells.
+pub mod Depths
 pub mod Operators
-pub mod Exactness
 pub mod Meaning
-pub mod Spelled
-pub mod FirstPrograms
 pub mod FirstMeaning
+pub mod FirstPrograms
 pub mod Decimals
-pub mod Respelling
-pub mod Again
-pub mod CanonicalTexts
+pub mod Named
+pub mod Written
+pub mod Marked
+pub mod Needs
+pub mod Kept
+pub mod Spelled

@@ -1,36 +1,22 @@
 -- The first row of a table, and the others.
-use Rattle.std.proofs.Common.{◌≡◌, ℕ, true, false, All, List, ◌∷◌, map, Option, Some, refl, subst, arith}
-use Rattle.std.specs.Option.{option_map}
+use Rattle.std.proofs.Common.{◌≡◌, ℕ, true, false, All, List, ◌∷◌, map, Some, refl, subst, arith}
 use Rattle.std.specs.Str.{bytes_eq}
 use Rattle.std.proofs.lemmas.List.Elements.{All-tail}
 use Rattle.alf_ops.specs.declared.table.OpRow.{OpRow}
 use Rattle.alf_ops.specs.Names.{TellsOperator}
-use Rattle.alf_text.specs.declared.words.ExprWord.{ExprWord}
-use Rattle.alf_text.specs.declared.words.ExprWord.TheVariants as expr_words
-use Rattle.alf_text.specs.Grammar.{operator_among, row_word}
-
-abbrev among : List OpRow → List ℕ → Option ExprWord
-among rows text = option_map row_word (operator_among (map (λ row. row.op) rows) text)
+use Rattle.alf_text.specs.Grammar.{operator_among}
 
 module _ (rest : List OpRow) (row : OpRow) (rows : List OpRow) (text : List ℕ) (is : rest ≡ row ∷ rows) (told : All TellsOperator rest) where
-  first_told : TellsOperator row
+  pub first_told : TellsOperator row
   first_told = let h : All TellsOperator (row ∷ rows) = subst (All TellsOperator) is told in h 0 row (omega arith)
 
   -- the word names the first row
-  pub first_names : bytes_eq row.name.now text ≡ true → Some (expr_words.Apply row.op row.sizes row.operands) ≡ among rest text
-  first_names e =
-      let t = first_told in
-      let n : bytes_eq row.name.now text ≡ true = e in
-      let m = rw t.name at n in
-      rw (is, m, t.sizes, t.operands) refl
+  pub first_names : bytes_eq row.name.now text ≡ true → Some row.op ≡ operator_among (map (λ row. row.op) rest) text
+  first_names e = let n : bytes_eq row.name.now text ≡ true = e in let m = rw first_told.name at n in rw (is, m) refl
 
   -- it does not, and the others decide
   pub others_decide : bytes_eq row.name.now text ≡ false → operator_among (map (λ row. row.op) rest) text ≡ operator_among (map (λ row. row.op) rows) text
-  others_decide e =
-      let t = first_told in
-      let n : bytes_eq row.name.now text ≡ false = e in
-      let m = rw t.name at n in
-      rw (is, m) refl
+  others_decide e = let n : bytes_eq row.name.now text ≡ false = e in let m = rw first_told.name at n in rw (is, m) refl
 
   pub others_told : All TellsOperator rows
   others_told = let h : All TellsOperator (row ∷ rows) = subst (All TellsOperator) is told in All-tail TellsOperator row rows h

@@ -1,94 +1,55 @@
--- The grammar, rule by rule.
---   Fault            how a text departs from the grammar; a place is told by how many bytes are left there
---   At               where a text is read from: the tokens ahead, and what there may still be of what is counted
---   alf              positions as a source of tokens
---   Rule A           a part of the grammar that spells values of type A
+-- The grammar, rule by rule. Each rule is exact by its type.
+--   DepartureAt P, Fault   how a text departs from the grammar; a fault tells its place by how many bytes of the text are left there
+--   Place            where a text is read from: the tokens ahead, and what there may still be of what is counted
+--   Rule some A      a part of the grammar that spells values of type A, and takes some of the text where some is true
 --   fits, fits_word, fits_number, fits_name   one token, which fits its place or is the departure
-use Rattle.std.specs.Prelude.{ℕ, zero, suc, ◌+◌, ◌-◌, ◌/◌, ◌%◌, ◌^◌, ◌&&◌, ◌==◌, List, [], ◌∷◌, length, Bool, true, false, Result, Ok, Err, Option, Some, None, nat_le, nat_lt, if◌then◌else◌, codes}
-use Rattle.std.specs.Option.{option_map}
+use Rattle.std.specs.Prelude.{ℕ, zero, suc, ◌+◌, ◌-◌, ◌/◌, ◌%◌, ◌^◌, ◌&&◌, ◌==◌, List, [], ◌∷◌, length, Bool, true, false, Result, Ok, Err, Option, Some, None, nat_le, if◌then◌else◌, codes}
 use Rattle.std.specs.Str.{bytes_eq}
-use Rattle.flow_base.specs.Digits.{front_digits, number_of}
+use Rattle.flow_base.specs.Digits.{prefix_digits, number_of}
 use Rattle.flow_base.specs.declared.place.Which.{Which}
 use Rattle.flow_base.specs.declared.place.Which.TheVariants.{Depth, Functions, Frames, FrameBytes, AllBytes}
-use Rattle.grammar.specs.Source.{Source}
-use Rattle.grammar.specs.Form.{Form, one, judged, made, ◌>>=◌, ◌>>◌, many, maybe, exactly}
+use Rattle.grammar.specs.Form.{At, first, after}
+use Rattle.grammar.specs.Rule.{token, judge, refuse, value, spend, weaken, ◌>>=◌, ◌>>◌, many, maybe, exactly}
+use Rattle.grammar.specs.Rule as rules
 use Rattle.alf_ops.specs.declared.operator.Op.{Op}
 use Rattle.alf_ops.specs.declared.operator.Op.TheVariants.{Select}
-use Rattle.alf_ops.specs.Table.{layout_of, size_count, operands_by_layout}
+use Rattle.alf_ops.specs.Layouts.{size_count, operands_by_layout}
+use Rattle.alf_ops.specs.Table.{layout_of}
 use Rattle.alf_ops.specs.Names.{spelling, operators}
 use Rattle.alf_tokens.specs.declared.token.Kind.{Kind}
 use Rattle.alf_tokens.specs.declared.token.Kind.TheVariants as kinds
-use Rattle.alf_tokens.specs.Tokens.{Lexeme, first, after, is_open, is_close, is_word, is_number, is_quoted, is_end}
+use Rattle.alf_tokens.specs.Tokens.{Lexeme, is_kind}
 use Rattle.alf_program.specs.declared.program.Num.{Num}
-use Rattle.alf_text.specs.declared.words.NumWord.{NumWord}
-use Rattle.alf_text.specs.declared.words.NumWord.TheVariants as num_words
-use Rattle.alf_text.specs.declared.words.ExprWord.{ExprWord}
-use Rattle.alf_text.specs.declared.words.ExprWord.TheVariants as expr_words
-use Rattle.alf_text.specs.declared.words.ItemWord.{ItemWord}
-use Rattle.alf_text.specs.declared.words.ItemWord.TheVariants as item_words
 use Rattle.alf_program.specs.Tree.{NamedExpression, Address, Load, Apply, Null, Store, Jump, Switch, Call, Return, BodyItem, Label, Do, Allocation, InitialValue, Function, WholeProgram, expressions_of}
 use Rattle.alf_program.specs.Tree as tree
+pub use Rattle.alf_program.specs.Writable.{most_depth, most_functions, most_frames, most_frame_bytes, most_bytes, operand_count, is_ending, ends_well}
 
--- how a text departs from the grammar
-pub data Fault : Type 0 where
+-- how a text departs from the grammar, where places are of type P
+pub data DepartureAt (P : Type 0) : Type 0 where
   -- the token that begins here does not fit
-  Syntax : ℕ → Fault
+  Syntax : P → DepartureAt P
   -- the number that begins here is outside its range
-  Number : ℕ → Fault
+  Number : P → DepartureAt P
   -- this word or number is none of those that the profile has here
-  OutOfProfile : ℕ → List ℕ → Fault
+  OutOfProfile : P → List ℕ → DepartureAt P
   -- this quantity comes to this number, which is above its limit
-  Passes : Which → ℕ → Fault
+  Limit : Which → ℕ → DepartureAt P
 
--- ---- limits
+-- a departure whose place is told by how many bytes of the text are left there
+abbrev pub Fault : Type 0
+Fault = DepartureAt ℕ
 
-abbrev pub most_depth : ℕ
-most_depth = 64
-
-abbrev pub most_functions : ℕ
-most_functions = 256
-
-abbrev pub most_frames : ℕ
-most_frames = 256
-
-abbrev pub most_frame_bytes : ℕ
-most_frame_bytes = 65536
-
-abbrev pub most_bytes : ℕ
-most_bytes = 1048576
-
--- ---- where a text is read from
-
--- the tokens ahead, and how many functions, frames and bytes of frames there may still be
-pub record At : Type 0 where
-  pub ahead : List Lexeme
+-- how many functions, frames and bytes of frames there may still be
+pub record Room : Type 0 where
   pub functions : ℕ
   pub frames : ℕ
   pub bytes : ℕ
 
--- the same place with other tokens ahead
-abbrev pub with_ahead : At → List Lexeme → At
-with_ahead at tokens = record { ahead = tokens; functions = at.functions; frames = at.frames; bytes = at.bytes }
+abbrev pub Place : Type 0
+Place = At Lexeme Room
 
-abbrev pub token : At → Lexeme
-token at = first at.ahead
-
-abbrev pub behind : At → At
-behind at = with_ahead at (after at.ahead)
-
-abbrev pub left : At → ℕ
-left at = length at.ahead
-
--- a brace opens
-abbrev pub opens : At → Bool
-opens at = is_open (token at).kind
-
--- a further part of a list begins with a brace that opens
-abbrev pub alf : Source At Lexeme
-alf = record { first = token; after = behind; left = left; goes_on = opens }
-
-abbrev pub Rule : Type 0 → Type 1
-Rule A = Form At Fault A
+abbrev pub Rule : Bool → Type 0 → Type 1
+Rule some A = rules.Rule Lexeme Room Fault some A
 
 -- ---- what fits at one place, and what it is otherwise
 
@@ -104,23 +65,31 @@ misfit t = misfit_of t.kind t.left
 abbrev pub outside : Lexeme → Fault
 outside t = OutOfProfile t.left t.text
 
-abbrev pub fits : (Kind → Bool) → Lexeme → Result (Unit {0}) Fault
-fits is t = if is t.kind then Ok tt else Err (misfit t)
+-- one token; at the end of the text none fits
+abbrev pub one : {A : Type 0} → (Lexeme → Result A Fault) → Rule true A
+one fit = token (λ at. Syntax 0) (λ t at. fit t)
+
+abbrev pub fits : Kind → Lexeme → Result (Unit {0}) Fault
+fits kind t = if is_kind kind t.kind then Ok tt else Err (misfit t)
+
+-- any word
+abbrev pub fits_some_word : Lexeme → Result Lexeme Fault
+fits_some_word t = if is_kind kinds.Word t.kind then Ok t else Err (misfit t)
+
+-- this word
+abbrev pub fits_word : List ℕ → Lexeme → Result (Unit {0}) Fault
+fits_word w t = if is_kind kinds.Word t.kind then (if bytes_eq t.text w then Ok tt else Err (outside t)) else Err (misfit t)
 
 abbrev pub or_outside : {A : Type 0} → Lexeme → Option A → Result A Fault
 or_outside t (Some x) = Ok x
 or_outside t None = Err (outside t)
 
--- one of the words of a table
-abbrev pub fits_word : {A : Type 0} → (List ℕ → Option A) → Lexeme → Result A Fault
-fits_word table t = if is_word t.kind then or_outside t (table t.text) else Err (misfit t)
-
 -- a number of a table
 abbrev pub fits_number : {A : Type 0} → (List ℕ → Option A) → Lexeme → Result A Fault
-fits_number table t = if is_number t.kind then or_outside t (table t.text) else Err (misfit t)
+fits_number table t = if is_kind kinds.Number t.kind then or_outside t (table t.text) else Err (misfit t)
 
 abbrev pub fits_name : Lexeme → Result (List ℕ) Fault
-fits_name t = if is_quoted t.kind then Ok t.text else Err (misfit t)
+fits_name t = if is_kind kinds.Quoted t.kind then Ok t.text else Err (misfit t)
 
 -- the number that digits write, if there are any and it is at most so much
 abbrev pub number_within : ℕ → List ℕ → Option ℕ
@@ -133,24 +102,32 @@ or_number left (Some n) = Ok n
 or_number left None = Err (Number left)
 
 abbrev pub fits_below : ℕ → Lexeme → Result ℕ Fault
-fits_below most t = if is_number t.kind then or_number t.left (number_within most (front_digits t.text)) else Err (misfit t)
+fits_below most t = if is_kind kinds.Number t.kind then or_number t.left (number_within most (prefix_digits t.text)) else Err (misfit t)
+
+-- nothing is left
+abbrev pub is_over : Option Lexeme → Result (Unit {0}) Fault
+is_over None = Ok tt
+is_over (Some t) = Err (misfit t)
 
 -- ---- single tokens
 
-unfoldable pub opening : Rule (Unit {0})
-opening = one alf (fits is_open)
+unfoldable pub opening : Rule true (Unit {0})
+opening = one (fits kinds.Open)
 
-unfoldable pub closing : Rule (Unit {0})
-closing = one alf (fits is_close)
+unfoldable pub closing : Rule true (Unit {0})
+closing = one (fits kinds.Close)
 
-unfoldable pub end : Rule (Unit {0})
-end = one alf (fits is_end)
+-- the text ends
+unfoldable pub end : Rule false (Unit {0})
+end = judge (λ at. is_over (first at))
 
-abbrev pub only : List ℕ → List ℕ → Option (Unit {0})
-only w text = if bytes_eq text w then Some tt else None
+-- any word
+unfoldable pub some_word : Rule true Lexeme
+some_word = one fits_some_word
 
-unfoldable pub word : List ℕ → Rule (Unit {0})
-word w = one alf (fits_word (only w))
+-- this word
+unfoldable pub word : List ℕ → Rule true (Unit {0})
+word w = one (fits_word w)
 
 -- the number is from the least on, and a multiple of the step
 abbrev pub from_least : ℕ → ℕ → Option ℕ → Option ℕ
@@ -158,229 +135,247 @@ from_least least step None = None
 from_least least step (Some n) = if nat_le least n && (n % step == 0) then Some n else None
 
 abbrev pub number_between : ℕ → ℕ → ℕ → List ℕ → Option ℕ
-number_between least most step text = from_least least step (number_within most (front_digits text))
+number_between least most step text = from_least least step (number_within most (prefix_digits text))
 
 -- a number from the least to the most, a multiple of the step, however it is written
-unfoldable pub between : ℕ → ℕ → ℕ → Rule ℕ
-between least most step = one alf (fits_number (number_between least most step))
+unfoldable pub between : ℕ → ℕ → ℕ → Rule true ℕ
+between least most step = one (fits_number (number_between least most step))
 
 -- the number n
-unfoldable pub fixed : ℕ → Rule (Unit {0})
+unfoldable pub fixed : ℕ → Rule true (Unit {0})
 fixed n = do
   between n n 1
-  made tt
+  value tt
 
 -- SIZE
-unfoldable pub size : Rule ℕ
+unfoldable pub size : Rule true ℕ
 size = between 1 64 1
 
 -- N, at most so much
-unfoldable pub at_most : ℕ → Rule ℕ
-at_most most = one alf (fits_below most)
+unfoldable pub at_most : ℕ → Rule true ℕ
+at_most most = one (fits_below most)
 
 -- NAME
-unfoldable pub name : Rule (List ℕ)
-name = one alf fits_name
+unfoldable pub name : Rule true (List ℕ)
+name = one fits_name
 
 -- a brace and its word
-unfoldable pub begin : List ℕ → Rule (Unit {0})
+unfoldable pub begin : List ℕ → Rule true (Unit {0})
 begin w = do
   opening
   word w
-  made tt
+  value tt
+
+-- ---- choices
+
+abbrev pub either : {some : Bool} {A : Type 0} → Bool → Rule some A → Rule some A → Rule some A
+either true p q = p
+either false p q = q
+
+-- the one rule after this word, the other after any other
+abbrev pub after_word : {some : Bool} {A : Type 0} → List ℕ → Lexeme → Rule some A → Rule some A → Rule some A
+after_word w t p q = either (bytes_eq t.text w) p q
+
+-- a word that was read and is none of those that may stand there
+unfoldable pub unknown : {A : Type 0} → Lexeme → Rule true A
+unknown t = refuse (λ at. outside t)
+
+-- ---- where lists go on
+
+abbrev pub is_first : (Lexeme → Bool) → Option Lexeme → Bool
+is_first is None = false
+is_first is (Some t) = is t
+
+-- a brace opens
+abbrev pub opens : Place → Bool
+opens at = is_first (λ t. is_kind kinds.Open t.kind) (first at)
+
+-- a brace opens, and this word comes next
+abbrev pub opens_word : List ℕ → Place → Bool
+opens_word w at = opens at && is_first (λ t. is_kind kinds.Word t.kind && bytes_eq t.text w) (first (after at))
 
 -- ---- what is counted
 
--- a brace that opens where the count allows one more, which leaves less of it
-abbrev pub counted : Which → ℕ → ℕ → (ℕ → At) → Lexeme → Result (Unit {0} × At) Fault
-counted which most count less t =
-    if is_open t.kind then (if nat_lt 0 count then Ok (tt, less (count - 1)) else Err (Passes which (most + 1))) else Err (misfit t)
+-- one more function
+unfoldable pub one_function : Rule false (Unit {0})
+one_function = spend (λ room. room.functions) (λ room n. record { functions = n; frames = room.frames; bytes = room.bytes }) (Limit Functions (most_functions + 1)) 1
 
--- the brace of one more function
-unfoldable pub one_function : Rule (Unit {0})
-one_function = judged (λ at. counted Functions most_functions at.functions (λ n. record { ahead = after at.ahead; functions = n; frames = at.frames; bytes = at.bytes }) (token at))
+-- one more frame
+unfoldable pub one_frame : Rule false (Unit {0})
+one_frame = spend (λ room. room.frames) (λ room n. record { functions = room.functions; frames = n; bytes = room.bytes }) (Limit Frames (most_frames + 1)) 1
 
--- the brace of one more frame
-unfoldable pub one_frame : Rule (Unit {0})
-one_frame = judged (λ at. counted Frames most_frames at.frames (λ n. record { ahead = after at.ahead; functions = at.functions; frames = n; bytes = at.bytes }) (token at))
+-- the bytes of one frame are not too many
+unfoldable pub fits_frame : ℕ → Rule false (Unit {0})
+fits_frame bytes = judge (λ at. if nat_le bytes most_frame_bytes then Ok tt else Err (Limit FrameBytes (most_frame_bytes + 1)))
 
--- as many bits fit a frame, and the frames that may still be
-abbrev pub fits_bytes : At → ℕ → Result (ℕ × At) Fault
-fits_bytes at bits =
-    if nat_lt most_frame_bytes (bits / 8) then Err (Passes FrameBytes (most_frame_bytes + 1))
-    else if nat_lt at.bytes (bits / 8) then Err (Passes AllBytes (most_bytes + 1))
-    else Ok (bits, record { ahead = after at.ahead; functions = at.functions; frames = at.frames; bytes = at.bytes - bits / 8 })
-
-abbrev pub or_bytes : At → Option ℕ → Result (ℕ × At) Fault
-or_bytes at (Some bits) = fits_bytes at bits
-or_bytes at None = Err (outside (token at))
+-- nor are those of all frames
+unfoldable pub more_bytes : ℕ → Rule false (Unit {0})
+more_bytes bytes = spend (λ room. room.bytes) (λ room n. record { functions = room.functions; frames = room.frames; bytes = n }) (Limit AllBytes (most_bytes + 1)) bytes
 
 -- BITS, a positive multiple of 8
-unfoldable pub bits : Rule ℕ
-bits = judged (λ at. if is_number (token at).kind then or_bytes at (number_between 1 (2 ^ 128 - 1) 8 (token at).text) else Err (misfit (token at)))
+unfoldable pub bits : Rule true ℕ
+bits = do
+  b ← between 1 (2 ^ 128 - 1) 8
+  fits_frame (b / 8)
+  more_bytes (b / 8)
+  value b
 
 -- ---- names, frames and labels
 
 -- { WORD 32 NAME }: FREF = { fref 32 NAME }, LREF = { lref 32 NAME }
-unfoldable pub reference : List ℕ → Rule (List ℕ)
+unfoldable pub reference : List ℕ → Rule true (List ℕ)
 reference w = do
   begin w
   fixed 32
   n ← name
   closing
-  made n
+  value n
 
 -- { LIST { WORD 32 NAME }* }
-unfoldable pub references : List ℕ → List ℕ → Rule (List (List ℕ))
+unfoldable pub references : List ℕ → List ℕ → Rule true (List (List ℕ))
 references list w = do
   begin list
-  names ← many alf (reference w)
+  names ← many opens (reference w)
   closing
-  made names
+  value names
 
 -- OFFSET = { dec_unsigned 32 N }
-unfoldable pub offset : Rule ℕ
+unfoldable pub offset : Rule true ℕ
 offset = do
   begin (codes "dec_unsigned")
   fixed 32
   n ← at_most (2 ^ 32 - 1)
   closing
-  made n
+  value n
 
 -- { dec_unsigned 32 0 }
-unfoldable pub zero_offset : Rule (Unit {0})
+unfoldable pub zero_offset : Rule true (Unit {0})
 zero_offset = do
   begin (codes "dec_unsigned")
   fixed 32
   fixed 0
   closing
-  made tt
+  value tt
 
--- LABEL = { label 32 LREF { dec_unsigned 32 0 } }, behind its word
-unfoldable pub label_tail : Rule (List ℕ)
+-- LABEL = { label 32 LREF { dec_unsigned 32 0 } }, after its word
+unfoldable pub label_tail : Rule true (List ℕ)
 label_tail = do
   fixed 32
   n ← reference (codes "lref")
   zero_offset
   closing
-  made n
+  value n
 
-unfoldable pub label : Rule (List ℕ)
+unfoldable pub label : Rule true (List ℕ)
 label = do
   begin (codes "label")
   n ← label_tail
-  made n
+  value n
 
 -- ALLOC = { alloc 32 NAME BITS }
-unfoldable pub alloc : Rule Allocation
+unfoldable pub alloc : Rule true Allocation
 alloc = do
+  opening
   one_frame
   word (codes "alloc")
   fixed 32
   n ← name
   b ← bits
   closing
-  made (record { name = n; bits = b })
+  value (record { name = n; bits = b })
 
 -- { LIST ALLOC* }
-unfoldable pub allocs : List ℕ → Rule (List Allocation)
+unfoldable pub allocs : List ℕ → Rule true (List Allocation)
 allocs list = do
   begin list
-  frames ← many alf alloc
+  frames ← many opens alloc
   closing
-  made frames
+  value frames
 
--- ADDR = { addr 32 FREF OFFSET }, behind its word
-unfoldable pub address_tail : Rule (List ℕ × ℕ)
+-- ADDR = { addr 32 FREF OFFSET }, after its word
+unfoldable pub address_tail : Rule true (List ℕ × ℕ)
 address_tail = do
   fixed 32
   n ← reference (codes "fref")
   o ← offset
   closing
-  made (n, o)
+  value (n, o)
 
-unfoldable pub address : Rule (List ℕ × ℕ)
+unfoldable pub address : Rule true (List ℕ × ℕ)
 address = do
   begin (codes "addr")
   a ← address_tail
-  made a
+  value a
 
 -- ---- numbers
 
--- { dec_unsigned SIZE N }, behind its word
-unfoldable pub unsigned : Rule Num
+-- { dec_unsigned SIZE N }, after its word
+unfoldable pub unsigned : Rule true Num
 unsigned = do
   s ← size
   n ← at_most (2 ^ s - 1)
   closing
-  made (record { signed = false; size = s; bits = n })
+  value (record { signed = false; size = s; bits = n })
 
 -- { minus N }
-unfoldable pub minus : ℕ → Rule ℕ
+unfoldable pub minus : ℕ → Rule true ℕ
 minus s = do
   begin (codes "minus")
   n ← at_most (2 ^ (s - 1))
   closing
-  made n
+  value n
 
 -- the word of a number with its sign
-unfoldable pub signed_bits : ℕ → Option ℕ → Rule ℕ
-signed_bits s None = at_most (2 ^ (s - 1) - 1)
-signed_bits s (Some n) = made ((2 ^ s - n) % 2 ^ s)
+unfoldable pub signed_bits : ℕ → Option ℕ → Rule false ℕ
+signed_bits s None = weaken (at_most (2 ^ (s - 1) - 1))
+signed_bits s (Some n) = value ((2 ^ s - n) % 2 ^ s)
 
--- { dec_signed SIZE N } or { dec_signed SIZE { minus N } }, behind its word
-unfoldable pub signed : Rule Num
+-- { dec_signed SIZE N } or { dec_signed SIZE { minus N } }, after its word
+unfoldable pub signed : Rule true Num
 signed = do
   s ← size
-  m ← maybe alf (minus s)
+  m ← maybe opens (minus s)
   b ← signed_bits s m
   closing
-  made (record { signed = true; size = s; bits = b })
+  value (record { signed = true; size = s; bits = b })
 
-abbrev pub num_word : List ℕ → Option NumWord
-num_word w =
-    if bytes_eq w (codes "dec_unsigned") then Some num_words.Unsigned
-    else if bytes_eq w (codes "dec_signed") then Some num_words.Signed
-    else None
-
-unfoldable pub num_tail : NumWord → Rule Num
-num_tail num_words.Unsigned = unsigned
-num_tail num_words.Signed = signed
+unfoldable pub num_tail : Lexeme → Rule true Num
+num_tail w = after_word (codes "dec_unsigned") w unsigned (after_word (codes "dec_signed") w signed (unknown w))
 
 -- NUM
-unfoldable pub num : Rule Num
+unfoldable pub num : Rule true Num
 num = do
   opening
-  w ← one alf (fits_word num_word)
+  w ← some_word
   num_tail w
 
 -- ---- initial values
 
 -- { ref NAME OFFSET }
-unfoldable pub ref_place : Rule (List ℕ × ℕ)
+unfoldable pub ref_place : Rule true (List ℕ × ℕ)
 ref_place = do
   begin (codes "ref")
   n ← name
   o ← offset
   closing
-  made (n, o)
+  value (n, o)
 
 -- INIT = { init { ref NAME OFFSET } NUM }
-unfoldable pub init : Rule InitialValue
+unfoldable pub init : Rule true InitialValue
 init = do
   begin (codes "init")
   p ← ref_place
   n ← num
   closing
-  made (record { name = p.0; offset = p.1; num = n })
+  value (record { name = p.0; offset = p.1; num = n })
 
 -- { inits INIT* }
-unfoldable pub inits : Rule (List InitialValue)
+unfoldable pub inits : Rule true (List InitialValue)
 inits = do
   begin (codes "inits")
-  starts ← many alf init
+  starts ← many opens init
   closing
-  made starts
+  value starts
 
 -- ---- expressions
 
@@ -389,48 +384,31 @@ abbrev pub operator_among : List Op → List ℕ → Option Op
 operator_among [] w = None
 operator_among (op ∷ ops) w = if bytes_eq (spelling op) w then Some op else operator_among ops w
 
--- how many operands an operator has
-abbrev pub operand_count : Op → ℕ
-operand_count op = length (operands_by_layout (layout_of op) 0 0 0)
+unfoldable pub operator_named : List ℕ → Option Op
+operator_named w = operator_among operators w
 
--- an operator, and how many sizes and operands its row has
-abbrev pub row_word : Op → ExprWord
-row_word op = expr_words.Apply op (size_count (layout_of op)) (operand_count op)
-
--- the row of the operator that a word spells
-unfoldable pub operator_word : List ℕ → Option ExprWord
-operator_word w = option_map row_word (operator_among operators w)
-
-abbrev pub expr_word : List ℕ → Option ExprWord
-expr_word w =
-    if bytes_eq w (codes "dec_unsigned") then Some expr_words.Unsigned
-    else if bytes_eq w (codes "dec_signed") then Some expr_words.Signed
-    else if bytes_eq w (codes "addr") then Some expr_words.Address
-    else if bytes_eq w (codes "load") then Some expr_words.Load
-    else operator_word w
-
-unfoldable pub unsigned_term : Rule NamedExpression
+unfoldable pub unsigned_term : Rule true NamedExpression
 unsigned_term = do
   n ← unsigned
-  made (tree.Number n)
+  value (tree.Number n)
 
-unfoldable pub signed_term : Rule NamedExpression
+unfoldable pub signed_term : Rule true NamedExpression
 signed_term = do
   n ← signed
-  made (tree.Number n)
+  value (tree.Number n)
 
-unfoldable pub address_term : Rule NamedExpression
+unfoldable pub address_term : Rule true NamedExpression
 address_term = do
   a ← address_tail
-  made (Address a.0 a.1)
+  value (Address a.0 a.1)
 
--- { load SIZE EXPR }, behind its word; inner is what stands in it as an expression
-unfoldable pub load : Rule NamedExpression → Rule NamedExpression
+-- { load SIZE EXPR }, after its word; inner is what stands in it as an expression
+unfoldable pub load : Rule true NamedExpression → Rule true NamedExpression
 load inner = do
   s ← between 8 64 8
   at ← inner
   closing
-  made (Load s at)
+  value (Load s at)
 
 abbrev pub least_further : Op → ℕ
 least_further Select = 0
@@ -440,298 +418,276 @@ abbrev pub most_further : Op → ℕ
 most_further Select = 63
 most_further _ = 64
 
--- a size behind the first, or a place in it where the operator is `select`
-unfoldable pub further : Op → Rule ℕ
+-- a size after the first, or a place in it where the operator is `select`
+unfoldable pub further : Op → Rule true ℕ
 further op = between (least_further op) (most_further op) 1
 
--- SIZE.., so many
-unfoldable pub sizes : Op → ℕ → Rule (List ℕ)
-sizes op count = do
+-- SIZE.., as many as the operator has
+unfoldable pub sizes : Op → Rule true (List ℕ)
+sizes op = do
   s ← size
-  ss ← exactly (count - 1) (further op)
-  made (s ∷ ss)
+  ss ← exactly (size_count (layout_of op) - 1) (further op)
+  value (s ∷ ss)
 
--- { OP SIZE.. EXPR.. }, behind its word, with so many sizes and operands
-unfoldable pub apply : Rule NamedExpression → Op → ℕ → ℕ → Rule NamedExpression
-apply inner op size_count operand_count = do
-  ss ← sizes op size_count
-  es ← exactly operand_count inner
+-- { OP SIZE.. EXPR.. }, after its word
+unfoldable pub apply : Rule true NamedExpression → Op → Rule true NamedExpression
+apply inner op = do
+  ss ← sizes op
+  es ← exactly (operand_count op) inner
   closing
-  made (Apply op ss (expressions_of es))
+  value (Apply op ss (expressions_of es))
 
-unfoldable pub expr_tail : Rule NamedExpression → ExprWord → Rule NamedExpression
-expr_tail inner expr_words.Unsigned = unsigned_term
-expr_tail inner expr_words.Signed = signed_term
-expr_tail inner expr_words.Address = address_term
-expr_tail inner expr_words.Load = load inner
-expr_tail inner (expr_words.Apply op size_count operand_count) = apply inner op size_count operand_count
+unfoldable pub operator : Rule true NamedExpression → Lexeme → Option Op → Rule true NamedExpression
+operator inner w None = unknown w
+operator inner w (Some op) = apply inner op
+
+unfoldable pub expr_tail : Rule true NamedExpression → Lexeme → Rule true NamedExpression
+expr_tail inner w =
+    after_word (codes "dec_unsigned") w unsigned_term
+    (after_word (codes "dec_signed") w signed_term
+    (after_word (codes "addr") w address_term
+    (after_word (codes "load") w (load inner)
+    (operator inner w (operator_named w.text)))))
 
 abbrev pub fits_too_deep : Lexeme → Result NamedExpression Fault
-fits_too_deep t = if is_open t.kind then Err (Passes Depth (most_depth + 1)) else Err (misfit t)
+fits_too_deep t = if is_kind kinds.Open t.kind then Err (Limit Depth (most_depth + 1)) else Err (misfit t)
 
 -- { .. }, where inner is what stands in it as an expression
-unfoldable pub nested : Rule NamedExpression → Rule NamedExpression
+unfoldable pub nested : Rule true NamedExpression → Rule true NamedExpression
 nested inner = do
   opening
-  w ← one alf (fits_word expr_word)
+  w ← some_word
   expr_tail inner w
 
 -- EXPR = NUM | ADDR | { load SIZE EXPR } | { OP SIZE.. EXPR.. }, in which at most so many expressions stand in one another
-unfoldable pub expr : ℕ → Rule NamedExpression
-expr zero = one alf fits_too_deep
+unfoldable pub expr : ℕ → Rule true NamedExpression
+expr zero = one fits_too_deep
 expr (suc depth) = nested (expr depth)
 
 -- an expression that stands in no other
-unfoldable pub whole_expr : Rule NamedExpression
+unfoldable pub whole_expr : Rule true NamedExpression
 whole_expr = expr most_depth
 
 -- ---- items
 
--- a further target begins with a brace and its word
-abbrev pub opens_target : At → Bool
-opens_target at = opens at && (is_word (token (behind at)).kind && bytes_eq (token (behind at)).text (codes "target"))
-
-abbrev pub targets_ahead : Source At Lexeme
-targets_ahead = record { first = token; after = behind; left = left; goes_on = opens_target }
+-- a target begins
+abbrev pub opens_target : Place → Bool
+opens_target = opens_word (codes "target")
 
 -- TARGET = { target NUM LABEL }
-unfoldable pub target : Rule (Num × List ℕ)
+unfoldable pub target : Rule true (Num × List ℕ)
 target = do
   begin (codes "target")
   n ← num
   l ← label
   closing
-  made (n, l)
+  value (n, l)
 
 -- { default LABEL }
-unfoldable pub default_arm : Rule (List ℕ)
+unfoldable pub default_arm : Rule true (List ℕ)
 default_arm = do
   begin (codes "default")
   l ← label
   closing
-  made l
+  value l
 
--- { switch EXPR TARGET* { default LABEL } }, behind its word
-unfoldable pub switch : Rule BodyItem
+-- { switch EXPR TARGET* { default LABEL } }, after its word
+unfoldable pub switch : Rule true BodyItem
 switch = do
-  value ← whole_expr
-  targets ← many targets_ahead target
+  e ← whole_expr
+  targets ← many opens_target target
   others ← default_arm
   closing
-  made (Do (Switch value targets others))
+  value (Do (Switch e targets others))
 
-unfoldable pub with_word : Rule (Unit {0})
+unfoldable pub with_word : Rule true (Unit {0})
 with_word = word (codes "with")
 
--- { store EXPR with EXPR }, behind its word
-unfoldable pub store : Rule BodyItem
+-- { store EXPR with EXPR }, after its word
+unfoldable pub store : Rule true BodyItem
 store = do
   at ← whole_expr
   with_word
-  value ← whole_expr
+  e ← whole_expr
   closing
-  made (Do (Store at value))
+  value (Do (Store at e))
 
-abbrev pub item_word : List ℕ → Option ItemWord
-item_word w =
-    if bytes_eq w (codes "label") then Some item_words.Label
-    else if bytes_eq w (codes "null") then Some item_words.Null
-    else if bytes_eq w (codes "store") then Some item_words.Store
-    else if bytes_eq w (codes "jump") then Some item_words.Jump
-    else if bytes_eq w (codes "switch") then Some item_words.Switch
-    else if bytes_eq w (codes "call") then Some item_words.Call
-    else if bytes_eq w (codes "return") then Some item_words.Return
-    else None
-
--- LABEL, behind its word
-unfoldable pub label_item : Rule BodyItem
+-- LABEL, after its word
+unfoldable pub label_item : Rule true BodyItem
 label_item = do
   n ← label_tail
-  made (Label n)
+  value (Label n)
 
--- { null }, behind its word
-unfoldable pub null : Rule BodyItem
+-- { null }, after its word
+unfoldable pub null : Rule true BodyItem
 null = do
   closing
-  made (Do Null)
+  value (Do Null)
 
-unfoldable pub leaving : Rule (Unit {0})
+unfoldable pub leaving : Rule true (Unit {0})
 leaving = word (codes "leaving")
 
--- { jump LABEL leaving 0 }, behind its word
-unfoldable pub jump : Rule BodyItem
+-- { jump LABEL leaving 0 }, after its word
+unfoldable pub jump : Rule true BodyItem
 jump = do
   n ← label
   leaving
   fixed 0
   closing
-  made (Do (Jump n))
+  value (Do (Jump n))
 
-unfoldable pub result_word : Rule (Unit {0})
+unfoldable pub result_word : Rule true (Unit {0})
 result_word = word (codes "result")
 
--- { call LABEL EXPR* result ADDR? }, behind its word
-unfoldable pub call : Rule BodyItem
+-- { call LABEL EXPR* result ADDR? }, after its word
+unfoldable pub call : Rule true BodyItem
 call = do
   n ← label
-  args ← many alf whole_expr
+  args ← many opens whole_expr
   result_word
-  to ← maybe alf address
+  to ← maybe opens address
   closing
-  made (Do (Call n args to))
+  value (Do (Call n args to))
 
--- { return EXPR? }, behind its word
-unfoldable pub returns : Rule BodyItem
+-- { return EXPR? }, after its word
+unfoldable pub returns : Rule true BodyItem
 returns = do
-  value ← maybe alf whole_expr
+  e ← maybe opens whole_expr
   closing
-  made (Do (Return value))
+  value (Do (Return e))
 
-unfoldable pub item_tail : ItemWord → Rule BodyItem
-item_tail item_words.Label = label_item
-item_tail item_words.Null = null
-item_tail item_words.Store = store
-item_tail item_words.Jump = jump
-item_tail item_words.Switch = switch
-item_tail item_words.Call = call
-item_tail item_words.Return = returns
+unfoldable pub item_tail : Lexeme → Rule true BodyItem
+item_tail w =
+    after_word (codes "label") w label_item
+    (after_word (codes "null") w null
+    (after_word (codes "store") w store
+    (after_word (codes "jump") w jump
+    (after_word (codes "switch") w switch
+    (after_word (codes "call") w call
+    (after_word (codes "return") w returns
+    (unknown w)))))))
 
 -- ITEM = LABEL | STMT
-unfoldable pub item : Rule BodyItem
+unfoldable pub item : Rule true BodyItem
 item = do
   opening
-  w ← one alf (fits_word item_word)
+  w ← some_word
   item_tail w
 
 -- ---- functions
 
--- a jump, a switch or a return
-abbrev pub is_ending : BodyItem → Bool
-is_ending (Label _) = false
-is_ending (Do Null) = false
-is_ending (Do (Store _ _)) = false
-is_ending (Do (Jump _)) = true
-is_ending (Do (Switch _ _ _)) = true
-is_ending (Do (Call _ _ _)) = false
-is_ending (Do (Return _)) = true
-
--- the last item is one
-abbrev pub ends_well : List BodyItem → Bool
-ends_well [] = false
-ends_well (last ∷ []) = is_ending last
-ends_well (_ ∷ next ∷ others) = ends_well (next ∷ others)
-
--- the brace behind the last item
+-- the brace after the last item
 abbrev pub fits_close_after : List BodyItem → Lexeme → Result (Unit {0}) Fault
-fits_close_after items t = if ends_well items then fits is_close t else Err (misfit t)
+fits_close_after items t = if ends_well items then fits kinds.Close t else Err (misfit t)
 
-unfoldable pub closing_after : List BodyItem → Rule (Unit {0})
-closing_after items = one alf (fits_close_after items)
+unfoldable pub closing_after : List BodyItem → Rule true (Unit {0})
+closing_after items = one (fits_close_after items)
 
 -- { stmts ITEM* }, of which the last is a jump, a switch or a return
-unfoldable pub stmts : Rule (List BodyItem)
+unfoldable pub stmts : Rule true (List BodyItem)
 stmts = do
   begin (codes "stmts")
-  items ← many alf item
+  items ← many opens item
   closing_after items
-  made items
+  value items
 
 -- { scope { decls ALLOC* } { inits INIT* } { stmts ITEM* } }
-unfoldable pub scope : Rule (List Allocation × List InitialValue × List BodyItem)
+unfoldable pub scope : Rule true (List Allocation × List InitialValue × List BodyItem)
 scope = do
   begin (codes "scope")
   frames ← allocs (codes "decls")
   starts ← inits
   items ← stmts
   closing
-  made (frames, starts, items)
+  value (frames, starts, items)
 
-unfoldable pub arg_decls : Rule (List Allocation)
+unfoldable pub arg_decls : Rule true (List Allocation)
 arg_decls = allocs (codes "arg_decls")
 
--- LABEL { arg_decls ALLOC* } { scope .. }, behind the word of a function
-unfoldable pub function_tail : Rule Function
+-- LABEL { arg_decls ALLOC* } { scope .. }, after the word of a function
+unfoldable pub function_tail : Rule true Function
 function_tail = do
   n ← label
   frames ← arg_decls
   s ← scope
   closing
-  made (record { name = n; args = frames; decls = s.0; inits = s.1; items = s.2 })
+  value (record { name = n; args = frames; decls = s.0; inits = s.1; items = s.2 })
 
 -- FUNC = { func LABEL { arg_decls ALLOC* } { scope .. } }
-unfoldable pub function : Rule Function
+unfoldable pub function : Rule true Function
 function = do
+  opening
   one_function
   word (codes "func")
   f ← function_tail
-  made f
+  value f
 
 -- { funcs FUNC* }
-unfoldable pub functions : Rule (List Function)
+unfoldable pub functions : Rule true (List Function)
 functions = do
   begin (codes "funcs")
-  fs ← many alf function
+  fs ← many opens function
   closing
-  made fs
+  value fs
 
 -- ---- programs
 
--- the brace behind a list that the profile keeps empty; an item in it is outside the profile, and is told by the word of the list
+-- the brace after a list that the profile keeps empty; an item in it is outside the profile, and the word of the list stands for it
 abbrev pub fits_empty : List ℕ → Lexeme → Result (Unit {0}) Fault
-fits_empty told t = if is_open t.kind then Err (OutOfProfile t.left told) else fits is_close t
+fits_empty list t = if is_kind kinds.Open t.kind then Err (OutOfProfile t.left list) else fits kinds.Close t
 
-unfoldable pub closing_empty : List ℕ → Rule (Unit {0})
-closing_empty told = one alf (fits_empty told)
+unfoldable pub closing_empty : List ℕ → Rule true (Unit {0})
+closing_empty list = one (fits_empty list)
 
 -- { WORD }
-unfoldable pub empty : List ℕ → List ℕ → Rule (Unit {0})
-empty w told = do
+unfoldable pub empty : List ℕ → List ℕ → Rule true (Unit {0})
+empty w list = do
   begin w
-  closing_empty told
-  made tt
+  closing_empty list
+  value tt
 
 -- { least_addr_unit 8 }
-unfoldable pub addr_unit : Rule (Unit {0})
+unfoldable pub addr_unit : Rule true (Unit {0})
 addr_unit = do
   begin (codes "least_addr_unit")
   fixed 8
   closing
-  made tt
+  value tt
 
-unfoldable pub macro_defs : Rule (Unit {0})
+unfoldable pub macro_defs : Rule true (Unit {0})
 macro_defs = empty (codes "macro_defs") (codes "macro_defs")
 
-unfoldable pub little_endian : Rule (Unit {0})
+unfoldable pub little_endian : Rule true (Unit {0})
 little_endian = word (codes "little_endian")
 
 -- { macro_defs } { least_addr_unit 8 } little_endian
-unfoldable pub heading : Rule (Unit {0})
+unfoldable pub heading : Rule true (Unit {0})
 heading = do
   macro_defs
   addr_unit
   little_endian
-  made tt
+  value tt
 
 -- { exports { frefs FREF* } { lrefs LREF* } }
-unfoldable pub exports : Rule (List (List ℕ) × List (List ℕ))
+unfoldable pub exports : Rule true (List (List ℕ) × List (List ℕ))
 exports = do
   begin (codes "exports")
   frames ← references (codes "frefs") (codes "fref")
   labels ← references (codes "lrefs") (codes "lref")
   closing
-  made (frames, labels)
+  value (frames, labels)
 
 -- { imports { frefs } { lrefs } }
-unfoldable pub imports : Rule (Unit {0})
+unfoldable pub imports : Rule true (Unit {0})
 imports = do
   begin (codes "imports")
   empty (codes "frefs") (codes "imports")
   empty (codes "lrefs") (codes "imports")
   closing
-  made tt
+  value tt
 
 -- PROGRAM = { alf { macro_defs } { least_addr_unit 8 } little_endian { exports .. } { imports .. } { decls ALLOC* } { inits INIT* } { funcs FUNC* } }
-unfoldable pub program : Rule WholeProgram
+unfoldable pub program : Rule true WholeProgram
 program = do
   begin (codes "alf")
   heading
@@ -742,4 +698,4 @@ program = do
   fs ← functions
   closing
   end
-  made (record { exports = names.0; labels = names.1; decls = frames; inits = starts; funcs = fs })
+  value (record { exports = names.0; labels = names.1; decls = frames; inits = starts; funcs = fs })

@@ -1,29 +1,29 @@
 -- What a text means: the program that it spells, or its first departure from the grammar.
---   start tokens                  where the reading of a text of these tokens starts
+--   start bytes                   where the reading of a text starts
 --   SpellsProgram bytes whole     the bytes are a spelling of the program
 --   IsSpelled whole               some text spells the program
 --   DepartsWith bytes fault       the bytes are no spelling, and this is where they leave the grammar first
---   Departure, placed bytes       the fault as it is told: with the place in the text
+--   Departure, placed bytes fault the fault as it is told: with the place in the text
 --   Means bytes meaning           the bytes spell the program, or depart so
 --   HasOneMeaning bytes           they have exactly one meaning
 use Rattle.std.specs.Prelude.{◌≡◌, ◌+◌, ◌-◌, ◌==◌, ℕ, not, Bool, List, length, take, filter, reverse, Result, Ok, Err, Option, Some, None}
 use Rattle.std.specs.List.{prefix_len}
 use Rattle.flow_base.specs.declared.place.Place.{Place}
-use Rattle.flow_base.specs.declared.place.Which.{Which}
-use Rattle.alf_tokens.specs.Tokens.{Lexeme, IsTokens}
+use Rattle.alf_tokens.specs.Tokens.{tokens_of}
 use Rattle.alf_text.specs.declared.text_fault.TextFault.{TextFault}
 use Rattle.alf_text.specs.declared.text_fault.TextFault.TheVariants as faults
 use Rattle.alf_program.specs.Tree.{WholeProgram}
-use Rattle.alf_text.specs.Grammar.{At, Fault, program, most_functions, most_frames, most_bytes}
+use Rattle.alf_text.specs.Grammar.{DepartureAt, Fault, program, most_functions, most_frames, most_bytes}
+pub use Rattle.alf_text.specs.Grammar.{Syntax, Number, OutOfProfile, Limit}
 use Rattle.alf_text.specs.Grammar as grammar
 
 -- where the reading of a text starts: nothing is counted yet
-abbrev pub start : List Lexeme → At
-start tokens = record { ahead = tokens; functions = most_functions; frames = most_frames; bytes = most_bytes }
+abbrev pub start : List ℕ → grammar.Place
+start bytes = record { ahead = tokens_of bytes; room = record { functions = most_functions; frames = most_frames; bytes = most_bytes } }
 
 -- the bytes are a spelling of the program
 abbrev pub SpellsProgram : List ℕ → WholeProgram → Type 0
-SpellsProgram bytes whole = (tokens : List Lexeme) × IsTokens bytes tokens × ((rest : At) × program.Spells (start tokens) whole rest)
+SpellsProgram bytes whole = (rest : grammar.Place) × program.form.Spells (start bytes) whole rest
 
 -- some text spells the program
 abbrev pub IsSpelled : WholeProgram → Type 0
@@ -31,40 +31,37 @@ IsSpelled whole = (bytes : List ℕ) × SpellsProgram bytes whole
 
 -- the bytes are no spelling, and this is where they leave the grammar first
 abbrev pub DepartsWith : List ℕ → Fault → Type 0
-DepartsWith bytes fault = (tokens : List Lexeme) × IsTokens bytes tokens × program.Departs (start tokens) fault
+DepartsWith bytes fault = program.form.Departs (start bytes) fault
 
 -- ---- places
 
 abbrev pub is_line_feed : ℕ → Bool
 is_line_feed byte = byte == 10
 
--- the place behind these bytes: lines and columns count from 1, and a line ends behind each line feed
-abbrev pub place_behind : List ℕ → Place
-place_behind front = record {
-  offset = length front;
-  line = length (filter is_line_feed front) + 1;
-  column = prefix_len (λ byte. not (is_line_feed byte)) (reverse front) + 1;
+-- the place after these bytes: lines and columns count from 1, and a line ends after each line feed
+abbrev pub place_after : List ℕ → Place
+place_after prefix = record {
+  offset = length prefix;
+  line = length (filter is_line_feed prefix) + 1;
+  column = prefix_len (λ byte. not (is_line_feed byte)) (reverse prefix) + 1;
 }
 
 -- the place in the text where so many bytes are left
 abbrev pub place_of : List ℕ → ℕ → Place
-place_of bytes left = place_behind (take (length bytes - left) bytes)
+place_of bytes left = place_after (take (length bytes - left) bytes)
 
 -- ---- meanings
 
 -- a first departure, as it is told
-pub data Departure : Type 0 where
-  Syntax : Place → Departure
-  Number : Place → Departure
-  OutOfProfile : Place → List ℕ → Departure
-  Limit : Which → ℕ → Departure
+abbrev pub Departure : Type 0
+Departure = DepartureAt Place
 
 -- the fault with its place in the text
 abbrev pub placed : List ℕ → Fault → Departure
-placed bytes (grammar.Syntax left) = Syntax (place_of bytes left)
-placed bytes (grammar.Number left) = Number (place_of bytes left)
-placed bytes (grammar.OutOfProfile left word) = OutOfProfile (place_of bytes left) word
-placed bytes (grammar.Passes which count) = Limit which count
+placed bytes (Syntax left) = Syntax (place_of bytes left)
+placed bytes (Number left) = Number (place_of bytes left)
+placed bytes (OutOfProfile left word) = OutOfProfile (place_of bytes left) word
+placed bytes (Limit which count) = Limit which count
 
 -- the bytes spell the program, or depart so
 abbrev pub Means : List ℕ → Result WholeProgram Departure → Type 0

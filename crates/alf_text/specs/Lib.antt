@@ -1,3 +1,4 @@
+-- Programs and their canonical text, the grammar, the reader, what a text means, first texts, and what printing back promises.
 pub use Rattle.alf_program.specs.Tree
 pub use Rattle.alf_printer.specs.Canonical
 pub mod Grammar

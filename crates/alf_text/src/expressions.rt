@@ -1,25 +1,29 @@
 //! Expressions. Reading one goes as deep as expressions may stand in one another.
 
-ghost use Rattle.std.specs.Prelude.{◌≡◌, ◌∷◌, map, IfOk, Result};
-ghost use Rattle.grammar.specs.Form.{Form, Gives, one, maybe, exactly};
+ghost use Rattle.std.specs.Prelude.{◌≡◌, ◌∷◌, ◌≤◌, map, IfOk, Result};
+ghost use Rattle.grammar.specs.Rule.{maybe, exactly};
 ghost use Rattle.alf_program.specs.Tree.{expression_of};
 ghost use Rattle.std.specs.Option.{option_map};
-ghost use Rattle.alf_ops.specs.Table.{layout_of, size_count};
-ghost use Rattle.alf_text.specs.Grammar.{alf, fits_too_deep, operand_count, unsigned_term, signed_term, address_term, load, further, sizes, apply, expr_tail, nested, expr, whole_expr, least_further, most_further};
-ghost use Rattle.alf_text.specs.Reading.{position, fault_of};
+ghost use Rattle.alf_ops.specs.Layouts.{size_count};
+ghost use Rattle.alf_ops.specs.Table.{layout_of};
+ghost use Rattle.alf_ops.specs.Names.{TellsOperator};
+ghost use Rattle.alf_text.specs.Grammar.{one, opens, fits_too_deep, operand_count, operator, operator_named, unsigned_term, signed_term, address_term, load, further, sizes, apply, expr_tail, nested, expr, whole_expr, least_further, most_further};
+ghost use Rattle.alf_tokens.specs.Ahead.{lexeme};
+ghost use Rattle.alf_text.specs.Reading.{position, Reads};
 
-use crate::fault::{Departure, misfit};
+use crate::fault::{Departure, misfit, outside};
 use crate::reader::Reader;
-use crate::words::ExprWord;
-use alf_ops::Op;
+use crate::words::operator_row;
+use alf_ops::{Op, OpRow};
 use alf_program::Expr;
+use alf_tokens::{Kind, Token};
 use flow_base::Which;
 use std::alloc::{AllocError, Global};
 
 const MOST_DEPTH: u32 = 64;
 
-// The least number behind the first size of this operator: a size, or a place where it is `select`.
-fn least_further(op: Op) -> u32
+// The least number after the first size of this operator: a size, or a place where it is `select`.
+fn least_further(op: Op) -> u128
     ensures { result ≡ least_further op }
 {
     match op {
@@ -28,8 +32,9 @@ fn least_further(op: Op) -> u32
     }
 }
 
-fn most_further(op: Op) -> u32
-    ensures { result ≡ most_further op }
+fn most_further(op: Op) -> u128
+    ensures value { result ≡ most_further op }
+    ensures within { result ≤ 64 }
 {
     match op {
         Op::Select => 63,
@@ -40,7 +45,7 @@ fn most_further(op: Op) -> u32
 impl<'a> Reader<'a> {
     #[tactic(auto, unfolding(crate::specs::Grammar::unsigned_term))]
     fn unsigned_term(&mut self) -> Result<Expr, Departure<'a>>
-        ensures { Gives fault_of (λ x. (expression_of x, position self.new)) result (unsigned_term.reading (position self.old)) }
+        ensures { Reads unsigned_term expression_of result self.old self.new }
     {
         let num = self.unsigned()?;
         Ok(Expr::Num(num))
@@ -48,7 +53,7 @@ impl<'a> Reader<'a> {
 
     #[tactic(auto, unfolding(crate::specs::Grammar::signed_term))]
     fn signed_term(&mut self) -> Result<Expr, Departure<'a>>
-        ensures { Gives fault_of (λ x. (expression_of x, position self.new)) result (signed_term.reading (position self.old)) }
+        ensures { Reads signed_term expression_of result self.old self.new }
     {
         let num = self.signed()?;
         Ok(Expr::Num(num))
@@ -56,7 +61,7 @@ impl<'a> Reader<'a> {
 
     #[tactic(auto, unfolding(crate::specs::Grammar::address_term))]
     fn address_term(&mut self) -> Result<Expr, Departure<'a>>
-        ensures { Gives fault_of (λ x. (expression_of x, position self.new)) result (address_term.reading (position self.old)) }
+        ensures { Reads address_term expression_of result self.old self.new }
     {
         let (name, offset) = self.address_tail()?;
         Ok(Expr::Addr(name, offset))
@@ -64,27 +69,28 @@ impl<'a> Reader<'a> {
 
     // The departure where no further expression may stand in another.
     fn too_deep(&mut self) -> Departure<'a>
-        ensures { Gives fault_of (λ x. (expression_of x, position self.new)) (Result.Err result) ((one alf fits_too_deep).reading (position self.old)) }
+        ensures { Reads (one fits_too_deep) expression_of (Result.Err result) self.old self.new }
     {
-        let token = self.next();
-        if token.kind.is_open() {
-            Departure::Limit(Which::Depth, u64::from(MOST_DEPTH) + 1)
-        } else {
-            misfit(token)
+        match self.token() {
+            Ok(token) if token.kind == Kind::Open => {
+                Departure::Limit(Which::Depth, u64::from(MOST_DEPTH) + 1)
+            }
+            Ok(token) => misfit(token),
+            Err(departure) => departure,
         }
     }
 
-    // A size behind the first, or a place.
+    // A size after the first, or a place.
     #[tactic(auto, unfolding(crate::specs::Grammar::further))]
     fn further(&mut self, op: Op) -> Result<u32, Departure<'a>>
-        ensures { Gives fault_of (λ x. (x, position self.new)) result ((further op).reading (position self.old)) }
+        ensures { Reads (further op) (λ x. x) result self.old self.new }
     {
         let number = self.between(least_further(op), most_further(op), 1)?;
-        Ok(number)
+        Ok(number as u32)
     }
 
     fn many_further(&mut self, op: Op, count: u32) -> Result<Vec<u32>, Departure<'a>>
-        ensures { Gives fault_of (λ x. (x.items, position self.new)) result ((exactly count (further op)).reading (position self.old)) }
+        ensures { Reads (exactly count (further op)) (λ x. x.items) result self.old self.new }
     {
         let mut sizes = Vec::new(self.alloc);
         for _ in 0..count {
@@ -96,7 +102,8 @@ impl<'a> Reader<'a> {
     // The sizes of an operator, which are so many.
     #[tactic(auto, unfolding(crate::specs::Grammar::sizes))]
     fn sizes(&mut self, op: Op, count: u8) -> Result<Vec<u32>, Departure<'a>>
-        ensures { Gives fault_of (λ x. (x.items, position self.new)) result ((sizes op count).reading (position self.old)) }
+        requires { count ≡ size_count (layout_of op) }
+        ensures { Reads (sizes op) (λ x. x.items) result self.old self.new }
     {
         let first = self.size()?;
         let others = self.many_further(op, u32::from(count.saturating_sub(1)))?;
@@ -105,9 +112,9 @@ impl<'a> Reader<'a> {
 
     /// An expression in which at most so many stand in one another.
     #[cycle(expr)]
-    #[tactic(auto, using(crate::proofs::Exactness::expr_none, crate::proofs::Exactness::expr_more))]
+    #[tactic(auto, using(crate::proofs::Depths::expr_none, crate::proofs::Depths::expr_more))]
     pub fn expr(&mut self, depth: u32) -> Result<Expr, Departure<'a>>
-        ensures { Gives fault_of (λ x. (expression_of x, position self.new)) result ((expr depth).reading (position self.old)) }
+        ensures { Reads (expr depth) expression_of result self.old self.new }
     {
         if depth == 0 {
             Err(self.too_deep())
@@ -119,24 +126,40 @@ impl<'a> Reader<'a> {
     #[cycle(expr)]
     #[tactic(auto, unfolding(crate::specs::Grammar::nested, crate::specs::Grammar::expr_tail))]
     fn nested(&mut self, depth: u32) -> Result<Expr, Departure<'a>>
-        ensures { Gives fault_of (λ x. (expression_of x, position self.new)) result ((nested (expr depth)).reading (position self.old)) }
+        ensures { Reads (nested (expr depth)) expression_of result self.old self.new }
     {
         self.opening()?;
-        match self.expr_word()? {
-            ExprWord::Unsigned => self.unsigned_term(),
-            ExprWord::Signed => self.signed_term(),
-            ExprWord::Address => self.address_term(),
-            ExprWord::Load => self.load(depth),
-            ExprWord::Apply(op, sizes, operands) => self.apply(op, sizes, operands, depth),
+        let word = self.some_word()?;
+        if word.text == b"dec_unsigned".as_slice() {
+            self.unsigned_term()
+        } else if word.text == b"dec_signed".as_slice() {
+            self.signed_term()
+        } else if word.text == b"addr".as_slice() {
+            self.address_term()
+        } else if word.text == b"load".as_slice() {
+            self.load(depth)
+        } else {
+            self.operator(word, depth)
+        }
+    }
+
+    #[cycle(expr)]
+    #[tactic(auto, unfolding(crate::specs::Grammar::operator, crate::specs::Grammar::unknown))]
+    fn operator(&mut self, word: Token<'a>, depth: u32) -> Result<Expr, Departure<'a>>
+        ensures { Reads (operator (expr depth) (lexeme word.entry) (operator_named word.entry.text.now)) expression_of result self.old self.new }
+    {
+        match operator_row(word.text) {
+            Some(row) => self.apply(row, depth),
+            None => Err(outside(word)),
         }
     }
 
     #[cycle(expr)]
     #[tactic(auto, unfolding(crate::specs::Grammar::load))]
     fn load(&mut self, depth: u32) -> Result<Expr, Departure<'a>>
-        ensures { Gives fault_of (λ x. (expression_of x, position self.new)) result ((load (expr depth)).reading (position self.old)) }
+        ensures { Reads (load (expr depth)) expression_of result self.old self.new }
     {
-        let size = self.between(8, 64, 8)?;
+        let size = self.between(8, 64, 8)? as u32;
         let at = self.expr(depth)?;
         self.closing()?;
         Ok(Expr::Load(size, Box::new(self.alloc, at)?))
@@ -144,18 +167,19 @@ impl<'a> Reader<'a> {
 
     #[cycle(expr)]
     #[tactic(auto, unfolding(crate::specs::Grammar::apply))]
-    fn apply(&mut self, op: Op, sizes: u8, operands: u8, depth: u32) -> Result<Expr, Departure<'a>>
-        ensures { Gives fault_of (λ x. (expression_of x, position self.new)) result ((apply (expr depth) op sizes operands).reading (position self.old)) }
+    fn apply(&mut self, row: &OpRow, depth: u32) -> Result<Expr, Departure<'a>>
+        requires { TellsOperator row.now }
+        ensures { Reads (apply (expr depth) row.now.op) expression_of result self.old self.new }
     {
-        let sizes = self.sizes(op, sizes)?;
-        let operands = self.operands(u32::from(operands), depth)?;
+        let sizes = self.sizes(row.op, row.sizes)?;
+        let operands = self.operands(u32::from(row.operands), depth)?;
         self.closing()?;
-        Ok(Expr::Apply(op, sizes, operands))
+        Ok(Expr::Apply(row.op, sizes, operands))
     }
 
     #[cycle(expr)]
     fn operands(&mut self, count: u32, depth: u32) -> Result<Vec<Expr>, Departure<'a>>
-        ensures { Gives fault_of (λ x. (map expression_of x.items, position self.new)) result ((exactly count (expr depth)).reading (position self.old)) }
+        ensures { Reads (exactly count (expr depth)) (λ x. map expression_of x.items) result self.old self.new }
     {
         let mut operands = Vec::new(self.alloc);
         for _ in 0..count {
@@ -167,7 +191,7 @@ impl<'a> Reader<'a> {
     /// An expression that stands in no other.
     #[tactic(auto, unfolding(crate::specs::Grammar::whole_expr))]
     pub fn whole_expr(&mut self) -> Result<Expr, Departure<'a>>
-        ensures { Gives fault_of (λ x. (expression_of x, position self.new)) result (whole_expr.reading (position self.old)) }
+        ensures { Reads whole_expr expression_of result self.old self.new }
     {
         let expr = self.expr(MOST_DEPTH)?;
         Ok(expr)
@@ -175,7 +199,7 @@ impl<'a> Reader<'a> {
 
     /// An expression that stands in no other, where a brace opens.
     pub fn maybe_expr(&mut self) -> Result<Option<Expr>, Departure<'a>>
-        ensures { Gives fault_of (λ x. (option_map expression_of x, position self.new)) result ((maybe alf whole_expr).reading (position self.old)) }
+        ensures { Reads (maybe opens whole_expr) (option_map expression_of) result self.old self.new }
     {
         if !self.at_open() {
             return Ok(None);
@@ -185,7 +209,7 @@ impl<'a> Reader<'a> {
     }
 }
 
-// A number and others behind it.
+// A number and others after it.
 fn with_first(alloc: Global, first: u32, others: &[u32]) -> Result<Vec<u32>, AllocError>
     ensures { IfOk result (λ all. all.items ≡ first ∷ others.now) }
 {

@@ -1,6 +1,8 @@
-ghost use Rattle.std.specs.Prelude.{◌≡◌};
+ghost use Rattle.std.specs.Prelude.{◌≡◌, Some};
+ghost use Rattle.alf_tokens.specs.Ahead.{lexeme};
 ghost use Rattle.alf_text.specs.declared.fault.Departure.TheVariants.{Memory};
-ghost use Rattle.alf_text.specs.Reading.{misfits_of};
+ghost use Rattle.alf_text.specs.Grammar.{misfit, outside};
+ghost use Rattle.alf_text.specs.Reading.{fault_of};
 
 use alf_tokens::{Kind, Token};
 use flow_base::Which;
@@ -39,9 +41,9 @@ impl<T: Drop> From<AllocFailed<T>> for Departure<'_> {
     }
 }
 
-/// The departure of a token of another kind than is wanted.
+/// The departure of a token of another kind than its place wants.
 pub fn misfit(token: Token<'_>) -> Departure<'_>
-    ensures { result ≡ misfits_of token.entry.kind token.entry.left }
+    ensures { fault_of result ≡ Some (misfit (lexeme token.entry)) }
 {
     match token.kind {
         Kind::Long => Departure::Number(token.left),
@@ -51,7 +53,7 @@ pub fn misfit(token: Token<'_>) -> Departure<'_>
 
 /// The departure of a word or a number that the grammar has not at its place.
 pub fn outside(token: Token<'_>) -> Departure<'_>
-    ensures { result ≡ Departure.OutOfProfile token.entry.left token.entry.text }
+    ensures { fault_of result ≡ Some (outside (lexeme token.entry)) }
 {
     Departure::OutOfProfile(token.left, token.text)
 }

@@ -12,7 +12,6 @@ use crate::functions::ends_well;
 use crate::reader::{Counts, Reader};
 use alf_ops::Op;
 use alf_program::{Alloc, Expr, Func, Item, Num, Program, Stmt};
-use alf_tokens::texts_are_cut_one_way;
 use flow_base::Name;
 use std::alloc::Global;
 
@@ -34,12 +33,11 @@ pub enum FirstFault {
 
 /// The program that a first text spells.
 ///
-/// The text is read from its front in one pass, and what it takes of memory is the program alone.
+/// The text is read from its first byte in one pass, and what it takes of memory is the program alone.
 pub fn read_first(alloc: Global, bytes: &[u8]) -> Result<Program, FirstFault>
     ensures spelled { IfOk result (λ program. FirstText bytes.now (program_of program)) }
     ensures not_first { IsErrOf result FirstFault.NotFirst → (whole : WholeProgram) → FirstText bytes.now whole → ⊥ }
 {
-    texts_are_cut_one_way();
     let mut reader = Reader::new(alloc, bytes, NO_LIMITS);
     let program = match reader.program() {
         Ok(program) => program,
@@ -56,9 +54,7 @@ pub fn read_first(alloc: Global, bytes: &[u8]) -> Result<Program, FirstFault>
 pub fn first_texts()
     ensures one { (bytes : List ℕ) (a b : WholeProgram) → FirstText bytes a → FirstText bytes b → a ≡ b }
     ensures first { (bytes : List ℕ) (whole : WholeProgram) → FirstText bytes whole → IsFirst whole }
-{
-    texts_are_cut_one_way();
-}
+{}
 
 // The departure as it is told.
 fn told(departure: Departure<'_>) -> FirstFault

@@ -1,22 +1,23 @@
 //! Frames and their initial values.
 
 ghost use Rattle.std.specs.Prelude.{◌≡◌, map};
-ghost use Rattle.grammar.specs.Form.{Form, Gives};
 ghost use Rattle.alf_program.specs.Tree.{allocation_of, initial_of};
 ghost use Rattle.alf_text.specs.Grammar.{alloc, allocs, init, inits};
-ghost use Rattle.alf_text.specs.Reading.{position, fault_of};
+ghost use Rattle.alf_text.specs.Reading.{position, Reads};
 
 use crate::fault::Departure;
-use crate::lists::many;
+use crate::parts::{Allocs, Inits};
 use crate::reader::Reader;
 use alf_program::{Alloc, Init};
+use grammar::many;
 
 impl<'a> Reader<'a> {
     /// `{ alloc 32 NAME BITS }`.
     #[tactic(auto, unfolding(crate::specs::Grammar::alloc))]
     pub fn alloc(&mut self) -> Result<Alloc, Departure<'a>>
-        ensures { Gives fault_of (λ x. (allocation_of x, position self.new)) result (alloc.reading (position self.old)) }
+        ensures { Reads alloc allocation_of result self.old self.new }
     {
+        self.opening()?;
         self.one_frame()?;
         self.word(b"alloc")?;
         self.fixed(32)?;
@@ -29,10 +30,10 @@ impl<'a> Reader<'a> {
     /// `{ LIST ALLOC* }`.
     #[tactic(auto, unfolding(crate::specs::Grammar::allocs))]
     pub fn allocs(&mut self, list: &[u8]) -> Result<Vec<Alloc>, Departure<'a>>
-        ensures { Gives fault_of (λ x. (map allocation_of x.items, position self.new)) result ((allocs list.now).reading (position self.old)) }
+        ensures { Reads (allocs list.now) (λ x. map allocation_of x.items) result self.old self.new }
     {
         self.begin(list)?;
-        let allocs = many(self)?;
+        let allocs = many(self.alloc, &Allocs, self)?;
         self.closing()?;
         Ok(allocs)
     }
@@ -40,7 +41,7 @@ impl<'a> Reader<'a> {
     /// `{ init { ref NAME OFFSET } NUM }`.
     #[tactic(auto, unfolding(crate::specs::Grammar::init))]
     pub fn init(&mut self) -> Result<Init, Departure<'a>>
-        ensures { Gives fault_of (λ x. (initial_of x, position self.new)) result (init.reading (position self.old)) }
+        ensures { Reads init initial_of result self.old self.new }
     {
         self.begin(b"init")?;
         let (name, offset) = self.ref_place()?;
@@ -52,10 +53,10 @@ impl<'a> Reader<'a> {
     /// `{ inits INIT* }`.
     #[tactic(auto, unfolding(crate::specs::Grammar::inits))]
     pub fn inits(&mut self) -> Result<Vec<Init>, Departure<'a>>
-        ensures { Gives fault_of (λ x. (map initial_of x.items, position self.new)) result (inits.reading (position self.old)) }
+        ensures { Reads inits (λ x. map initial_of x.items) result self.old self.new }
     {
         self.begin(b"inits")?;
-        let inits = many(self)?;
+        let inits = many(self.alloc, &Inits, self)?;
         self.closing()?;
         Ok(inits)
     }

@@ -1,15 +1,16 @@
 //! Functions.
 
 ghost use Rattle.std.specs.Prelude.{◌≡◌, map};
-ghost use Rattle.grammar.specs.Form.{Form, Gives};
 ghost use Rattle.alf_program.specs.Tree.{allocation_of, initial_of, item_of, function_of};
 ghost use Rattle.alf_text.specs.Grammar.{is_ending, ends_well, closing_after, stmts, scope, arg_decls, function_tail, function, functions};
-ghost use Rattle.alf_text.specs.Reading.{position, fault_of};
+ghost use Rattle.alf_text.specs.Reading.{position, Reads};
 
 use crate::fault::{Departure, misfit};
-use crate::lists::many;
+use crate::parts::{Funcs, Items};
 use crate::reader::Reader;
 use alf_program::{Alloc, Func, Init, Item, Stmt};
+use alf_tokens::Kind;
+use grammar::many;
 
 fn is_ending(item: &Item) -> bool
     ensures { result ≡ is_ending (item_of item.now) }
@@ -38,10 +39,10 @@ pub fn ends_well(items: &[Item]) -> bool
 impl<'a> Reader<'a> {
     #[tactic(auto, unfolding(crate::specs::Grammar::closing_after))]
     fn closing_after(&mut self, items: &[Item]) -> Result<(), Departure<'a>>
-        ensures { Gives fault_of (λ x. (x, position self.new)) result ((closing_after (map item_of items.now)).reading (position self.old)) }
+        ensures { Reads (closing_after (map item_of items.now)) (λ x. x) result self.old self.new }
     {
-        let token = self.next();
-        if ends_well(items) && token.kind.is_close() {
+        let token = self.token()?;
+        if ends_well(items) && token.kind == Kind::Close {
             Ok(())
         } else {
             Err(misfit(token))
@@ -50,17 +51,17 @@ impl<'a> Reader<'a> {
 
     #[tactic(auto, unfolding(crate::specs::Grammar::stmts))]
     fn stmts(&mut self) -> Result<Vec<Item>, Departure<'a>>
-        ensures { Gives fault_of (λ x. (map item_of x.items, position self.new)) result (stmts.reading (position self.old)) }
+        ensures { Reads stmts (λ x. map item_of x.items) result self.old self.new }
     {
         self.begin(b"stmts")?;
-        let items = many(self)?;
+        let items = many(self.alloc, &Items, self)?;
         self.closing_after(&items)?;
         Ok(items)
     }
 
     #[tactic(auto, unfolding(crate::specs::Grammar::scope))]
     fn scope(&mut self) -> Result<(Vec<Alloc>, Vec<Init>, Vec<Item>), Departure<'a>>
-        ensures { Gives fault_of (λ x. ((map allocation_of x.0.items, map initial_of x.1.items, map item_of x.2.items), position self.new)) result (scope.reading (position self.old)) }
+        ensures { Reads scope (λ x. (map allocation_of x.0.items, map initial_of x.1.items, map item_of x.2.items)) result self.old self.new }
     {
         self.begin(b"scope")?;
         let decls = self.allocs(b"decls")?;
@@ -72,16 +73,16 @@ impl<'a> Reader<'a> {
 
     #[tactic(auto, unfolding(crate::specs::Grammar::arg_decls))]
     fn arg_decls(&mut self) -> Result<Vec<Alloc>, Departure<'a>>
-        ensures { Gives fault_of (λ x. (map allocation_of x.items, position self.new)) result (arg_decls.reading (position self.old)) }
+        ensures { Reads arg_decls (λ x. map allocation_of x.items) result self.old self.new }
     {
         let args = self.allocs(b"arg_decls")?;
         Ok(args)
     }
 
-    // A function behind its word.
+    // A function after its word.
     #[tactic(auto, unfolding(crate::specs::Grammar::function_tail))]
     fn function_tail(&mut self) -> Result<Func, Departure<'a>>
-        ensures { Gives fault_of (λ x. (function_of x, position self.new)) result (function_tail.reading (position self.old)) }
+        ensures { Reads function_tail function_of result self.old self.new }
     {
         let name = self.label()?;
         let args = self.arg_decls()?;
@@ -99,8 +100,9 @@ impl<'a> Reader<'a> {
     /// A function.
     #[tactic(auto, unfolding(crate::specs::Grammar::function))]
     pub fn function(&mut self) -> Result<Func, Departure<'a>>
-        ensures { Gives fault_of (λ x. (function_of x, position self.new)) result (function.reading (position self.old)) }
+        ensures { Reads function function_of result self.old self.new }
     {
+        self.opening()?;
         self.one_function()?;
         self.word(b"func")?;
         let func = self.function_tail()?;
@@ -110,10 +112,10 @@ impl<'a> Reader<'a> {
     /// `{ funcs FUNC* }`.
     #[tactic(auto, unfolding(crate::specs::Grammar::functions))]
     pub fn functions(&mut self) -> Result<Vec<Func>, Departure<'a>>
-        ensures { Gives fault_of (λ x. (map function_of x.items, position self.new)) result (functions.reading (position self.old)) }
+        ensures { Reads functions (λ x. map function_of x.items) result self.old self.new }
     {
         self.begin(b"funcs")?;
-        let funcs = many(self)?;
+        let funcs = many(self.alloc, &Funcs, self)?;
         self.closing()?;
         Ok(funcs)
     }

@@ -14,15 +14,16 @@ mod words;
 mod expressions;
 mod frames;
 mod functions;
-mod lists;
 mod names;
 mod numbers;
+mod parts;
 mod programs;
 mod statements;
 
 // What a text means, and what the definitions promise.
 mod language;
 mod laws;
+mod writable;
 
 // Writing a program.
 mod printing;
@@ -36,3 +37,4 @@ pub use language::{one_meaning, read};
 pub use laws::{canonical_texts_are_read_back, spelled_programs_are_written};
 pub use printing::print;
 pub use text_fault::TextFault;
+pub use writable::writable_programs_are_spelled;

@@ -1,13 +1,15 @@
 //! Names: references to frames and labels, labels, and addresses.
 
-ghost use Rattle.std.specs.Prelude.{◌≡◌, ◌<◌, map, length, OnOk};
-ghost use Rattle.grammar.specs.Form.{Form, Gives, many, maybe};
-ghost use Rattle.alf_text.specs.Grammar.{alf, left, reference, references, offset, zero_offset, label_tail, label, address_tail, address, ref_place, at_most};
-ghost use Rattle.alf_text.specs.Reading.{position, fault_of};
+ghost use Rattle.std.specs.Prelude.{◌≡◌};
+ghost use Rattle.grammar.specs.Rule.{many, maybe};
+ghost use Rattle.alf_text.specs.Grammar.{opens, reference, references, offset, zero_offset, label_tail, label, address_tail, address, ref_place, at_most};
+ghost use Rattle.alf_text.specs.Reading.{position, Reads};
 
 use crate::fault::Departure;
+use crate::parts::References;
 use crate::reader::Reader;
 use flow_base::Name;
+use grammar::many;
 
 const MOST_OFFSET: u64 = 0xffff_ffff;
 
@@ -15,7 +17,7 @@ impl<'a> Reader<'a> {
     /// `{ WORD 32 NAME }`, a reference of this word.
     #[tactic(auto, unfolding(crate::specs::Grammar::reference))]
     pub fn reference(&mut self, word: &[u8]) -> Result<Name, Departure<'a>>
-        ensures { Gives fault_of (λ x. (x, position self.new)) result ((reference word.now).reading (position self.old)) }
+        ensures { Reads (reference word.now) (λ x. x) result self.old self.new }
     {
         self.begin(word)?;
         self.fixed(32)?;
@@ -24,29 +26,17 @@ impl<'a> Reader<'a> {
         Ok(name)
     }
 
-    #[tactic(auto, using(crate::proofs::Exactness::reference_smaller))]
-    fn one_reference(&mut self, word: &[u8]) -> Result<Name, Departure<'a>>
-        ensures exact { Gives fault_of (λ x. (x, position self.new)) result ((reference word.now).reading (position self.old)) }
-        ensures shorter { OnOk result (left (position self.new) < left (position self.old)) }
-    {
-        let name = self.reference(word)?;
-        Ok(name)
-    }
-
     fn many_references(&mut self, word: &[u8]) -> Result<Vec<Name>, Departure<'a>>
-        ensures { Gives fault_of (λ x. (x.items, position self.new)) result ((many alf (reference word.now)).reading (position self.old)) }
+        ensures { Reads (many opens (reference word.now)) (λ x. x.items) result self.old self.new }
     {
-        let mut names = Vec::new(self.alloc);
-        while self.at_open() {
-            names.push(self.one_reference(word)?)?;
-        }
+        let names = many(self.alloc, &References(word), self)?;
         Ok(names)
     }
 
     /// `{ LIST { WORD 32 NAME }* }`.
     #[tactic(auto, unfolding(crate::specs::Grammar::references))]
     pub fn references(&mut self, list: &[u8], word: &[u8]) -> Result<Vec<Name>, Departure<'a>>
-        ensures { Gives fault_of (λ x. (x.items, position self.new)) result ((references list.now word.now).reading (position self.old)) }
+        ensures { Reads (references list.now word.now) (λ x. x.items) result self.old self.new }
     {
         self.begin(list)?;
         let names = self.many_references(word)?;
@@ -57,7 +47,7 @@ impl<'a> Reader<'a> {
     /// `{ dec_unsigned 32 N }`, an offset in bytes.
     #[tactic(auto, unfolding(crate::specs::Grammar::offset))]
     pub fn offset(&mut self) -> Result<u32, Departure<'a>>
-        ensures { Gives fault_of (λ x. (x, position self.new)) result (offset.reading (position self.old)) }
+        ensures { Reads offset (λ x. x) result self.old self.new }
     {
         self.begin(b"dec_unsigned")?;
         self.fixed(32)?;
@@ -67,7 +57,7 @@ impl<'a> Reader<'a> {
     }
 
     fn at_most_offset(&mut self) -> Result<u32, Departure<'a>>
-        ensures { Gives fault_of (λ x. (x, position self.new)) result ((at_most 4294967295).reading (position self.old)) }
+        ensures { Reads (at_most 4294967295) (λ x. x) result self.old self.new }
     {
         let offset = self.at_most(MOST_OFFSET)?;
         Ok(offset as u32)
@@ -75,7 +65,7 @@ impl<'a> Reader<'a> {
 
     #[tactic(auto, unfolding(crate::specs::Grammar::zero_offset))]
     fn zero_offset(&mut self) -> Result<(), Departure<'a>>
-        ensures { Gives fault_of (λ x. (x, position self.new)) result (zero_offset.reading (position self.old)) }
+        ensures { Reads zero_offset (λ x. x) result self.old self.new }
     {
         self.begin(b"dec_unsigned")?;
         self.fixed(32)?;
@@ -84,10 +74,10 @@ impl<'a> Reader<'a> {
         Ok(())
     }
 
-    /// A label behind its word.
+    /// A label after its word.
     #[tactic(auto, unfolding(crate::specs::Grammar::label_tail))]
     pub fn label_tail(&mut self) -> Result<Name, Departure<'a>>
-        ensures { Gives fault_of (λ x. (x, position self.new)) result (label_tail.reading (position self.old)) }
+        ensures { Reads label_tail (λ x. x) result self.old self.new }
     {
         self.fixed(32)?;
         let name = self.reference(b"lref")?;
@@ -98,17 +88,17 @@ impl<'a> Reader<'a> {
 
     #[tactic(auto, unfolding(crate::specs::Grammar::label))]
     pub fn label(&mut self) -> Result<Name, Departure<'a>>
-        ensures { Gives fault_of (λ x. (x, position self.new)) result (label.reading (position self.old)) }
+        ensures { Reads label (λ x. x) result self.old self.new }
     {
         self.begin(b"label")?;
         let name = self.label_tail()?;
         Ok(name)
     }
 
-    /// The frame and the offset of an address behind its word.
+    /// The frame and the offset of an address after its word.
     #[tactic(auto, unfolding(crate::specs::Grammar::address_tail))]
     pub fn address_tail(&mut self) -> Result<(Name, u32), Departure<'a>>
-        ensures { Gives fault_of (λ x. (x, position self.new)) result (address_tail.reading (position self.old)) }
+        ensures { Reads address_tail (λ x. x) result self.old self.new }
     {
         self.fixed(32)?;
         let name = self.reference(b"fref")?;
@@ -119,7 +109,7 @@ impl<'a> Reader<'a> {
 
     #[tactic(auto, unfolding(crate::specs::Grammar::address))]
     fn address(&mut self) -> Result<(Name, u32), Departure<'a>>
-        ensures { Gives fault_of (λ x. (x, position self.new)) result (address.reading (position self.old)) }
+        ensures { Reads address (λ x. x) result self.old self.new }
     {
         self.begin(b"addr")?;
         let address = self.address_tail()?;
@@ -128,7 +118,7 @@ impl<'a> Reader<'a> {
 
     /// An address, where a brace opens.
     pub fn maybe_address(&mut self) -> Result<Option<(Name, u32)>, Departure<'a>>
-        ensures { Gives fault_of (λ x. (x, position self.new)) result ((maybe alf address).reading (position self.old)) }
+        ensures { Reads (maybe opens address) (λ x. x) result self.old self.new }
     {
         if !self.at_open() {
             return Ok(None);
@@ -140,7 +130,7 @@ impl<'a> Reader<'a> {
     /// `{ ref NAME OFFSET }`.
     #[tactic(auto, unfolding(crate::specs::Grammar::ref_place))]
     pub fn ref_place(&mut self) -> Result<(Name, u32), Departure<'a>>
-        ensures { Gives fault_of (λ x. (x, position self.new)) result (ref_place.reading (position self.old)) }
+        ensures { Reads ref_place (λ x. x) result self.old self.new }
     {
         self.begin(b"ref")?;
         let name = self.name()?;

@@ -1,13 +1,12 @@
 //! Numbers with a size.
 
 ghost use Rattle.std.specs.Prelude.{◌≡◌, ◌≤◌, ◌-◌, ◌^◌, ◌%◌, IfOk, IfSome};
-ghost use Rattle.grammar.specs.Form.{Form, Gives, maybe};
-ghost use Rattle.alf_text.specs.Grammar.{alf, at_most, unsigned, minus, signed_bits, signed, num_tail, num};
-ghost use Rattle.alf_text.specs.Reading.{position, fault_of};
+ghost use Rattle.grammar.specs.Rule.{maybe};
+ghost use Rattle.alf_text.specs.Grammar.{opens, at_most, unsigned, minus, signed_bits, signed, num_tail, num};
+ghost use Rattle.alf_text.specs.Reading.{position, Reads};
 
-use crate::fault::Departure;
+use crate::fault::{Departure, outside};
 use crate::reader::Reader;
-use crate::words::NumWord;
 use alf_program::Num;
 
 // The greatest word of this size.
@@ -29,10 +28,10 @@ fn negated(size: u32, distance: u64) -> u64
 }
 
 impl<'a> Reader<'a> {
-    /// `{ dec_unsigned SIZE N }` behind its word.
+    /// `{ dec_unsigned SIZE N }` after its word.
     #[tactic(auto, unfolding(crate::specs::Grammar::unsigned))]
     pub fn unsigned(&mut self) -> Result<Num, Departure<'a>>
-        ensures { Gives fault_of (λ x. (x, position self.new)) result (unsigned.reading (position self.old)) }
+        ensures { Reads unsigned (λ x. x) result self.old self.new }
     {
         let size = self.size()?;
         let bits = self.at_most(greatest(size))?;
@@ -48,7 +47,7 @@ impl<'a> Reader<'a> {
     #[tactic(auto, unfolding(crate::specs::Grammar::minus))]
     fn minus(&mut self, size: u32) -> Result<u64, Departure<'a>>
         requires { (1 ≤ size) × (size ≤ 64) }
-        ensures exact { Gives fault_of (λ x. (x, position self.new)) result ((minus size).reading (position self.old)) }
+        ensures exact { Reads (minus size) (λ x. x) result self.old self.new }
         ensures near { IfOk result (λ distance. distance ≤ 2 ^ (size - 1)) }
     {
         self.begin(b"minus")?;
@@ -59,7 +58,7 @@ impl<'a> Reader<'a> {
 
     fn maybe_minus(&mut self, size: u32) -> Result<Option<u64>, Departure<'a>>
         requires { (1 ≤ size) × (size ≤ 64) }
-        ensures exact { Gives fault_of (λ x. (x, position self.new)) result ((maybe alf (minus size)).reading (position self.old)) }
+        ensures exact { Reads (maybe opens (minus size)) (λ x. x) result self.old self.new }
         ensures near { IfOk result (λ found. IfSome found (λ distance. distance ≤ 2 ^ (size - 1))) }
     {
         if !self.at_open() {
@@ -73,7 +72,7 @@ impl<'a> Reader<'a> {
     fn signed_bits(&mut self, size: u32, minus: Option<u64>) -> Result<u64, Departure<'a>>
         requires sized { (1 ≤ size) × (size ≤ 64) }
         requires near { IfSome minus (λ distance. distance ≤ 2 ^ (size - 1)) }
-        ensures { Gives fault_of (λ x. (x, position self.new)) result ((signed_bits size minus).reading (position self.old)) }
+        ensures { Reads (signed_bits size minus) (λ x. x) result self.old self.new }
     {
         match minus {
             Some(distance) => Ok(negated(size, distance)),
@@ -81,10 +80,10 @@ impl<'a> Reader<'a> {
         }
     }
 
-    /// `{ dec_signed SIZE N }` or `{ dec_signed SIZE { minus N } }` behind its word.
+    /// `{ dec_signed SIZE N }` or `{ dec_signed SIZE { minus N } }` after its word.
     #[tactic(auto, unfolding(crate::specs::Grammar::signed))]
     pub fn signed(&mut self) -> Result<Num, Departure<'a>>
-        ensures { Gives fault_of (λ x. (x, position self.new)) result (signed.reading (position self.old)) }
+        ensures { Reads signed (λ x. x) result self.old self.new }
     {
         let size = self.size()?;
         let minus = self.maybe_minus(size)?;
@@ -98,14 +97,18 @@ impl<'a> Reader<'a> {
     }
 
     /// A number.
-    #[tactic(auto, unfolding(crate::specs::Grammar::num, crate::specs::Grammar::num_tail))]
+    #[tactic(auto, unfolding(crate::specs::Grammar::num, crate::specs::Grammar::num_tail, crate::specs::Grammar::unknown))]
     pub fn num(&mut self) -> Result<Num, Departure<'a>>
-        ensures { Gives fault_of (λ x. (x, position self.new)) result (num.reading (position self.old)) }
+        ensures { Reads num (λ x. x) result self.old self.new }
     {
         self.opening()?;
-        match self.num_word()? {
-            NumWord::Unsigned => self.unsigned(),
-            NumWord::Signed => self.signed(),
+        let word = self.some_word()?;
+        if word.text == b"dec_unsigned".as_slice() {
+            self.unsigned()
+        } else if word.text == b"dec_signed".as_slice() {
+            self.signed()
+        } else {
+            Err(outside(word))
         }
     }
 }

@@ -1,26 +1,26 @@
-//! Whole programs.
+//! WholeProgram programs.
 
 ghost use Rattle.std.specs.Prelude.{◌≡◌};
-ghost use Rattle.grammar.specs.Form.{Form, Gives};
 ghost use Rattle.alf_program.specs.Tree.{program_of};
 ghost use Rattle.alf_text.specs.Grammar.{closing_empty, empty, addr_unit, macro_defs, little_endian, heading, exports, imports, program};
-ghost use Rattle.alf_text.specs.Reading.{position, fault_of};
+ghost use Rattle.alf_text.specs.Reading.{position, Reads};
 
 use crate::fault::{Departure, misfit};
 use crate::reader::Reader;
 use alf_program::Program;
+use alf_tokens::Kind;
 use flow_base::Name;
 
 impl<'a> Reader<'a> {
-    // The brace behind a list that has no items. An item is told by this word.
+    // The brace after a list that has no items. This word stands for an item.
     #[tactic(auto, unfolding(crate::specs::Grammar::closing_empty))]
-    fn closing_empty(&mut self, told: &'static [u8]) -> Result<(), Departure<'a>>
-        ensures { Gives fault_of (λ x. (x, position self.new)) result ((closing_empty told.now).reading (position self.old)) }
+    fn closing_empty(&mut self, list: &'static [u8]) -> Result<(), Departure<'a>>
+        ensures { Reads (closing_empty list.now) (λ x. x) result self.old self.new }
     {
-        let token = self.next();
-        if token.kind.is_open() {
-            Err(Departure::OutOfProfile(token.left, told))
-        } else if token.kind.is_close() {
+        let token = self.token()?;
+        if token.kind == Kind::Open {
+            Err(Departure::OutOfProfile(token.left, list))
+        } else if token.kind == Kind::Close {
             Ok(())
         } else {
             Err(misfit(token))
@@ -28,17 +28,17 @@ impl<'a> Reader<'a> {
     }
 
     #[tactic(auto, unfolding(crate::specs::Grammar::empty))]
-    fn empty(&mut self, word: &[u8], told: &'static [u8]) -> Result<(), Departure<'a>>
-        ensures { Gives fault_of (λ x. (x, position self.new)) result ((empty word.now told.now).reading (position self.old)) }
+    fn empty(&mut self, word: &[u8], list: &'static [u8]) -> Result<(), Departure<'a>>
+        ensures { Reads (empty word.now list.now) (λ x. x) result self.old self.new }
     {
         self.begin(word)?;
-        self.closing_empty(told)?;
+        self.closing_empty(list)?;
         Ok(())
     }
 
     #[tactic(auto, unfolding(crate::specs::Grammar::macro_defs))]
     fn macro_defs(&mut self) -> Result<(), Departure<'a>>
-        ensures { Gives fault_of (λ x. (x, position self.new)) result (macro_defs.reading (position self.old)) }
+        ensures { Reads macro_defs (λ x. x) result self.old self.new }
     {
         self.empty(b"macro_defs", b"macro_defs")?;
         Ok(())
@@ -46,7 +46,7 @@ impl<'a> Reader<'a> {
 
     #[tactic(auto, unfolding(crate::specs::Grammar::addr_unit))]
     fn addr_unit(&mut self) -> Result<(), Departure<'a>>
-        ensures { Gives fault_of (λ x. (x, position self.new)) result (addr_unit.reading (position self.old)) }
+        ensures { Reads addr_unit (λ x. x) result self.old self.new }
     {
         self.begin(b"least_addr_unit")?;
         self.fixed(8)?;
@@ -56,7 +56,7 @@ impl<'a> Reader<'a> {
 
     #[tactic(auto, unfolding(crate::specs::Grammar::little_endian))]
     fn little_endian(&mut self) -> Result<(), Departure<'a>>
-        ensures { Gives fault_of (λ x. (x, position self.new)) result (little_endian.reading (position self.old)) }
+        ensures { Reads little_endian (λ x. x) result self.old self.new }
     {
         self.word(b"little_endian")?;
         Ok(())
@@ -64,7 +64,7 @@ impl<'a> Reader<'a> {
 
     #[tactic(auto, unfolding(crate::specs::Grammar::heading))]
     fn heading(&mut self) -> Result<(), Departure<'a>>
-        ensures { Gives fault_of (λ x. (x, position self.new)) result (heading.reading (position self.old)) }
+        ensures { Reads heading (λ x. x) result self.old self.new }
     {
         self.macro_defs()?;
         self.addr_unit()?;
@@ -75,7 +75,7 @@ impl<'a> Reader<'a> {
     // The frames and the labels that are exported.
     #[tactic(auto, unfolding(crate::specs::Grammar::exports))]
     fn exports(&mut self) -> Result<(Vec<Name>, Vec<Name>), Departure<'a>>
-        ensures { Gives fault_of (λ x. ((x.0.items, x.1.items), position self.new)) result (exports.reading (position self.old)) }
+        ensures { Reads exports (λ x. (x.0.items, x.1.items)) result self.old self.new }
     {
         self.begin(b"exports")?;
         let frames = self.references(b"frefs", b"fref")?;
@@ -86,7 +86,7 @@ impl<'a> Reader<'a> {
 
     #[tactic(auto, unfolding(crate::specs::Grammar::imports))]
     fn imports(&mut self) -> Result<(), Departure<'a>>
-        ensures { Gives fault_of (λ x. (x, position self.new)) result (imports.reading (position self.old)) }
+        ensures { Reads imports (λ x. x) result self.old self.new }
     {
         self.begin(b"imports")?;
         self.empty(b"frefs", b"imports")?;
@@ -98,7 +98,7 @@ impl<'a> Reader<'a> {
     /// A whole text.
     #[tactic(auto, unfolding(crate::specs::Grammar::program))]
     pub fn program(&mut self) -> Result<Program, Departure<'a>>
-        ensures { Gives fault_of (λ x. (program_of x, position self.new)) result (program.reading (position self.old)) }
+        ensures { Reads program program_of result self.old self.new }
     {
         self.begin(b"alf")?;
         self.heading()?;

@@ -1,16 +1,16 @@
 //! A place in a text, and what is read of single tokens there.
 
-ghost use Rattle.std.specs.Prelude.{◌≡◌, ◌<◌, ◌≤◌, false, IfOk, IfSome};
-ghost use Rattle.flow_base.specs.Digits.{front_digits};
-ghost use Rattle.grammar.specs.Form.{Form, Gives, one};
+ghost use Rattle.std.specs.Prelude.{◌≡◌, ◌≤◌, ◌<◌, None, Some, IfOk, IfErr, IfSome};
+ghost use Rattle.std.specs.Option.{option_map};
+ghost use Rattle.flow_base.specs.Digits.{prefix_digits};
+ghost use Rattle.grammar.specs.Form.{first, after};
+ghost use Rattle.alf_tokens.specs.Tokens.{tokens_of};
 ghost use Rattle.alf_tokens.specs.Ahead.{lexeme};
-ghost use Rattle.alf_tokens.specs.Cutting.{tokens_of};
-ghost use Rattle.alf_text.specs.Grammar.{alf, At, opens, opens_target, token as front, behind, opening, closing, end, word, begin, between, fixed, size, at_most, name, number_within, number_between, fits_word, num_word, expr_word, item_word};
-ghost use Rattle.alf_text.specs.Reading.{position, fault_of};
+ghost use Rattle.alf_text.specs.Grammar.{opens, opens_target, opening, closing, end, some_word, word, begin, between, fixed, size, at_most, name, number_within, number_between};
+ghost use Rattle.alf_text.specs.Reading.{position, Reads};
 
 use crate::fault::{Departure, misfit, outside};
-use crate::words::{ExprWord, ItemWord, NumWord, expr_word, item_word, num_word};
-use alf_tokens::{Cursor, Token};
+use alf_tokens::{Cursor, Kind, Token};
 use flow_base::{Name, digits};
 use std::alloc::Global;
 
@@ -34,7 +34,7 @@ pub struct Reader<'a> {
 
 /// The number that the digits write, where it is at most so much.
 fn number_within(text: &[u8], most: u128) -> Option<u128>
-    ensures value { result ≡ number_within most (front_digits text.now) }
+    ensures value { result ≡ number_within most (prefix_digits text.now) }
     ensures within { IfSome result (λ number. number ≤ most) }
 {
     let (number, _) = digits(text, 0, most)?;
@@ -42,13 +42,13 @@ fn number_within(text: &[u8], most: u128) -> Option<u128>
 }
 
 /// The number that the digits write, where it is within these bounds and a multiple of the step.
-pub fn number_between(text: &[u8], least: u64, most: u128, step: u64) -> Option<u128>
+fn number_between(text: &[u8], least: u128, most: u128, step: u128) -> Option<u128>
     requires { 0 < step }
     ensures value { result ≡ number_between least most step text.now }
     ensures within { IfSome result (λ number. (least ≤ number) × (number ≤ most)) }
 {
     let number = number_within(text, most)?;
-    if u128::from(least) <= number && number % u128::from(step) == 0 {
+    if least <= number && number % step == 0 {
         Some(number)
     } else {
         None
@@ -58,7 +58,7 @@ pub fn number_between(text: &[u8], least: u64, most: u128, step: u64) -> Option<
 impl<'a> Reader<'a> {
     /// Before the whole of a text.
     pub fn new(alloc: Global, text: &'a [u8], counts: Counts) -> Self
-        ensures { position result ≡ record { ahead = tokens_of false text.now; functions = counts.functions; frames = counts.frames; bytes = counts.bytes } }
+        ensures { position result ≡ record { ahead = tokens_of text.now; room = record { functions = counts.functions; frames = counts.frames; bytes = counts.bytes } } }
     {
         Reader {
             alloc,
@@ -69,37 +69,60 @@ impl<'a> Reader<'a> {
         }
     }
 
-    /// Takes the next token. Behind the last one there is the end of the text.
-    pub fn next(&mut self) -> Token<'a>
-        ensures token { lexeme result ≡ front (position self.old) }
-        ensures rest { position self.new ≡ behind (position self.old) }
+    /// Takes the next token, or none at the end of the text.
+    fn next(&mut self) -> Option<Token<'a>>
+        ensures token { option_map lexeme result ≡ first (position self.old) }
+        ensures rest { position self.new ≡ after (position self.old) }
     {
-        self.cursor.next()
+        match self.cursor.next() {
+            Some(token) => Some(token),
+            None => None,
+        }
     }
 
-    /// Whether the next token is a brace that opens. Nothing is taken.
+    /// Takes the next token. At the end of the text none fits.
+    pub fn token(&mut self) -> Result<Token<'a>, Departure<'a>>
+        ensures found { IfOk result (λ token. first (position self.old) ≡ Some (lexeme token)) }
+        ensures rest { IfOk result (λ token. position self.new ≡ after (position self.old)) }
+        ensures end { IfErr result (λ departure. (departure ≡ Departure.Syntax 0) × (first (position self.old) ≡ None)) }
+    {
+        match self.next() {
+            Some(token) => Ok(token),
+            None => Err(Departure::Syntax(0)),
+        }
+    }
+
+    /// Whether a brace opens. Nothing is taken.
     pub fn at_open(&self) -> bool
         ensures { result ≡ opens (position self.now) }
     {
-        self.cursor.at_open()
+        let mut ahead = *self;
+        match ahead.next() {
+            Some(token) => token.kind == Kind::Open,
+            None => false,
+        }
     }
 
-    /// Whether a further target of a switch begins. Nothing is taken.
+    /// Whether a target of a switch begins. Nothing is taken.
     pub fn at_target(&self) -> bool
         ensures { result ≡ opens_target (position self.now) }
     {
-        let mut ahead = self.cursor;
-        let brace = ahead.next();
-        let word = ahead.next();
-        brace.kind.is_open() && word.kind.is_word() && word.text == b"target".as_slice()
+        let mut ahead = *self;
+        match ahead.next() {
+            Some(brace) if brace.kind == Kind::Open => match ahead.next() {
+                Some(word) => word.kind == Kind::Word && word.text == b"target".as_slice(),
+                None => false,
+            },
+            _ => false,
+        }
     }
 
     #[tactic(auto, unfolding(crate::specs::Grammar::opening))]
     pub fn opening(&mut self) -> Result<(), Departure<'a>>
-        ensures { Gives fault_of (λ x. (x, position self.new)) result (opening.reading (position self.old)) }
+        ensures { Reads opening (λ x. x) result self.old self.new }
     {
-        let token = self.next();
-        if token.kind.is_open() {
+        let token = self.token()?;
+        if token.kind == Kind::Open {
             Ok(())
         } else {
             Err(misfit(token))
@@ -108,10 +131,10 @@ impl<'a> Reader<'a> {
 
     #[tactic(auto, unfolding(crate::specs::Grammar::closing))]
     pub fn closing(&mut self) -> Result<(), Departure<'a>>
-        ensures { Gives fault_of (λ x. (x, position self.new)) result (closing.reading (position self.old)) }
+        ensures { Reads closing (λ x. x) result self.old self.new }
     {
-        let token = self.next();
-        if token.kind.is_close() {
+        let token = self.token()?;
+        if token.kind == Kind::Close {
             Ok(())
         } else {
             Err(misfit(token))
@@ -120,11 +143,23 @@ impl<'a> Reader<'a> {
 
     #[tactic(auto, unfolding(crate::specs::Grammar::end))]
     pub fn end(&mut self) -> Result<(), Departure<'a>>
-        ensures { Gives fault_of (λ x. (x, position self.new)) result (end.reading (position self.old)) }
+        ensures { Reads end (λ x. x) result self.old self.new }
     {
-        let token = self.next();
-        if token.kind.is_end() {
-            Ok(())
+        let mut ahead = *self;
+        match ahead.next() {
+            Some(token) => Err(misfit(token)),
+            None => Ok(()),
+        }
+    }
+
+    /// Any word.
+    #[tactic(auto, unfolding(crate::specs::Grammar::some_word))]
+    pub fn some_word(&mut self) -> Result<Token<'a>, Departure<'a>>
+        ensures { Reads some_word lexeme result self.old self.new }
+    {
+        let token = self.token()?;
+        if token.kind == Kind::Word {
+            Ok(token)
         } else {
             Err(misfit(token))
         }
@@ -132,10 +167,10 @@ impl<'a> Reader<'a> {
 
     #[tactic(auto, unfolding(crate::specs::Grammar::word))]
     pub fn word(&mut self, expected: &[u8]) -> Result<(), Departure<'a>>
-        ensures { Gives fault_of (λ x. (x, position self.new)) result ((word expected.now).reading (position self.old)) }
+        ensures { Reads (word expected.now) (λ x. x) result self.old self.new }
     {
-        let token = self.next();
-        if !token.kind.is_word() {
+        let token = self.token()?;
+        if token.kind != Kind::Word {
             return Err(misfit(token));
         }
         if token.text == expected {
@@ -145,60 +180,59 @@ impl<'a> Reader<'a> {
         }
     }
 
+    /// A brace and its word.
     #[tactic(auto, unfolding(crate::specs::Grammar::begin))]
     pub fn begin(&mut self, expected: &[u8]) -> Result<(), Departure<'a>>
-        ensures { Gives fault_of (λ x. (x, position self.new)) result ((begin expected.now).reading (position self.old)) }
+        ensures { Reads (begin expected.now) (λ x. x) result self.old self.new }
     {
         self.opening()?;
         self.word(expected)?;
         Ok(())
     }
 
+    /// A number from the least to the most, a multiple of the step.
     #[tactic(auto, unfolding(crate::specs::Grammar::between))]
-    pub fn between(&mut self, least: u32, most: u32, step: u32) -> Result<u32, Departure<'a>>
+    pub fn between(&mut self, least: u128, most: u128, step: u128) -> Result<u128, Departure<'a>>
         requires { 0 < step }
-        ensures exact { Gives fault_of (λ x. (x, position self.new)) result ((between least most step).reading (position self.old)) }
+        ensures exact { Reads (between least most step) (λ x. x) result self.old self.new }
         ensures within { IfOk result (λ number. (least ≤ number) × (number ≤ most)) }
     {
-        let token = self.next();
-        if !token.kind.is_number() {
+        let token = self.token()?;
+        if token.kind != Kind::Number {
             return Err(misfit(token));
         }
-        match number_between(
-            token.text,
-            u64::from(least),
-            u128::from(most),
-            u64::from(step),
-        ) {
-            Some(number) => Ok(number as u32),
+        match number_between(token.text, least, most, step) {
+            Some(number) => Ok(number),
             None => Err(outside(token)),
         }
     }
 
+    /// This number.
     #[tactic(auto, unfolding(crate::specs::Grammar::fixed))]
     pub fn fixed(&mut self, expected: u32) -> Result<(), Departure<'a>>
-        ensures { Gives fault_of (λ x. (x, position self.new)) result ((fixed expected).reading (position self.old)) }
+        ensures { Reads (fixed expected) (λ x. x) result self.old self.new }
     {
-        self.between(expected, expected, 1)?;
+        self.between(u128::from(expected), u128::from(expected), 1)?;
         Ok(())
     }
 
     #[tactic(auto, unfolding(crate::specs::Grammar::size))]
     pub fn size(&mut self) -> Result<u32, Departure<'a>>
-        ensures exact { Gives fault_of (λ x. (x, position self.new)) result (size.reading (position self.old)) }
+        ensures exact { Reads size (λ x. x) result self.old self.new }
         ensures within { IfOk result (λ size. (1 ≤ size) × (size ≤ 64)) }
     {
         let size = self.between(1, 64, 1)?;
-        Ok(size)
+        Ok(size as u32)
     }
 
+    /// A number of at most so much.
     #[tactic(auto, unfolding(crate::specs::Grammar::at_most))]
     pub fn at_most(&mut self, most: u64) -> Result<u64, Departure<'a>>
-        ensures exact { Gives fault_of (λ x. (x, position self.new)) result ((at_most most).reading (position self.old)) }
+        ensures exact { Reads (at_most most) (λ x. x) result self.old self.new }
         ensures within { IfOk result (λ number. number ≤ most) }
     {
-        let token = self.next();
-        if !token.kind.is_number() {
+        let token = self.token()?;
+        if token.kind != Kind::Number {
             return Err(misfit(token));
         }
         match number_within(token.text, u128::from(most)) {
@@ -209,51 +243,12 @@ impl<'a> Reader<'a> {
 
     #[tactic(auto, unfolding(crate::specs::Grammar::name))]
     pub fn name(&mut self) -> Result<Name, Departure<'a>>
-        ensures { Gives fault_of (λ x. (x, position self.new)) result (name.reading (position self.old)) }
+        ensures { Reads name (λ x. x) result self.old self.new }
     {
-        let token = self.next();
-        if !token.kind.is_quoted() {
+        let token = self.token()?;
+        if token.kind != Kind::Quoted {
             return Err(misfit(token));
         }
         Ok(Name::new(self.alloc, token.text)?)
-    }
-
-    pub fn num_word(&mut self) -> Result<NumWord, Departure<'a>>
-        ensures { Gives fault_of (λ x. (x, position self.new)) result ((one alf (fits_word num_word)).reading (position self.old)) }
-    {
-        let token = self.next();
-        if !token.kind.is_word() {
-            return Err(misfit(token));
-        }
-        match num_word(token.text) {
-            Some(found) => Ok(found),
-            None => Err(outside(token)),
-        }
-    }
-
-    pub fn expr_word(&mut self) -> Result<ExprWord, Departure<'a>>
-        ensures { Gives fault_of (λ x. (x, position self.new)) result ((one alf (fits_word expr_word)).reading (position self.old)) }
-    {
-        let token = self.next();
-        if !token.kind.is_word() {
-            return Err(misfit(token));
-        }
-        match expr_word(token.text) {
-            Some(found) => Ok(found),
-            None => Err(outside(token)),
-        }
-    }
-
-    pub fn item_word(&mut self) -> Result<ItemWord, Departure<'a>>
-        ensures { Gives fault_of (λ x. (x, position self.new)) result ((one alf (fits_word item_word)).reading (position self.old)) }
-    {
-        let token = self.next();
-        if !token.kind.is_word() {
-            return Err(misfit(token));
-        }
-        match item_word(token.text) {
-            Some(found) => Ok(found),
-            None => Err(outside(token)),
-        }
     }
 }

@@ -1,22 +1,22 @@
 //! Items of a function: labels and statements.
 
-ghost use Rattle.std.specs.Prelude.{◌≡◌, ◌<◌, map, OnOk};
-ghost use Rattle.grammar.specs.Form.{Form, Gives, many};
+ghost use Rattle.std.specs.Prelude.{◌≡◌};
+ghost use Rattle.grammar.specs.Rule.{many};
 ghost use Rattle.alf_program.specs.Tree.{item_of};
-ghost use Rattle.alf_text.specs.Grammar.{left, target, targets_ahead, default_arm, switch, with_word, store, label_item, null, leaving, jump, result_word, call, returns, item_tail, item};
-ghost use Rattle.alf_text.specs.Reading.{position, fault_of};
+ghost use Rattle.alf_text.specs.Grammar.{opens_target, target, default_arm, switch, with_word, store, label_item, null, leaving, jump, result_word, call, returns, item_tail, item};
+ghost use Rattle.alf_text.specs.Reading.{position, Reads};
 
-use crate::fault::Departure;
-use crate::lists::many;
+use crate::fault::{Departure, outside};
+use crate::parts::{Exprs, Targets};
 use crate::reader::Reader;
-use crate::words::ItemWord;
 use alf_program::{Item, Num, Stmt};
 use flow_base::Name;
+use grammar::many;
 
 impl<'a> Reader<'a> {
     #[tactic(auto, unfolding(crate::specs::Grammar::target))]
-    fn target(&mut self) -> Result<(Num, Name), Departure<'a>>
-        ensures { Gives fault_of (λ x. (x, position self.new)) result (target.reading (position self.old)) }
+    pub fn target(&mut self) -> Result<(Num, Name), Departure<'a>>
+        ensures { Reads target (λ x. x) result self.old self.new }
     {
         self.begin(b"target")?;
         let num = self.num()?;
@@ -25,28 +25,16 @@ impl<'a> Reader<'a> {
         Ok((num, label))
     }
 
-    #[tactic(auto, using(crate::proofs::Exactness::target_smaller))]
-    fn one_target(&mut self) -> Result<(Num, Name), Departure<'a>>
-        ensures exact { Gives fault_of (λ x. (x, position self.new)) result (target.reading (position self.old)) }
-        ensures shorter { OnOk result (left (position self.new) < left (position self.old)) }
-    {
-        let target = self.target()?;
-        Ok(target)
-    }
-
     fn targets(&mut self) -> Result<Vec<(Num, Name)>, Departure<'a>>
-        ensures { Gives fault_of (λ x. (x.items, position self.new)) result ((many targets_ahead target).reading (position self.old)) }
+        ensures { Reads (many opens_target target) (λ x. x.items) result self.old self.new }
     {
-        let mut targets = Vec::new(self.alloc);
-        while self.at_target() {
-            targets.push(self.one_target()?)?;
-        }
+        let targets = many(self.alloc, &Targets, self)?;
         Ok(targets)
     }
 
     #[tactic(auto, unfolding(crate::specs::Grammar::default_arm))]
     fn default_arm(&mut self) -> Result<Name, Departure<'a>>
-        ensures { Gives fault_of (λ x. (x, position self.new)) result (default_arm.reading (position self.old)) }
+        ensures { Reads default_arm (λ x. x) result self.old self.new }
     {
         self.begin(b"default")?;
         let label = self.label()?;
@@ -56,7 +44,7 @@ impl<'a> Reader<'a> {
 
     #[tactic(auto, unfolding(crate::specs::Grammar::switch))]
     fn switch(&mut self) -> Result<Item, Departure<'a>>
-        ensures { Gives fault_of (λ x. (item_of x, position self.new)) result (switch.reading (position self.old)) }
+        ensures { Reads switch item_of result self.old self.new }
     {
         let value = self.whole_expr()?;
         let targets = self.targets()?;
@@ -67,7 +55,7 @@ impl<'a> Reader<'a> {
 
     #[tactic(auto, unfolding(crate::specs::Grammar::with_word))]
     fn with_word(&mut self) -> Result<(), Departure<'a>>
-        ensures { Gives fault_of (λ x. (x, position self.new)) result (with_word.reading (position self.old)) }
+        ensures { Reads with_word (λ x. x) result self.old self.new }
     {
         self.word(b"with")?;
         Ok(())
@@ -75,7 +63,7 @@ impl<'a> Reader<'a> {
 
     #[tactic(auto, unfolding(crate::specs::Grammar::store))]
     fn store(&mut self) -> Result<Item, Departure<'a>>
-        ensures { Gives fault_of (λ x. (item_of x, position self.new)) result (store.reading (position self.old)) }
+        ensures { Reads store item_of result self.old self.new }
     {
         let at = self.whole_expr()?;
         self.with_word()?;
@@ -86,7 +74,7 @@ impl<'a> Reader<'a> {
 
     #[tactic(auto, unfolding(crate::specs::Grammar::label_item))]
     fn label_item(&mut self) -> Result<Item, Departure<'a>>
-        ensures { Gives fault_of (λ x. (item_of x, position self.new)) result (label_item.reading (position self.old)) }
+        ensures { Reads label_item item_of result self.old self.new }
     {
         let name = self.label_tail()?;
         Ok(Item::Label(name))
@@ -94,7 +82,7 @@ impl<'a> Reader<'a> {
 
     #[tactic(auto, unfolding(crate::specs::Grammar::null))]
     fn null(&mut self) -> Result<Item, Departure<'a>>
-        ensures { Gives fault_of (λ x. (item_of x, position self.new)) result (null.reading (position self.old)) }
+        ensures { Reads null item_of result self.old self.new }
     {
         self.closing()?;
         Ok(Item::Stmt(Stmt::Null))
@@ -102,7 +90,7 @@ impl<'a> Reader<'a> {
 
     #[tactic(auto, unfolding(crate::specs::Grammar::leaving))]
     fn leaving(&mut self) -> Result<(), Departure<'a>>
-        ensures { Gives fault_of (λ x. (x, position self.new)) result (leaving.reading (position self.old)) }
+        ensures { Reads leaving (λ x. x) result self.old self.new }
     {
         self.word(b"leaving")?;
         Ok(())
@@ -110,7 +98,7 @@ impl<'a> Reader<'a> {
 
     #[tactic(auto, unfolding(crate::specs::Grammar::jump))]
     fn jump(&mut self) -> Result<Item, Departure<'a>>
-        ensures { Gives fault_of (λ x. (item_of x, position self.new)) result (jump.reading (position self.old)) }
+        ensures { Reads jump item_of result self.old self.new }
     {
         let name = self.label()?;
         self.leaving()?;
@@ -121,7 +109,7 @@ impl<'a> Reader<'a> {
 
     #[tactic(auto, unfolding(crate::specs::Grammar::result_word))]
     fn result_word(&mut self) -> Result<(), Departure<'a>>
-        ensures { Gives fault_of (λ x. (x, position self.new)) result (result_word.reading (position self.old)) }
+        ensures { Reads result_word (λ x. x) result self.old self.new }
     {
         self.word(b"result")?;
         Ok(())
@@ -129,10 +117,10 @@ impl<'a> Reader<'a> {
 
     #[tactic(auto, unfolding(crate::specs::Grammar::call))]
     fn call(&mut self) -> Result<Item, Departure<'a>>
-        ensures { Gives fault_of (λ x. (item_of x, position self.new)) result (call.reading (position self.old)) }
+        ensures { Reads call item_of result self.old self.new }
     {
         let name = self.label()?;
-        let args = many(self)?;
+        let args = many(self.alloc, &Exprs, self)?;
         self.result_word()?;
         let to = self.maybe_address()?;
         self.closing()?;
@@ -141,7 +129,7 @@ impl<'a> Reader<'a> {
 
     #[tactic(auto, unfolding(crate::specs::Grammar::returns))]
     fn returns(&mut self) -> Result<Item, Departure<'a>>
-        ensures { Gives fault_of (λ x. (item_of x, position self.new)) result (returns.reading (position self.old)) }
+        ensures { Reads returns item_of result self.old self.new }
     {
         let value = self.maybe_expr()?;
         self.closing()?;
@@ -149,19 +137,28 @@ impl<'a> Reader<'a> {
     }
 
     /// A label or a statement.
-    #[tactic(auto, unfolding(crate::specs::Grammar::item, crate::specs::Grammar::item_tail))]
+    #[tactic(auto, unfolding(crate::specs::Grammar::item, crate::specs::Grammar::item_tail, crate::specs::Grammar::unknown))]
     pub fn item(&mut self) -> Result<Item, Departure<'a>>
-        ensures { Gives fault_of (λ x. (item_of x, position self.new)) result (item.reading (position self.old)) }
+        ensures { Reads item item_of result self.old self.new }
     {
         self.opening()?;
-        match self.item_word()? {
-            ItemWord::Label => self.label_item(),
-            ItemWord::Null => self.null(),
-            ItemWord::Store => self.store(),
-            ItemWord::Jump => self.jump(),
-            ItemWord::Switch => self.switch(),
-            ItemWord::Call => self.call(),
-            ItemWord::Return => self.returns(),
+        let word = self.some_word()?;
+        if word.text == b"label".as_slice() {
+            self.label_item()
+        } else if word.text == b"null".as_slice() {
+            self.null()
+        } else if word.text == b"store".as_slice() {
+            self.store()
+        } else if word.text == b"jump".as_slice() {
+            self.jump()
+        } else if word.text == b"switch".as_slice() {
+            self.switch()
+        } else if word.text == b"call".as_slice() {
+            self.call()
+        } else if word.text == b"return".as_slice() {
+            self.returns()
+        } else {
+            Err(outside(word))
         }
     }
 }

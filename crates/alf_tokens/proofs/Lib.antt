@@ -1,4 +1,4 @@
+-- Pieces, ends of comments, and printed texts.
 pub mod Closing
-pub mod Names
 pub mod Pieces
 pub mod Printed

@@ -1,12 +1,13 @@
 -- What the bytes of a text are.
+--   is_blank b                       a space, a tab, a carriage return or a line feed
 --   is_word_byte b, is_name_byte b   what a word goes on with; what may stand between quotes
---   class_of b                       what a byte begins
---   front_class bytes                what the first byte begins
+--   begins_with b bytes              the first byte is b
 --   to_close bytes                   how many bytes there are up to the end of the first end of a comment
 use Rattle.std.specs.Prelude.{ℕ, ◌+◌, ◌==◌, List, [], ◌∷◌, Bool, false, ◌&&◌, ◌||◌, not, Option, Some, None, nat_le, if◌then◌else◌}
 use Rattle.std.specs.Char.{is_ascii_digit, is_ascii_alphabetic}
-use Rattle.alf_tokens.specs.declared.lexer.Class.{Class}
-use Rattle.alf_tokens.specs.declared.lexer.Class.TheVariants as classes
+
+abbrev pub is_blank : ℕ → Bool
+is_blank b = (b == 32) || (b == 9) || (b == 13) || (b == 10)
 
 -- a letter, a digit or an underscore
 abbrev pub is_word_byte : ℕ → Bool
@@ -16,27 +17,11 @@ is_word_byte b = is_ascii_alphabetic b || is_ascii_digit b || (b == 95)
 abbrev pub is_name_byte : ℕ → Bool
 is_name_byte b = nat_le 32 b && nat_le b 126 && not (b == 34) && not (b == 92)
 
--- what a byte begins
-unfoldable pub class_of : ℕ → Class
-class_of b =
-    if (b == 32) || (b == 9) || (b == 13) || (b == 10) then classes.Blank
-    else if b == 123 then classes.Open
-    else if b == 125 then classes.Close
-    else if b == 34 then classes.Quote
-    else if b == 47 then classes.Slash
-    else if is_ascii_digit b then classes.Digit
-    else if is_ascii_alphabetic b then classes.Letter
-    else classes.Other
-
 abbrev pub begins_with : ℕ → List ℕ → Bool
 begins_with b [] = false
 begins_with b (c ∷ cs) = c == b
 
-abbrev pub front_class : List ℕ → Option Class
-front_class [] = None
-front_class (b ∷ bs) = Some (class_of b)
-
--- a star and a slash at the front
+-- a star and a slash come first
 abbrev pub closes : List ℕ → Bool
 closes [] = false
 closes (b ∷ bs) = (b == 42) && begins_with 47 bs

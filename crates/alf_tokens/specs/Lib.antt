@@ -1,6 +1,6 @@
+-- Bytes, tokens, cursors, printed texts, and what these promise.
 pub mod Bytes
 pub mod Tokens
-pub mod Cutting
 pub mod Ahead
 pub mod Printed
 pub mod Laws

@@ -1,18 +1,15 @@
 -- The tokens of a text.
---   Lexeme                      a token, without where its bytes lie in memory
---   Stands behind kind n bytes  at the front of the bytes stands a whole piece of this kind and of n bytes
---   Begins behind kind n bytes  the same, or no piece stands there and the kind is Broken
---   Pieces behind bytes pieces  the pieces of a text, one behind the other
---   IsTokens bytes tokens       the tokens of a text: its pieces without white space
---   first tokens, after tokens  the first token, and those behind it; behind the last one there is the end of the text
--- `behind` says that a number ends right before the bytes. A letter there begins no piece.
-use Rattle.std.specs.Prelude.{◌≡◌, ℕ, ◌+◌, ◌-◌, ◌<◌, ◌≤◌, List, [], ◌∷◌, length, take, drop, filter, Bool, true, false, not, Some, ◌⊎◌, if◌then◌else◌}
+--   Lexeme                   a token, without where its bytes lie in memory
+--   piece numbered bytes     the kind and the length of the piece that the bytes begin with, which is as long as it can be
+--   pieces_of bytes          the pieces of a text, one after the other
+--   tokens_of bytes          the tokens of a text: its pieces without white space
+-- `numbered` says that a number ends right before the bytes. A letter there begins no piece. Where no piece begins, the rest of the text is one broken piece.
+use Rattle.std.specs.Prelude.{ℕ, zero, suc, ◌+◌, ◌-◌, List, [], ◌∷◌, length, take, drop, filter, Bool, true, false, not, ◌&&◌, ◌==◌, nat_le, nat_lt, Option, Some, None, if◌then◌else◌}
 use Rattle.std.specs.List.{prefix_len}
-use Rattle.std.specs.Char.{is_ascii_digit}
+use Rattle.std.specs.Char.{is_ascii_digit, is_ascii_alphabetic}
 use Rattle.alf_tokens.specs.declared.token.Kind.{Kind}
 use Rattle.alf_tokens.specs.declared.token.Kind.TheVariants as kinds
-use Rattle.alf_tokens.specs.declared.lexer.Class.TheVariants as classes
-use Rattle.alf_tokens.specs.Bytes.{is_word_byte, is_name_byte, front_class, begins_with, to_close}
+use Rattle.alf_tokens.specs.Bytes.{is_blank, is_word_byte, is_name_byte, begins_with, to_close}
 
 -- a token: its kind, its bytes, and how many bytes of the text are left where it begins
 pub record Lexeme : Type 0 where
@@ -20,110 +17,90 @@ pub record Lexeme : Type 0 where
   pub text : List ℕ
   pub left : ℕ
 
--- ---- one piece
+-- ---- kinds
 
--- how many bytes of a name stand behind a quote
-abbrev pub name_len : List ℕ → ℕ
-name_len bytes = prefix_len is_name_byte (drop 1 bytes)
+abbrev pub is_kind : Kind → Kind → Bool
+is_kind kinds.White kinds.White = true
+is_kind kinds.Open kinds.Open = true
+is_kind kinds.Close kinds.Close = true
+is_kind kinds.Word kinds.Word = true
+is_kind kinds.Number kinds.Number = true
+is_kind kinds.Long kinds.Long = true
+is_kind kinds.Quoted kinds.Quoted = true
+is_kind kinds.Broken kinds.Broken = true
+is_kind _ _ = false
 
--- A whole piece at the front: its kind and how many bytes it has. It is as long as it can be.
-abbrev pub Stands : Bool → Kind → ℕ → List ℕ → Type 0
-Stands behind kinds.White n bytes = ((front_class bytes ≡ Some classes.Blank) × (n ≡ 1))
-    ⊎ ((front_class bytes ≡ Some classes.Slash) × (begins_with 42 (drop 1 bytes) ≡ true) × ((k : ℕ) × (to_close (drop 2 bytes) ≡ Some k) × (n ≡ k + 2)))
-Stands behind kinds.Open n bytes = (front_class bytes ≡ Some classes.Open) × (n ≡ 1)
-Stands behind kinds.Close n bytes = (front_class bytes ≡ Some classes.Close) × (n ≡ 1)
-Stands behind kinds.Word n bytes = (behind ≡ false) × (front_class bytes ≡ Some classes.Letter) × (n ≡ prefix_len is_word_byte bytes)
-Stands behind kinds.Number n bytes = (front_class bytes ≡ Some classes.Digit) × (n ≡ prefix_len is_ascii_digit bytes) × (n ≤ 20)
-Stands behind kinds.Long n bytes = (front_class bytes ≡ Some classes.Digit) × (n ≡ prefix_len is_ascii_digit bytes) × (20 < n)
-Stands behind kinds.Quoted n bytes = (front_class bytes ≡ Some classes.Quote) × (0 < name_len bytes) × (name_len bytes ≤ 64)
-    × (begins_with 34 (drop (name_len bytes + 1) bytes) ≡ true) × (n ≡ name_len bytes + 2)
-Stands behind kinds.End n bytes = (bytes ≡ []) × (n ≡ 0)
-Stands behind kinds.Broken n bytes = ⊥
-
--- a piece, or where none stands the one that takes nothing
-abbrev pub Begins : Bool → Kind → ℕ → List ℕ → Type 0
-Begins behind kinds.Broken n bytes = (n ≡ 0) × ((kind : Kind) (m : ℕ) → Stands behind kind m bytes → ⊥)
-Begins behind kind n bytes = Stands behind kind n bytes
-
--- ---- texts
-
--- what a piece of these bytes shows of itself
-abbrev pub text_of : Kind → List ℕ → List ℕ
-text_of kinds.Quoted bytes = drop 1 (take (length bytes - 1) bytes)
-text_of kind bytes = bytes
-
--- the piece of n bytes at the front
-abbrev pub lexeme_of : Kind → ℕ → List ℕ → Lexeme
-lexeme_of kind n bytes = record { kind = kind; text = text_of kind (take n bytes); left = length bytes }
-
--- the text is cut no further behind its end, and where no piece stands
-abbrev pub is_last : Kind → Bool
-is_last kinds.End = true
-is_last kinds.Broken = true
-is_last _ = false
-
+-- a number, of however many digits
 abbrev pub is_numeral : Kind → Bool
 is_numeral kinds.Number = true
 is_numeral kinds.Long = true
 is_numeral _ = false
 
-abbrev pub is_white : Kind → Bool
-is_white kinds.White = true
-is_white _ = false
+-- ---- one piece
 
--- the pieces of a text, up to its end or to where no piece stands
-abbrev pub Pieces : Bool → List ℕ → List Lexeme → Type 0
-Pieces behind bytes [] = ⊥
-Pieces behind bytes (t ∷ ts) = (n : ℕ) × Begins behind t.kind n bytes × (t ≡ lexeme_of t.kind n bytes)
-    × (((is_last t.kind ≡ true) × (ts ≡ [])) ⊎ ((is_last t.kind ≡ false) × Pieces (is_numeral t.kind) (drop n bytes) ts))
+-- a name of 1 to 64 bytes after its first quote, with its last quote, where so many bytes are left in all
+abbrev pub name_piece : List ℕ → ℕ → Kind × ℕ
+name_piece bytes all =
+    if nat_lt 0 (prefix_len is_name_byte bytes) && nat_le (prefix_len is_name_byte bytes) 64 && begins_with 34 (drop (prefix_len is_name_byte bytes) bytes)
+    then (kinds.Quoted, prefix_len is_name_byte bytes + 2) else (kinds.Broken, all)
+
+abbrev pub closed_piece : Option ℕ → ℕ → Kind × ℕ
+closed_piece None all = (kinds.Broken, all)
+closed_piece (Some n) all = (kinds.White, n + 2)
+
+-- a comment after its slash
+abbrev pub comment_piece : List ℕ → ℕ → Kind × ℕ
+comment_piece bytes all = if begins_with 42 bytes then closed_piece (to_close (drop 1 bytes)) all else (kinds.Broken, all)
+
+-- so many digits
+abbrev pub number_piece : ℕ → Kind × ℕ
+number_piece n = if nat_le n 20 then (kinds.Number, n) else (kinds.Long, n)
+
+-- the kind and the length of the piece that the bytes begin with
+unfoldable pub piece : Bool → List ℕ → Kind × ℕ
+piece numbered [] = (kinds.Broken, 0)
+piece numbered (b ∷ bs) =
+    if is_blank b then (kinds.White, 1)
+    else if b == 123 then (kinds.Open, 1)
+    else if b == 125 then (kinds.Close, 1)
+    else if b == 34 then name_piece bs (length (b ∷ bs))
+    else if b == 47 then comment_piece bs (length (b ∷ bs))
+    else if is_ascii_digit b then number_piece (prefix_len is_ascii_digit (b ∷ bs))
+    else if is_ascii_alphabetic b && not numbered then (kinds.Word, prefix_len is_word_byte (b ∷ bs))
+    else (kinds.Broken, length (b ∷ bs))
+
+-- what a piece of these bytes shows of itself: a name is told without its quotes
+abbrev pub text_of : Kind → List ℕ → List ℕ
+text_of kinds.Quoted bytes = drop 1 (take (length bytes - 1) bytes)
+text_of kind bytes = bytes
+
+-- the piece of this kind and of n bytes
+abbrev pub lexeme_of : Kind × ℕ → List ℕ → Lexeme
+lexeme_of p bytes = record { kind = p.0; text = text_of p.0 (take p.1 bytes); left = length bytes }
+
+-- ---- texts
+
+-- at most so many pieces
+abbrev pub cut : ℕ → Bool → List ℕ → List Lexeme
+cut zero numbered bytes = []
+cut (suc n) numbered [] = []
+cut (suc n) numbered (b ∷ bs) = lexeme_of (piece numbered (b ∷ bs)) (b ∷ bs) ∷ cut n (is_numeral (piece numbered (b ∷ bs)).0) (drop (piece numbered (b ∷ bs)).1 (b ∷ bs))
+
+-- the pieces of a text
+abbrev pub pieces_of : List ℕ → List Lexeme
+pieces_of bytes = cut (length bytes) false bytes
 
 abbrev pub is_token : Lexeme → Bool
-is_token t = not (is_white t.kind)
-
--- the tokens of a text are its pieces without the white space
-abbrev pub IsTokens : List ℕ → List Lexeme → Type 0
-IsTokens bytes ts = (ps : List Lexeme) × Pieces false bytes ps × (ts ≡ filter is_token ps)
+is_token t = not (is_kind kinds.White t.kind)
 
 -- what a piece adds to the tokens
 abbrev pub shown : Lexeme → List Lexeme
 shown t = if is_token t then t ∷ [] else []
 
--- ---- tokens in a row
+-- the tokens of the bytes
+unfoldable pub tokens_from : Bool → List ℕ → List Lexeme
+tokens_from numbered bytes = filter is_token (cut (length bytes) numbered bytes)
 
--- what stands behind the last token
-abbrev pub nothing : Lexeme
-nothing = record { kind = kinds.End; text = []; left = 0 }
-
-abbrev pub first : List Lexeme → Lexeme
-first [] = nothing
-first (t ∷ ts) = t
-
-abbrev pub after : List Lexeme → List Lexeme
-after [] = []
-after (t ∷ ts) = ts
-
--- ---- kinds of tokens
-
-abbrev pub is_open : Kind → Bool
-is_open kinds.Open = true
-is_open _ = false
-
-abbrev pub is_close : Kind → Bool
-is_close kinds.Close = true
-is_close _ = false
-
-abbrev pub is_word : Kind → Bool
-is_word kinds.Word = true
-is_word _ = false
-
-abbrev pub is_number : Kind → Bool
-is_number kinds.Number = true
-is_number _ = false
-
-abbrev pub is_quoted : Kind → Bool
-is_quoted kinds.Quoted = true
-is_quoted _ = false
-
-abbrev pub is_end : Kind → Bool
-is_end kinds.End = true
-is_end _ = false
+-- the tokens of a text
+unfoldable pub tokens_of : List ℕ → List Lexeme
+tokens_of bytes = tokens_from false bytes

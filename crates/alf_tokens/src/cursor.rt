@@ -1,8 +1,7 @@
-ghost use Rattle.std.specs.Prelude.{◌≡◌, ◌<◌, ◌≤◌, ◌++◌, false, length};
+ghost use Rattle.std.specs.Prelude.{◌≡◌, ◌<◌, ◌≤◌, ◌++◌, [], true, length, IsNone};
 ghost use Rattle.alf_tokens.specs.declared.token.Kind.TheVariants as kinds;
-ghost use Rattle.alf_tokens.specs.Tokens.{Lexeme, shown, text_of, first, after, is_open};
-ghost use Rattle.alf_tokens.specs.Cutting.{tokens_of};
-ghost use Rattle.alf_tokens.specs.Ahead.{lexeme, ahead, room};
+ghost use Rattle.alf_tokens.specs.Tokens.{Lexeme, tokens_of, shown, text_of, is_kind, is_numeral};
+ghost use Rattle.alf_tokens.specs.Ahead.{lexeme, ahead, taken, opens};
 
 use crate::lexer::piece;
 use crate::token::{Kind, Token};
@@ -12,9 +11,7 @@ use crate::token::{Kind, Token};
 pub struct Cursor<'a> {
     rest: &'a [u8],
     /// A number ends right before the rest.
-    behind: bool,
-    /// The last piece was taken.
-    over: bool,
+    numbered: bool,
 }
 
 // The piece of these bytes, where so many are left.
@@ -36,60 +33,61 @@ fn token(kind: Kind, bytes: &[u8], left: usize) -> Token<'_>
     }
 }
 
+// A number, of however many digits.
+fn is_numeral(kind: Kind) -> bool
+    ensures { result ≡ is_numeral kind }
+{
+    matches!(kind, Kind::Number | Kind::Long)
+}
+
 impl<'a> Cursor<'a> {
     /// Before the whole of a text.
+    #[tactic(auto, unfolding(crate::specs::Tokens::tokens_of))]
     pub fn new(text: &'a [u8]) -> Self
-        ensures { ahead result ≡ tokens_of false text.now }
+        ensures { ahead result ≡ tokens_of text.now }
     {
         Cursor {
             rest: text,
-            behind: false,
-            over: false,
+            numbered: false,
         }
     }
 
-    // Takes the piece at the front.
+    // Takes the first piece.
     fn piece(&mut self) -> Token<'a>
-        requires { self.old.over ≡ false }
+        requires { 0 < length self.old.rest.now }
         ensures tokens { ahead self.old ≡ shown (lexeme result) ++ ahead self.new }
-        ensures shorter { room self.new < room self.old }
+        ensures shorter { length self.new.rest.now < length self.old.rest.now }
     {
         let left = self.rest.len();
-        let (kind, len) = piece(self.behind, self.rest);
+        let (kind, len) = piece(self.numbered, self.rest);
         let (bytes, after) = self.rest.split_at(len);
-        if kind.is_last() {
-            self.over = true;
-            return token(kind, bytes, left);
-        }
         self.rest = after;
-        self.behind = kind.is_numeral();
+        self.numbered = is_numeral(kind);
         token(kind, bytes, left)
     }
 
-    /// Takes the next token. Behind the last one there is the end of the text.
-    pub fn next(&mut self) -> Token<'a>
-        ensures token { lexeme result ≡ first (ahead self.old) }
-        ensures rest { ahead self.new ≡ after (ahead self.old) }
+    /// Takes the next token, or none at the end of the text.
+    pub fn next(&mut self) -> Option<Token<'a>>
+        ensures token { ahead self.old ≡ taken result ++ ahead self.new }
+        ensures end { IsNone result → ahead self.old ≡ [] }
     {
-        while !self.over {
+        while !self.rest.is_empty() {
             let token = self.piece();
-            if !token.kind.is_white() {
-                return token;
+            if token.kind != Kind::White {
+                return Some(token);
             }
         }
-        Token {
-            kind: Kind::End,
-            text: &[],
-            left: 0,
-        }
+        None
     }
 
     /// Whether the next token is a brace that opens. Nothing is taken.
     pub fn at_open(&self) -> bool
-        ensures { result ≡ is_open (first (ahead self.now)).kind }
+        ensures { result ≡ opens (ahead self.now) }
     {
         let mut ahead = *self;
-        let token = ahead.next();
-        token.kind.is_open()
+        match ahead.next() {
+            Some(token) => token.kind == Kind::Open,
+            None => false,
+        }
     }
 }

@@ -1,11 +1,11 @@
 //! What the definitions promise, as functions that do nothing when they are called.
 
-ghost use Rattle.alf_tokens.specs.Laws.{EachTextIsCut, EachTextIsCutOneWay, EachPrintedTextIsCut, EachNameIsNamedWell};
+ghost use Rattle.alf_tokens.specs.Laws.{EachTextIsItsPieces, EachPrintedTextIsCut, EachNameIsNamedWell};
 
-/// Each text has its tokens, which cutting gives, and no others.
-pub fn texts_are_cut_one_way()
-    ensures cut { EachTextIsCut }
-    ensures one { EachTextIsCutOneWay }
+/// The pieces of a text, white space among them, in a row are the text: nothing is left out, and
+/// nothing stands in two pieces.
+pub fn texts_are_their_pieces()
+    ensures { EachTextIsItsPieces }
 {}
 
 /// Printed tokens are cut again, and the names of each text can be printed.

@@ -1,7 +1,7 @@
 //! The tokens of ALF: braces, words, numbers and names in quotes.
 //!
-//! Cutting a text is total. White space is a kind of piece, and so are the end of the text and the
-//! place where no piece begins, which no grammar takes. A `Cursor` cuts tokens as they are asked for
+//! Cutting a text is total. White space is a kind of piece, and so is the rest
+//! of the text where no piece begins, which no grammar takes. A `Cursor` cuts tokens as they are asked for
 //! and takes no memory, so that a text of a million braces costs nothing. Each token tells how many
 //! bytes of the text are left where it begins. The rules stand in words in `docs/formats/alf.md`.
 #![tactic(auto)]
@@ -17,5 +17,5 @@ mod cursor;
 mod laws;
 
 pub use cursor::Cursor;
-pub use laws::{printed_texts_are_cut, texts_are_cut_one_way};
+pub use laws::{printed_texts_are_cut, texts_are_their_pieces};
 pub use token::{Kind, Token};

@@ -50,6 +50,27 @@ fn a_name_keeps_its_bytes(rt: HostRuntime) -> Result<(), Fail> {
 }
 
 #[test]
+fn a_fault_of_the_outside_has_a_text(rt: HostRuntime) -> Result<(), Fail> {
+    let alloc = rt.alloc();
+    let reads = [
+        (ReadError::Failed, "the file could not be read"),
+        (ReadError::TooLong(7), "the file has more than 7 bytes"),
+        (ReadError::Memory, "out of memory"),
+    ];
+    for (error, wanted) in reads {
+        assert_eq!(rt; format!(in alloc; "{error}")?.as_str(), wanted);
+    }
+    let writes = [
+        (WriteError::Failed, "the write failed"),
+        (WriteError::Memory, "out of memory"),
+    ];
+    for (error, wanted) in writes {
+        assert_eq!(rt; format!(in alloc; "{error}")?.as_str(), wanted);
+    }
+    Ok(())
+}
+
+#[test]
 fn a_sure_shelf_never_fails(rt: HostRuntime) -> Result<(), Fail> {
     let alloc = rt.alloc();
     let mut shelf = SureShelf::new(three_files(alloc)?);
@@ -102,7 +123,7 @@ fn a_sure_sink_takes_all(rt: HostRuntime) {
 }
 
 #[test]
-fn a_memory_sink_takes_a_front_and_fails(rt: HostRuntime) -> Result<(), Fail> {
+fn a_memory_sink_takes_a_prefix_and_fails(rt: HostRuntime) -> Result<(), Fail> {
     let alloc = rt.alloc();
     let mut failing = Vec::new(alloc);
     for entry in [(1, 2), (2, 100), (3, 0)] {

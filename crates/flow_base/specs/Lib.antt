@@ -1,6 +1,10 @@
+-- Digits, and the outside: counts and files, shelves, sinks, and those in memory.
 pub mod Digits
 pub mod Outside
-pub mod Read
+pub mod Shelves
+pub mod Sinks
 pub mod Held
 pub mod MemoryShelf
 pub mod MemorySink
+pub mod Sure
+pub mod Folder

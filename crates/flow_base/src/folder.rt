@@ -1,10 +1,15 @@
-ghost use Rattle.std.specs.Prelude.{◌≡◌, ◌≤◌, None, option_map, string_bytes, vec_len, IfOk, IfErr};
-ghost use Rattle.flow_base.specs.Read.{IsTooLongFor};
+//! The files of the system.
+
+ghost use Rattle.std.specs.Prelude.{◌≡◌, ◌≤◌, None, IsErrOf};
+ghost use Rattle.flow_base.specs.Outside.{next_count};
+ghost use Rattle.flow_base.specs.Shelves.{IsRead, IsWithin};
+ghost use Rattle.flow_base.specs.Folder.{seen_folder};
 
 use crate::{ReadError, Shelf};
 use std::alloc::Global;
 use std::fs;
 use std::io::Read;
+use std::marker::Model;
 use std::rt::Files;
 
 /// The files of the system, by path. It tells nothing of them.
@@ -14,18 +19,28 @@ use std::rt::Files;
 #[derive(Drop)]
 pub struct FolderShelf<'a, R: Files> {
     runtime: &'a R,
+    reads: u64,
     faults: u64,
     failed: Option<String>,
+}
+
+impl<'a, R: Files> Model for FolderShelf<'a, R> {
+    ghost use Rattle.std.specs.Prelude.{option_map, string_bytes};
+    ghost use Rattle.flow_base.specs.Folder.{FolderState};
+
+    ghost Value = { FolderState };
+
+    ghost view = { λ shelf. record { reads = shelf.reads; faults = shelf.faults; failed = option_map string_bytes shelf.failed } };
 }
 
 impl<'a, R: Files> FolderShelf<'a, R> {
     /// The files that this runtime reaches; no read has failed. Takes no memory.
     pub fn new(runtime: &'a R) -> Self
-        ensures faults { ⟦<FolderShelf<'a, R> as Shelf>⟧.faults result ≡ 0 }
-        ensures failed { ⟦<FolderShelf<'a, R> as Shelf>⟧.failed result ≡ None }
+        ensures { result ≡ record { reads = 0; faults = 0; failed = None } }
     {
         FolderShelf {
             runtime,
+            reads: 0,
             faults: 0,
             failed: None,
         }
@@ -33,11 +48,7 @@ impl<'a, R: Files> FolderShelf<'a, R> {
 }
 
 impl<R: Files> Shelf for FolderShelf<'_, R> {
-    ghost files = { λ _. None };
-
-    ghost faults = { λ shelf. shelf.faults };
-
-    ghost failed = { λ shelf. option_map string_bytes shelf.failed };
+    ghost state = { seen_folder };
 
     fn failed(&self) -> Option<&str> {
         match &self.failed {
@@ -50,7 +61,18 @@ impl<R: Files> Shelf for FolderShelf<'_, R> {
         self.faults
     }
 
-    fn read(&mut self, alloc: Global, name: &str, limit: u64) -> Result<Vec<u8>, ReadError> {
+    fn read(&mut self, alloc: Global, name: &str, limit: u64) -> Result<Vec<u8>, ReadError>
+        // A fault is counted exactly where a read failed.
+        ensures fault { IsErrOf result ReadError.Failed → self.new.faults ≡ next_count self.old.faults }
+        ensures no_fault { (IsErrOf result ReadError.Failed → ⊥) → self.new.faults ≡ self.old.faults }
+
+        ensures answer { IsRead name.now limit (seen_folder self.old) result (seen_folder self.new) }
+        ensures same_files { (seen_folder self.new).files ≡ (seen_folder self.old).files }
+        ensures counted { self.new.reads ≡ next_count self.old.reads }
+        ensures later { self.old.faults ≤ self.new.faults }
+        ensures others { (IsErrOf result ReadError.Failed → ⊥) → self.new.failed ≡ self.old.failed }
+    {
+        self.reads = self.reads.saturating_add(1);
         // The name is copied first, so that keeping it needs no memory afterwards.
         let Ok(kept) = String::from_str(alloc, name) else {
             return Err(ReadError::Memory);
@@ -73,8 +95,7 @@ fn content<R: Files>(
     name: &str,
     limit: u64,
 ) -> Result<Vec<u8>, ReadError>
-    ensures within { IfOk result (λ bytes. vec_len bytes ≤ limit) }
-    ensures too_long { IfErr result (IsTooLongFor None name.now limit) }
+    ensures { IsWithin limit result }
 {
     let Ok(mut file) = fs::open(runtime, name) else {
         return Err(ReadError::Failed);

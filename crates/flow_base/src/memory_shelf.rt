@@ -1,9 +1,11 @@
-ghost use Rattle.std.specs.Prelude.{◌≡◌, ◌≤◌, ◌==◌, List, ℕ, map, Some, None, IsNone, IfSome, IfOk, IfErr, IsErrOf, IsTrue, string_bytes, option_map, vec_len};
+//! Files in memory, with reads that fail as they are told to.
+
+ghost use Rattle.std.specs.Prelude.{◌≡◌, ◌≤◌, ◌==◌, List, [], ℕ, map, Some, None, IsNone, IfSome, IsErrOf, IsTrue, string_bytes, option_map};
 ghost use Rattle.std.specs.List.{list_any};
-ghost use Rattle.flow_base.specs.Outside.{Rose};
-ghost use Rattle.flow_base.specs.Read.{IsTooLongFor, FailsUnlessMemory};
+ghost use Rattle.flow_base.specs.Outside.{next_count};
+ghost use Rattle.flow_base.specs.Shelves.{IsRead};
 ghost use Rattle.flow_base.specs.Held.{found_in, pairs_of};
-ghost use Rattle.flow_base.specs.MemoryShelf.{ShelfState, is_due_to_fail, next_count};
+ghost use Rattle.flow_base.specs.MemoryShelf.{HeldShelf, seen_shelf, is_due_to_fail, FailsUnlessMemory};
 
 use crate::{ReadError, Shelf};
 use std::alloc::Global;
@@ -11,27 +13,30 @@ use std::marker::Model;
 
 /// Files in memory, and the reads that are to fail.
 ///
-/// A name that it does not hold is a failed read. A read that finds no memory counts as one.
+/// A name that it does not hold is a failed read. A read that finds no memory counts as one, and
+/// its name is not kept.
 #[derive(Drop)]
 pub struct MemoryShelf {
     files: Vec<(String, Vec<u8>)>,
     failing: Vec<u64>,
-    calls: u64,
+    reads: u64,
+    names: Vec<String>,
     faults: u64,
     failed: Option<String>,
 }
 
 impl Model for MemoryShelf {
-    ghost use Rattle.std.specs.Prelude.{string_bytes, option_map};
+    ghost use Rattle.std.specs.Prelude.{map, string_bytes, option_map};
     ghost use Rattle.flow_base.specs.Held.{pairs_of};
-    ghost use Rattle.flow_base.specs.MemoryShelf.{ShelfState};
+    ghost use Rattle.flow_base.specs.MemoryShelf.{HeldShelf};
 
-    ghost Value = { ShelfState };
+    ghost Value = { HeldShelf };
 
     ghost view = { λ shelf. record {
       files = pairs_of shelf.files.items;
       failing = shelf.failing.items;
-      calls = shelf.calls;
+      reads = shelf.reads;
+      names = map string_bytes shelf.names.items;
       faults = shelf.faults;
       failed = option_map string_bytes shelf.failed;
     } };
@@ -41,12 +46,14 @@ impl MemoryShelf {
     /// These files, by name; of equal names the first counts. `failing` lists the numbers of the
     /// reads that fail, from 0. Takes no memory.
     pub fn new(files: Vec<(String, Vec<u8>)>, failing: Vec<u64>) -> Self
-        ensures { result ≡ record { files = pairs_of files.items; failing = failing.items; calls = 0; faults = 0; failed = None } }
+        ensures { result ≡ record { files = pairs_of files.items; failing = failing.items; reads = 0; names = []; faults = 0; failed = None } }
     {
+        let names = Vec::new(*files.allocator());
         MemoryShelf {
             files,
             failing,
-            calls: 0,
+            reads: 0,
+            names,
             faults: 0,
             failed: None,
         }
@@ -65,11 +72,7 @@ impl MemoryShelf {
 }
 
 impl Shelf for MemoryShelf {
-    ghost files = { λ shelf. Some (found_in shelf.files) };
-
-    ghost faults = { λ shelf. shelf.faults };
-
-    ghost failed = { λ shelf. shelf.failed };
+    ghost state = { seen_shelf };
 
     fn failed(&self) -> Option<&str> {
         match &self.failed {
@@ -86,22 +89,27 @@ impl Shelf for MemoryShelf {
         // A read fails exactly where it is listed or the name is not held, unless memory runs out.
         ensures due { IsTrue (is_due_to_fail self.old name.now) → FailsUnlessMemory result }
         ensures only_due { IsErrOf result ReadError.Failed → IsTrue (is_due_to_fail self.old name.now) }
-        ensures counted { self.new.calls ≡ next_count self.old.calls }
+        // A fault is counted exactly where a read failed.
+        ensures fault { IsErrOf result ReadError.Failed → self.new.faults ≡ next_count self.old.faults }
+        ensures no_fault { (IsErrOf result ReadError.Failed → ⊥) → self.new.faults ≡ self.old.faults }
         ensures same_list { self.new.failing ≡ self.old.failing }
 
+        ensures answer { IsRead name.now limit (seen_shelf self.old) result (seen_shelf self.new) }
         ensures same_files { Some (found_in self.new.files) ≡ Some (found_in self.old.files) }
-        ensures told { IfOk result (λ bytes. IfSome (Some (found_in self.old.files)) (λ held. held name.now ≡ Some bytes.items)) }
-        ensures within { IfOk result (λ bytes. vec_len bytes ≤ limit) }
-        ensures too_long { IfErr result (IsTooLongFor (Some (found_in self.old.files)) name.now limit) }
+        ensures counted { self.new.reads ≡ next_count self.old.reads }
         ensures later { self.old.faults ≤ self.new.faults }
-        ensures rose { IsErrOf result ReadError.Failed → Rose self.old.faults self.new.faults }
-        ensures name { IsErrOf result ReadError.Failed → self.new.failed ≡ Some name.now }
         ensures others { (IsErrOf result ReadError.Failed → ⊥) → self.new.failed ≡ self.old.failed }
     {
-        let call = self.calls;
-        self.calls = self.calls.saturating_add(1);
+        let call = self.reads;
+        self.reads = self.reads.saturating_add(1);
         // The name is copied first, so that keeping it needs no memory afterwards.
         let Ok(kept) = String::from_str(alloc, name) else {
+            return Err(ReadError::Memory);
+        };
+        let Ok(noted) = String::from_str(alloc, name) else {
+            return Err(ReadError::Memory);
+        };
+        let Ok(()) = self.names.push(noted) else {
             return Err(ReadError::Memory);
         };
         if is_listed(&self.failing, call) {
@@ -114,6 +122,8 @@ impl Shelf for MemoryShelf {
             return Err(ReadError::TooLong(limit));
         }
         let Ok(bytes) = held.to_vec(alloc) else {
+            // Nothing was read, so no name is kept.
+            let _noted = self.names.pop();
             return Err(ReadError::Memory);
         };
         Ok(bytes)

@@ -1,7 +1,9 @@
-ghost use Rattle.std.specs.Prelude.{◌≡◌, ◌≤◌, List, [], ℕ, Some, None, IsNone, OnOk, IfSome, IsErrOf, OnErr, length, take};
-ghost use Rattle.flow_base.specs.Outside.{Rose, Appended, AppendedFront};
-ghost use Rattle.flow_base.specs.MemoryShelf.{next_count};
-ghost use Rattle.flow_base.specs.MemorySink.{SinkState, front_before_fault, TakesFront};
+//! A sink in memory, with writes that fail as they are told to.
+
+ghost use Rattle.std.specs.Prelude.{◌≡◌, ◌≤◌, List, [], ℕ, Some, None, IsNone, IfSome, IsErrOf, length, take};
+ghost use Rattle.flow_base.specs.Outside.{next_count};
+ghost use Rattle.flow_base.specs.Sinks.{IsWritten};
+ghost use Rattle.flow_base.specs.MemorySink.{HeldSink, seen_sink, prefix_before_fault, TakesPrefix};
 
 use crate::{Sink, WriteError};
 use std::alloc::Global;
@@ -15,28 +17,28 @@ use std::marker::Model;
 pub struct MemorySink {
     taken: Vec<u8>,
     failing: Vec<(u64, u64)>,
-    calls: u64,
+    writes: u64,
     faults: u64,
 }
 
 impl Model for MemorySink {
-    ghost use Rattle.flow_base.specs.MemorySink.{SinkState};
+    ghost use Rattle.flow_base.specs.MemorySink.{HeldSink};
 
-    ghost Value = { SinkState };
+    ghost Value = { HeldSink };
 
-    ghost view = { λ sink. record { taken = sink.taken.items; failing = sink.failing.items; calls = sink.calls; faults = sink.faults } };
+    ghost view = { λ sink. record { taken = sink.taken.items; failing = sink.failing.items; writes = sink.writes; faults = sink.faults } };
 }
 
 impl MemorySink {
     /// An empty sink. `failing` gives for each write that fails its number, from 0, and how many
     /// bytes it takes first; of equal numbers the first counts. Takes no memory.
     pub fn new(alloc: Global, failing: Vec<(u64, u64)>) -> Self
-        ensures { result ≡ record { taken = []; failing = failing.items; calls = 0; faults = 0 } }
+        ensures { result ≡ record { taken = []; failing = failing.items; writes = 0; faults = 0 } }
     {
         MemorySink {
             taken: Vec::new(alloc),
             failing,
-            calls: 0,
+            writes: 0,
             faults: 0,
         }
     }
@@ -50,37 +52,35 @@ impl MemorySink {
 }
 
 impl Sink for MemorySink {
-    ghost taken = { λ sink. Some sink.taken };
-
-    ghost faults = { λ sink. sink.faults };
+    ghost state = { seen_sink };
 
     fn faults(&self) -> u64 {
         self.faults
     }
 
     fn write_all(&mut self, bytes: &[u8]) -> Result<(), WriteError>
-        // A write fails exactly where it is listed, and then took exactly that front.
-        ensures listed { IfSome (front_before_fault self.old.failing self.old.calls) (λ count. TakesFront result self.old.taken self.new.taken bytes.now count) }
-        ensures only_listed { IsErrOf result WriteError.Failed → IsNone (front_before_fault self.old.failing self.old.calls) → ⊥ }
-        ensures counted { self.new.calls ≡ next_count self.old.calls }
+        // A write fails exactly where it is listed, and then took exactly that prefix.
+        ensures listed { IfSome (prefix_before_fault self.old.failing self.old.writes) (λ count. TakesPrefix result self.old.taken self.new.taken bytes.now count) }
+        ensures only_listed { IsErrOf result WriteError.Failed → IsNone (prefix_before_fault self.old.failing self.old.writes) → ⊥ }
+        // A fault is counted exactly where a write failed.
+        ensures fault { IsErrOf result WriteError.Failed → self.new.faults ≡ next_count self.old.faults }
+        ensures no_fault { (IsErrOf result WriteError.Failed → ⊥) → self.new.faults ≡ self.old.faults }
         ensures same_list { self.new.failing ≡ self.old.failing }
 
-        ensures all { OnOk result (Appended (Some self.old.taken) (Some self.new.taken) bytes.now) }
-        ensures front { IsErrOf result WriteError.Failed → AppendedFront (Some self.old.taken) (Some self.new.taken) bytes.now }
-        ensures nothing { IsErrOf result WriteError.Memory → Some self.new.taken ≡ Some self.old.taken }
+        ensures answer { IsWritten bytes.now (seen_sink self.old) result (seen_sink self.new) }
+        ensures counted { self.new.writes ≡ next_count self.old.writes }
         ensures later { self.old.faults ≤ self.new.faults }
-        ensures rose { IsErrOf result WriteError.Failed → Rose self.old.faults self.new.faults }
     {
-        let call = self.calls;
-        self.calls = self.calls.saturating_add(1);
+        let call = self.writes;
+        self.writes = self.writes.saturating_add(1);
         let Some(count) = taken_before_fault(&self.failing, call) else {
             return match self.taken.extend_from_slice(bytes) {
                 Ok(()) => Ok(()),
                 Err(_) => Err(WriteError::Memory),
             };
         };
-        let (front, _) = bytes.split_at(front_length(bytes, count));
-        let Ok(()) = self.taken.extend_from_slice(front) else {
+        let (prefix, _) = bytes.split_at(prefix_length(bytes, count));
+        let Ok(()) = self.taken.extend_from_slice(prefix) else {
             return Err(WriteError::Memory);
         };
         self.faults = self.faults.saturating_add(1);
@@ -89,9 +89,9 @@ impl Sink for MemorySink {
 }
 
 // So many bytes, at most all.
-fn front_length(bytes: &[u8], count: u64) -> usize
+fn prefix_length(bytes: &[u8], count: u64) -> usize
     ensures within { result ≤ length bytes.now }
-    ensures front { take result bytes.now ≡ take count bytes.now }
+    ensures prefix { take result bytes.now ≡ take count bytes.now }
 {
     if count < bytes.len() as u64 {
         count as usize
@@ -102,7 +102,7 @@ fn front_length(bytes: &[u8], count: u64) -> usize
 
 // How many bytes the write of this number takes before it fails, where it is to fail.
 fn taken_before_fault(failing: &[(u64, u64)], call: u64) -> Option<u64>
-    ensures { result ≡ front_before_fault failing.now call }
+    ensures { result ≡ prefix_before_fault failing.now call }
 {
     let mut rest = failing;
     while let Some((first, others)) = rest.split_first() {

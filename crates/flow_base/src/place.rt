@@ -1,6 +1,8 @@
+//! Places in a text, and what may be counted in it.
+
 /// A position in a text: the offset from 0, the line and the column from 1.
 ///
-/// A column counts bytes, and a line ends behind each line feed.
+/// A column counts bytes, and a line ends after each line feed.
 #[derive(Clone, Copy, Debug, PartialEq, Eq)]
 pub struct Place {
     pub offset: u64,

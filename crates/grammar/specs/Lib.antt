@@ -1,4 +1,9 @@
-pub mod Source
+-- Forms, their exactness, rules, loops, and the ways between trees and tokens.
 pub mod Form
 pub mod Exact
+pub mod Rule
+pub mod Reading
 pub mod Rows
+pub mod Each
+pub mod Writing
+pub mod Keeping

@@ -1,11 +1,15 @@
-//! Grammars of texts: parts that say what they spell, where a text departs from them, and what
-//! reading gives.
+//! Grammars of texts, whose rules carry their proofs.
 //!
-//! A part is a record of two relations and of the function that computes which of them holds. Parts
-//! are put together by eight combinators, and each combinator keeps that its two relations are what
-//! reading gives. So every grammar written in them gives each text exactly one meaning: what it
-//! spells, or its first departure. "First" is said once, where one part follows another.
+//! A rule says what it spells, where a text departs from it, and what reading computes, and it is a
+//! proof that these agree. So a rule that is made of rules is exact by its type, and each text has
+//! exactly one meaning: what it spells, or its first departure. "First" is said once, where one part
+//! follows another. A Bool in the type of a rule tells that it always takes some of the text. A list
+//! takes such rules alone, and where it goes on is an argument of the list.
 //!
-//! The combinators know neither the tokens nor the faults of a text. A grammar names a `Source`,
-//! which says what a position of its texts is, and a type of its faults.
+//! The crate knows neither the tokens nor the faults of a text. The code's side of a list is written
+//! here once, for readers of any text.
 #![tactic(auto)]
+
+mod parts;
+
+pub use parts::{Part, many};

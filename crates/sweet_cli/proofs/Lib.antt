@@ -1,3 +1,4 @@
+-- Shared lemmas.
 pub mod Cutting
 pub mod Named
 pub mod Standing
@@ -17,6 +18,5 @@ pub mod Turning
 pub mod OneRun
 pub mod Counting
 pub mod Reported
-pub mod Numbers
-pub mod Answered
-pub mod OneAnswer
+pub mod Judged
+pub mod Promises

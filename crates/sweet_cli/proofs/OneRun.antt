@@ -217,6 +217,10 @@ report_one frames items a b first x y =
 -- an exact report is sound
 pub sound_of_exact : (frames : List (List ℕ)) (items : List BodyItem) (findings : Findings) → IsFirst (main_alone frames items) → IsReportOf items findings → IsSound items findings
 sound_of_exact frames items findings first exact = record {
+  nodes = exact.nodes;
+  numbered = exact.numbered;
+  most = length exact.trace;
+  over = λ past. let longer = past_longer (blocks_of items) (labels_one frames items first) past exact.run in omega arith;
   ends = (exact.trace, exact.fault, exact.run);
   facts = λ nodes trace fault numbered run.
       subst (λ (x : List Fact). AllHold nodes trace x) (exact_facts frames items findings nodes trace fault first exact numbered run) (facts_hold nodes trace fault);

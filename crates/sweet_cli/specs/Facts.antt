@@ -1,24 +1,29 @@
 -- Facts on runs, and reports of them.
+--   places_at nodes trace n       how often the node of this number stands in a run
 --   Holds nodes trace fact        the fact holds of a run, where the nodes have these numbers
 --   HasAlarm nodes trace fault facts   where the run faults, the facts have an alarm for the fault at its last node
 --   Findings                      what a report says: its facts, and the bound on the cost
---   IsSound items findings        a run of the items ends; each fact holds of every run that ends, its fault has an alarm, and it costs no more than the bound
+--   IsSound items findings        every run of the items ends; each fact holds of it, its fault has an alarm, and it costs no more than the bound
 --   IsReportOf items findings     the report of the one run: the nodes without a place, the exact totals of the others, its fault, and its cost
 --   IsReportWithin items turns findings   the same, and the run has no more nodes than the turns
-use Rattle.std.specs.Prelude.{◌≡◌, ◌≤◌, ◌==◌, ℕ, suc, List, [], ◌∷◌, ◌++◌, ◌⊎◌, length, if◌then◌else◌, Option, None, Some, IfSome, slice_get}
+use Rattle.std.specs.Prelude.{◌≡◌, ◌≤◌, ◌==◌, ℕ, suc, List, [], ◌∷◌, ◌++◌, ◌⊎◌, length, if◌then◌else◌, Option, None, Some, option_map, unwrap_or, slice_get}
 use Rattle.alf_ops.specs.declared.history.RunFault.{RunFault}
 use Rattle.alf_program.specs.Tree.{BodyItem}
 use Rattle.alf_check.specs.Blocks.{blocks_of}
 use Rattle.sweet_cli.specs.Nodes.{Node, entry, rank_of, IsNumbering}
-use Rattle.sweet_cli.specs.Runs.{Runs, places_of, cost_of, last_of}
+use Rattle.sweet_cli.specs.Runs.{Runs, RunsPast, places_of, cost_of, last_of}
 use Rattle.sweet_cli.specs.declared.fact.Fact.{Fact}
 use Rattle.sweet_cli.specs.declared.fact.Fact.TheVariants.{Dead, Total, Alarm}
 use Rattle.sweet_cli.specs.declared.report.Report.{Report}
 
+-- how often the node of this number stands in a run; a node that is not there has no place
+abbrev pub places_at : List Node → List Node → ℕ → ℕ
+places_at nodes trace n = unwrap_or (option_map (λ node. places_of node trace) (slice_get nodes n)) 0
+
 -- the fact holds of a run, where the nodes have these numbers; an alarm allows a fault and demands nothing
 abbrev pub Holds : List Node → List Node → Fact → Type 0
-Holds nodes trace (Dead n) = IfSome (slice_get nodes n) (λ node. places_of node trace ≡ 0)
-Holds nodes trace (Total n low high) = IfSome (slice_get nodes n) (λ node. (low ≤ places_of node trace) × (places_of node trace ≤ high))
+Holds nodes trace (Dead n) = places_at nodes trace n ≡ 0
+Holds nodes trace (Total n low high) = (low ≤ places_at nodes trace n) × (places_at nodes trace n ≤ high)
 Holds nodes trace (Alarm n cause) = Unit {0}
 
 abbrev pub AllHold : List Node → List Node → List Fact → Type 0
@@ -44,8 +49,14 @@ pub record Findings : Type 0 where
 abbrev pub findings_of : Report → Findings
 findings_of report = record { facts = report.facts.items; bound = report.count_bound }
 
--- a run of the items ends; each fact holds of every run that ends, its fault has an alarm, and it costs no more than the bound
+-- every run of the items ends, and one does; the nodes have numbers; each fact holds of every run, its fault has an alarm, and it costs no more than the bound
 pub record IsSound (items : List BodyItem) (findings : Findings) : Type 0 where
+  -- the numbers of the nodes
+  pub nodes : List Node
+  pub numbered : IsNumbering (blocks_of items) nodes
+  -- no run has more nodes than this, so each one ends
+  pub most : ℕ
+  pub over : RunsPast (blocks_of items) entry [] most → ⊥
   pub ends : (trace : List Node) × (fault : Option RunFault) × Runs (blocks_of items) entry [] trace fault
   pub facts : (nodes trace : List Node) (fault : Option RunFault) → IsNumbering (blocks_of items) nodes → Runs (blocks_of items) entry [] trace fault → AllHold nodes trace findings.facts
   pub alarms : (nodes trace : List Node) (fault : Option RunFault) → IsNumbering (blocks_of items) nodes → Runs (blocks_of items) entry [] trace fault → HasAlarm nodes trace fault findings.facts

@@ -1,8 +1,8 @@
 -- Laws of runs and of answers.
 --   HaveOneStep     from each node of a first text's program, with a history, there is one step at most
 --   HaveOneRun      a first text's program has one run at most that ends, with one fault or none
---   HaveOneAnswer   over told files, and where no read fails, the words have one answer
-use Rattle.std.specs.Prelude.{◌≡◌, ℕ, List, [], Option, Some}
+--   HaveOneAnswer   told files have one answer to the words, and one list of names read, but for failed reads
+use Rattle.std.specs.Prelude.{◌≡◌, ℕ, List, [], Option}
 use Rattle.flow_base.specs.Outside.{Files}
 use Rattle.alf_ops.specs.declared.history.RunFault.{RunFault}
 use Rattle.alf_program.specs.Tree.{BodyItem}
@@ -12,9 +12,8 @@ use Rattle.alf_check.specs.Blocks.{blocks_of}
 use Rattle.sweet_cli.specs.Nodes.{Node, entry}
 use Rattle.sweet_cli.specs.Memory.{History}
 use Rattle.sweet_cli.specs.Runs.{Step, Steps, Runs}
-use Rattle.sweet_cli.specs.Answer.{Answers}
-use Rattle.sweet_cli.specs.declared.status.Status.{Status}
-use Rattle.sweet_cli.specs.declared.status.Status.TheVariants.{ReadFailed}
+use Rattle.work.specs.Work.{HasOneEnding}
+use Rattle.sweet_cli.specs.Table.{task_of}
 
 -- from each node of a first text's program, with a history, there is one step at most
 abbrev pub HaveOneStep : Type 0
@@ -26,7 +25,6 @@ abbrev pub HaveOneRun : Type 0
 HaveOneRun = (bytes : List ℕ) (frames : List (List ℕ)) (items : List BodyItem) (s t : List Node) (f g : Option RunFault) → FirstText bytes (main_alone frames items)
     → Runs (blocks_of items) entry [] s f → Runs (blocks_of items) entry [] t g → (s ≡ t) × (f ≡ g)
 
--- over told files, and where no read fails, the words have one answer
+-- whatever was read before, told files have one answer to the words, and the same names are read, but for failed reads
 abbrev pub HaveOneAnswer : Type 0
-HaveOneAnswer = (words : List (List ℕ)) (files : Files) (s t : Status) (x y : List ℕ) → Answers words (Some files) s x → Answers words (Some files) t y
-    → (s ≡ ReadFailed → ⊥) → (t ≡ ReadFailed → ⊥) → (s ≡ t) × (x ≡ y)
+HaveOneAnswer = (words : List (List ℕ)) (files : Files) → HasOneEnding (task_of words).work files

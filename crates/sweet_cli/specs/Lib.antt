@@ -1,18 +1,31 @@
-pub mod Code
+-- Words, nodes and runs, facts, lines, commands, and the laws of answers.
+
+-- words
 pub mod Words
-pub mod Meant
+
+-- nodes, memory, runs
 pub mod Nodes
 pub mod Memory
 pub mod Runs
 pub mod Tally
-pub mod Facts
-pub mod Listed
 pub mod Cut
 pub mod Edges
 pub mod Search
 pub mod Resolved
 pub mod Cells
+
+-- facts and lines
+pub mod Facts
+pub mod Listed
 pub mod ReportText
 pub mod FaultLines
-pub mod Answer
+
+-- commands, a file each, and their table
+pub mod Task
+pub mod Programs
+pub mod Analyse
+pub mod Print
+pub mod Table
+
+-- laws
 pub mod Laws

@@ -1,3 +1,5 @@
+//! The report of the one run of a program that is `main` alone.
+
 ghost use Rattle.std.specs.Prelude.{[], map, IfOk, IfNone, IfSome};
 ghost use Rattle.alf_program.specs.Tree.{item_of, names_of};
 ghost use Rattle.alf_text.specs.First.{main_alone, IsFirst};

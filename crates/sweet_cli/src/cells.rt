@@ -1,3 +1,5 @@
+//! A word or none for each frame.
+
 ghost use Rattle.std.specs.Prelude.{◌≡◌, ◌<◌, ℕ, List, length, Some, None};
 ghost use Rattle.alf_text.specs.First.{NamesDiffer};
 ghost use Rattle.sweet_cli.specs.Memory.{History};

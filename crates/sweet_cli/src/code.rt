@@ -1,3 +1,5 @@
+//! Blocks without names: cells in place of frames, and numbers of blocks in place of labels.
+
 ghost use Rattle.std.specs.Prelude.{◌≡◌, ◌<◌, ℕ, map, length, IfOk};
 ghost use Rattle.alf_program.specs.Tree.{item_of, names_of};
 ghost use Rattle.alf_text.specs.First.{IsFirstItem, NamesFrames, Each, EachTarget, IsWord};

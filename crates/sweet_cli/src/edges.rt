@@ -1,3 +1,5 @@
+//! The graph as a table: to which ranks each node leads.
+
 ghost use Rattle.std.specs.Prelude.{◌≡◌, ◌<◌, ◌⊎◌, ℕ, suc, [], ◌∷◌, map, length, IfOk, OnOk, ◌↔◌};
 ghost use Rattle.alf_program.specs.Tree.{item_of};
 ghost use Rattle.sweet_cli.specs.Nodes.{EndsWith};

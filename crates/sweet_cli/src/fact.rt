@@ -1,3 +1,5 @@
+//! What is said of each run.
+
 use alf_ops::RunFault;
 
 /// What is said of each run. Nodes are named by their numbers.

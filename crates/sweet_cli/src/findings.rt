@@ -1,3 +1,5 @@
+//! The facts of a tally, and the bound.
+
 ghost use Rattle.std.specs.Prelude.{◌≡◌, ◌<◌, ◌≤◌, ◌^◌, ◌++◌, sum, drop, length, slice_index, EachIndex, IfOk, OnOk};
 ghost use Rattle.sweet_cli.specs.Listed.{dead_from, totals_from, alarm_of, listed};
 

@@ -1,3 +1,5 @@
+//! The nodes that are kept, by rank.
+
 ghost use Rattle.std.specs.Prelude.{◌≡◌, List, ℕ, map, IfOk};
 ghost use Rattle.alf_program.specs.Tree.{item_of};
 ghost use Rattle.alf_text.specs.First.{main_alone, IsFirst};

@@ -1,3 +1,5 @@
+//! Labels in blocks.
+
 ghost use Rattle.std.specs.Prelude.{◌≡◌, ℕ, map, IfSome, IfNone, IsTrue, ◌↔◌};
 ghost use Rattle.alf_program.specs.Tree.{Label, item_of};
 ghost use Rattle.alf_text.specs.First.{Among};

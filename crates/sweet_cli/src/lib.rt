@@ -2,11 +2,12 @@
 //!
 //! `run` is what the program does: it reads the words and the files that they name, makes one text
 //! and writes it. Its clauses say which text answers which words, for every shelf and every sink,
-//! and that a report that it prints is sound for every run of the program that was read.
+//! and that a report that it prints is sound for every run of the program that was read. A command
+//! is a file of its own in `commands/` and in `specs/`, and a row in each of the two tables.
 #![tactic(auto)]
 
 // What the words say.
-mod command;
+mod words;
 
 // The graph of a function's items, its run, and what is found of it.
 mod analysis;
@@ -25,13 +26,11 @@ mod tally;
 
 // Facts, reports and the lines of answers.
 mod fact;
-mod fault_lines;
+mod lines;
 mod report;
-mod report_text;
 
-// The answer, and how the program ends.
-mod answer;
-mod status;
+// The commands, and the program.
+mod commands;
 mod top;
 
 // Laws of answers.
@@ -40,5 +39,5 @@ mod laws;
 pub use fact::Fact;
 pub use laws::{one_answer, one_run};
 pub use report::Report;
-pub use status::Status;
-pub use top::run;
+pub use top::{run, run_in_memory};
+pub use work::Status;

@@ -1,3 +1,5 @@
+//! The run, step by step, and its tally.
+
 ghost use Rattle.std.specs.Prelude.{◌≡◌, ◌≤◌, ◌<◌, List, [], Option, map, length, IfOk, IfNone, IfSome};
 ghost use Rattle.alf_ops.specs.declared.history.RunFault.{RunFault};
 ghost use Rattle.alf_program.specs.Tree.{item_of, names_of};

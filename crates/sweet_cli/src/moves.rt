@@ -1,3 +1,5 @@
+//! What is done at one node.
+
 ghost use Rattle.std.specs.Prelude.{◌≡◌, ◌≤◌, ◌<◌, ℕ, suc, List, Some, length};
 ghost use Rattle.alf_program.specs.Tree.{BodyItem};
 ghost use Rattle.alf_text.specs.First.{NamesDiffer};

@@ -1,3 +1,5 @@
+//! What an expression is worth, and what an item stores.
+
 ghost use Rattle.std.specs.Prelude.{◌≡◌, ◌<◌, map, length, IfSome, IfNone, Some};
 ghost use Rattle.alf_program.specs.Tree.{Address, Load, item_of, expression_of, expressions_of, names_of};
 ghost use Rattle.alf_text.specs.First.{IsFirstItem, IsFirstTerm, IsCell, IsCellLoad, IsLoadAndNumber, NamesFrames, IsDeclared, AreDeclared, Named};

@@ -1,3 +1,5 @@
+//! What the program says of runs.
+
 use crate::Fact;
 
 /// What the program says of a program's runs.

@@ -1,3 +1,5 @@
+//! The ranks that are reached in a table.
+
 ghost use Rattle.std.specs.Prelude.{◌≡◌, ◌<◌, ℕ, false, length, replicate, IfOk, OnOk};
 ghost use Rattle.sweet_cli.specs.Edges.{IsIn, rows_of};
 ghost use Rattle.sweet_cli.specs.Search.{IsClosed, IsMarking, search_at, put, put_all, marked_from};

@@ -1,3 +1,5 @@
+//! The counts of a run.
+
 /// What is counted of a run.
 #[derive(Drop)]
 pub struct Tally {

@@ -1,62 +1,73 @@
-ghost use Rattle.std.specs.Prelude.{◌≡◌, List, ℕ, map, Some, string_bytes, IfSome};
-ghost use Rattle.flow_base.specs.Outside.{Rose, Appended, AppendedFront};
-ghost use Rattle.sweet_cli.specs.Words.{Command, Analyse, Print, file_of, command_of};
-ghost use Rattle.sweet_cli.specs.Answer.{Answers, IsWritten, PrintsSound, PrintsSame};
-ghost use Rattle.sweet_cli.specs.declared.status.Status.{Status};
+//! The top of the program: words to a status, with one text written.
 
-use crate::Status;
-use crate::answer::words_answer;
-use alf_text::{canonical_texts_are_read_back, first_texts};
-use flow_base::{Shelf, Sink, WriteError};
+ghost use Rattle.std.specs.Prelude.{◌≡◌, ◌++◌, ◌⊎◌, List, ℕ, Some, map, string_bytes, IfSome};
+ghost use Rattle.flow_base.specs.Outside.{Rose};
+ghost use Rattle.flow_base.specs.Held.{content_of};
+ghost use Rattle.work.specs.Outcome.{Ending, ending_status, ending_text};
+ghost use Rattle.work.specs.Run.{Answers, IsAnswered, Wrote, CutShort, WroteNothing, IsAnswerOf};
+ghost use Rattle.sweet_cli.specs.Table.{task_of};
+ghost use Rattle.sweet_cli.specs.Task.{Promised};
+
+use crate::commands::words_answer;
+use flow_base::{Shelf, Sink, SureShelf, SureSink, WriteError};
 use std::alloc::Global;
+use work::Status;
 
-/// Answers the words: reads the file that they name once, makes one text and writes it once.
+/// Answers the words: reads the files that they name, each in its turn, makes one text and writes it
+/// once.
 ///
 /// The words are judged first, then the length of the file, then its text, then its run. A file has
 /// at most 1,048,576 bytes, and without `--turns` the turns are 100,000. `Memory` comes where memory
 /// runs out; a read may have failed before.
 pub fn run<F: Shelf, W: Sink>(alloc: Global, words: &[String], shelf: &mut F, out: &mut W) -> Status
-    // The sink grew by the text of the answer.
-    ensures answer { IsWritten result → (text : List ℕ) × Answers (map string_bytes words.now) (F.files shelf.old) result text
-        × Appended (W.taken out.old) (W.taken out.new) text }
+    // One write was made, of the text of the answer, and no file was read but in its turn.
+    ensures answer { IsAnswered result → (ending : Ending) × (result ≡ ending_status ending)
+        × Answers (task_of (map string_bytes words.now)).work (F.state shelf.old) ending (F.state shelf.new)
+        × Wrote (ending_text ending) (W.state out.old) (W.state out.new) }
 
-    // After `Done` on `analyse` the report that was printed is sound for the program that the told bytes spell.
-    ensures sound { result ≡ Status.Done → (file : List ℕ) (turns : ℕ) → command_of (map string_bytes words.now) ≡ Some (Analyse file turns)
-        → IfSome (F.files shelf.old) (λ files. IfSome (W.taken out.old) (λ before. IfSome (W.taken out.new) (λ after. PrintsSound file files before after))) }
+    // After `Done` what was written keeps the promise of the command.
+    ensures promised { result ≡ Status.Done
+        → IfSome (F.state shelf.old).files (λ files. Promised (task_of (map string_bytes words.now)) files (W.state out.old) (W.state out.new)) }
 
-    // After `Done` on `print` the text that was printed spells the program that the told bytes spell.
-    ensures same { result ≡ Status.Done → (file : List ℕ) → command_of (map string_bytes words.now) ≡ Some (Print file)
-        → IfSome (F.files shelf.old) (λ files. IfSome (W.taken out.old) (λ before. IfSome (W.taken out.new) (λ after. PrintsSame file files before after))) }
+    // A failed read that is told has happened, and its name is kept; no other read has failed.
+    ensures unread { result ≡ Status.ReadFailed → (name : List ℕ) × Rose (F.state shelf.old).faults (F.state shelf.new).faults × ((F.state shelf.new).failed ≡ Some name) }
+    ensures no_other_read { IsAnswered result → (result ≡ Status.ReadFailed → ⊥) → (F.state shelf.new).failed ≡ (F.state shelf.old).failed }
 
-    ensures read_failed { result ≡ Status.ReadFailed → Rose (F.faults shelf.old) (F.faults shelf.new) }
-    ensures name_kept { result ≡ Status.ReadFailed → (command : Command) × (command_of (map string_bytes words.now) ≡ Some command)
-        × (F.failed shelf.new ≡ Some (file_of command)) }
+    ensures same_files { (F.state shelf.new).files ≡ (F.state shelf.old).files }
 
-    // No failed read goes untold: another answer that was written whole comes without one.
-    ensures no_other_read { IsWritten result → (result ≡ Status.ReadFailed → ⊥) → F.failed shelf.new ≡ F.failed shelf.old }
-    ensures same_files { F.files shelf.new ≡ F.files shelf.old }
+    // The answer whose text was cut short is the answer.
+    ensures write_failed { result ≡ Status.WriteFailed → (ending : Ending)
+        × Answers (task_of (map string_bytes words.now)).work (F.state shelf.old) ending (F.state shelf.new)
+        × CutShort (ending_text ending) (W.state out.old) (W.state out.new) }
 
-    ensures write_failed { result ≡ Status.WriteFailed → Rose (W.faults out.old) (W.faults out.new) }
+    ensures nothing_written { result ≡ Status.Memory → WroteNothing (W.state out.old) (W.state out.new) }
 
-    // The answer whose text was cut short is the answer, and tells of a failed read as above.
-    ensures cut_short { result ≡ Status.WriteFailed → (status : Status) × (text : List ℕ)
-        × Answers (map string_bytes words.now) (F.files shelf.old) status text × AppendedFront (W.taken out.old) (W.taken out.new) text
-        × (status ≡ Status.ReadFailed → Rose (F.faults shelf.old) (F.faults shelf.new))
-        × (status ≡ Status.ReadFailed → (command : Command) × (command_of (map string_bytes words.now) ≡ Some command)
-        × (F.failed shelf.new ≡ Some (file_of command)))
-        × ((status ≡ Status.ReadFailed → ⊥) → F.failed shelf.new ≡ F.failed shelf.old) }
-
-    ensures nothing_written { result ≡ Status.Memory → W.taken out.new ≡ W.taken out.old }
+    // Where no read and no write failed, this is the answer of the told files, or memory ran out.
+    ensures settled { (Rose (F.state shelf.old).faults (F.state shelf.new).faults → ⊥) → (Rose (W.state out.old).faults (W.state out.new).faults → ⊥)
+        → (result ≡ Status.Memory) ⊎ IfSome (F.state shelf.old).files (λ files. (text : List ℕ)
+        × IsAnswerOf (task_of (map string_bytes words.now)).work files result text × Wrote text (W.state out.old) (W.state out.new)) }
 {
-    // What the texts of programs promise, as `sound` and `same` need it.
-    first_texts();
-    canonical_texts_are_read_back();
-    let Ok(answer) = words_answer(alloc, words, shelf) else {
+    let Some(answer) = words_answer(alloc, words, shelf) else {
         return Status::Memory;
     };
-    match out.write_all(&answer.text) {
-        Ok(()) => answer.status,
+    match out.write_all(answer.text()) {
+        Ok(()) => answer.status(),
         Err(WriteError::Failed) => Status::WriteFailed,
         Err(WriteError::Memory) => Status::Memory,
     }
+}
+
+/// Answers the words over files and a sink in memory, of which none fails.
+pub fn run_in_memory(
+    alloc: Global,
+    words: &[String],
+    shelf: &mut SureShelf,
+    out: &mut SureSink,
+) -> Status
+    ensures no_failed_read { result ≡ Status.ReadFailed → ⊥ }
+    ensures no_failed_write { result ≡ Status.WriteFailed → ⊥ }
+    ensures settled { (result ≡ Status.Memory) ⊎ ((text : List ℕ) × (out.new.taken ≡ out.old.taken ++ text)
+        × IsAnswerOf (task_of (map string_bytes words.now)).work (λ name. Some (content_of shelf.old.files name)) result text) }
+{
+    run(alloc, words, shelf, out)
 }

@@ -1,20 +1,21 @@
 use crate::answers::{REPORT, RETURNS, answer_of, files_of, words_of};
-use flow_base::{MemoryShelf, MemorySink, Shelf, Sink};
+use flow_base::{MemoryShelf, MemorySink, Shelf, Sink, SureShelf, SureSink};
 use std::test::Fail;
-use sweet_cli::{Status, run};
+use sweet_cli::{Status, run, run_in_memory};
 
 #[test]
 fn a_file_has_at_most_so_many_bytes(rt: HostRuntime) -> Result<(), Fail> {
     let alloc = rt.alloc();
     let cases = [
-        (1_048_576, "fault 10 syntax 1 1\n"),
-        (1_048_577, "fault 13 limit bytes 1048577\n"),
+        ("analyse a.alf", 1_048_576, "fault 10 syntax 1 1\n"),
+        ("analyse a.alf", 1_048_577, "fault 13 limit bytes 1048577\n"),
+        ("print a.alf", 1_048_577, "fault 13 limit bytes 1048577\n"),
     ];
-    for (count, wanted) in cases {
+    for (line, count, wanted) in cases {
         let spaces = vec![in alloc; b' '; count]?;
-        let (status, text) = answer_of(alloc, "analyse a.alf", &spaces)?;
-        assert_eq!(rt; status, Status::Source, "{count}");
-        assert_eq!(rt; text.as_slice(), wanted.as_bytes(), "{count}");
+        let (status, text) = answer_of(alloc, line, &spaces)?;
+        assert_eq!(rt; status, Status::Source, "{line} {count}");
+        assert_eq!(rt; text.as_slice(), wanted.as_bytes(), "{line} {count}");
     }
     Ok(())
 }
@@ -42,6 +43,18 @@ fn a_read_that_fails_is_told(rt: HostRuntime) -> Result<(), Fail> {
 }
 
 #[test]
+fn words_are_answered_in_memory(rt: HostRuntime) -> Result<(), Fail> {
+    let alloc = rt.alloc();
+    let words = words_of(alloc, "analyse a.alf")?;
+    let mut shelf = SureShelf::new(files_of(alloc, RETURNS.as_bytes())?);
+    let mut out = SureSink::new(alloc);
+    let status = run_in_memory(alloc, &words, &mut shelf, &mut out);
+    assert_eq!(rt; status, Status::Done);
+    assert_eq!(rt; out.bytes(), REPORT.as_bytes());
+    Ok(())
+}
+
+#[test]
 fn one_read_and_one_write_are_made(rt: HostRuntime) -> Result<(), Fail> {
     let alloc = rt.alloc();
     let words = words_of(alloc, "analyse a.alf")?;
@@ -61,7 +74,7 @@ fn one_read_and_one_write_are_made(rt: HostRuntime) -> Result<(), Fail> {
 }
 
 #[test]
-fn a_write_that_fails_leaves_a_front(rt: HostRuntime) -> Result<(), Fail> {
+fn a_write_that_fails_leaves_a_prefix(rt: HostRuntime) -> Result<(), Fail> {
     let alloc = rt.alloc();
     let words = words_of(alloc, "analyse a.alf")?;
     let report = REPORT.as_bytes();
@@ -70,9 +83,9 @@ fn a_write_that_fails_leaves_a_front(rt: HostRuntime) -> Result<(), Fail> {
         let failing = vec![in alloc; (0, count as u64)]?;
         let mut out = MemorySink::new(alloc, failing);
         let status = run(alloc, &words, &mut shelf, &mut out);
-        let (front, _) = report.split_at(count);
+        let (prefix, _) = report.split_at(count);
         assert_eq!(rt; status, Status::WriteFailed, "{count}");
-        assert_eq!(rt; out.bytes(), front, "{count}");
+        assert_eq!(rt; out.bytes(), prefix, "{count}");
     }
     Ok(())
 }

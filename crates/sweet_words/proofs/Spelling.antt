@@ -1,15 +1,15 @@
 -- Options in their two spellings, and in any order.
-use Rattle.std.specs.Prelude.{◌≡◌, ℕ, Bool, true, false, not, ◌&&◌, ◌||◌, ◌==◌, zero, suc, ⊤, List, [], ◌∷◌, ◌++◌, Option, None, Some, if◌then◌else◌, option_map, option_and_then, find}
-use Rattle.std.specs.List.{list_any, list_all, before_first, after_first}
+use Rattle.std.specs.Prelude.{◌≡◌, ℕ, Bool, true, false, not, ◌&&◌, ◌||◌, ◌==◌, zero, suc, List, [], ◌∷◌, ◌++◌, Option, None, Some, option_and_then}
+use Rattle.std.specs.List.{list_all}
 use Rattle.std.specs.Str.{bytes_eq, chars}
 use Rattle.std.proofs.Common.{refl, sym, ap, ◌∙◌, subst, arith, eq-eqb}
 use Rattle.std.proofs.lemmas.Slice.Eq.{bytes_eq-Decides}
 use Rattle.clap.specs.Lexer.{has_byte, long_of}
 use Rattle.clap.proofs.CutLemmas.{list_any-at, before_first-at, after_first-at, before_first-Lacks, Lacks}
 use Rattle.sweet_words.specs.Forms.{Text, Form, named}
-use Rattle.sweet_words.specs.Given.{Uses, free, wants, given, is_plain, is_nothing, is_used, is_once, is_whole, if_whole, uses_of, with_use, seated, dashed, value_used, value_of, value_in, or_false}
-use Rattle.sweet_words.specs.Commands.{Command, command_in, command_named}
-use Rattle.sweet_words.specs.Laws.{alone, joined, IsOption, HaveJoined, HaveTwoSpellings, HaveAnyPlace, HaveAnyOrder, HaveNamesOnce, NamesDiffer}
+use Rattle.sweet_words.specs.Given.{Uses, free, wants, given, is_plain, is_nothing, is_used, is_once, is_whole, if_whole, with_use, seated, dashed, value_used, value_of, value_in, or_false}
+use Rattle.sweet_words.specs.Commands.{Command, command_named}
+use Rattle.sweet_words.specs.Laws.{alone, joined, HaveJoined, HaveTwoSpellings, HaveAnyPlace, HaveAnyOrder, HaveNamesOnce, NamesDiffer}
 use Rattle.sweet_words.proofs.Looks.{by_test}
 
 -- ---- spellings
@@ -86,18 +86,18 @@ fresh name before [] once used = refl
 fresh name before (entry ∷ uses) once used = by_test (is_used entry.0 before)
     (λ again. absurd (let bad : false ≡ true = rw again at once in cc))
     (λ new. let later : is_once (before ++ entry ∷ []) uses ≡ true = rw new at once in
-      by_test (bytes_eq entry.0 name)
-      (λ same. let it : entry.0 ≡ name = (bytes_eq-Decides entry.0 name).0 same in
-        let bad : is_used entry.0 before ≡ true = subst (λ (n : Text). is_used n before ≡ true) (sym it) used in
-        absurd (let wrong : true ≡ false = sym bad ∙ new in cc))
-      (λ other. rw other (fresh name (before ++ entry ∷ []) uses later (used_more name before entry used))))
+    by_test (bytes_eq entry.0 name)
+    (λ same. let it : entry.0 ≡ name = (bytes_eq-Decides entry.0 name).0 same in
+    let bad : is_used entry.0 before ≡ true = subst (λ (n : Text). is_used n before ≡ true) (sym it) used in
+    absurd (let wrong : true ≡ false = sym bad ∙ new in cc))
+    (λ other. rw other (fresh name (before ++ entry ∷ []) uses later (used_more name before entry used))))
 
 differ : (before uses : Uses) → is_once before uses ≡ true → NamesDiffer uses
 differ before [] once = tt
 differ before (entry ∷ uses) once = by_test (is_used entry.0 before)
     (λ again. absurd (let bad : false ≡ true = rw again at once in cc))
     (λ new. let later : is_once (before ++ entry ∷ []) uses ≡ true = rw new at once in
-      (fresh entry.0 (before ++ entry ∷ []) uses later (used_last before entry), differ (before ++ entry ∷ []) uses later))
+    (fresh entry.0 (before ++ entry ∷ []) uses later (used_last before entry), differ (before ++ entry ∷ []) uses later))
 
 whole_names : (form : Form) (uses : Uses) → is_whole form uses ≡ true → NamesDiffer uses × (list_all (λ name. is_used name uses) form.positionals ≡ true)
 whole_names form uses whole = by_test (is_once [] uses)
@@ -110,8 +110,8 @@ used_once form words uses e = go (given form free form.positionals words) e
     go : (found : Option Uses) → option_and_then (if_whole form) found ≡ Some uses → NamesDiffer uses × (list_all (λ name. is_used name uses) form.positionals ≡ true)
     go None e = absurd (cc)
     go (Some some) e = by_test (is_whole form some)
-      (λ whole. let same : Some some ≡ Some uses = rw whole at e in let it : some ≡ uses = cc in whole_names form uses (subst (λ (us : Uses). is_whole form us ≡ true) it whole))
-      (λ part. absurd (let bad : None ≡ Some uses = rw part at e in cc))
+        (λ whole. let same : Some some ≡ Some uses = rw whole at e in let it : some ≡ uses = cc in whole_names form uses (subst (λ (us : Uses). is_whole form us ≡ true) it whole))
+        (λ part. absurd (let bad : None ≡ Some uses = rw part at e in cc))
 
 -- ---- any order
 
@@ -119,8 +119,8 @@ same_back : (a b : Text) → bytes_eq a b ≡ bytes_eq b a
 same_back a b = by_test (bytes_eq a b)
     (λ e. e ∙ sym ((bytes_eq-Decides b a).1 (sym ((bytes_eq-Decides a b).0 e))))
     (λ e. by_test (bytes_eq b a)
-      (λ f. absurd (let bad : bytes_eq a b ≡ true = (bytes_eq-Decides a b).1 (sym ((bytes_eq-Decides b a).0 f)) in let wrong : true ≡ false = sym bad ∙ e in cc))
-      (λ f. e ∙ sym f))
+    (λ f. absurd (let bad : bytes_eq a b ≡ true = (bytes_eq-Decides a b).1 (sym ((bytes_eq-Decides b a).0 f)) in let wrong : true ≡ false = sym bad ∙ e in cc))
+    (λ f. e ∙ sym f))
 
 or_swap : (a b c : Bool) → (a || (b || c)) ≡ (b || (a || c))
 or_swap true true c = refl
@@ -136,7 +136,7 @@ once_same : (first second uses : Uses) → ((name : Text) → is_used name first
 once_same first second [] same = refl
 once_same first second (entry ∷ uses) same =
     let later = once_same (first ++ entry ∷ []) (second ++ entry ∷ []) uses
-      (λ name. used_end name first entry ∙ ap (λ b. b || (bytes_eq entry.0 name || false)) (same name) ∙ sym (used_end name second entry)) in
+    (λ name. used_end name first entry ∙ ap (λ b. b || (bytes_eq entry.0 name || false)) (same name) ∙ sym (used_end name second entry)) in
     (λ i. not (same entry.0 i) && later i)
 
 swap_once : (a b : Text × Text) (uses : Uses) → is_once [] (a ∷ b ∷ uses) ≡ is_once [] (b ∷ a ∷ uses)
@@ -157,9 +157,9 @@ swap_whole form a b uses =
 swap_value : (a b : Text × Text) (uses : Uses) → bytes_eq a.0 b.0 ≡ false → (name : Text) → value_of name (a ∷ b ∷ uses) ≡ value_of name (b ∷ a ∷ uses)
 swap_value a b uses apart name = by_test (bytes_eq a.0 name)
     (λ e. by_test (bytes_eq b.0 name)
-      (λ f. absurd (let same : a.0 ≡ b.0 = (bytes_eq-Decides a.0 name).0 e ∙ sym ((bytes_eq-Decides b.0 name).0 f) in
-        let wrong : true ≡ false = sym ((bytes_eq-Decides a.0 b.0).1 same) ∙ apart in cc))
-      (λ f. rw (e, f) refl))
+    (λ f. absurd (let same : a.0 ≡ b.0 = (bytes_eq-Decides a.0 name).0 e ∙ sym ((bytes_eq-Decides b.0 name).0 f) in
+    let wrong : true ≡ false = sym ((bytes_eq-Decides a.0 b.0).1 same) ∙ apart in cc))
+    (λ f. rw (e, f) refl))
     (λ e. rw e refl)
 
 whole_apart : (form : Form) (a b : Text × Text) (uses : Uses) → is_whole form (a ∷ b ∷ uses) ≡ true → bytes_eq a.0 b.0 ≡ false
@@ -173,7 +173,7 @@ swapped : (form : Form) (a b : Text × Text) (found : Option Uses) → made form
 swapped form a b None = refl
 swapped form a b (Some uses) = by_test (is_whole form (a ∷ b ∷ uses))
     (λ e. let other : is_whole form (b ∷ a ∷ uses) ≡ true = sym (swap_whole form a b uses) ∙ e in
-      rw (e, other) (ap (command_named form.name) (λ i name. or_false (swap_value a b uses (whole_apart form a b uses e) name i) (named name form.flags))))
+    rw (e, other) (ap (command_named form.name) (λ i name. or_false (swap_value a b uses (whole_apart form a b uses e) name i) (named name form.flags))))
     (λ e. let other : is_whole form (b ∷ a ∷ uses) ≡ false = sym (swap_whole form a b uses) ∙ e in rw (e, other) refl)
 
 plain_seated : (form : Form) (left words : List Text) (word : Text) → is_plain word ≡ true → given form free left (word ∷ words) ≡ seated left word (λ l. given form free l words)
@@ -190,7 +190,7 @@ any_place form name value word has plain words =
         ≡ made form (seated left word (λ l. given form free l (joined name value ∷ words)))
     go [] = refl
     go (first ∷ left) = swapped form (name, value) (first, word) (given form free left words)
-      ∙ ap (λ found. made form (with_use first word found)) (sym (joined_is form name value has left words))
+        ∙ ap (λ found. made form (with_use first word found)) (sym (joined_is form name value has left words))
 
 pub any_order : HaveAnyOrder
 any_order form name value other found has also words =

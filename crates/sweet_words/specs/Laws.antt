@@ -4,7 +4,7 @@
 --   HaveTwoSpellings  a value may stand in the option's word or after it
 --   HaveAnyOrder      an option with its value may change places with a positional, and with another
 --   HaveNamesOnce     no name is used twice, and each positional is there
-use Rattle.std.specs.Prelude.{◌≡◌, ℕ, ⊤, true, false, List, [], ◌∷◌, ◌++◌, Option, Some}
+use Rattle.std.specs.Prelude.{◌≡◌, ⊤, true, false, List, [], ◌∷◌, ◌++◌, Some}
 use Rattle.std.specs.List.{list_all}
 use Rattle.clap.specs.Lexer.{has_byte}
 use Rattle.sweet_words.specs.Forms.{Text, Form, named}

@@ -9,5 +9,4 @@ pub fn options_stand_freely()
     ensures any_place { HaveAnyPlace }
     ensures any_order { HaveAnyOrder }
     ensures once { HaveNamesOnce }
-{
-}
+{}

@@ -1,6 +1,7 @@
+-- A first text spells one program.
 use Rattle.std.proofs.Common.{refl}
 use Rattle.alf_text.proofs.FirstMeaning.{text_one}
 use Rattle.alf_text.proofs.first.first_texts.Goals as goal
 
 pub returns-clause-one : goal.returns-clause-one
-returns-clause-one c = λ bytes. text_one c.texts_are_cut_one_way.ensures.cut c.texts_are_cut_one_way.ensures.one bytes _ refl
+returns-clause-one c = λ bytes. text_one bytes _ refl

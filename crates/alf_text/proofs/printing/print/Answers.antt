@@ -1,3 +1,4 @@
+-- The text that is printed is the canonical text.
 use Rattle.std.proofs.Common.{ℕ, List, sym, subst}
 use Rattle.alf_program.specs.Tree.{program_of}
 use Rattle.alf_text.specs.Language.{SpellsProgram}

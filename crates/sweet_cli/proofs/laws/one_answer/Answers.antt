@@ -1,5 +1,7 @@
-use Rattle.sweet_cli.proofs.OneAnswer.{answers_one}
+-- Work has one ending by its type.
+use Rattle.work.specs.Work.{ends_one}
+use Rattle.sweet_cli.specs.Table.{task_of}
 use Rattle.sweet_cli.proofs.laws.one_answer.Goals as goal
 
 pub returns : goal.returns
-returns c = answers_one c.first_texts.ensures.one c.first_texts.ensures.first c.one_meaning.ensures
+returns c = λ words files. ends_one (task_of words).work files

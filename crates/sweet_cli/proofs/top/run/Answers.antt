@@ -1,22 +1,23 @@
-use Rattle.std.proofs.Common.{subst, map, string_bytes, List, ℕ}
-use Rattle.flow_base.specs.Outside.{Appended}
-use Rattle.sweet_cli.proofs.Answered.{prints_sound, prints_same}
-use Rattle.sweet_cli.specs.Answer.{IsWritten}
+-- What was written keeps the promise of the command, and is the answer of the told files.
+use Rattle.std.proofs.Common.{map, string_bytes, inr, sym, ◌∙◌}
+use Rattle.work.specs.Outcome.{ending_text}
+use Rattle.work.specs.Log.{log_of}
+use Rattle.work.specs.Run.{Wrote, ending_of}
+use Rattle.sweet_cli.specs.Table.{task_of}
+use Rattle.sweet_cli.proofs.Promises.{promised, no_failed_read, settle}
 use Rattle.sweet_cli.proofs.top.run.Goals as goal
 
--- what is written whole is told by its own status
-pub returns-in-Ok-write_all-clause-write_failed : goal.returns-in-Ok-write_all-clause-write_failed
-returns-in-Ok-write_all-clause-write_failed g c = λ e. absurd (subst IsWritten e c.in-Ok.ensures.written)
+pub returns-in-Ok-clause-promised : goal.returns-in-Ok-clause-promised
+returns-in-Ok-clause-promised g c =
+    let wrote : Wrote (ending_text (ending_of c.in-Some.answer)) (g.W.Sink.state c.args.out.now) (g.W.Sink.state c.write_all.new.self) =
+    rw (← c.text.ensures) (record { once = c.in-Ok.ensures.counted; all = c.in-Ok.ensures.answer }) in
+    λ is_done. promised (task_of (map string_bytes c.args.words.now)) (g.F.Shelf.state c.args.shelf.now).files (ending_of c.in-Some.answer)
+    (g.W.Sink.state c.args.out.now) (g.W.Sink.state c.write_all.new.self) (sym c.status.ensures ∙ is_done) c.in-Some.ensures.promise wrote
 
-pub returns-in-Ok-write_all-clause-nothing_written : goal.returns-in-Ok-write_all-clause-nothing_written
-returns-in-Ok-write_all-clause-nothing_written g c = λ e. absurd (subst IsWritten e c.in-Ok.ensures.written)
-
-pub returns-in-Ok-write_all-clause-sound : goal.returns-in-Ok-write_all-clause-sound
-returns-in-Ok-write_all-clause-sound g c =
-    λ e file turns is. prints_sound c.first_texts.ensures.first (map string_bytes c.args.words.now) (g.F.Shelf.files c.args.shelf.now) _ _ _ _ file turns c.in-Ok.ensures.answer
-    (subst (λ (x : List ℕ). Appended (g.W.Sink.taken c.args.out.now) (g.W.Sink.taken c.write_all.new.self) x) c.deref.ensures.value c.in-Ok-write_all.ensures.all) e is
-
-pub returns-in-Ok-write_all-clause-same : goal.returns-in-Ok-write_all-clause-same
-returns-in-Ok-write_all-clause-same g c =
-    λ e file is. prints_same c.canonical_texts_are_read_back.ensures.spelled (map string_bytes c.args.words.now) (g.F.Shelf.files c.args.shelf.now) _ _ _ _ file c.in-Ok.ensures.answer
-    (subst (λ (x : List ℕ). Appended (g.W.Sink.taken c.args.out.now) (g.W.Sink.taken c.write_all.new.self) x) c.deref.ensures.value c.in-Ok-write_all.ensures.all) e is
+pub returns-in-Ok-clause-settled : goal.returns-in-Ok-clause-settled
+returns-in-Ok-clause-settled g c =
+    let wrote : Wrote (ending_text (ending_of c.in-Some.answer)) (g.W.Sink.state c.args.out.now) (g.W.Sink.state c.write_all.new.self) =
+    rw (← c.text.ensures) (record { once = c.in-Ok.ensures.counted; all = c.in-Ok.ensures.answer }) in
+    λ reads writes. inr (settle (task_of (map string_bytes c.args.words.now)).work (g.F.Shelf.state c.args.shelf.now).files (log_of (g.F.Shelf.state c.args.shelf.now))
+    (ending_of c.in-Some.answer) (log_of (g.F.Shelf.state c.words_answer.new.shelf)) c.status.result (g.W.Sink.state c.args.out.now) (g.W.Sink.state c.write_all.new.self)
+    c.in-Some.ensures.due.due (no_failed_read _ (g.F.Shelf.state c.args.shelf.now) (g.F.Shelf.state c.words_answer.new.shelf) c.in-Some.ensures.due.unread reads) c.status.ensures wrote)

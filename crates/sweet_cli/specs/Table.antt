@@ -1,0 +1,19 @@
+-- The commands. A further command is one more row, and a file of its own.
+--   task_for command    the task of a command
+--   task_of words       the task of the words of a command line
+use Rattle.std.specs.Prelude.{ℕ, List, Option, None, Some}
+use Rattle.sweet_cli.specs.Words.{Command, Analyse, Print, command_of}
+use Rattle.sweet_cli.specs.Task.{Task, no_command}
+use Rattle.sweet_cli.specs.Analyse.{analyse}
+use Rattle.sweet_cli.specs.Print.{print}
+
+abbrev pub task_for : Command → Task
+task_for (Analyse file turns) = analyse file turns
+task_for (Print file) = print file
+
+abbrev pub task_for_some : Option Command → Task
+task_for_some None = no_command
+task_for_some (Some command) = task_for command
+
+abbrev pub task_of : List (List ℕ) → Task
+task_of words = task_for_some (command_of words)

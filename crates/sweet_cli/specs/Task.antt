@@ -1,0 +1,30 @@
+-- What a command does, and what it promises.
+--   Task                    its order of work, which gives the text, and what is true of the files and that text
+--   no_command              the words are no command
+--   KeepsPromise task files ending   where the work ends with a text, this keeps the promise
+--   Promised task files before after   what the sink grew by keeps the promise
+use Rattle.std.specs.Prelude.{ℕ, List, codes}
+use Rattle.flow_base.specs.Outside.{Files}
+use Rattle.flow_base.specs.Sinks.{SinkState}
+use Rattle.work.specs.Outcome.{Usage, Ending, Finished, Stopped}
+use Rattle.work.specs.Work.{Work, stop}
+use Rattle.work.specs.Run.{Wrote}
+
+pub record Task : Type 1 where
+  -- the order of work
+  pub work : Work (List ℕ)
+  -- what is true of the files and the text that was made of them
+  pub Promise : Files → List ℕ → Type 0
+
+-- the words are no command
+abbrev pub no_command : Task
+no_command = record { work = stop (record { cause = Usage; text = codes "fault usage\n" }); Promise = λ files text. ⊥ }
+
+-- where the work ends with a text, this keeps the promise
+abbrev pub KeepsPromise : Task → Files → Ending → Type 0
+KeepsPromise task files (Finished text) = task.Promise files text
+KeepsPromise task files (Stopped outcome) = Unit {0}
+
+-- what the sink grew by keeps the promise
+abbrev pub Promised : Task → Files → SinkState → SinkState → Type 0
+Promised task files before after = (text : List ℕ) × task.Promise files text × Wrote text before after

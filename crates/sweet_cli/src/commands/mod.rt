@@ -1,0 +1,57 @@
+//! The commands, and the answer to the words. A further command is one more row.
+
+ghost use Rattle.std.specs.Prelude.{◌≡◌, map, string_bytes, IfOk, IfSome};
+ghost use Rattle.work.specs.Run.{Answers, ending_of};
+ghost use Rattle.work.specs.Works.{Works};
+ghost use Rattle.sweet_cli.specs.Words.{command_meant};
+ghost use Rattle.sweet_cli.specs.Table.{task_for, task_of};
+ghost use Rattle.sweet_cli.specs.Task.{KeepsPromise};
+
+mod analyse;
+mod print;
+mod programs;
+
+use crate::words::{Command, WordsFault, read};
+use flow_base::Shelf;
+use std::alloc::Global;
+use work::{Answer, Stop, Why, stopped};
+
+/// The answer to the words. None where memory ran out.
+pub fn words_answer<F: Shelf>(alloc: Global, words: &[String], shelf: &mut F) -> Option<Answer>
+    ensures due { IfSome result (λ answer. Answers (task_of (map string_bytes words.now)).work (F.state shelf.old) (ending_of answer) (F.state shelf.new)) }
+    ensures promise { IfSome result (λ answer. IfSome (F.state shelf.old).files (λ files. KeepsPromise (task_of (map string_bytes words.now)) files (ending_of answer))) }
+    ensures same_files { (F.state shelf.new).files ≡ (F.state shelf.old).files }
+{
+    match words_text(alloc, words, shelf) {
+        Ok(text) => Some(Answer::Finished(text)),
+        Err(Stop::Told(why, text)) => Some(Answer::Stopped(why, text)),
+        Err(Stop::Memory) => None,
+    }
+}
+
+// The text of the words' command.
+fn words_text<F: Shelf>(alloc: Global, words: &[String], shelf: &mut F) -> Result<Vec<u8>, Stop>
+    ensures work { Works (task_of (map string_bytes words.now)).work (λ text. text.items) (F.state shelf.old) result (F.state shelf.new) }
+    ensures promise { IfOk result (λ text. IfSome (F.state shelf.old).files (λ files. (task_of (map string_bytes words.now)).Promise files text.items)) }
+{
+    match read(alloc, words) {
+        Ok(command) => command_text(alloc, command, shelf),
+        Err(WordsFault::Usage) => Err(stopped(alloc, Why::Usage, "fault usage\n")),
+        Err(WordsFault::Memory) => Err(Stop::Memory),
+    }
+}
+
+// The text of a command.
+fn command_text<F: Shelf>(
+    alloc: Global,
+    command: Command<'_>,
+    shelf: &mut F,
+) -> Result<Vec<u8>, Stop>
+    ensures work { Works (task_for (command_meant command.entry)).work (λ text. text.items) (F.state shelf.old) result (F.state shelf.new) }
+    ensures promise { IfOk result (λ text. IfSome (F.state shelf.old).files (λ files. (task_for (command_meant command.entry)).Promise files text.items)) }
+{
+    match command {
+        Command::Analyse { file, turns } => analyse::analyse(alloc, file, turns, shelf),
+        Command::Print { file } => print::print(alloc, file, shelf),
+    }
+}

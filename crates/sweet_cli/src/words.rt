@@ -1,0 +1,3 @@
+//! What the words of a command line mean: the commands of `sweet_words`, under its names.
+
+pub use sweet_words::{Command, WordsFault, read};

@@ -1,25 +1,26 @@
 -- Programs that pass the checks keep the rules.
-use Rattle.std.proofs.Common.{◌≡◌, ◌≢◌, ◌<◌, ◌+◌, ℕ, List, [], flat_map, length, get_or, slice_get, AllPairs, Contains, Option, Some, None, unwrap_or, refl, ap, sym, ◌∙◌, subst, arith}
+use Rattle.std.proofs.Common.{◌≡◌, ◌≢◌, ◌≤◌, ◌<◌, ◌+◌, ℕ, suc, true, List, [], ◌∷◌, ◌++◌, flat_map, length, get_or, slice_get, All, AllPairs, Contains, Option, Some, None, unwrap_or, refl, ap, sym, ◌∙◌, subst, arith}
 use Rattle.std.specs.List.{range_with_len}
 use Rattle.std.specs.Str.{bytes_eq}
+use Rattle.std.proofs.lemmas.Bool.{cases_lt}
 use Rattle.std.proofs.lemmas.List.{length-map, length-append}
 use Rattle.std.proofs.lemmas.List.FromFn.{length-range_with_len, get_or-range_with_len}
 use Rattle.std.proofs.lemmas.Option.{same_Some, slice_get_within, slice_get-get_or}
-use Rattle.lists.specs.Members.{placed, all_members}
+use Rattle.lists.specs.Members.{contained, placed, all_members}
 use Rattle.lists.specs.Images.{all_images}
-use Rattle.alf_program.specs.Tree.{Allocation, Function, WholeProgram}
+use Rattle.alf_program.specs.Tree.{Allocation, InitialValue, Function, WholeProgram}
 use Rattle.alf_names.specs.Places.{function_place}
 use Rattle.call_cycles.specs.Calls.{IsRanked}
+use Rattle.alf_faults.specs.NoFault.{HasNoFault}
 use Rattle.alf_check.specs.declared.rows.FrameRow.{FrameRow}
 use Rattle.alf_check.specs.CheckedPrograms.{NumberedFunction}
-use Rattle.alf_check.specs.Numbers.{row_for, frame_rows, first_frame, numbers_in}
+use Rattle.alf_check.specs.Numbers.{row_for, frame_rows, first_frame, func_number, numbers_in}
 use Rattle.alf_check.specs.Numbered.{numbered_init, numbered_function, export_number, numbered}
 use Rattle.alf_check.specs.Blocks.{blocks_of}
 use Rattle.alf_check.specs.Checking.{called_by, calls_in, Passes}
 use Rattle.alf_check.specs.Kept.{KeepsFrame, IsFrameOf, InitFits, KeepsExport, KeepsFunction, HasFrame, KeepsFrames, IsBounded, IsKept}
 use Rattle.alf_program.specs.Writable.{AllocationIsWritable, InitialIsWritable, FunctionIsWritable, IsWritable}
-use Rattle.alf_check.proofs.Faultless.{IsSound, sound, exactly}
-use Rattle.alf_check.proofs.Standing.{of_each, stands, place_there, at_cases, range_parts}
+use Rattle.alf_check.proofs.Standing.{of_each, stands, place_there, at_one_place, at_cases, range_parts}
 use Rattle.alf_check.proofs.FramePlaces.{own_frames, own_at, row_cases, row_of_owner, names_apart}
 use Rattle.alf_check.proofs.SeenFrames.{global_init_fits, own_init_fits, export_keeps}
 use Rattle.alf_check.proofs.Cuts.{some_block, cut_well}
@@ -31,7 +32,7 @@ use Rattle.alf_check.proofs.KeptBlocks.{keeps_block}
 
 -- the bits of a frame that is written
 written_row : (owner : Option ℕ) (frame : Allocation) → AllocationIsWritable frame → KeepsFrame (row_for owner frame)
-written_row owner frame written = record { some = omega (arith, written.some, written.bytes); most = omega (arith, written.small); bytes = written.bytes }
+written_row owner frame written = let some = written.some in let bytes = written.bytes in let most = written.small in record { some = omega arith; most = omega arith; bytes = bytes }
 
 -- a member of numbers that follow one another
 in_range : (first n f : ℕ) → Contains (range_with_len first n) f → (i : ℕ) × (i < n) × (f ≡ first + i)
@@ -52,7 +53,7 @@ range_apart first n i j d low high same =
     let later = get_or-range_with_len first n j d inside in
     absurd (omega arith)
 
-module _ (whole : WholeProgram) (root ranks : List ℕ) (written : IsWritable whole) (s : IsSound whole) where
+module _ (whole : WholeProgram) (root ranks : List ℕ) (written : IsWritable whole) (s : HasNoFault whole) where
   own_written : (func : Function) (i : ℕ) (frame : Allocation) → FunctionIsWritable func → slice_get (own_frames func) i ≡ Some frame → AllocationIsWritable frame
   own_written func i frame w at =
       at_cases func.args func.decls i frame at (λ arg. of_each AllocationIsWritable func.args i frame w.args arg) (λ j e decl. of_each AllocationIsWritable func.decls j frame w.decls decl)
@@ -112,12 +113,10 @@ module _ (whole : WholeProgram) (root ranks : List ℕ) (written : IsWritable wh
   names_differ k j f g at there same =
       let x = of_function whole root ranks k f at in
       let y = of_function whole root ranks j g there in
-      let names : x.0.name ≡ y.0.name = ap (λ (z : NumberedFunction). z.name) x.2 ∙ same ∙ ap (λ (z : NumberedFunction). z.name) (sym y.2) in
-      same_Some k j (sym (exactly k (function_place whole.funcs x.0.name) (s.funcs k x.0 x.1).alone) ∙ ap (function_place whole.funcs) names ∙ exactly j (function_place whole.funcs y.0.name) (s.funcs j y.0 y.1).alone)
+      at_one_place (λ (z : Function). z.name) whole.funcs s.funcs_differ k j x.0 y.0 x.1 y.1 (ap (λ (z : NumberedFunction). z.name) x.2 ∙ same ∙ ap (λ (z : NumberedFunction). z.name) (sym y.2))
 
-pub kept : (whole : WholeProgram) (root ranks : List ℕ) → IsWritable whole → Passes whole root → IsRanked (calls_in whole) ranks → IsBounded (numbered whole root ranks) → IsKept (numbered whole root ranks)
-kept whole root ranks written passes ranked bounded =
-    let s = sound whole passes.sound in
+pub kept : (whole : WholeProgram) (root ranks : List ℕ) → IsWritable whole → Passes whole root → HasNoFault whole → IsRanked (calls_in whole) ranks → IsBounded (numbered whole root ranks) → IsKept (numbered whole root ranks)
+kept whole root ranks written passes s ranked bounded =
     let start = place_there (function_place whole.funcs root) passes.starts in
     let low = slice_get_within whole.funcs start.0 _ (stands (λ (func : Function). bytes_eq func.name root) whole.funcs start.0 start.1).at in
     let count = count_functions whole (length whole.decls) whole.funcs in

@@ -2,7 +2,6 @@ pub mod Labelled
 pub mod Operands
 pub mod Cutting
 pub mod Called
-pub mod Faultless
 pub mod Standing
 pub mod FramePlaces
 pub mod SeenFrames

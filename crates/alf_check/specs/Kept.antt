@@ -14,7 +14,7 @@
 --   KeepsFrames program      the frames do, and each is where its owner has it
 --   KeepsExport rows f       so does an exported frame
 --   IsBounded program        its counts are below 2^32 - 1
---   IsChecked program        the program is one that is writable and that passes the checks, with numbers in place of names
+--   IsChecked program        the program is one that some text can spell and that passes the checks, with numbers in place of names
 --   IsKept program           the whole program keeps the rules
 use Rattle.std.specs.Prelude.{◌≡◌, ◌≢◌, ◌<◌, ◌≤◌, ◌+◌, ◌*◌, ◌%◌, ◌^◌, ◌⊎◌, ℕ, suc, true, List, [], ◌∷◌, ◌++◌, length, All, AllPairs, Contains, Option, Some, None, slice_get}
 use Rattle.std.specs.List.{AllZip}
@@ -251,7 +251,7 @@ pub record KeepsFrames (program : NumberedProgram) : Type 0 where
   pub own : (f k : ℕ) (row : FrameRow) → slice_get program.frames f ≡ Some row → row.owner ≡ Some k → HasFrame program k f
   pub names : (k f g : ℕ) (a b : FrameRow) → slice_get program.frames f ≡ Some a → slice_get program.frames g ≡ Some b → IsSeen k a → IsSeen k b → a.name ≡ b.name → f ≡ g
 
--- the program is one that is writable and that passes the checks, with numbers in place of names
+-- the program is one that some text can spell and that passes the checks, with numbers in place of names
 pub record IsChecked (program : NumberedProgram) : Type 0 where
   pub whole : WholeProgram
   pub root : List ℕ

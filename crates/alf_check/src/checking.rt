@@ -27,7 +27,7 @@ use std::alloc::{AllocError, Global};
 ///
 /// Names and sizes are checked first, in the order of the text, then recursion, and then that there
 /// is a function to start with. Whether calls are ever reached does not count. The program is one
-/// that some text spells, by a condition on programs alone. Takes memory for the tables of names, the calls
+/// that some text can spell, as one that was read is. Takes memory for the tables of names, the calls
 /// and the answer; the program is given up.
 pub fn check(alloc: Global, program: Program, root: &str) -> Result<Checked, CheckFault>
     requires writable { IsWritable (program_of program) }

@@ -17,6 +17,7 @@ use crate::lookup::func_number;
 use crate::numbering::all_functions;
 use crate::rows::{Block, FrameRow, FuncParts, FuncRow, InitRow};
 use crate::tables::{export_numbers, frame_rows, init_rows};
+use alf_faults::no_fault_is_by_parts;
 use alf_program::Program;
 use std::alloc::{AllocError, Global};
 use std::marker::Model;
@@ -60,7 +61,7 @@ impl Model for Checked {
 }
 
 impl Checked {
-    /// What every checked program keeps, among it that some text spells it.
+    /// What every checked program keeps, among it that some text can spell it.
     pub fn keeps(&self)
         ensures { IsKept (seen self.now) }
     {
@@ -162,6 +163,7 @@ pub(crate) fn numbered(
     requires ranked { IsRanked (calls_in (program_of program.now)) ranks.items }
     ensures { IfOk result (λ checked. seen checked ≡ numbered (program_of program.now) root.now (seen checked).ranks) }
 {
+    no_fault_is_by_parts();
     few(&program.funcs)?;
     let frames = frame_rows(alloc, program)?;
     let funcs = all_functions(alloc, program)?;

@@ -1,7 +1,7 @@
 //! Small programs, checked.
 
 use alf_check::{Act, BlockEnd, CheckFault, Checked, Term, check};
-use alf_text::{read, writable_programs_are_spelled};
+use alf_text::read;
 use flow_base::Name;
 use std::alloc::{AllocError, Global};
 use std::test::Fail;
@@ -78,7 +78,6 @@ fn text_of(alloc: Global, items: &str) -> Result<String, AllocError> {
 
 // The program of the text, checked.
 fn checked_text(alloc: Global, text: &str, root: &str) -> Result<Checked, CheckFault> {
-    writable_programs_are_spelled();
     match read(alloc, text.as_bytes()) {
         Ok(program) => check(alloc, program, root),
         Err(_) => Err(CheckFault::Memory),

@@ -2,7 +2,7 @@
 #![tactic(auto)]
 
 use alf_check::{CheckFault, check};
-use alf_text::{read, writable_programs_are_spelled};
+use alf_text::read;
 use flow_base::{FolderShelf, Shelf, Sink, StdSink};
 use std::alloc::Global;
 use std::env;
@@ -28,7 +28,6 @@ fn main(rt: HostRuntime) -> ExitCode {
 
 // What comes of checking the program that the bytes spell.
 fn outcome(alloc: Global, bytes: &[u8]) -> &'static str {
-    writable_programs_are_spelled();
     let Ok(program) = read(alloc, bytes) else {
         return "no program of the profile\n";
     };

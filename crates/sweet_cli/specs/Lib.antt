@@ -3,7 +3,6 @@
 -- words
 pub mod Words
 pub mod Meant
-
 -- nodes, memory, runs
 pub mod Nodes
 pub mod Memory
@@ -14,19 +13,16 @@ pub mod Edges
 pub mod Search
 pub mod Resolved
 pub mod Cells
-
 -- facts and lines
 pub mod Facts
 pub mod Listed
 pub mod ReportText
 pub mod FaultLines
-
 -- commands, a file each, and their table
 pub mod Task
 pub mod Programs
 pub mod Analyse
 pub mod Print
 pub mod Table
-
 -- laws
 pub mod Laws

@@ -10,4 +10,3 @@ pub mod Written
 pub mod Marked
 pub mod Needs
 pub mod Kept
-pub mod Spelled

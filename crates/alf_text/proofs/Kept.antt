@@ -6,6 +6,7 @@ use Rattle.std.specs.Str.{bytes_eq}
 use Rattle.std.proofs.lemmas.Bool.{leb-true}
 use Rattle.std.proofs.lemmas.Bool.Decides.{nat_tests}
 use Rattle.std.proofs.lemmas.List.Elements.{All-nil, All-cons}
+use Rattle.lists.specs.Tests.{by_test}
 use Rattle.flow_base.specs.Digits.{prefix_digits, number_of}
 use Rattle.flow_base.specs.declared.place.Which.TheVariants.{Functions, Frames, FrameBytes, AllBytes}
 use Rattle.grammar.specs.Exact.{ok_is, ok_no_err}
@@ -34,10 +35,6 @@ Good t = is_named_well t ≡ true
 -- each value that the rule spells is so, and nothing is counted
 abbrev Stays : {some : Bool} {A : Type 0} → Rule some A → (A → Type 0) → Type 0
 Stays p Q = Keeping.Stays Good p.form Q
-
-by_test : {A : Type 0} (v : Bool) → (v ≡ true → A) → (v ≡ false → A) → A
-by_test true if_true if_false = if_true refl
-by_test false if_true if_false = if_false refl
 
 -- what holds of each member holds of all
 all_of : {A : Type 0} (Holds : A → Type 0) (xs : List A) → Each Holds xs → All Holds xs

@@ -17,7 +17,7 @@ abbrev pub own_frames : Function → List Allocation
 own_frames func = func.args ++ func.decls
 
 -- the rows of a function's frames come before those of the functions after it
-rows_split : (n : ℕ) (func : Function) (funcs : List Function) → rows_from n (func ∷ funcs) ≡ rows_of (Some n) (own_frames func) ++ rows_from (suc n) funcs
+pub rows_split : (n : ℕ) (func : Function) (funcs : List Function) → rows_from n (func ∷ funcs) ≡ rows_of (Some n) (own_frames func) ++ rows_from (suc n) funcs
 rows_split n func funcs =
     sym (append_assoc (rows_of (Some n) func.args) (rows_of (Some n) func.decls) (rows_from (suc n) funcs))
     ∙ ap (λ (rows : List FrameRow). rows ++ rows_from (suc n) funcs) (sym (map-append (row_for (Some n)) func.args func.decls))

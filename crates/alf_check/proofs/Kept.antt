@@ -26,6 +26,7 @@ use Rattle.alf_check.proofs.Cuts.{some_block, cut_well}
 use Rattle.alf_check.proofs.Parts.{count_functions, count_blocks, there, of_function}
 use Rattle.alf_check.proofs.CallsFit.{one_size}
 use Rattle.alf_check.proofs.KeptBlocks.{keeps_block}
+use Rattle.alf_check.proofs.Limits.{within}
 
 -- ---- frames
 
@@ -124,6 +125,7 @@ kept whole root ranks written passes s ranked bounded =
     record {
       checked = record { whole = whole; root = root; writable = written; passes = passes; numbers = refl };
       bounded = bounded;
+      limits = within whole root ranks written;
       frames = keeps_frames whole root ranks written s;
       functions = λ k function at. let f = of_function whole root ranks k function at in subst (KeepsFunction (numbered whole root ranks) k) f.2 (keeps_function whole root ranks written s ranked k f.0 f.1);
       names = names_differ whole root ranks written s;

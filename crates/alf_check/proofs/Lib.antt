@@ -11,6 +11,7 @@ pub mod Parts
 pub mod Returns
 pub mod CallsFit
 pub mod KeptBlocks
+pub mod Limits
 pub mod Kept
 pub mod LookedUp
 pub mod Making

@@ -8,3 +8,4 @@ pub mod OutlineLaws
 pub mod OutlineOf
 pub mod OutlineMade
 pub mod ScopeOrder
+pub mod Stretches

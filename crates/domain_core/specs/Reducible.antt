@@ -5,6 +5,7 @@
 --   IsReducible Leads                each closed walk has a node that lies on every walk from node 0 to any node of it
 --   IsBackEdge Leads u h             an edge from u to a node that lies on every walk to u
 --   IsForwardEdge Leads u v          an edge that is no back edge
+--   IsDecidedBack Leads              it is decided which edges are back edges
 --   IsCrossing Leads header tail round  three walks that show an edge back to a node h and a way to its source past h
 --   IsFalling Leads number           each edge goes to a lower number, or is a back edge
 --   IsReady Leads rank r n           each edge to n that is no back edge comes from a node of a rank below r
@@ -32,6 +33,10 @@ IsBackEdge Leads u h = Leads u h × Dominates Leads h u
 -- an edge that is no back edge
 abbrev pub IsForwardEdge : (ℕ → ℕ → Type 0) → ℕ → ℕ → Type 0
 IsForwardEdge Leads u v = Leads u v × (Dominates Leads v u → ⊥)
+
+-- it is decided which edges are back edges
+abbrev pub IsDecidedBack : (ℕ → ℕ → Type 0) → Type 0
+IsDecidedBack Leads = (u v : ℕ) → Leads u v → Dominates Leads v u ⊎ (Dominates Leads v u → ⊥)
 
 -- Three walks that refute reducibility: from node 0 to h, on to u, from which an edge leads back to h, and from node 0 to u without h.
 pub record IsCrossing (Leads : ℕ → ℕ → Type 0) (to_header to_tail around : List ℕ) : Type 0 where

@@ -9,3 +9,10 @@ pub mod OutlineOf
 pub mod OutlineMade
 pub mod ScopeOrder
 pub mod Stretches
+pub mod Traces
+pub mod Orders
+pub mod Relations
+pub mod FaultSets
+pub mod WordSets
+pub mod Machines
+pub mod Recordings

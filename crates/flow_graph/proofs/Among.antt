@@ -32,7 +32,7 @@ module _ (places : List Place) (m : ℕ) (place : Place) (inside : m < length pl
     low_before less k low = elim (cases_lt k m) [
       | inl under ↦ let long = nodes_long places in
           before_before (get_or (nodes_of places) k node) (node_of place) node
-            (subst (λ (n : Node). IsBefore (get_or (nodes_of places) k node) n) (stands_is node) (ascends k m node under (omega arith))) less
+          (subst (λ (n : Node). IsBefore (get_or (nodes_of places) k node) n) (stands_is node) (ascends k m node under (omega arith))) less
       | inr same ↦ let e : k ≡ m = omega arith in subst (λ (n : Node). IsBefore n node) (sym (ap (λ (j : ℕ). get_or (nodes_of places) j node) e ∙ stands_is node)) less
     ]
 
@@ -41,7 +41,7 @@ module _ (places : List Place) (m : ℕ) (place : Place) (inside : m < length pl
     high_after greater k high within = elim (cases_lt m k) [
       | inl over ↦
           before_before node (node_of place) (get_or (nodes_of places) k node) (after_is (node_of place) node greater)
-            (subst (λ (n : Node). IsBefore n (get_or (nodes_of places) k node)) (stands_is node) (ascends m k node over within))
+          (subst (λ (n : Node). IsBefore n (get_or (nodes_of places) k node)) (stands_is node) (ascends m k node over within))
       | inr same ↦ let e : k ≡ m = omega arith in
           subst (λ (n : Node). IsBefore node n) (sym (ap (λ (j : ℕ). get_or (nodes_of places) j node) e ∙ stands_is node)) (after_is (node_of place) node greater)
     ]

@@ -66,17 +66,17 @@ module _ (nodes : List Node) (node : Node) (at : ℕ) where
           elim (cases_lt j at) [
             | inl low ↦
                 subst (λ (n : Node). IsBefore n (get_or (insert nodes at node) j d)) (sym (get_or-insert_below nodes at node d i (omega arith) within))
-                  (subst (λ (n : Node). IsBefore (get_or nodes i d) n) (sym (get_or-insert_below nodes at node d j low within)) (ascends i j d before (omega arith)))
+                (subst (λ (n : Node). IsBefore (get_or nodes i d) n) (sym (get_or-insert_below nodes at node d j low within)) (ascends i j d before (omega arith)))
             | inr high ↦ elim (cases_lt at j) [
               | inl over ↦
                   let later : get_or (insert nodes at node) j d ≡ get_or nodes (j - 1) d =
-                      ap (λ (k : ℕ). get_or (insert nodes at node) k d) (let e : j ≡ j - 1 + 1 = omega arith in e) ∙ get_or-insert_above nodes at node d (j - 1) (omega arith) within in
+                  ap (λ (k : ℕ). get_or (insert nodes at node) k d) (let e : j ≡ j - 1 + 1 = omega arith in e) ∙ get_or-insert_above nodes at node d (j - 1) (omega arith) within in
                   subst (λ (n : Node). IsBefore (get_or (insert nodes at node) i d) n) (sym later) (elim (cases_lt i at) [
                     | inl under ↦ subst (λ (n : Node). IsBefore n (get_or nodes (j - 1) d)) (sym (get_or-insert_below nodes at node d i under within)) (ascends i (j - 1) d (omega arith) (omega arith))
                     | inr above ↦ elim (cases_lt at i) [
                       | inl past ↦
                           let earlier : get_or (insert nodes at node) i d ≡ get_or nodes (i - 1) d =
-                              ap (λ (k : ℕ). get_or (insert nodes at node) k d) (let e : i ≡ i - 1 + 1 = omega arith in e) ∙ get_or-insert_above nodes at node d (i - 1) (omega arith) within in
+                          ap (λ (k : ℕ). get_or (insert nodes at node) k d) (let e : i ≡ i - 1 + 1 = omega arith in e) ∙ get_or-insert_above nodes at node d (i - 1) (omega arith) within in
                           subst (λ (n : Node). IsBefore n (get_or nodes (j - 1) d)) (sym earlier) (ascends (i - 1) (j - 1) d (omega arith) (omega arith))
                       | inr same ↦
                           let e : i ≡ at = omega arith in
@@ -86,7 +86,7 @@ module _ (nodes : List Node) (node : Node) (at : ℕ) where
               | inr same ↦
                   let e : j ≡ at = omega arith in
                   subst (λ (n : Node). IsBefore (get_or (insert nodes at node) i d) n) (sym (ap (λ (k : ℕ). get_or (insert nodes at node) k d) e ∙ get_or-insert_at nodes at node d within))
-                    (subst (λ (n : Node). IsBefore n node) (sym (get_or-insert_below nodes at node d i (omega arith) within)) (gap_before i d (omega arith)))
+                  (subst (λ (n : Node). IsBefore n node) (sym (get_or-insert_below nodes at node d i (omega arith) within)) (gap_before i d (omega arith)))
             ]
           ]
 

@@ -34,7 +34,7 @@ module _ (program : NumberedProgram) (keeps : IsKept program) (place : Place) (k
     pub for_place : (goals : Option Goals) → AreGoals program (block_node (reverse p) b) goals → AreGoals program (node_of place) goals
     for_place goals h =
         subst (λ (block : Option ℕ). AreGoals program (node_at place.path.items block) goals) (sym some)
-          (subst (λ (q : List ℕ). AreGoals program (node_at q (Some b)) goals) same h)
+        (subst (λ (q : List ℕ). AreGoals program (node_at q (Some b)) goals) same h)
 
 module _ (program : NumberedProgram) (node : Node) where
   -- where a return leads
@@ -48,7 +48,7 @@ module _ (program : NumberedProgram) (node : Node) where
       let call = calls.0 in
       let next_is : next_of (ending_at program (function_at program path) b) ≡ call.next = ap next_of call.ends in
       let node_is : node_at (reverse path) (Some (next_of (ending_at program (function_at program path) b))) ≡ block_node path call.next =
-          ap (λ (q : List ℕ). block_node q (next_of (ending_at program (function_at program path) b))) (reverse-reverse path) ∙ ap (λ (n : ℕ). block_node path n) next_is in
+      ap (λ (q : List ℕ). block_node q (next_of (ending_at program (function_at program path) b))) (reverse-reverse path) ∙ ap (λ (n : ℕ). block_node path n) next_is in
       one_goal program node goals (reverse path) (Some (next_of (ending_at program (function_at program path) b))) goes
-        (λ goal e. from goal (subst (λ (ending : Option BlockEnding). BackLeads path ending goal) (sym call.ends) (e ∙ ap (λ (n : Node). Some n) node_is)))
-        (λ goal h. let back : goal ≡ Some (block_node path call.next) = subst (λ (ending : Option BlockEnding). BackLeads path ending goal) call.ends (leads goal h) in back ∙ ap (λ (n : Node). Some n) (sym node_is))
+      (λ goal e. from goal (subst (λ (ending : Option BlockEnding). BackLeads path ending goal) (sym call.ends) (e ∙ ap (λ (n : Node). Some n) node_is)))
+      (λ goal h. let back : goal ≡ Some (block_node path call.next) = subst (λ (ending : Option BlockEnding). BackLeads path ending goal) call.ends (leads goal h) in back ∙ ap (λ (n : Node). Some n) (sym node_is))

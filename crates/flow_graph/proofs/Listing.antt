@@ -49,7 +49,7 @@ pub listed_push : (Done : ℕ → ℕ → Type 0) (edges : List (ℕ × ℕ)) (a
     → IsListed (λ (u v : ℕ). Done u v ⊎ ((u ≡ a) × (v ≡ b))) (edges ++ (a, b) ∷ [])
 listed_push Done edges a b listed before = record {
   ascends = all_pairs_push IsEdgeBefore edges (a, b) listed.ascends (λ k d inside.
-    let edge : ℕ × ℕ = get_or edges k d in before edge.0 edge.1 (All-contains (λ (edge : ℕ × ℕ). Done edge.0 edge.1) edges edge listed.each (Contains-get_or edges k d inside)));
+      let edge : ℕ × ℕ = get_or edges k d in before edge.0 edge.1 (All-contains (λ (edge : ℕ × ℕ). Done edge.0 edge.1) edges edge listed.each (Contains-get_or edges k d inside)));
   each = all_members (λ (edge : ℕ × ℕ). Done edge.0 edge.1 ⊎ ((edge.0 ≡ a) × (edge.1 ≡ b))) (edges ++ (a, b) ∷ []) (λ edge h. elim (Contains-push_cases edges (a, b) edge h) [
     | inl old ↦ inl (All-contains (λ (edge : ℕ × ℕ). Done edge.0 edge.1) edges edge listed.each old)
     | inr e ↦ inr (sym (ap (λ (p : ℕ × ℕ). p.0) e), sym (ap (λ (p : ℕ × ℕ). p.1) e))
@@ -137,48 +137,48 @@ module _ (program : NumberedProgram) (nodes : List Node) (k : ℕ) (path : List 
     pub row_more : (edges : List (ℕ × ℕ)) → IsListed (IsDoneInRow program nodes k path blocks j) edges → IsListed (IsDoneInRow program nodes k path blocks (j + 1)) (edges ++ (k, to) ∷ [])
     row_more edges listed =
         listed_as (λ (u v : ℕ). IsDoneInRow program nodes k path blocks j u v ⊎ ((u ≡ k) × (v ≡ to))) (IsDoneInRow program nodes k path blocks (j + 1)) (edges ++ (k, to) ∷ [])
-          (λ u v h. elim h [
-            | inl done ↦ elim done [ inl old ↦ inl old | inr row ↦ inr (row.0, (row.1.0, up_to_left path blocks j x low is row.1.0 row.1.1, row.1.2)) ]
-            | inr e ↦ inr (e.0, (node_at path x, up_to_right path blocks j x low is (node_at path x) refl, ap (λ (n : ℕ). slice_get nodes n) e.1 ∙ at))
-          ])
-          (λ u v h. elim h [
-            | inl old ↦ inl (inl old)
-            | inr row ↦ elim (up_to_cases path blocks j x low is row.1.0 row.1.1) [
-              | inl early ↦ inl (inr (row.0, (row.1.0, early, row.1.2)))
-              | inr e ↦ inr (row.0, one_place nodes ascends (node_at path x) v to (row.1.2 ∙ ap (λ (n : Node). Some n) e) at)
-            ]
-          ])
-          (listed_push (IsDoneInRow program nodes k path blocks j) edges k to listed done_before)
+        (λ u v h. elim h [
+          | inl done ↦ elim done [ inl old ↦ inl old | inr row ↦ inr (row.0, (row.1.0, up_to_left path blocks j x low is row.1.0 row.1.1, row.1.2)) ]
+          | inr e ↦ inr (e.0, (node_at path x, up_to_right path blocks j x low is (node_at path x) refl, ap (λ (n : ℕ). slice_get nodes n) e.1 ∙ at))
+        ])
+        (λ u v h. elim h [
+          | inl old ↦ inl (inl old)
+          | inr row ↦ elim (up_to_cases path blocks j x low is row.1.0 row.1.1) [
+            | inl early ↦ inl (inr (row.0, (row.1.0, early, row.1.2)))
+            | inr e ↦ inr (row.0, one_place nodes ascends (node_at path x) v to (row.1.2 ∙ ap (λ (n : Node). Some n) e) at)
+          ]
+        ])
+        (listed_push (IsDoneInRow program nodes k path blocks j) edges k to listed done_before)
 
   -- all edges from a node
   pub row_all : (node : Node) (goals : Goals) → slice_get nodes k ≡ Some node → AreGoals program node (Some goals) → goals.path.items ≡ path → goals.blocks.items ≡ take (length blocks) blocks
       → (edges : List (ℕ × ℕ)) → IsListed (IsDoneInRow program nodes k path blocks (length blocks)) edges → IsListed (IsDoneBefore program nodes (k + 1)) edges
   row_all node goals at are path_is blocks_are edges listed =
       listed_as (IsDoneInRow program nodes k path blocks (length blocks)) (IsDoneBefore program nodes (k + 1)) edges
-        (λ u v h. elim h [
-          | inl old ↦ let low = old.0 in (omega arith, old.1)
-          | inr row ↦
-              let e = row.0 in
-              let n = row.1.0 in
-              let up_to = row.1.1 in
-              let among : Contains goals.blocks.items up_to.0 = subst (λ (bs : List (Option ℕ)). Contains bs up_to.0) (sym blocks_are) up_to.1 in
-              let leads : Leads program node (Some n) = are.each (Some n) (up_to.0, among, up_to.2 ∙ ap (λ (p : List ℕ). Some (node_at p up_to.0)) (sym path_is)) in
-              (omega arith, record { node = node; goal = Some n; from = ap (λ (w : ℕ). slice_get nodes w) e ∙ at; leads = leads; to = row.1.2 })
-        ])
-        (λ u v h. elim (cases_lt u k) [
-          | inl low ↦ inl (low, h.1)
-          | inr high ↦
-              let below = h.0 in
-              let e : u ≡ k = omega arith in
-              let step = h.1 in
-              let same : step.node ≡ node = same_Some step.node node (sym step.from ∙ ap (λ (w : ℕ). slice_get nodes w) e ∙ at) in
-              let leads : Leads program node step.goal = subst (λ (n : Node). Leads program n step.goal) same step.leads in
-              let found = are.all step.goal leads in
-              let goal_is : step.goal ≡ Some (node_at path found.0) = found.2 ∙ ap (λ (p : List ℕ). Some (node_at p found.0)) path_is in
-              let number : IsNumberOf nodes (Some (node_at path found.0)) v = subst (λ (goal : Goal). IsNumberOf nodes goal v) goal_is step.to in
-              inr (e, (node_at path found.0, (found.0, subst (λ (bs : List (Option ℕ)). Contains bs found.0) blocks_are found.1, refl), number))
-        ])
-        listed
+      (λ u v h. elim h [
+        | inl old ↦ let low = old.0 in (omega arith, old.1)
+        | inr row ↦
+            let e = row.0 in
+            let n = row.1.0 in
+            let up_to = row.1.1 in
+            let among : Contains goals.blocks.items up_to.0 = subst (λ (bs : List (Option ℕ)). Contains bs up_to.0) (sym blocks_are) up_to.1 in
+            let leads : Leads program node (Some n) = are.each (Some n) (up_to.0, among, up_to.2 ∙ ap (λ (p : List ℕ). Some (node_at p up_to.0)) (sym path_is)) in
+            (omega arith, record { node = node; goal = Some n; from = ap (λ (w : ℕ). slice_get nodes w) e ∙ at; leads = leads; to = row.1.2 })
+      ])
+      (λ u v h. elim (cases_lt u k) [
+        | inl low ↦ inl (low, h.1)
+        | inr high ↦
+            let below = h.0 in
+            let e : u ≡ k = omega arith in
+            let step = h.1 in
+            let same : step.node ≡ node = same_Some step.node node (sym step.from ∙ ap (λ (w : ℕ). slice_get nodes w) e ∙ at) in
+            let leads : Leads program node step.goal = subst (λ (n : Node). Leads program n step.goal) same step.leads in
+            let found = are.all step.goal leads in
+            let goal_is : step.goal ≡ Some (node_at path found.0) = found.2 ∙ ap (λ (p : List ℕ). Some (node_at p found.0)) path_is in
+            let number : IsNumberOf nodes (Some (node_at path found.0)) v = subst (λ (goal : Goal). IsNumberOf nodes goal v) goal_is step.to in
+            inr (e, (node_at path found.0, (found.0, subst (λ (bs : List (Option ℕ)). Contains bs found.0) blocks_are found.1, refl), number))
+      ])
+      listed
 
 module _ (program : NumberedProgram) (nodes : List Node) (k : ℕ) where
   -- the edge to the end
@@ -186,22 +186,22 @@ module _ (program : NumberedProgram) (nodes : List Node) (k : ℕ) where
       → IsListed (IsDoneBefore program nodes (k + 1)) (edges ++ (k, length nodes) ∷ [])
   end_more node at are edges listed =
       listed_as (λ (u v : ℕ). IsDoneBefore program nodes k u v ⊎ ((u ≡ k) × (v ≡ length nodes))) (IsDoneBefore program nodes (k + 1)) (edges ++ (k, length nodes) ∷ [])
-        (λ u v h. elim h [
-          | inl old ↦ let low = old.0 in (omega arith, old.1)
-          | inr e ↦ let same = e.0 in (omega arith, record { node = node; goal = None; from = ap (λ (w : ℕ). slice_get nodes w) e.0 ∙ at; leads = are.each None refl; to = e.1 })
-        ])
-        (λ u v h. elim (cases_lt u k) [
-          | inl low ↦ inl (low, h.1)
-          | inr high ↦
-              let below = h.0 in
-              let e : u ≡ k = omega arith in
-              let step = h.1 in
-              let same : step.node ≡ node = same_Some step.node node (sym step.from ∙ ap (λ (w : ℕ). slice_get nodes w) e ∙ at) in
-              let leads : Leads program node step.goal = subst (λ (n : Node). Leads program n step.goal) same step.leads in
-              let ends : step.goal ≡ None = are.all step.goal leads in
-              inr (e, subst (λ (goal : Goal). IsNumberOf nodes goal v) ends step.to)
-        ])
-        (listed_push (IsDoneBefore program nodes k) edges k (length nodes) listed (λ u v h. inl h.0))
+      (λ u v h. elim h [
+        | inl old ↦ let low = old.0 in (omega arith, old.1)
+        | inr e ↦ let same = e.0 in (omega arith, record { node = node; goal = None; from = ap (λ (w : ℕ). slice_get nodes w) e.0 ∙ at; leads = are.each None refl; to = e.1 })
+      ])
+      (λ u v h. elim (cases_lt u k) [
+        | inl low ↦ inl (low, h.1)
+        | inr high ↦
+            let below = h.0 in
+            let e : u ≡ k = omega arith in
+            let step = h.1 in
+            let same : step.node ≡ node = same_Some step.node node (sym step.from ∙ ap (λ (w : ℕ). slice_get nodes w) e ∙ at) in
+            let leads : Leads program node step.goal = subst (λ (n : Node). Leads program n step.goal) same step.leads in
+            let ends : step.goal ≡ None = are.all step.goal leads in
+            inr (e, subst (λ (goal : Goal). IsNumberOf nodes goal v) ends step.to)
+      ])
+      (listed_push (IsDoneBefore program nodes k) edges k (length nodes) listed (λ u v h. inl h.0))
 
 -- no edge
 pub none_listed : (program : NumberedProgram) (nodes : List Node) → IsListed (IsDoneBefore program nodes 0) []

@@ -54,7 +54,7 @@ switch_goes goals path ts others xs path_is blocks_are each up = record {
   blocks = λ block. (
     λ among. let m = mapped (λ (n : ℕ). Some n) xs block (subst (λ (bs : List (Option ℕ)). Contains bs block) blocks_are among) in (m.0, (each m.0).0 m.1, sym m.2),
     λ target. subst (λ (bs : List (Option ℕ)). Contains bs block) (sym blocks_are)
-      (subst (λ (b : Option ℕ). Contains (map (λ (n : ℕ). Some n) xs) b) (sym target.2) (image (λ (n : ℕ). Some n) xs target.0 ((each target.0).1 target.1))),
+        (subst (λ (b : Option ℕ). Contains (map (λ (n : ℕ). Some n) xs) b) (sym target.2) (image (λ (n : ℕ). Some n) xs target.0 ((each target.0).1 target.1))),
   );
   ascends = subst (λ (bs : List (Option ℕ)). AllPairs (λ (a b : Option ℕ). block_rank a < block_rank b) bs) (sym blocks_are) (some_ascend xs up);
 }
@@ -65,9 +65,9 @@ module _ (program : NumberedProgram) (node : Node) (goals : Goals) (path : List 
       → AreGoals program node (Some goals)
   one_goal to have from leads = record {
     each = λ goal in_goals. from goal (
-      let among = subst (λ (bs : List (Option ℕ)). Contains bs in_goals.0) have.blocks_are in_goals.1 in
-      let same : in_goals.0 ≡ to = first_or_further to [] in_goals.0 among (λ e. sym e) (λ more. no_member in_goals.0 more) in
-      in_goals.2 ∙ ap (λ (p : List ℕ). Some (node_at p in_goals.0)) have.path_is ∙ ap (λ (b : Option ℕ). Some (node_at path b)) same);
+        let among = subst (λ (bs : List (Option ℕ)). Contains bs in_goals.0) have.blocks_are in_goals.1 in
+        let same : in_goals.0 ≡ to = first_or_further to [] in_goals.0 among (λ e. sym e) (λ more. no_member in_goals.0 more) in
+        in_goals.2 ∙ ap (λ (p : List ℕ). Some (node_at p in_goals.0)) have.path_is ∙ ap (λ (b : Option ℕ). Some (node_at path b)) same);
     all = λ goal lead. (to, subst (λ (bs : List (Option ℕ)). Contains bs to) (sym have.blocks_are) (first_member to []), leads goal lead ∙ ap (λ (p : List ℕ). Some (node_at p to)) (sym have.path_is));
     ascends = λ i j d before inside. let long = ap (λ (bs : List (Option ℕ)). length bs) have.blocks_are in absurd (omega arith);
   }
@@ -79,11 +79,11 @@ module _ (program : NumberedProgram) (node : Node) (goals : Goals) (path : List 
       → AreGoals program node (Some goals)
   switch_goals ts others goes from leads = record {
     each = λ goal in_goals.
-      let target = (goes.blocks in_goals.0).0 in_goals.1 in
-      from goal target.0 target.1 (in_goals.2 ∙ ap (λ (p : List ℕ). Some (node_at p in_goals.0)) goes.path_is ∙ ap (λ (b : Option ℕ). Some (node_at path b)) target.2);
+        let target = (goes.blocks in_goals.0).0 in_goals.1 in
+        from goal target.0 target.1 (in_goals.2 ∙ ap (λ (p : List ℕ). Some (node_at p in_goals.0)) goes.path_is ∙ ap (λ (b : Option ℕ). Some (node_at path b)) target.2);
     all = λ goal lead.
-      let target = leads goal lead in
-      (Some target.0, (goes.blocks (Some target.0)).1 (target.0, target.1, refl), target.2 ∙ ap (λ (p : List ℕ). Some (node_at p (Some target.0))) (sym goes.path_is));
+        let target = leads goal lead in
+        (Some target.0, (goes.blocks (Some target.0)).1 (target.0, target.1, refl), target.2 ∙ ap (λ (p : List ℕ). Some (node_at p (Some target.0))) (sym goes.path_is));
     ascends = goes.ascends;
   }
 

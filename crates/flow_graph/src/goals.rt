@@ -61,7 +61,11 @@ fn after_call(checked: &Checked, func: u32, block: u32) -> u32
 
 /// Where a node leads: to nodes of one instance, each once, in their order, or to the end, which is
 /// `None`. Takes time linear in the call path and in the targets of a switch, but for their sort.
-pub fn leads_from(alloc: Global, checked: &Checked, place: &Place) -> Result<Option<Goals>, AllocError>
+pub fn leads_from(
+    alloc: Global,
+    checked: &Checked,
+    place: &Place,
+) -> Result<Option<Goals>, AllocError>
     requires { IsKeptNode (seen checked.now) (node_of place.now) }
     ensures { IfOk result (λ goals. AreGoals (seen checked.now) (node_of place.now) goals) }
 {
@@ -134,11 +138,7 @@ fn targeted(
 }
 
 // The numbers of these blocks, each once, in their order.
-fn target_blocks(
-    alloc: Global,
-    targets: &[(u64, u32)],
-    others: u32,
-) -> Result<Vec<u32>, AllocError>
+fn target_blocks(alloc: Global, targets: &[(u64, u32)], others: u32) -> Result<Vec<u32>, AllocError>
     ensures each { IfOk result (λ numbers. (to : ℕ) → Contains numbers.items to ↔ IsTarget targets.now others to) }
     ensures ascends { IfOk result (λ numbers. AllPairs (λ (a b : ℕ). a < b) numbers.items) }
 {

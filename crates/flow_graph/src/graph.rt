@@ -151,11 +151,7 @@ fn nth<T>(list: &[T], number: u32) -> &T
 }
 
 // The functions of the nodes.
-fn functions_of(
-    alloc: Global,
-    checked: &Checked,
-    places: &[Place],
-) -> Result<Vec<u32>, AllocError>
+fn functions_of(alloc: Global, checked: &Checked, places: &[Place]) -> Result<Vec<u32>, AllocError>
     requires { All (IsKeptNode (seen checked.now)) (nodes_of places.now) }
     ensures { IfOk result (λ funcs. funcs.items ≡ map (λ place. function_at (seen checked.now) (reverse place.path.items)) places.now) }
 {
@@ -168,11 +164,7 @@ fn functions_of(
 }
 
 // The names of the nodes.
-fn names_of(
-    alloc: Global,
-    checked: &Checked,
-    places: &[Place],
-) -> Result<Vec<Vec<u8>>, AllocError>
+fn names_of(alloc: Global, checked: &Checked, places: &[Place]) -> Result<Vec<Vec<u8>>, AllocError>
     requires { All (IsKeptNode (seen checked.now)) (nodes_of places.now) }
     ensures { IfOk result (λ names. map (λ name. name.items) names.items ≡ map (λ place. node_name (seen checked.now) (node_of place)) places.now) }
 {

@@ -35,7 +35,7 @@ returns-in_default c =
     let at : slice_get nodes from ≡ Some node = stands_at c.args.places.now from place low c.index-places-from.is in
     let are : AreGoals program node None = subst (λ (o : Option Goals). AreGoals program node o) c.in_default.is c.in_ok-goals.ensures in
     subst (λ (edges : List (ℕ × ℕ)). IsListed (IsDoneBefore program nodes (from + 1)) edges) (sym c.in_ok-push.ensures.items)
-      (subst (λ (n : ℕ). IsListed (IsDoneBefore program nodes (from + 1)) (c.args.edges.now.items ++ (from, n) ∷ [])) long (end_more program nodes from node at are c.args.edges.now.items c.requires.listed))
+    (subst (λ (n : ℕ). IsListed (IsDoneBefore program nodes (from + 1)) (c.args.edges.now.items ++ (from, n) ∷ [])) long (end_more program nodes from node at are c.args.edges.now.items c.requires.listed))
 
 pub loop-block-init : goal.loop-block-init
 loop-block-init c = row_first (seen c.args.checked.now) (nodes_of c.args.places.now) c.args.from c.as_slice-path.result.now c.deref-block-items.result.now c.args.edges.now.items c.requires.listed
@@ -84,7 +84,7 @@ loop-block-preserved c =
     let inside : k < length items = c.loop-block-test.true in
     let up : AllPairs (λ (a b : Option ℕ). block_rank a < block_rank b) items = subst (λ (bs : List (Option ℕ)). AllPairs (λ (a b : Option ℕ). block_rank a < block_rank b) bs) (sym items_are) are.ascends in
     subst (λ (edges : List (ℕ × ℕ)). IsListed (IsDoneInRow program nodes from path items (k + 1)) edges) (sym c.in_ok-push-2.ensures.items)
-      (row_more program nodes from path items c.requires.numbered.ascends up k x inside (same_default items k None x inside) c.number_of-to.result c.number_of-to.ensures c.loop-block.edges.items c.loop-block.invariant)
+    (row_more program nodes from path items c.requires.numbered.ascends up k x inside (same_default items k None x inside) c.number_of-to.result c.number_of-to.ensures c.loop-block.edges.items c.loop-block.invariant)
 
 pub returns : goal.returns
 returns c =
@@ -106,4 +106,4 @@ returns c =
     let within = c.loop-block.auto.block-index-end in
     let all : c.loop-block.block-index ≡ length items = omega arith in
     row_all program nodes from path items node goals at are path_is (sym items_are ∙ sym (take-length items)) c.loop-block.edges.items
-      (subst (λ (j : ℕ). IsListed (IsDoneInRow program nodes from path items j) c.loop-block.edges.items) all c.loop-block.invariant)
+    (subst (λ (j : ℕ). IsListed (IsDoneInRow program nodes from path items j) c.loop-block.edges.items) all c.loop-block.invariant)

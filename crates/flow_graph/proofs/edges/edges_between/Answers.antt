@@ -13,4 +13,4 @@ returns c =
     let within = c.loop-from.auto.from-end in
     let all : c.loop-from.from ≡ length (nodes_of c.args.places.now) = omega arith in
     all_listed (seen c.args.checked.now) (nodes_of c.args.places.now) c.loop-from.edges.items
-      (subst (λ (k : ℕ). IsListed (IsDoneBefore (seen c.args.checked.now) (nodes_of c.args.places.now) k) c.loop-from.edges.items) all c.loop-from.invariant)
+    (subst (λ (k : ℕ). IsListed (IsDoneBefore (seen c.args.checked.now) (nodes_of c.args.places.now) k) c.loop-from.edges.items) all c.loop-from.invariant)

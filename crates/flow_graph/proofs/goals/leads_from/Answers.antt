@@ -33,9 +33,9 @@ returns-in_ok-targeted-in-Switch c =
     let ends : block.ending ≡ Switch value targets others = ap end_of c.in-Switch.is in
     let goes : GoesToTargets c.in_ok-targeted-in-Switch.field-0 p targets others = subst (λ (ts : List (ℕ × ℕ)). GoesToTargets c.in_ok-targeted-in-Switch.field-0 p ts others) c.deref.ensures.value c.in_ok-targeted-in-Switch.ensures in
     for_place program c.keeps.ensures c.args.place.now c.requires p c.as_slice-path.ensures.value b c.in-Some.is (Some c.in_ok-targeted-in-Switch.field-0)
-      (switch_goals program (block_node (reverse p) b) c.in_ok-targeted-in-Switch.field-0 p targets others goes
-        (λ goal to target e. end_leads program (reverse p) b f block (Switch value targets others) is at ends goal (to, target, e))
-        (λ goal lead. leads_end program (reverse p) b f block (Switch value targets others) is at ends goal lead))
+    (switch_goals program (block_node (reverse p) b) c.in_ok-targeted-in-Switch.field-0 p targets others goes
+    (λ goal to target e. end_leads program (reverse p) b f block (Switch value targets others) is at ends goal (to, target, e))
+    (λ goal lead. leads_end program (reverse p) b f block (Switch value targets others) is at ends goal lead))
 
 pub returns-in_ok-back-in-Return : goal.returns-in_ok-back-in-Return
 returns-in_ok-back-in-Return c =
@@ -49,6 +49,6 @@ returns-in_ok-back-in-Return c =
     let value : Option NumberedExpression = option_map term_of c.in-Return.field-0 in
     let ends : block.ending ≡ Return value = ap end_of c.in-Return.is in
     for_place program c.keeps.ensures c.args.place.now c.requires p c.as_slice-path.ensures.value b c.in-Some.is c.in_ok-back-in-Return.field-0
-      (back_goals program (block_node (reverse p) b) (reverse p) (calls_of program c.keeps.ensures c.args.place.now c.requires p c.as_slice-path.ensures.value) c.in_ok-back-in-Return.field-0 c.in_ok-back-in-Return.ensures
-        (λ goal h. end_leads program (reverse p) b f block (Return value) is at ends goal h)
-        (λ goal h. leads_end program (reverse p) b f block (Return value) is at ends goal h))
+    (back_goals program (block_node (reverse p) b) (reverse p) (calls_of program c.keeps.ensures c.args.place.now c.requires p c.as_slice-path.ensures.value) c.in_ok-back-in-Return.field-0 c.in_ok-back-in-Return.ensures
+    (λ goal h. end_leads program (reverse p) b f block (Return value) is at ends goal h)
+    (λ goal h. leads_end program (reverse p) b f block (Return value) is at ends goal h))

@@ -13,5 +13,5 @@ returns c =
     let read = all_read c.loop-number.blocks.items c.deref-number-items.result.now c.loop-number.number-index c.loop-number-test.false c.loop-number.invariant in
     let path_is : c.in_ok-path.path.items ≡ c.args.path.now = search rules in
     switch_goes _ c.args.path.now c.args.targets.now c.args.others numbers path_is
-      (read ∙ ap (λ (ns : List ℕ). map (λ (n : ℕ). Some n) ns) c.deref-number-items.ensures.value)
-      c.in_ok-numbers.ensures.each c.in_ok-numbers.ensures.ascends
+    (read ∙ ap (λ (ns : List ℕ). map (λ (n : ℕ). Some n) ns) c.deref-number-items.ensures.value)
+    c.in_ok-numbers.ensures.each c.in_ok-numbers.ensures.ascends

@@ -26,4 +26,4 @@ returns-in_ok-put-in-Err-2-clause-grown c =
     let other = c.if-len-eq-MOST_NODES.false in
     let gap : IsGap nodes node c.in-Err-2.at = subst (λ (ps : List Place). IsGap (nodes_of ps) node c.in-Err-2.at) c.deref.ensures.value c.in-Err-2.ensures.missing in
     subst (λ (ns : List Node). IsGrown nodes pending (λ (n : Node). n ≡ node) ns (nodes_of c.put.new.pending.items)) (sym c.in_ok-put-in-Err-2.ensures.places)
-      (subst (λ (ps : List Node). IsGrown nodes pending (λ (n : Node). n ≡ node) (insert nodes c.in-Err.field-0 node) ps) (sym c.in_ok-put-in-Err-2.ensures.pending) (subst (λ (at : ℕ). IsGrown nodes pending (λ (n : Node). n ≡ node) (insert nodes at node) (pending ++ node ∷ [])) (sym c.in-Err-2.at-is) (put_grown nodes node c.in-Err-2.at gap c.requires.ascends pending (omega arith))))
+    (subst (λ (ps : List Node). IsGrown nodes pending (λ (n : Node). n ≡ node) (insert nodes c.in-Err.field-0 node) ps) (sym c.in_ok-put-in-Err-2.ensures.pending) (subst (λ (at : ℕ). IsGrown nodes pending (λ (n : Node). n ≡ node) (insert nodes at node) (pending ++ node ∷ [])) (sym c.in-Err-2.at-is) (put_grown nodes node c.in-Err-2.at gap c.requires.ascends pending (omega arith))))

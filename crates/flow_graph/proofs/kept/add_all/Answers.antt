@@ -19,10 +19,10 @@ loop-block-preserved c =
     let is : x ≡ get_or items k x = same_default items k None x low in
     let same : node_at c.deref.result.now x ≡ node_at path x = ap (λ (p : List ℕ). node_at p x) c.deref.ensures.value in
     grown_more (nodes_of c.args.places.now.items) (nodes_of c.args.pending.now.items) (λ (n : Node). IsUpTo path items k n) (nodes_of c.loop-block.places.items) (nodes_of c.loop-block.pending.items)
-      (λ (n : Node). n ≡ node_at c.deref.result.now x) (λ (n : Node). IsUpTo path items (k + 1) n)
-      (λ n h. up_to_left path items k x low is n h) (λ n e. up_to_right path items k x low is n (e ∙ same)) c.loop-block.invariant
-      (λ n h. elim (up_to_cases path items k x low is n h) [ inl early ↦ inl early | inr e ↦ inr (e ∙ sym same) ])
-      (nodes_of c.add.new.places.items) (nodes_of c.add.new.pending.items) c.in_ok-add.ensures.grown
+    (λ (n : Node). n ≡ node_at c.deref.result.now x) (λ (n : Node). IsUpTo path items (k + 1) n)
+    (λ n h. up_to_left path items k x low is n h) (λ n e. up_to_right path items k x low is n (e ∙ same)) c.loop-block.invariant
+    (λ n h. elim (up_to_cases path items k x low is n h) [ inl early ↦ inl early | inr e ↦ inr (e ∙ sym same) ])
+    (nodes_of c.add.new.places.items) (nodes_of c.add.new.pending.items) c.in_ok-add.ensures.grown
 
 pub returns-in_err-add-clause-fault : goal.returns-in_err-add-clause-fault
 returns-in_err-add-clause-fault c =
@@ -37,12 +37,12 @@ returns-in_err-add-clause-fault c =
     let is : x ≡ get_or items k x = same_default items k None x low in
     let same : node_at c.deref.result.now x ≡ node_at path x = ap (λ (p : List ℕ). node_at p x) c.deref.ensures.value in
     rw (p.1, p.2) (fault_of c.in_err-add.field-0.0
-      (Overflows (nodes_of c.loop-block.places.items) (λ (n : Node). n ≡ node_at c.deref.result.now x))
-      (Overflows (nodes_of c.args.places.now.items) (λ (n : Node). IsGoalIn (Some c.args.goals.now) (Some n)))
-      (λ over. overflow_more (nodes_of c.args.places.now.items) (nodes_of c.args.pending.now.items) (λ (n : Node). IsUpTo path items k n) (nodes_of c.loop-block.places.items) (nodes_of c.loop-block.pending.items)
-        (λ (n : Node). n ≡ node_at c.deref.result.now x) (λ (n : Node). IsGoalIn (Some c.args.goals.now) (Some n))
-        (λ n h. up_to_in path items k blocks items_are n h) (λ n e. up_to_in path items (k + 1) blocks items_are n (up_to_right path items k x low is n (e ∙ same))) c.loop-block.invariant over)
-      c.in_err-add.ensures.fault)
+    (Overflows (nodes_of c.loop-block.places.items) (λ (n : Node). n ≡ node_at c.deref.result.now x))
+    (Overflows (nodes_of c.args.places.now.items) (λ (n : Node). IsGoalIn (Some c.args.goals.now) (Some n)))
+    (λ over. overflow_more (nodes_of c.args.places.now.items) (nodes_of c.args.pending.now.items) (λ (n : Node). IsUpTo path items k n) (nodes_of c.loop-block.places.items) (nodes_of c.loop-block.pending.items)
+    (λ (n : Node). n ≡ node_at c.deref.result.now x) (λ (n : Node). IsGoalIn (Some c.args.goals.now) (Some n))
+    (λ n h. up_to_in path items k blocks items_are n h) (λ n e. up_to_in path items (k + 1) blocks items_are n (up_to_right path items k x low is n (e ∙ same))) c.loop-block.invariant over)
+    c.in_err-add.ensures.fault)
 
 pub returns-clause-grown : goal.returns-clause-grown
 returns-clause-grown c =
@@ -53,7 +53,7 @@ returns-clause-grown c =
     let k : ℕ = c.loop-block.block-index in
     let all : take k items ≡ blocks = up_to_all path items k c.loop-block-test.false c.loop-block.auto.block-index-end ∙ items_are in
     grown_as (nodes_of c.args.places.now.items) (nodes_of c.args.pending.now.items) (nodes_of c.loop-block.places.items) (nodes_of c.loop-block.pending.items)
-      (λ (n : Node). IsUpTo path items k n) (λ (n : Node). IsGoalIn (Some c.args.goals.now) (Some n))
-      (λ n h. up_to_in path items k blocks items_are n h)
-      (λ n h. (h.0, subst (λ (bs : List (Option ℕ)). Contains bs h.0) (sym all) h.1, h.2))
-      c.loop-block.invariant
+    (λ (n : Node). IsUpTo path items k n) (λ (n : Node). IsGoalIn (Some c.args.goals.now) (Some n))
+    (λ n h. up_to_in path items k blocks items_are n h)
+    (λ n h. (h.0, subst (λ (bs : List (Option ℕ)). Contains bs h.0) (sym all) h.1, h.2))
+    c.loop-block.invariant

@@ -14,15 +14,15 @@ loop-place-init c =
     let places : List Node = nodes_of c.add.new.places.items in
     let pending : List Node = nodes_of c.add.new.pending.items in
     searched_first (seen c.args.checked.now) places pending
-      (subst (λ (ns : List Node). IsGrown [] ns (λ (n : Node). n ≡ first_node) places pending) (ap nodes_of c.new-pending.ensures.items)
-        (subst (λ (ns : List Node). IsGrown ns (nodes_of c.new-pending.result.items) (λ (n : Node). n ≡ first_node) places pending) (ap nodes_of c.new-places.ensures.items) c.in_ok-add.ensures.grown))
+    (subst (λ (ns : List Node). IsGrown [] ns (λ (n : Node). n ≡ first_node) places pending) (ap nodes_of c.new-pending.ensures.items)
+    (subst (λ (ns : List Node). IsGrown ns (nodes_of c.new-pending.result.items) (λ (n : Node). n ≡ first_node) places pending) (ap nodes_of c.new-places.ensures.items) c.in_ok-add.ensures.grown))
 
 pub go_on-requires-clause-kept : goal.go_on-requires-clause-kept
 go_on-requires-clause-kept c =
     let front : List Node = nodes_of c.pop.new.self.items in
     let split : nodes_of c.loop-place.pending.items ≡ front ++ node_of c.in-Some.place ∷ [] = ap nodes_of c.in-Some.ensures.items ∙ map_push node_of c.pop.new.self.items c.in-Some.place in
     node_kept (seen c.args.checked.now) (nodes_of c.loop-place.places.items) front (node_of c.in-Some.place)
-      (subst (λ (ns : List Node). IsSearched (seen c.args.checked.now) (nodes_of c.loop-place.places.items) ns) split c.loop-place.invariant)
+    (subst (λ (ns : List Node). IsSearched (seen c.args.checked.now) (nodes_of c.loop-place.places.items) ns) split c.loop-place.invariant)
 
 pub returns-in_err-go_on-clause-fault : goal.returns-in_err-go_on-clause-fault
 returns-in_err-go_on-clause-fault c =
@@ -34,8 +34,8 @@ returns-in_err-go_on-clause-fault c =
     let searched = subst (λ (ns : List Node). IsSearched program nodes ns) split c.loop-place.invariant in
     let p = err_from_is_err_and c.from_residual-in_err-go_on.result c.from_residual-in_err-go_on.ensures.1 in
     rw (p.1, p.2) (fault_of c.in_err-go_on.field-0.0 (Overflows nodes (λ (n : Node). Leads program node (Some n))) (HasMoreNodes program most_nodes)
-      (λ over. more_nodes program nodes (λ (n : Node). Leads program node (Some n)) searched.kept (λ n h. next_kept program nodes front node searched n h) over)
-      c.in_err-go_on.ensures.fault)
+    (λ over. more_nodes program nodes (λ (n : Node). Leads program node (Some n)) searched.kept (λ n h. next_kept program nodes front node searched n h) over)
+    c.in_err-go_on.ensures.fault)
 
 pub loop-place-preserved : goal.loop-place-preserved
 loop-place-preserved c =

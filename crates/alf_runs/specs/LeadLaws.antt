@@ -1,0 +1,20 @@
+-- Runs go along the edges of the graph.
+--   LeadsTo Holds moment       where a run stands next, at a node or at the end, is a goal of which it holds
+--   StepsGoAlong               a step leads along an edge: to a node that the edge leads to, or to the end; a fault takes no edge
+use Rattle.std.specs.Prelude.{Some, None, ⊤, List}
+use Rattle.alf_ops.specs.declared.history.RunEvent.{RunEvent}
+use Rattle.alf_check.specs.CheckedPrograms.{NumberedProgram}
+use Rattle.alf_runs.specs.Nodes.{Node, Goal, Leads}
+use Rattle.alf_runs.specs.Outcomes.{Ended, Faulted, Lost}
+use Rattle.alf_runs.specs.Steps.{Moment, At, Over, step}
+
+-- where a run stands next, at a node or at the end, is a goal of which it holds; a fault takes no edge
+abbrev pub LeadsTo : (Goal → Type 0) → Moment → Type 0
+LeadsTo Holds (At node history) = Holds (Some node)
+LeadsTo Holds (Over (Ended outputs)) = Holds None
+LeadsTo Holds (Over (Faulted fault)) = ⊤
+LeadsTo Holds (Over Lost) = ⊤
+
+-- a step leads along an edge
+abbrev pub StepsGoAlong : Type 0
+StepsGoAlong = (program : NumberedProgram) (node : Node) (history : List RunEvent) → LeadsTo (Leads program node) (step program (At node history))

@@ -14,7 +14,7 @@ after_more program zero u moment = ap (λ n. after program n moment) (zero-add u
 after_more program (suc t) u moment = ap (λ n. after program n moment) (suc-add t u) ∙ after_more program t u (step program moment)
 
 -- at its end a run stays
-over_stays : (program : NumberedProgram) (u : ℕ) (outcome : Outcome) → after program u (Over outcome) ≡ Over outcome
+pub over_stays : (program : NumberedProgram) (u : ℕ) (outcome : Outcome) → after program u (Over outcome) ≡ Over outcome
 over_stays program zero outcome = refl
 over_stays program (suc u) outcome = over_stays program u outcome
 

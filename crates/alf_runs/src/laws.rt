@@ -1,8 +1,9 @@
 //! What is true of every run, as clauses of functions that do nothing.
 
 ghost use Rattle.alf_runs.specs.RunLaws.{AfterMore, StaysOver, HasOneEnd, EndsAtItsLength, EndsOrGoesOn};
-ghost use Rattle.alf_runs.specs.LeadLaws.{StepsGoAlong};
+ghost use Rattle.alf_runs.specs.LeadLaws.{StepsGoAlong, NodesLeadOn, StandsAtKeptNodes};
 ghost use Rattle.alf_runs.specs.SizeLaws.{ValueHasSize};
+ghost use Rattle.alf_runs.specs.StoreLaws.{EntersByStores, ArgumentsFit, StartsByStores};
 ghost use Rattle.alf_runs.specs.PlaceLaws.{StartIsPlace, StepKeepsPlace, EachPlace, NeverLost, InputsAreWords};
 
 use alf_ops::{outcomes_have_their_size, sound_histories_give_values_that_fit};
@@ -23,9 +24,12 @@ pub fn a_run_has_one_end()
 {}
 
 /// A step leads along an edge: to a node that an edge leads to, or where an edge leads to the end of
-/// the program to the outputs. A fault takes no edge.
+/// the program to the outputs. A fault takes no edge. So each node of a run leads to the next, and a
+/// run stands at nodes of the graph alone.
 pub fn a_step_leads_along_an_edge()
-    ensures { StepsGoAlong }
+    ensures along { StepsGoAlong }
+    ensures next { NodesLeadOn }
+    ensures kept { StandsAtKeptNodes }
 {}
 
 /// The value of an expression has the size that the checks gave it.
@@ -45,6 +49,17 @@ pub fn active_frames_follow_the_call_path()
     ensures each { EachPlace }
     ensures found { NeverLost }
     ensures inputs { InputsAreWords }
+{
+    outcomes_have_their_size();
+    sound_histories_give_values_that_fit();
+}
+
+/// What is stored where a run starts and where a function is entered lies in frames that are active,
+/// so that no such store has a fault.
+pub fn starts_and_calls_store_without_a_fault()
+    ensures calls { EntersByStores }
+    ensures arguments { ArgumentsFit }
+    ensures starts { StartsByStores }
 {
     outcomes_have_their_size();
     sound_histories_give_values_that_fit();

@@ -12,5 +12,6 @@ mod laws;
 
 pub use laws::{
     a_run_has_one_continuation, a_run_has_one_end, a_step_leads_along_an_edge,
-    active_frames_follow_the_call_path, values_have_their_size,
+    active_frames_follow_the_call_path, starts_and_calls_store_without_a_fault,
+    values_have_their_size,
 };

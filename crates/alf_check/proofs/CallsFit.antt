@@ -1,7 +1,6 @@
 -- Calls: their arguments, and what the functions that they call return.
-use Rattle.std.proofs.Common.{◌≡◌, ◌+◌, ℕ, suc, true, List, [], ◌∷◌, map, length, slice_get, All, Contains, Option, Some, None, is_some, option_map, unwrap_or, add-zero, refl, ap, sym, ◌∙◌, subst, arith}
+use Rattle.std.proofs.Common.{◌≡◌, ◌+◌, ℕ, suc, true, List, [], ◌∷◌, map, length, slice_get, All, Option, Some, None, is_some, option_map, unwrap_or, add-zero, refl, ap, sym, ◌∙◌, subst, arith}
 use Rattle.std.specs.List.{AllZip, range_with_len}
-use Rattle.std.proofs.lemmas.Bool.{false≢true, and_parts}
 use Rattle.std.proofs.lemmas.List.Elements.{All-head, All-tail}
 use Rattle.lists.specs.Members.{placed}
 use Rattle.alf_program.specs.Tree.{NamedExpression, Allocation, BodyItem, Label, Do, Function, WholeProgram, expressions_of, NumberedExpression, with_frames}
@@ -11,7 +10,7 @@ use Rattle.alf_faults.specs.Returns.{first_return, agrees}
 use Rattle.alf_faults.specs.NoFault.{IsSeen, SeesAllFrames, HasNoFault}
 use Rattle.alf_faults.specs.declared.returns.FirstReturn.{FirstReturn}
 use Rattle.alf_check.specs.declared.rows.FrameRow.{FrameRow}
-use Rattle.alf_check.specs.CheckedPrograms.{NumberedBlock, Call, Return}
+use Rattle.alf_check.specs.CheckedPrograms.{NumberedBlock, Return}
 use Rattle.alf_check.specs.Numbers.{Numbers, row_for, frame_rows, first_frame, numbers_in}
 use Rattle.alf_check.specs.Numbered.{end_by, numbered_function}
 use Rattle.alf_check.specs.Kept.{SeesFrame, ArgumentKeeps, GivesSize, HasOneReturnSize, EachReturn, Gives}
@@ -20,7 +19,7 @@ use Rattle.alf_program.specs.Writable.{ExpressionIsWritable, ItemIsWritable, All
 use Rattle.alf_check.proofs.Standing.{of_each}
 use Rattle.alf_check.proofs.SeenFrames.{sees}
 use Rattle.alf_check.proofs.Sized.{sized, gives_size}
-use Rattle.alf_check.proofs.Parts.{IsBlockAt, block_at}
+use Rattle.alf_check.proofs.Parts.{block_at}
 use Rattle.alf_check.proofs.Returns.{IsReturned, first_from, returned, gives_to}
 
 -- ---- arguments

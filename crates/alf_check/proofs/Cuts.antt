@@ -1,11 +1,11 @@
 -- Items cut into blocks.
 --   IsCut items blocks   the blocks have the items in their order, and at least one each
-use Rattle.std.proofs.Common.{◌≡◌, ◌-◌, ◌<◌, ℕ, zero, suc, true, false, List, [], ◌∷◌, length, slice_get, Contains, Option, Some, is_some, unwrap_or, refl, ap, sym, ◌∙◌, subst, arith}
+use Rattle.std.proofs.Common.{◌≡◌, ◌-◌, ◌<◌, ℕ, zero, suc, true, false, List, [], ◌∷◌, length, slice_get, Contains, Option, Some, unwrap_or, refl, ap, sym, ◌∙◌, subst, arith}
 use Rattle.std.proofs.lemmas.Bool.{false≢true, both_ways}
 use Rattle.std.proofs.lemmas.Option.{none-some, same_Some, slice_get_within}
 use Rattle.alf_program.specs.Tree.{BodyItem, Label}
 use Rattle.alf_names.specs.Places.{place_of, is_label_named}
-use Rattle.lists.specs.Members.{contained, no_member, first_member, further_member, first_or_further}
+use Rattle.lists.specs.Members.{no_member, first_member, further_member, first_or_further}
 use Rattle.lists.specs.Tests.{by_test}
 use Rattle.alf_check.specs.Blocks.{begins_between, joined, blocks_of}
 use Rattle.alf_check.specs.Numbers.{has_label, block_number}

@@ -1,15 +1,12 @@
 -- Frames by where they stand.
 --   own_frames func        the frames of a function: its arguments, then its declarations
 --   IsOwnRow whole k f row the row, row f, is that of one of the frames of function k
-use Rattle.std.proofs.Common.{◌≡◌, ◌+◌, ℕ, zero, suc, Bool, true, false, not, ◌||◌, List, [], ◌∷◌, ◌++◌, map, length, slice_get, Option, Some, None, is_some, option_map, zero-add, append_assoc, refl, ap, sym, ◌∙◌, subst, inl, inr, arith}
-use Rattle.std.specs.Str.{bytes_eq}
-use Rattle.std.proofs.lemmas.Bool.{false≢true, not-false, or_parts}
+use Rattle.std.proofs.Common.{◌≡◌, ◌+◌, ℕ, zero, suc, List, [], ◌∷◌, ◌++◌, length, slice_get, Option, Some, None, option_map, zero-add, append_assoc, refl, ap, sym, ◌∙◌, subst, inl, inr, arith}
 use Rattle.std.proofs.lemmas.List.{length-map, length-append, map-append}
 use Rattle.std.proofs.lemmas.Option.{none-some, same_Some, slice_get-map}
 use Rattle.lists.specs.Members.{contained}
 use Rattle.lists.specs.Images.{mapped_at}
 use Rattle.alf_program.specs.Tree.{Allocation, Function, WholeProgram}
-use Rattle.alf_names.specs.Places.{frame_place}
 use Rattle.alf_faults.specs.NoFault.{HasNoFault}
 use Rattle.alf_check.specs.declared.rows.FrameRow.{FrameRow}
 use Rattle.alf_check.specs.Numbers.{row_for, rows_of, rows_from, frame_rows, frames_among, frames_before, first_frame}

@@ -1,20 +1,19 @@
 -- Programs that pass the checks keep the rules.
-use Rattle.std.proofs.Common.{◌≡◌, ◌≢◌, ◌≤◌, ◌<◌, ◌+◌, ℕ, suc, true, List, [], ◌∷◌, ◌++◌, flat_map, length, get_or, slice_get, All, AllPairs, Contains, Option, Some, None, unwrap_or, refl, ap, sym, ◌∙◌, subst, arith}
+use Rattle.std.proofs.Common.{◌≡◌, ◌≢◌, ◌<◌, ◌+◌, ℕ, List, [], flat_map, length, get_or, slice_get, AllPairs, Contains, Option, Some, None, unwrap_or, refl, ap, sym, ◌∙◌, subst, arith}
 use Rattle.std.specs.List.{range_with_len}
 use Rattle.std.specs.Str.{bytes_eq}
-use Rattle.std.proofs.lemmas.Bool.{cases_lt}
 use Rattle.std.proofs.lemmas.List.{length-map, length-append}
 use Rattle.std.proofs.lemmas.List.FromFn.{length-range_with_len, get_or-range_with_len}
-use Rattle.std.proofs.lemmas.Option.{same_Some, slice_get_within, slice_get-get_or}
-use Rattle.lists.specs.Members.{contained, placed, all_members}
+use Rattle.std.proofs.lemmas.Option.{slice_get_within, slice_get-get_or}
+use Rattle.lists.specs.Members.{placed, all_members}
 use Rattle.lists.specs.Images.{all_images}
-use Rattle.alf_program.specs.Tree.{Allocation, InitialValue, Function, WholeProgram}
+use Rattle.alf_program.specs.Tree.{Allocation, Function, WholeProgram}
 use Rattle.alf_names.specs.Places.{function_place}
 use Rattle.call_cycles.specs.Calls.{IsRanked}
 use Rattle.alf_faults.specs.NoFault.{HasNoFault}
 use Rattle.alf_check.specs.declared.rows.FrameRow.{FrameRow}
 use Rattle.alf_check.specs.CheckedPrograms.{NumberedFunction}
-use Rattle.alf_check.specs.Numbers.{row_for, frame_rows, first_frame, func_number, numbers_in}
+use Rattle.alf_check.specs.Numbers.{row_for, frame_rows, first_frame, numbers_in}
 use Rattle.alf_check.specs.Numbered.{numbered_init, numbered_function, export_number, numbered}
 use Rattle.alf_check.specs.Blocks.{blocks_of}
 use Rattle.alf_check.specs.Checking.{called_by, calls_in, Passes}

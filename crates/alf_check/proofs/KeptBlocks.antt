@@ -1,12 +1,10 @@
 -- Blocks that keep the rules.
-use Rattle.std.proofs.Common.{◌≡◌, ◌≢◌, ◌<◌, ◌%◌, ◌==◌, ◌^◌, ℕ, suc, Bool, true, false, List, [], ◌∷◌, ◌++◌, map, flat_map, slice_get, slice_index_or, get_or, All, AllPairs, Contains, Option, Some, None, IfSome, is_some, option_map, unwrap_or, zero-add, refl, ap, sym, ◌∙◌, subst, eqb-true, eq-eqb, arith}
+use Rattle.std.proofs.Common.{◌≡◌, ◌≢◌, ◌<◌, ◌%◌, ◌^◌, ℕ, suc, true, false, List, [], ◌∷◌, map, flat_map, slice_get, slice_index_or, get_or, All, AllPairs, Contains, Option, Some, None, IfSome, option_map, unwrap_or, refl, ap, sym, ◌∙◌, subst, eqb-true, arith}
 use Rattle.std.specs.Str.{bytes_eq}
-use Rattle.std.specs.List.{list_any}
-use Rattle.std.proofs.lemmas.Bool.{false≢true, and_parts, or_parts}
-use Rattle.std.proofs.lemmas.List.Elements.{All-nil, All-cons, Contains-append_left, Contains-append_right}
-use Rattle.std.proofs.lemmas.List.Kept.{AllPairs-cons}
+use Rattle.std.proofs.lemmas.Bool.{false≢true}
+use Rattle.std.proofs.lemmas.List.Elements.{All-nil, All-cons}
 use Rattle.std.proofs.lemmas.Option.{same_Some, get_or_from_slice_get, slice_get-get_or, slice_get-map}
-use Rattle.lists.specs.Members.{contained, placed, no_member, first_member, first_or_further}
+use Rattle.lists.specs.Members.{contained, placed, first_member}
 use Rattle.lists.specs.Images.{mapped_at, all_images, all_joined, joined}
 use Rattle.alf_program.specs.declared.program.Num.{Num}
 use Rattle.alf_program.specs.Tree.{NamedExpression, BodyItem, Label, Do, Function, WholeProgram, expressions_of, with_frames}
@@ -15,7 +13,7 @@ use Rattle.call_cycles.specs.Calls.{IsRanked}
 use Rattle.alf_faults.specs.TermSizes.{term_size, is_bytes}
 use Rattle.alf_faults.specs.NoFault.{IsSeen, SeesFrames, HasNoFault}
 use Rattle.alf_check.specs.Blocks.{blocks_of}
-use Rattle.alf_check.specs.CheckedPrograms.{NumberedBlock, NumberedProgram, Call, Null, Store}
+use Rattle.alf_check.specs.CheckedPrograms.{NumberedBlock, NumberedProgram, Null, Store}
 use Rattle.alf_check.specs.Numbers.{Numbers, frame_rows, first_frame, func_number, block_number, numbers_in}
 use Rattle.alf_check.specs.Numbered.{numbered_function, numbered_targets, statements_by, end_by, numbered}
 use Rattle.alf_check.specs.Checking.{called_by, calls_in}

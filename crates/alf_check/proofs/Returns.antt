@@ -16,7 +16,7 @@ use Rattle.alf_faults.specs.TermSizes.{return_size, same_size, is_bytes}
 use Rattle.alf_faults.specs.Returns.{return_at, return_of, first_return, first_return_from, agrees, is_before, is_disagreeing, is_breach, function_has_breach, is_breached}
 use Rattle.alf_faults.specs.Sizes.{agrees_behind, breaks_calls, fits_return}
 use Rattle.alf_check.specs.declared.rows.FrameRow.{FrameRow}
-use Rattle.alf_check.specs.Kept.{HasCellSize, GivesSize, Gives}
+use Rattle.alf_check.specs.Kept.{GivesSize, Gives}
 use Rattle.alf_check.specs.KeptLaws.{size_within, cell_from}
 use Rattle.alf_check.proofs.Sized.{both_sizes}
 use Rattle.alf_check.proofs.Standing.{same_name, its_name, some_place, stands, place_there, at_one_place}

@@ -1,5 +1,5 @@
 -- Frames that names stand for, and what they hold at first.
-use Rattle.std.proofs.Common.{◌≡◌, ◌≤◌, ◌+◌, ◌*◌, ◌%◌, ◌==◌, ◌||◌, ℕ, true, false, List, [], ◌∷◌, ◌++◌, length, nat_le, slice_get, Contains, Option, Some, None, is_some, option_map, unwrap_or, zero-add, refl, ap, sym, ◌∙◌, subst, inl, inr, eqb-true, leb-true, arith}
+use Rattle.std.proofs.Common.{◌≡◌, ◌+◌, ◌*◌, ◌%◌, ◌==◌, ℕ, List, length, nat_le, slice_get, Option, Some, None, is_some, option_map, unwrap_or, zero-add, refl, ap, sym, ◌∙◌, inl, inr, eqb-true, leb-true, arith}
 use Rattle.std.specs.Str.{bytes_eq}
 use Rattle.std.proofs.lemmas.Bool.{false≢true, and_parts}
 use Rattle.std.proofs.lemmas.Option.{none-some}
@@ -9,13 +9,13 @@ use Rattle.alf_names.specs.Places.{frame_place}
 use Rattle.alf_faults.specs.Faults.{frame_at}
 use Rattle.alf_faults.specs.NoFault.{IsFrameNamed, IsSeen, InitHasNoFault, ExportHasNoFault}
 use Rattle.alf_check.specs.declared.rows.FrameRow.{FrameRow}
-use Rattle.alf_check.specs.Numbers.{row_for, frame_rows, first_frame, placed, frame_number}
+use Rattle.alf_check.specs.Numbers.{row_for, frame_rows, first_frame, frame_number}
 use Rattle.alf_check.specs.Numbered.{numbered_init, export_number}
-use Rattle.alf_check.specs.Kept.{IsSize, IsCellSize, IsWordOf, SeesFrame, InitFits, KeepsExport}
+use Rattle.alf_check.specs.Kept.{IsWordOf, SeesFrame, InitFits, KeepsExport}
 use Rattle.alf_check.specs.KeptLaws.{cell_from}
 use Rattle.alf_program.specs.Writable.{NumIsWritable, InitialIsWritable}
-use Rattle.alf_check.proofs.Standing.{Stands, stands, its_name, some_place, at_left, at_right}
-use Rattle.alf_check.proofs.FramePlaces.{own_frames, global_at, own_at}
+use Rattle.alf_check.proofs.Standing.{stands, its_name, some_place, at_left, at_right}
+use Rattle.alf_check.proofs.FramePlaces.{global_at, own_at}
 
 -- ---- frames of a name
 

@@ -1,5 +1,5 @@
 -- Sizes of numbered expressions.
-use Rattle.std.proofs.Common.{◌≡◌, ◌≤◌, ◌<◌, ◌+◌, ◌-◌, ℕ, Bool, true, false, cond, ◌&&◌, nat_le, nat_lt, List, [], length, drop, slice_index, ◌==◌, Option, Some, None, IsSome, is_some, is_none, option_map, refl, ap, sym, subst, leb-true, arith}
+use Rattle.std.proofs.Common.{◌≡◌, ◌<◌, ◌+◌, ℕ, Bool, true, false, cond, ◌&&◌, nat_le, nat_lt, List, length, drop, slice_index, ◌==◌, Option, Some, None, IsSome, is_some, is_none, option_map, refl, ap, sym, subst, leb-true, arith}
 use Rattle.std.proofs.lemmas.Bool.{false≢true, and_parts}
 use Rattle.std.proofs.lemmas.Bool.Decides.{nat_tests}
 use Rattle.std.proofs.lemmas.Option.{same_Some, cond_some}

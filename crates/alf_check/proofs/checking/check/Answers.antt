@@ -1,6 +1,6 @@
 use Rattle.std.proofs.Common.{rules}
 use Rattle.alf_program.specs.Tree.{program_of}
-use Rattle.alf_check.specs.Checking.{calls_in, Passes}
+use Rattle.alf_check.specs.Checking.{calls_in}
 use Rattle.alf_check.proofs.checking.check.Goals as goal
 
 pub check_root-requires-clause-acyclic : goal.check_root-requires-clause-acyclic

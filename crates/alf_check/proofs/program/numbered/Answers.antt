@@ -1,4 +1,4 @@
-use Rattle.std.proofs.Common.{◌≡◌, ◌<◌, length, map, subst, sym, ap, arith, rules}
+use Rattle.std.proofs.Common.{◌≡◌, ◌<◌, length, subst, sym, ap, arith, rules}
 use Rattle.std.proofs.lemmas.List.{length-map}
 use Rattle.alf_program.specs.Tree.{function_of, program_of}
 use Rattle.alf_check.specs.CheckedPrograms.{CheckedParts, seen}

@@ -85,7 +85,7 @@ mutual
       (λ values are. values_fit outcomes loads rows function frames history sound es (operand_sizes op sizes) values has.operands are) has.result_is is
 
   -- and so have those of expressions in a row
-  values_fit : (outcomes : OutcomeFits) (loads : LoadFits) (rows : List FrameRow) (function : ℕ) (frames : List FrameShape) (history : List RunEvent) → IsSound history
+  pub values_fit : (outcomes : OutcomeFits) (loads : LoadFits) (rows : List FrameRow) (function : ℕ) (frames : List FrameShape) (history : List RunEvent) → IsSound history
       → (es : NumberedExpressions) (sizes : List ℕ) (values : List Value) → HaveSizes rows function sizes es → operands (results_of frames history es) ≡ Ok values → EachValueFits sizes values
   values_fit outcomes loads rows function frames history sound Empty [] values has are =
       let e : [] ≡ values = cc in subst (λ (vs : List Value). EachValueFits [] vs) e tt

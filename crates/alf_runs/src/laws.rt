@@ -2,7 +2,7 @@
 
 ghost use Rattle.alf_runs.specs.RunLaws.{AfterMore, StaysOver, HasOneEnd, EndsAtItsLength, EndsOrGoesOn};
 ghost use Rattle.alf_runs.specs.LeadLaws.{StepsGoAlong, NodesLeadOn, StandsAtKeptNodes};
-ghost use Rattle.alf_runs.specs.SizeLaws.{ValueHasSize};
+ghost use Rattle.alf_runs.specs.SizeLaws.{ValueHasSize, OperandsHaveSizes};
 ghost use Rattle.alf_runs.specs.StoreLaws.{EntersByStores, ArgumentsFit, StartsByStores};
 ghost use Rattle.alf_runs.specs.PlaceLaws.{StartIsPlace, StepKeepsPlace, EachPlace, NeverLost, InputsAreWords};
 
@@ -32,9 +32,10 @@ pub fn a_step_leads_along_an_edge()
     ensures kept { StandsAtKeptNodes }
 {}
 
-/// The value of an expression has the size that the checks gave it.
+/// The value of an expression has the size that the checks gave it, and so have those of operands.
 pub fn values_have_their_size()
-    ensures { ValueHasSize }
+    ensures value { ValueHasSize }
+    ensures operands { OperandsHaveSizes }
 {
     outcomes_have_their_size();
     sound_histories_give_values_that_fit();

@@ -163,7 +163,8 @@ entered_runs program f values history g =
     inits_run (inits_at program f) (with_arguments (args_at program f) values (Enter f ∷ history)) g ∙ arguments_run (args_at program f) values (Enter f ∷ history) g
 
 -- and the values that it starts with fit
-pub entered_sound : (program : NumberedProgram) → IsKept program → (f : ℕ) (values : List Value) (history : List RunEvent) → AllFit values → IsSound history → IsSound (entered program f values history)
+pub entered_sound : (program : NumberedProgram) → IsKept program → (f : ℕ) (values : List Value) (history : List RunEvent)
+    → AllFit values → IsSound history → IsSound (entered program f values history)
 entered_sound program kept f values history fit sound =
     inits_sound (inits_at program f) (with_arguments (args_at program f) values (Enter f ∷ history)) (inits_kept program kept f)
     (arguments_sound (args_at program f) values (Enter f ∷ history) fit sound)

@@ -61,7 +61,8 @@ newest_lowest program kept (b ∷ path) calls f among = by_test (function_at pro
     let below = lower program kept path b calls.0 in omega arith)
 
 -- the function of a call is none of those before it on the path
-pub newest_is_new : (program : NumberedProgram) → IsKept program → (path : List ℕ) (b : ℕ) → IsCallPath program (b ∷ path) → is_among (function_at program (b ∷ path)) (functions_on program path) ≡ false
+pub newest_is_new : (program : NumberedProgram) → IsKept program → (path : List ℕ) (b : ℕ) → IsCallPath program (b ∷ path)
+    → is_among (function_at program (b ∷ path)) (functions_on program path) ≡ false
 newest_is_new program kept path b calls = by_test (is_among (function_at program (b ∷ path)) (functions_on program path))
     (λ among.
     let above = newest_lowest program kept path calls.1 (function_at program (b ∷ path)) among in

@@ -32,7 +32,8 @@ use Rattle.alf_runs.specs.Starts.{start_history}
 use Rattle.alf_runs.specs.Places.{functions_on, IsCall, IsCallPath, HasPlace, AreWords}
 use Rattle.alf_runs.proofs.Sizes.{value_fits}
 use Rattle.alf_runs.proofs.Paths.{is_among, keeps_block, call_on, newest_is_new}
-use Rattle.alf_runs.proofs.Growing.{Promised, Grown, own_size, AllFit, stored_grown, statements_grown, arguments_fit, entered_runs, entered_sound, globals_run, globals_sound, inputs_run, inputs_sound}
+use Rattle.alf_runs.proofs.Growing.{Promised, Grown, own_size, AllFit, stored_grown, statements_grown, arguments_fit}
+use Rattle.alf_runs.proofs.Growing.{entered_runs, entered_sound, globals_run, globals_sound, inputs_run, inputs_sound}
 use Rattle.lists.specs.Tests.{by_test}
 
 -- the law of places, with the functions that run told by a test
@@ -112,7 +113,8 @@ IsWanted None (Some value) = ⊥
 IsWanted (Some to) None = ⊥
 IsWanted (Some to) (Some value) = FitsValue (size_of value) value
 
-wanted : (rows : List FrameRow) (f : ℕ) (result : Option (ℕ × ℕ)) (returned : Option NumberedExpression) (value : Option Value) → Gives rows f result returned → IsGiven returned value → IsWanted result value
+wanted : (rows : List FrameRow) (f : ℕ) (result : Option (ℕ × ℕ)) (returned : Option NumberedExpression) (value : Option Value)
+    → Gives rows f result returned → IsGiven returned value → IsWanted result value
 wanted rows f None None None gives given = tt
 wanted rows f None None (Some value) gives given = absurd given
 wanted rows f None (Some e) value gives given = absurd gives
@@ -185,7 +187,8 @@ ending_safe promised program kept path b block (Return None) history stands at i
     leave_safe promised program kept path (Some b) None None history stands (record { b = b; block = block; at = at; returns = is }) tt
 ending_safe promised program kept path b block (Return (Some e)) history stands at is keeps =
     return_safe promised program kept path (Some b) e history (value_of (frames_of program) history e) stands (record { b = b; block = block; at = at; returns = is })
-    (λ value given. own_size keeps.size value (value_fits promised.outcomes promised.loads program.frames (function_at program path) (frames_of program) history stands.sound e keeps.size value keeps.gives given))
+    (λ value given. own_size keeps.size value
+    (value_fits promised.outcomes promised.loads program.frames (function_at program path) (frames_of program) history stands.sound e keeps.size value keeps.gives given))
 
 block_safe : Promised → (program : NumberedProgram) → IsKept program → (path : List ℕ) (b : ℕ) (history : List RunEvent) (o : Option NumberedBlock)
     → Stands program path (Some b) history → slice_get (blocks_at program (function_at program path)) b ≡ o → IsSafe program (block_step program path b o history)

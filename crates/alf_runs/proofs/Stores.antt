@@ -40,7 +40,8 @@ one_more program history new frame offset value row at active lies rest =
     first_store history (events.Store frame offset (size_of value) value ∷ history) new (Ptr frame offset) value (stored_cell program.frames history frame offset value row at active lies) rest
 
 -- after a store the same frames are active
-still_active : (owner : Option ℕ) (frame offset size : ℕ) (value : Value) (history : List RunEvent) → is_active owner history ≡ true → is_active owner (events.Store frame offset size value ∷ history) ≡ true
+still_active : (owner : Option ℕ) (frame offset size : ℕ) (value : Value) (history : List RunEvent)
+    → is_active owner history ≡ true → is_active owner (events.Store frame offset size value ∷ history) ≡ true
 still_active None frame offset size value history active = active
 still_active (Some f) frame offset size value history active = active
 
@@ -94,7 +95,8 @@ enters_by_stores program f function values history kept found fit =
     (λ later is later_runs. inits_stored program (Some f) function.inits later last later_runs keeps.inits
     (λ final same active. subst (λ (h : List RunEvent). ByStores (frames_of program) h last) (sym (same ∙ ap (with_inits function.inits) is)) (unchanged last))) in
     let entered_is : last ≡ entered program f values history =
-    sym (ap (λ (rows : List InitRow). with_inits rows (with_arguments (args_at program f) values here)) inits ∙ ap (λ (frames : List ℕ). with_inits function.inits (with_arguments frames values here)) args) in
+    sym (ap (λ (rows : List InitRow). with_inits rows (with_arguments (args_at program f) values here)) inits
+    ∙ ap (λ (frames : List ℕ). with_inits function.inits (with_arguments frames values here)) args) in
     subst (λ (h : List RunEvent). ByStores (frames_of program) here h) entered_is stored
 
 -- a value that fits has the size
@@ -123,7 +125,8 @@ none_stored : (args : List ℕ) (history : List RunEvent) → with_arguments arg
 none_stored [] history = refl
 none_stored (arg ∷ args) history = refl
 
-no_arguments : (program : NumberedProgram) (here : List RunEvent) → with_inits (inits_at program program.root) (with_arguments (args_at program program.root) [] here) ≡ with_inits (inits_at program program.root) here
+no_arguments : (program : NumberedProgram) (here : List RunEvent)
+    → with_inits (inits_at program program.root) (with_arguments (args_at program program.root) [] here) ≡ with_inits (inits_at program program.root) here
 no_arguments program here = ap (with_inits (inits_at program program.root)) (none_stored (args_at program program.root) here)
 
 inits_of : (program : NumberedProgram) → IsKept program → (f : ℕ) → All (InitFits program.frames (Some f)) (inits_at program f)

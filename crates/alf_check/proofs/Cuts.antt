@@ -1,16 +1,16 @@
 -- Items cut into blocks.
 --   IsCut items blocks   the blocks have the items in their order, and at least one each
-use Rattle.std.proofs.Common.{◌≡◌, ◌-◌, ◌<◌, ℕ, zero, suc, true, false, List, [], ◌∷◌, length, slice_get, Contains, Option, Some, is_some, unwrap_or, refl, ap, sym, ◌∙◌, subst, arith}
+use Rattle.std.proofs.Common.{◌≡◌, ◌-◌, ◌<◌, ℕ, zero, suc, true, false, List, [], ◌∷◌, length, slice_get, Contains, Option, Some, unwrap_or, refl, ap, sym, ◌∙◌, subst, arith}
 use Rattle.std.proofs.lemmas.Bool.{false≢true, both_ways}
 use Rattle.std.proofs.lemmas.Option.{none-some, same_Some, slice_get_within}
-use Rattle.alf_program.specs.Tree.{BodyItem}
-use Rattle.alf_names.specs.Places.{place_of, label_place, is_label_named}
-use Rattle.lists.specs.Members.{contained, no_member, first_member, further_member, first_or_further}
+use Rattle.alf_program.specs.Tree.{BodyItem, Label}
+use Rattle.alf_names.specs.Places.{place_of, is_label_named}
+use Rattle.lists.specs.Members.{no_member, first_member, further_member, first_or_further}
 use Rattle.lists.specs.Tests.{by_test}
 use Rattle.alf_check.specs.Blocks.{begins_between, joined, blocks_of}
 use Rattle.alf_check.specs.Numbers.{has_label, block_number}
-use Rattle.alf_check.proofs.Written.{is_ending, ends_well}
-use Rattle.alf_check.proofs.Standing.{some_place, stands, place_there}
+use Rattle.alf_program.specs.Writable.{is_ending, ends_well}
+use Rattle.alf_check.proofs.Standing.{its_name, some_place, stands, place_there}
 
 pub data IsCut : List BodyItem → List (List BodyItem) → Type 0 where
   one : {item : BodyItem} → IsCut (item ∷ []) ((item ∷ []) ∷ [])
@@ -70,13 +70,10 @@ in_blocks (joins {item = first} {next = next} {items = items} {block = front} {b
     (λ others. (found.0, further_member (first ∷ next ∷ front) blocks found.0 others, found.2)))
 
 -- the block of a label that stands
-pub block_within : (items : List BodyItem) (label : List ℕ) → is_some (label_place items label) ≡ true → block_number items label < length (blocks_of items)
-block_within items label some =
-    let p = place_there (label_place items label) some in
-    let found = stands (is_label_named label) items p.0 p.1 in
-    let among = contained items p.0 found.member found.at in
-    let block = in_blocks (items_cut items found.member among) found.member among in
-    let number = place_there (place_of (has_label label) (blocks_of items)) (some_place (has_label label) (blocks_of items) block.0 block.1 (some_place (is_label_named label) block.0 found.member block.2 found.passed)) in
+pub block_within : (items : List BodyItem) (label : List ℕ) → Contains items (Label label) → block_number items label < length (blocks_of items)
+block_within items label among =
+    let block = in_blocks (items_cut items (Label label) among) (Label label) among in
+    let number = place_there (place_of (has_label label) (blocks_of items)) (some_place (has_label label) (blocks_of items) block.0 block.1 (some_place (is_label_named label) block.0 (Label label) block.2 (its_name label label refl))) in
     let there = stands (has_label label) (blocks_of items) number.0 number.1 in
     subst (λ (n : ℕ). n < length (blocks_of items)) (sym (ap (λ (o : Option ℕ). unwrap_or o 0) number.1)) (slice_get_within (blocks_of items) number.0 there.member there.at)
   where

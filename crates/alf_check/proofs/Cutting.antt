@@ -1,9 +1,9 @@
 -- Blocks, cut from the front on.
 use Rattle.std.proofs.Common.{◌≡◌, ◌≤◌, ◌<◌, ℕ, List, [], ◌∷◌, map, length, take, drop, refl, ap, sym, ◌∙◌, arith}
 use Rattle.std.proofs.lemmas.List.{take-map, drop-map, length-map}
+use Rattle.lists.specs.Tests.{by_test}
 use Rattle.alf_program.specs.declared.program.Item.{Item}
 use Rattle.alf_program.specs.Tree.{BodyItem, item_of}
-use Rattle.alf_names.specs.PlaceLaws.{by_test}
 use Rattle.alf_check.specs.Blocks.{begins_between, joined, blocks_of}
 use Rattle.alf_check.specs.Cut.{first_length}
 

@@ -1,28 +1,23 @@
 -- Frames by where they stand.
 --   own_frames func        the frames of a function: its arguments, then its declarations
 --   IsOwnRow whole k f row the row, row f, is that of one of the frames of function k
-use Rattle.std.proofs.Common.{◌≡◌, ◌+◌, ℕ, zero, suc, Bool, true, false, not, ◌||◌, List, [], ◌∷◌, ◌++◌, map, length, slice_get, Option, Some, None, is_some, option_map, zero-add, append_assoc, refl, ap, sym, ◌∙◌, subst, inl, inr, arith}
-use Rattle.std.specs.Str.{bytes_eq}
-use Rattle.std.proofs.lemmas.Bool.{false≢true, not-false, or_parts}
+use Rattle.std.proofs.Common.{◌≡◌, ◌+◌, ℕ, zero, suc, List, [], ◌∷◌, ◌++◌, length, slice_get, Option, Some, None, option_map, zero-add, append_assoc, refl, ap, sym, ◌∙◌, subst, inl, inr, arith}
 use Rattle.std.proofs.lemmas.List.{length-map, length-append, map-append}
 use Rattle.std.proofs.lemmas.Option.{none-some, same_Some, slice_get-map}
 use Rattle.lists.specs.Members.{contained}
 use Rattle.lists.specs.Images.{mapped_at}
 use Rattle.alf_program.specs.Tree.{Allocation, Function, WholeProgram}
-use Rattle.alf_names.specs.Places.{frame_place}
-use Rattle.alf_faults.specs.Fault.{each_from, is_exactly, Duplicate}
-use Rattle.alf_faults.specs.Duplicates.{frame_duplicates}
+use Rattle.alf_faults.specs.NoFault.{HasNoFault}
 use Rattle.alf_check.specs.declared.rows.FrameRow.{FrameRow}
 use Rattle.alf_check.specs.Numbers.{row_for, rows_of, rows_from, frame_rows, frames_among, frames_before, first_frame}
 use Rattle.alf_check.specs.Kept.{IsSeen}
-use Rattle.alf_check.proofs.Faultless.{IsSound, exactly, none_each, when_none}
-use Rattle.alf_check.proofs.Standing.{its_name, some_place, at_left, at_right, at_cases}
+use Rattle.alf_check.proofs.Standing.{at_one_place, at_left, at_right, at_cases}
 
 abbrev pub own_frames : Function → List Allocation
 own_frames func = func.args ++ func.decls
 
 -- the rows of a function's frames come before those of the functions after it
-rows_split : (n : ℕ) (func : Function) (funcs : List Function) → rows_from n (func ∷ funcs) ≡ rows_of (Some n) (own_frames func) ++ rows_from (suc n) funcs
+pub rows_split : (n : ℕ) (func : Function) (funcs : List Function) → rows_from n (func ∷ funcs) ≡ rows_of (Some n) (own_frames func) ++ rows_from (suc n) funcs
 rows_split n func funcs =
     sym (append_assoc (rows_of (Some n) func.args) (rows_of (Some n) func.decls) (rows_from (suc n) funcs))
     ∙ ap (λ (rows : List FrameRow). rows ++ rows_from (suc n) funcs) (sym (map-append (row_for (Some n)) func.args func.decls))
@@ -146,65 +141,42 @@ module _ (whole : WholeProgram) where
 
 -- ---- frames of one name
 
-record IsOnce (taken others frames : List Allocation) (i : ℕ) (frame : Allocation) : Type 0 where
-  free : is_some (frame_place taken frame.name) ≡ false
-  new : is_some (frame_place others frame.name) ≡ false
-  first : frame_place frames frame.name ≡ Some i
-
-once : (taken others frames : List Allocation) → each_from (frame_duplicates taken others frames) 0 frames ≡ [] → (i : ℕ) (frame : Allocation) → slice_get frames i ≡ Some frame → IsOnce taken others frames i frame
-once taken others frames none i frame at =
-    let a = is_some (frame_place taken frame.name) in
-    let b = is_some (frame_place others frame.name) in
-    let c = is_exactly i (frame_place frames frame.name) in
-    let parts = or_parts (a || b) (not c) (when_none (a || b || not c) (Duplicate frame.name) (none_each (frame_duplicates taken others frames) 0 frames i i frame (sym (zero-add i)) none at)) in
-    let clear = or_parts a b parts.0 in
-    record { free = clear.0; new = clear.1; first = exactly i (frame_place frames frame.name) (not-false c parts.1) }
-
--- two of one list
-same_place : (taken others frames : List Allocation) → each_from (frame_duplicates taken others frames) 0 frames ≡ [] → (i j : ℕ) (x y : Allocation) → slice_get frames i ≡ Some x → slice_get frames j ≡ Some y → x.name ≡ y.name → i ≡ j
-same_place taken others frames none i j x y at there same =
-    same_Some i j (sym (once taken others frames none i x at).first ∙ ap (frame_place frames) same ∙ (once taken others frames none j y there).first)
-
--- one of a list in which the other's name does not stand
-clash : {A : Type 0} (list : List Allocation) (j : ℕ) (x y : Allocation) → slice_get list j ≡ Some y → is_some (frame_place list x.name) ≡ false → y.name ≡ x.name → A
-clash list j x y at free same = absurd (false≢true (sym free ∙ some_place (λ (frame : Allocation). bytes_eq frame.name x.name) list y (contained list j y at) (its_name y.name x.name same)))
-
 name_of : {owner : Option ℕ} {frame : Allocation} {row : FrameRow} → row_for owner frame ≡ row → frame.name ≡ row.name
 name_of e = ap (λ (x : FrameRow). x.name) e
 
-module _ (whole : WholeProgram) (sound : IsSound whole) where
+module _ (whole : WholeProgram) (none : HasNoFault whole) where
   own_apart : (k : ℕ) (func : Function) → slice_get whole.funcs k ≡ Some func → (i j : ℕ) (x y : Allocation) → slice_get (own_frames func) i ≡ Some x → slice_get (own_frames func) j ≡ Some y → x.name ≡ y.name → i ≡ j
   own_apart k func at i j x y own there same =
-      let s = sound.funcs k func at in
+      let f = none.funcs k func at in
       at_cases func.args func.decls i x own
       (λ arg. at_cases func.args func.decls j y there
-      (λ arg'. same_place whole.decls [] func.args s.args i j x y arg arg' same)
-      (λ n e decl. clash func.args i y x arg (once whole.decls func.args func.decls s.decls n y decl).new same))
+      (λ arg'. at_one_place (λ (z : Allocation). z.name) func.args f.args_differ i j x y arg arg' same)
+      (λ n e decl. absurd (f.decls_apart y x (contained func.decls n y decl) (contained func.args i x arg) same)))
       (λ m d decl. at_cases func.args func.decls j y there
-      (λ arg. clash func.args j x y arg (once whole.decls func.args func.decls s.decls m x decl).new (sym same))
-      (λ n e decl'. let equal = same_place whole.decls func.args func.decls s.decls m n x y decl decl' same in omega arith))
+      (λ arg. absurd (f.decls_apart x y (contained func.decls m x decl) (contained func.args j y arg) (sym same)))
+      (λ n e decl'. let equal = at_one_place (λ (z : Allocation). z.name) func.decls f.decls_differ m n x y decl decl' same in omega arith))
 
   -- a function's frame has no global frame's name
   own_not_global : {A : Type 0} (k : ℕ) (func : Function) → slice_get whole.funcs k ≡ Some func → (i j : ℕ) (x y : Allocation) → slice_get (own_frames func) i ≡ Some x → slice_get whole.decls j ≡ Some y → y.name ≡ x.name → A
   own_not_global k func at i j x y own there same =
-      let s = sound.funcs k func at in
+      let f = none.funcs k func at in
       at_cases func.args func.decls i x own
-      (λ arg. clash whole.decls j x y there (once whole.decls [] func.args s.args i x arg).free same)
-      (λ m d decl. clash whole.decls j x y there (once whole.decls func.args func.decls s.decls m x decl).free same)
+      (λ arg. absurd (f.args_other x y (contained func.args i x arg) (contained whole.decls j y there) same))
+      (λ m d decl. absurd (f.decls_other x y (contained func.decls m x decl) (contained whole.decls j y there) same))
 
   -- two frames that a function sees and that have one name are one
   pub names_apart : (k f g : ℕ) (a b : FrameRow) → slice_get (frame_rows whole) f ≡ Some a → slice_get (frame_rows whole) g ≡ Some b → IsSeen k a → IsSeen k b → a.name ≡ b.name → f ≡ g
-  names_apart k f g a b at there (inl none) (inl none') same =
-      let x = row_of_none whole f a at none in
-      let y = row_of_none whole g b there none' in
-      same_place [] [] whole.decls sound.decls f g x.frame y.frame x.at y.at (name_of x.row_is ∙ same ∙ sym (name_of y.row_is))
-  names_apart k f g a b at there (inl none) (inr own) same =
-      let x = row_of_none whole f a at none in
+  names_apart k f g a b at there (inl free) (inl free') same =
+      let x = row_of_none whole f a at free in
+      let y = row_of_none whole g b there free' in
+      at_one_place (λ (z : Allocation). z.name) whole.decls none.decls_differ f g x.frame y.frame x.at y.at (name_of x.row_is ∙ same ∙ sym (name_of y.row_is))
+  names_apart k f g a b at there (inl free) (inr own) same =
+      let x = row_of_none whole f a at free in
       let y = row_of_owner whole k g b there own in
       own_not_global k y.func y.at y.i f y.frame x.frame y.own x.at (name_of x.row_is ∙ same ∙ sym (name_of y.row_is))
-  names_apart k f g a b at there (inr own) (inl none) same =
+  names_apart k f g a b at there (inr own) (inl free) same =
       let x = row_of_owner whole k f a at own in
-      let y = row_of_none whole g b there none in
+      let y = row_of_none whole g b there free in
       own_not_global k x.func x.at x.i g x.frame y.frame x.own y.at (name_of y.row_is ∙ sym same ∙ sym (name_of x.row_is))
   names_apart k f g a b at there (inr own) (inr own') same =
       let x = row_of_owner whole k f a at own in

@@ -1,39 +1,38 @@
 -- Programs that pass the checks keep the rules.
-use Rattle.std.proofs.Common.{◌≡◌, ◌≢◌, ◌≤◌, ◌<◌, ◌+◌, ℕ, suc, true, List, [], ◌∷◌, ◌++◌, flat_map, length, get_or, slice_get, All, AllPairs, Contains, Option, Some, None, unwrap_or, refl, ap, sym, ◌∙◌, subst, arith}
+use Rattle.std.proofs.Common.{◌≡◌, ◌≢◌, ◌<◌, ◌+◌, ℕ, List, [], flat_map, length, get_or, slice_get, AllPairs, Contains, Option, Some, None, unwrap_or, refl, ap, sym, ◌∙◌, subst, arith}
 use Rattle.std.specs.List.{range_with_len}
 use Rattle.std.specs.Str.{bytes_eq}
-use Rattle.std.proofs.lemmas.Bool.{cases_lt}
 use Rattle.std.proofs.lemmas.List.{length-map, length-append}
 use Rattle.std.proofs.lemmas.List.FromFn.{length-range_with_len, get_or-range_with_len}
-use Rattle.std.proofs.lemmas.Option.{same_Some, slice_get_within, slice_get-get_or}
-use Rattle.lists.specs.Members.{contained, placed, all_members}
+use Rattle.std.proofs.lemmas.Option.{slice_get_within, slice_get-get_or}
+use Rattle.lists.specs.Members.{placed, all_members}
 use Rattle.lists.specs.Images.{all_images}
-use Rattle.alf_program.specs.Tree.{Allocation, InitialValue, Function, WholeProgram}
+use Rattle.alf_program.specs.Tree.{Allocation, Function, WholeProgram}
 use Rattle.alf_names.specs.Places.{function_place}
 use Rattle.call_cycles.specs.Calls.{IsRanked}
+use Rattle.alf_faults.specs.NoFault.{HasNoFault}
 use Rattle.alf_check.specs.declared.rows.FrameRow.{FrameRow}
 use Rattle.alf_check.specs.CheckedPrograms.{NumberedFunction}
-use Rattle.alf_check.specs.Numbers.{row_for, frame_rows, first_frame, func_number, numbers_in}
+use Rattle.alf_check.specs.Numbers.{row_for, frame_rows, first_frame, numbers_in}
 use Rattle.alf_check.specs.Numbered.{numbered_init, numbered_function, export_number, numbered}
 use Rattle.alf_check.specs.Blocks.{blocks_of}
 use Rattle.alf_check.specs.Checking.{called_by, calls_in, Passes}
-use Rattle.alf_text.specs.Language.{IsSpelled}
 use Rattle.alf_check.specs.Kept.{KeepsFrame, IsFrameOf, InitFits, KeepsExport, KeepsFunction, HasFrame, KeepsFrames, IsBounded, IsKept}
-use Rattle.alf_check.proofs.Written.{FrameIsWritten, StartIsWritten, FunctionIsWritten, WholeIsWritten}
-use Rattle.alf_check.proofs.Faultless.{IsSound, sound, exactly}
-use Rattle.alf_check.proofs.Standing.{of_each, stands, place_there, at_cases, range_parts}
+use Rattle.alf_program.specs.Writable.{AllocationIsWritable, InitialIsWritable, FunctionIsWritable, IsWritable}
+use Rattle.alf_check.proofs.Standing.{of_each, stands, place_there, at_one_place, at_cases, range_parts}
 use Rattle.alf_check.proofs.FramePlaces.{own_frames, own_at, row_cases, row_of_owner, names_apart}
 use Rattle.alf_check.proofs.SeenFrames.{global_init_fits, own_init_fits, export_keeps}
 use Rattle.alf_check.proofs.Cuts.{some_block, cut_well}
 use Rattle.alf_check.proofs.Parts.{count_functions, count_blocks, there, of_function}
 use Rattle.alf_check.proofs.CallsFit.{one_size}
 use Rattle.alf_check.proofs.KeptBlocks.{keeps_block}
+use Rattle.alf_check.proofs.Limits.{within}
 
 -- ---- frames
 
 -- the bits of a frame that is written
-written_row : (owner : Option ℕ) (frame : Allocation) → FrameIsWritten frame → KeepsFrame (row_for owner frame)
-written_row owner frame written = let some = written.0 in let bytes = written.1 in let most = written.2 in record { some = omega arith; most = omega arith; bytes = bytes }
+written_row : (owner : Option ℕ) (frame : Allocation) → AllocationIsWritable frame → KeepsFrame (row_for owner frame)
+written_row owner frame written = let some = written.some in let bytes = written.bytes in let most = written.small in record { some = omega arith; most = omega arith; bytes = bytes }
 
 -- a member of numbers that follow one another
 in_range : (first n f : ℕ) → Contains (range_with_len first n) f → (i : ℕ) × (i < n) × (f ≡ first + i)
@@ -54,15 +53,15 @@ range_apart first n i j d low high same =
     let later = get_or-range_with_len first n j d inside in
     absurd (omega arith)
 
-module _ (whole : WholeProgram) (root ranks : List ℕ) (written : WholeIsWritten whole) (s : IsSound whole) where
-  own_written : (func : Function) (i : ℕ) (frame : Allocation) → FunctionIsWritten func → slice_get (own_frames func) i ≡ Some frame → FrameIsWritten frame
+module _ (whole : WholeProgram) (root ranks : List ℕ) (written : IsWritable whole) (s : HasNoFault whole) where
+  own_written : (func : Function) (i : ℕ) (frame : Allocation) → FunctionIsWritable func → slice_get (own_frames func) i ≡ Some frame → AllocationIsWritable frame
   own_written func i frame w at =
-      at_cases func.args func.decls i frame at (λ arg. of_each FrameIsWritten func.args i frame w.args arg) (λ j e decl. of_each FrameIsWritten func.decls j frame w.decls decl)
+      at_cases func.args func.decls i frame at (λ arg. of_each AllocationIsWritable func.args i frame w.args arg) (λ j e decl. of_each AllocationIsWritable func.decls j frame w.decls decl)
 
   keeps_row : (f : ℕ) (row : FrameRow) → slice_get (frame_rows whole) f ≡ Some row → KeepsFrame row
   keeps_row f row at =
-      row_cases whole f row at (λ g. subst KeepsFrame g.row_is (written_row None g.frame (of_each FrameIsWritten whole.decls f g.frame written.decls g.at)))
-      (λ k own. subst KeepsFrame own.row_is (written_row (Some k) own.frame (own_written own.func own.i own.frame (of_each FunctionIsWritten whole.funcs k own.func written.funcs own.at) own.own)))
+      row_cases whole f row at (λ g. subst KeepsFrame g.row_is (written_row None g.frame (of_each AllocationIsWritable whole.decls f g.frame written.decls g.at)))
+      (λ k own. subst KeepsFrame own.row_is (written_row (Some k) own.frame (own_written own.func own.i own.frame (of_each FunctionIsWritable whole.funcs k own.func written.funcs own.at) own.own)))
 
   has_frame : (f k : ℕ) (row : FrameRow) → slice_get (frame_rows whole) f ≡ Some row → row.owner ≡ Some k → HasFrame (numbered whole root ranks) k f
   has_frame f k row at owned =
@@ -95,7 +94,7 @@ module _ (whole : WholeProgram) (root ranks : List ℕ) (written : WholeIsWritte
   keeps_function : IsRanked (calls_in whole) ranks → (k : ℕ) (func : Function) → slice_get whole.funcs k ≡ Some func → KeepsFunction (numbered whole root ranks) k (numbered_function whole (first_frame whole k) func)
   keeps_function ranked k func at =
       let first = first_frame whole k in
-      let w = of_each FunctionIsWritten whole.funcs k func written.funcs at in
+      let w = of_each FunctionIsWritable whole.funcs k func written.funcs at in
       let count = count_blocks (numbers_in whole first func) 0 (blocks_of func.items) in
       let some = some_block (cut_well func.items w.ends) in
       record {
@@ -104,7 +103,7 @@ module _ (whole : WholeProgram) (root ranks : List ℕ) (written : WholeIsWritte
         owned = all_members (IsFrameOf (frame_rows whole) (Some k)) (range_with_len first (length func.args + length func.decls)) (owns k func at);
         apart = range_apart first (length func.args + length func.decls);
         inits = all_images (InitFits (frame_rows whole) (Some k)) (numbered_init (first + length func.args) func.decls) func.inits
-            (λ init c. own_init_fits whole k func at init ((s.funcs k func at).inits init c) (of_each StartIsWritten func.inits c.0 init w.inits (placed func.inits init c)));
+            (λ init c. own_init_fits whole k func at init ((s.funcs k func at).inits init c) (of_each InitialIsWritable func.inits c.0 init w.inits (placed func.inits init c)));
         some = omega arith;
         blocks = keeps_block whole root ranks s written.funcs ranked k func at;
         returns = one_size whole s k func at w.items;
@@ -114,25 +113,24 @@ module _ (whole : WholeProgram) (root ranks : List ℕ) (written : WholeIsWritte
   names_differ k j f g at there same =
       let x = of_function whole root ranks k f at in
       let y = of_function whole root ranks j g there in
-      let names : x.0.name ≡ y.0.name = ap (λ (z : NumberedFunction). z.name) x.2 ∙ same ∙ ap (λ (z : NumberedFunction). z.name) (sym y.2) in
-      same_Some k j (sym (exactly k (function_place whole.funcs x.0.name) (s.funcs k x.0 x.1).alone) ∙ ap (function_place whole.funcs) names ∙ exactly j (function_place whole.funcs y.0.name) (s.funcs j y.0 y.1).alone)
+      at_one_place (λ (z : Function). z.name) whole.funcs s.funcs_differ k j x.0 y.0 x.1 y.1 (ap (λ (z : NumberedFunction). z.name) x.2 ∙ same ∙ ap (λ (z : NumberedFunction). z.name) (sym y.2))
 
-pub kept : (whole : WholeProgram) (root ranks : List ℕ) → IsSpelled whole → WholeIsWritten whole → Passes whole root → IsRanked (calls_in whole) ranks → IsBounded (numbered whole root ranks) → IsKept (numbered whole root ranks)
-kept whole root ranks spelled written passes ranked bounded =
-    let s = sound whole passes.sound in
+pub kept : (whole : WholeProgram) (root ranks : List ℕ) → IsWritable whole → Passes whole root → HasNoFault whole → IsRanked (calls_in whole) ranks → IsBounded (numbered whole root ranks) → IsKept (numbered whole root ranks)
+kept whole root ranks written passes s ranked bounded =
     let start = place_there (function_place whole.funcs root) passes.starts in
     let low = slice_get_within whole.funcs start.0 _ (stands (λ (func : Function). bytes_eq func.name root) whole.funcs start.0 start.1).at in
     let count = count_functions whole (length whole.decls) whole.funcs in
     let calls = length-map whole.funcs (λ func. flat_map (called_by whole.funcs) func.items) in
     let one_each = ranked.one_each in
     record {
-      checked = record { whole = whole; root = root; spelled = spelled; passes = passes; numbers = refl };
+      checked = record { whole = whole; root = root; writable = written; passes = passes; numbers = refl };
       bounded = bounded;
+      limits = within whole root ranks written;
       frames = keeps_frames whole root ranks written s;
       functions = λ k function at. let f = of_function whole root ranks k function at in subst (KeepsFunction (numbered whole root ranks) k) f.2 (keeps_function whole root ranks written s ranked k f.0 f.1);
       names = names_differ whole root ranks written s;
       inits = all_images (InitFits (frame_rows whole) None) (numbered_init 0 whole.decls) whole.inits
-          (λ init c. global_init_fits whole init (s.inits init c) (of_each StartIsWritten whole.inits c.0 init written.inits (placed whole.inits init c)));
+          (λ init c. global_init_fits whole init (s.inits init c) (of_each InitialIsWritable whole.inits c.0 init written.inits (placed whole.inits init c)));
       exports = all_images (KeepsExport (frame_rows whole)) (export_number whole) whole.exports (λ name c. export_keeps whole name (s.exports name c));
       root = let is = ap (λ (o : Option ℕ). unwrap_or o 0) start.1 in omega arith;
       ranked = omega arith;

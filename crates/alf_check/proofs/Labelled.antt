@@ -2,10 +2,11 @@
 use Rattle.std.proofs.Common.{◌≡◌, ◌+◌, ◌<◌, ℕ, suc, Bool, true, false, List, [], ◌∷◌, map, length, get_or, zero-add, add-zero, add-one, Option, Some, None, is_some, unwrap_or, refl, ap, sym, ◌∙◌, arith, if◌then◌else◌}
 use Rattle.std.specs.Option.{option_map}
 use Rattle.std.proofs.lemmas.List.{length-map}
+use Rattle.lists.specs.Tests.{by_test}
 use Rattle.alf_program.specs.declared.program.Item.{Item}
 use Rattle.alf_program.specs.Tree.{BodyItem, item_of}
 use Rattle.alf_names.specs.Places.{place_of, label_place, is_label_named}
-use Rattle.alf_names.specs.PlaceLaws.{by_test, counted}
+use Rattle.alf_names.specs.PlaceLaws.{counted}
 use Rattle.alf_check.specs.Blocks.{begins_between, joined, blocks_of}
 use Rattle.alf_check.specs.Numbers.{has_label, block_number}
 use Rattle.alf_check.specs.Cut.{number_behind, numbers_along}

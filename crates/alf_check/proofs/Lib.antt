@@ -2,8 +2,6 @@ pub mod Labelled
 pub mod Operands
 pub mod Cutting
 pub mod Called
-pub mod Written
-pub mod Faultless
 pub mod Standing
 pub mod FramePlaces
 pub mod SeenFrames
@@ -13,6 +11,7 @@ pub mod Parts
 pub mod Returns
 pub mod CallsFit
 pub mod KeptBlocks
+pub mod Limits
 pub mod Kept
 pub mod LookedUp
 pub mod Making

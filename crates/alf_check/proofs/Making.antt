@@ -1,12 +1,10 @@
 -- A numbered program, made part by part.
-use Rattle.std.proofs.Common.{◌≡◌, ◌<◌, ◌+◌, ℕ, List, [], ◌∷◌, ◌++◌, map, length, All, refl, ap, sym, ◌∙◌, subst, arith}
+use Rattle.std.proofs.Common.{◌≡◌, ◌<◌, ◌+◌, ℕ, List, [], ◌∷◌, ◌++◌, map, length, All, ap, ◌∙◌, arith}
 use Rattle.std.proofs.lemmas.List.{length-map}
 use Rattle.std.proofs.lemmas.List.Elements.{All-contains}
 use Rattle.lists.specs.Images.{all_images}
 use Rattle.alf_program.specs.declared.program.Func.{Func}
-use Rattle.alf_program.specs.Tree.{Function, WholeProgram, function_of}
-use Rattle.alf_check.specs.declared.rows.FrameRow.{FrameRow}
-use Rattle.alf_check.specs.declared.rows.InitRow.{InitRow}
+use Rattle.alf_program.specs.Tree.{WholeProgram, function_of}
 use Rattle.alf_check.specs.declared.rows.FuncParts.{FuncParts}
 use Rattle.alf_check.specs.CheckedPrograms.{CheckedParts, NumberedFunction, block_of, function_in, seen}
 use Rattle.alf_check.specs.Kept.{IsBounded}

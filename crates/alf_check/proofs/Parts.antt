@@ -1,6 +1,6 @@
 -- The functions and the blocks of a numbered program, by their places.
 --   IsBlockAt numbers items b block   block b is that of these items
-use Rattle.std.proofs.Common.{◌≡◌, ◌+◌, ◌-◌, ℕ, zero, suc, List, [], ◌∷◌, length, slice_get, Contains, Option, Some, None, option_map, zero-add, refl, ap, sym, ◌∙◌, arith}
+use Rattle.std.proofs.Common.{◌≡◌, ◌+◌, ◌-◌, ℕ, zero, suc, List, [], ◌∷◌, length, slice_get, Contains, Option, Some, option_map, zero-add, refl, ap, sym, ◌∙◌, arith}
 use Rattle.std.specs.Option.{option_map_or}
 use Rattle.lists.specs.Members.{contained}
 use Rattle.lists.specs.Images.{some_image}

@@ -1,24 +1,25 @@
 -- Returns of one size, and calls that agree with them.
-use Rattle.std.proofs.Common.{◌≡◌, ◌+◌, ◌%◌, ℕ, suc, Bool, true, false, not, ◌&&◌, ◌==◌, List, [], ◌∷◌, slice_get, Option, Some, None, is_some, option_map, zero-add, add-zero, refl, ap, sym, ◌∙◌, inl, inr, eq-eqb, eqb-true, arith}
+use Rattle.std.proofs.Common.{◌≡◌, ◌+◌, ◌%◌, ℕ, zero, suc, Bool, true, false, not, ◌&&◌, ◌==◌, List, [], ◌∷◌, slice_get, Option, Some, None, is_some, option_map, zero-add, add-zero, refl, ap, sym, ◌∙◌, inl, inr, eq-eqb, eqb-true, arith}
 use Rattle.std.specs.Option.{option_or}
 use Rattle.std.specs.Str.{bytes_eq}
-use Rattle.std.proofs.lemmas.Bool.{false≢true, and_parts, and_from, or_cases, not-true, not-false, both_ways}
+use Rattle.std.proofs.lemmas.Bool.{false≢true, and_parts, and_from, or_parts, or_cases, not-true, not-false, both_ways}
 use Rattle.std.proofs.lemmas.Bool.Decides.{nat_tests}
 use Rattle.std.proofs.lemmas.Option.{none-some, same_Some}
 use Rattle.alf_program.specs.Tree.{NamedExpression, Null, Store, Jump, Switch, Call, Return, BodyItem, Label, Do, Function, WholeProgram, NumberedExpression}
 use Rattle.alf_names.specs.Places.{function_place}
 use Rattle.lists.specs.Tests.{by_test}
 use Rattle.alf_faults.specs.declared.returns.FirstReturn.{FirstReturn}
-use Rattle.alf_faults.specs.Fault.{is_exactly}
+use Rattle.lists.specs.Members.{contained}
+use Rattle.alf_faults.specs.Fault.{any_from, is_exactly}
+use Rattle.alf_faults.specs.NoFault.{HasNoFault}
 use Rattle.alf_faults.specs.TermSizes.{return_size, same_size, is_bytes}
 use Rattle.alf_faults.specs.Returns.{return_at, return_of, first_return, first_return_from, agrees, is_before, is_disagreeing, is_breach, function_has_breach, is_breached}
 use Rattle.alf_faults.specs.Sizes.{agrees_behind, breaks_calls, fits_return}
 use Rattle.alf_check.specs.declared.rows.FrameRow.{FrameRow}
-use Rattle.alf_check.specs.Kept.{HasCellSize, GivesSize, Gives}
+use Rattle.alf_check.specs.Kept.{GivesSize, Gives}
 use Rattle.alf_check.specs.KeptLaws.{size_within, cell_from}
-use Rattle.alf_check.proofs.Faultless.{IsSound, none_any}
 use Rattle.alf_check.proofs.Sized.{both_sizes}
-use Rattle.alf_check.proofs.Standing.{its_name}
+use Rattle.alf_check.proofs.Standing.{same_name, its_name, some_place, stands, place_there, at_one_place}
 
 -- ---- the first return
 
@@ -51,6 +52,12 @@ first_from n (item ∷ items) found e =
 
 -- ---- returns that keep the rules
 
+none_any : {A : Type 0} (test : ℕ → A → Bool) (n : ℕ) (xs : List A) (k m : ℕ) (x : A) → m ≡ n + k → any_from test n xs ≡ false → slice_get xs k ≡ Some x → test m x ≡ false
+none_any test n [] k m x is none at = absurd (none-some x at)
+none_any test n (y ∷ xs) zero m x is none at =
+    let here = (or_parts (test n y) (any_from test (n + 1) xs) none).0 in let same = same_Some y x at in let e : m ≡ n = omega arith in cc
+none_any test n (y ∷ xs) (suc k) m x is none at = none_any test (n + 1) xs k m x (omega arith) (or_parts (test n y) (any_from test (n + 1) xs) none).1 at
+
 return_parts : (whole : WholeProgram) (k : ℕ) (name : List ℕ) (i : ℕ) (first : Option FirstReturn) (size : Option ℕ) → fits_return whole k name i first size ≡ true
     → (found : FirstReturn) × (first ≡ Some found) × (same_size found.size size ≡ true) × (breaks_calls whole k name i found ≡ false)
 return_parts whole k name i None size e = absurd (false≢true e)
@@ -73,10 +80,18 @@ and_then_false : (x y : Bool) → x ≡ true → (x && y) ≡ false → y ≡ fa
 and_then_false true y e none = none
 and_then_false false y e none = absurd (false≢true e)
 
-module _ (whole : WholeProgram) (sound : IsSound whole) where
+module _ (whole : WholeProgram) (none : HasNoFault whole) where
+  -- a function is the first of its name
+  first_of_name : (p : ℕ) (called : Function) → slice_get whole.funcs p ≡ Some called → function_place whole.funcs called.name ≡ Some p
+  first_of_name p called at =
+      let named = λ (f : Function). bytes_eq f.name called.name in
+      let place = place_there (function_place whole.funcs called.name) (some_place named whole.funcs called (contained whole.funcs p called at) (its_name called.name called.name refl)) in
+      let found = stands named whole.funcs place.0 place.1 in
+      place.1 ∙ ap Some (at_one_place (λ (f : Function). f.name) whole.funcs none.funcs_differ place.0 p found.member called found.at at (same_name found.member.name called.name found.passed))
+
   pub returned : (p : ℕ) (called : Function) (j : ℕ) (value : Option NamedExpression) → slice_get whole.funcs p ≡ Some called → slice_get called.items j ≡ Some (Do (Return value)) → IsReturned called value
   returned p called j value at is =
-      let item = (sound.funcs p called at).items j (Do (Return value)) is in
+      let item = (none.funcs p called at).items j (Do (Return value)) is in
       let parts = return_parts whole p called.name j (first_return called.items) (return_size value) item.fits in
       let sizes = both_sizes parts.0.size (return_size value) parts.2 in
       record { found = parts.0; first = parts.1; size = sizes.0; found_size = sizes.1; value_size = sizes.2 }
@@ -88,13 +103,13 @@ module _ (whole : WholeProgram) (sound : IsSound whole) where
     -- where the first return stands behind the call
     agreed_before : is_before p found.item k i ≡ false → agrees (is_some result) found ≡ true
     agreed_before later =
-        let s = sound.funcs p called called_at in
+        let s = none.funcs p called called_at in
         let f = first_from 0 called.items found first in
         let number = f.item ∙ zero-add f.place in
         let parts = return_parts whole p called.name f.place (first_return called.items) (return_size f.value) (s.items f.place (Do (Return f.value)) f.at).fits in
-        let none = ap (breaks_calls whole p called.name f.place) (same_Some found parts.0 (sym first ∙ parts.1)) ∙ parts.3 in
-        let here = and_from (found.item == f.place) (is_exactly p (function_place whole.funcs called.name)) (eq-eqb found.item f.place number) s.alone in
-        let clear = and_then_false ((found.item == f.place) && is_exactly p (function_place whole.funcs called.name)) (is_breached whole.funcs called.name found p) here none in
+        let kept = ap (breaks_calls whole p called.name f.place) (same_Some found parts.0 (sym first ∙ parts.1)) ∙ parts.3 in
+        let here = and_from (found.item == f.place) (is_exactly p (function_place whole.funcs called.name)) (eq-eqb found.item f.place number) (ap (is_exactly p) (first_of_name p called called_at) ∙ eq-eqb p p refl) in
+        let clear = and_then_false ((found.item == f.place) && is_exactly p (function_place whole.funcs called.name)) (is_breached whole.funcs called.name found p) here kept in
         let clear_here = none_any (function_has_breach called.name found p) 0 whole.funcs k k func (sym (zero-add k)) clear at in
         let no_breach = none_any (is_breach called.name found p k) 0 func.items i i (Do (Call label args result)) (sym (zero-add i)) clear_here is in
         let other : p ≡ k → found.item ≡ i → ⊥ = λ e g. return_or_call f.value (sym f.at ∙ ap (slice_get called.items) (sym number ∙ g) ∙ ap (λ (x : Function). slice_get x.items i) (same_Some called func (sym called_at ∙ ap (slice_get whole.funcs) e ∙ at)) ∙ is) in

@@ -1,23 +1,21 @@
 -- Frames that names stand for, and what they hold at first.
-use Rattle.std.proofs.Common.{◌≡◌, ◌≤◌, ◌+◌, ◌*◌, ◌%◌, ◌==◌, ◌||◌, ℕ, true, false, List, [], ◌∷◌, ◌++◌, length, nat_le, slice_get, Contains, Option, Some, None, is_some, option_map, unwrap_or, zero-add, refl, ap, sym, ◌∙◌, subst, inl, inr, eqb-true, leb-true, arith}
+use Rattle.std.proofs.Common.{◌≡◌, ◌+◌, ◌*◌, ◌%◌, ◌==◌, ℕ, List, length, nat_le, slice_get, Option, Some, None, is_some, option_map, unwrap_or, zero-add, refl, ap, sym, ◌∙◌, inl, inr, eqb-true, leb-true, arith}
 use Rattle.std.specs.Str.{bytes_eq}
 use Rattle.std.proofs.lemmas.Bool.{false≢true, and_parts}
+use Rattle.std.proofs.lemmas.Option.{none-some}
 use Rattle.alf_program.specs.declared.program.Num.{Num}
 use Rattle.alf_program.specs.Tree.{Allocation, InitialValue, Function, WholeProgram}
 use Rattle.alf_names.specs.Places.{frame_place}
-use Rattle.alf_faults.specs.Fault.{Fault, Size}
-use Rattle.alf_faults.specs.Unknowns.{is_frame}
-use Rattle.alf_faults.specs.Sizes.{start_fits, is_export_size}
-use Rattle.alf_faults.specs.Faults.{frame_at, start_faults, start_faults_at, export_faults, export_faults_at}
+use Rattle.alf_faults.specs.Faults.{frame_at}
+use Rattle.alf_faults.specs.NoFault.{IsFrameNamed, IsSeen, InitHasNoFault, ExportHasNoFault}
 use Rattle.alf_check.specs.declared.rows.FrameRow.{FrameRow}
-use Rattle.alf_check.specs.Numbers.{row_for, frame_rows, first_frame, placed, frame_number}
+use Rattle.alf_check.specs.Numbers.{row_for, frame_rows, first_frame, frame_number}
 use Rattle.alf_check.specs.Numbered.{numbered_init, export_number}
-use Rattle.alf_check.specs.Kept.{IsSize, IsCellSize, IsWordOf, SeesFrame, InitFits, KeepsExport}
+use Rattle.alf_check.specs.Kept.{IsWordOf, SeesFrame, InitFits, KeepsExport}
 use Rattle.alf_check.specs.KeptLaws.{cell_from}
-use Rattle.alf_check.proofs.Written.{NumIsWritten, StartIsWritten}
-use Rattle.alf_check.proofs.Faultless.{when_not}
-use Rattle.alf_check.proofs.Standing.{Stands, stands, at_left, at_right}
-use Rattle.alf_check.proofs.FramePlaces.{own_frames, global_at, own_at}
+use Rattle.alf_program.specs.Writable.{NumIsWritable, InitialIsWritable}
+use Rattle.alf_check.proofs.Standing.{stands, its_name, some_place, at_left, at_right}
+use Rattle.alf_check.proofs.FramePlaces.{global_at, own_at}
 
 -- ---- frames of a name
 
@@ -26,11 +24,9 @@ by_number : (Holds : ℕ → Type 0) (start : ℕ) (place : Option ℕ) (other :
 by_number Holds start None other found none = none refl
 by_number Holds start (Some i) other found none = found i refl
 
-no_frame : {A : Type 0} (a b c : Option ℕ) → a ≡ None → b ≡ None → c ≡ None → (is_some a || is_some b || is_some c) ≡ true → A
-no_frame (Some x) b c p q r e = cc
-no_frame None (Some x) c p q r e = cc
-no_frame None None (Some x) p q r e = cc
-no_frame None None None p q r e = absurd (false≢true e)
+not_none : {A : Type 0} (frames : List Allocation) (name : List ℕ) → IsFrameNamed frames name → frame_place frames name ≡ None → A
+not_none frames name named none =
+    absurd (false≢true (sym (ap is_some none) ∙ some_place (λ (frame : Allocation). bytes_eq frame.name name) frames named.0 named.1 (its_name named.0.name name named.2)))
 
 -- an argument's row
 pub arg_at : (whole : WholeProgram) (k : ℕ) (func : Function) → slice_get whole.funcs k ≡ Some func → (i : ℕ) (frame : Allocation) → slice_get func.args i ≡ Some frame
@@ -48,7 +44,7 @@ decl_of_all : (whole : WholeProgram) (i : ℕ) (frame : Allocation) → slice_ge
 decl_of_all whole i frame own = ap (slice_get (frame_rows whole)) (zero-add i) ∙ global_at whole i frame own
 
 -- a name that stands for a frame in the function is that of one that it sees
-pub sees : (whole : WholeProgram) (k : ℕ) (func : Function) → slice_get whole.funcs k ≡ Some func → (name : List ℕ) → is_frame whole func name ≡ true
+pub sees : (whole : WholeProgram) (k : ℕ) (func : Function) → slice_get whole.funcs k ≡ Some func → (name : List ℕ) → IsSeen whole func name
     → SeesFrame (frame_rows whole) k (frame_number whole.decls func.args func.decls (first_frame whole k) (first_frame whole k + length func.args) name)
 sees whole k func at name known =
     let Seen = SeesFrame (frame_rows whole) k in
@@ -59,65 +55,57 @@ sees whole k func at name known =
     (λ i e. let s = stands of_name func.args i e in record { row = row_for (Some k) s.member; at = arg_at whole k func at i s.member s.at; seen = inr refl })
     (λ no_arg. by_number Seen (first_frame whole k + length func.args) (frame_place func.decls name) 0
     (λ i e. let s = stands of_name func.decls i e in record { row = row_for (Some k) s.member; at = decl_at whole k func at i s.member s.at; seen = inr refl })
-    (λ no_decl. no_frame (frame_place whole.decls name) (frame_place func.args name) (frame_place func.decls name) no_global no_arg no_decl known)))
+    (λ no_decl. elim known [
+      | inl global' ↦ not_none whole.decls name global' no_global
+      | inr own ↦ elim own [ inl arg ↦ not_none func.args name arg no_arg | inr decl ↦ not_none func.decls name decl no_decl ]
+    ])))
 
 -- ---- frames without faults
 
--- there is a frame of the name, and no fault with it
-record IsFound (frames : List Allocation) (name : List ℕ) (faults : Option Allocation → List Fault) : Type 0 where
-  i : ℕ
-  frame : Allocation
-  place : frame_place frames name ≡ Some i
-  at : slice_get frames i ≡ Some frame
-  none : faults (Some frame) ≡ []
-
--- where there are faults without a frame
-found_frame : (frames : List Allocation) (name : List ℕ) (faults : Option Allocation → List Fault) → (faults None ≡ [] → ⊥) → faults (frame_at frames (frame_place frames name)) ≡ [] → IsFound frames name faults
-found_frame frames name faults unknown none = by_place (frame_place frames name) refl
+-- the first frame of the name stands at a place
+found_at : (frames : List Allocation) (name : List ℕ) (frame : Allocation) → frame_at frames (frame_place frames name) ≡ Some frame → (i : ℕ) × (frame_place frames name ≡ Some i) × (slice_get frames i ≡ Some frame)
+found_at frames name frame found = by_place (frame_place frames name) refl found
   where
-    by_place : (place : Option ℕ) → frame_place frames name ≡ place → IsFound frames name faults
-    by_place None e = absurd (unknown (ap (λ (o : Option ℕ). faults (frame_at frames o)) (sym e) ∙ none))
-    by_place (Some i) e =
-        let s = stands (λ (frame : Allocation). bytes_eq frame.name name) frames i e in
-        record { i = i; frame = s.member; place = e; at = s.at; none = ap faults (sym s.at) ∙ ap (λ (o : Option ℕ). faults (frame_at frames o)) (sym e) ∙ none }
+    by_place : (place : Option ℕ) → frame_place frames name ≡ place → frame_at frames place ≡ Some frame → (i : ℕ) × (frame_place frames name ≡ Some i) × (slice_get frames i ≡ Some frame)
+    by_place None e f = absurd (none-some frame f)
+    by_place (Some i) e f = (i, e, f)
 
 -- a number that is written has its size
-pub word_of : (num : Num) → NumIsWritten num → IsWordOf num.size num
-word_of num written = record { same = refl; sized = record { some = written.0; most = written.1 }; fits = written.2 }
+pub word_of : (num : Num) → NumIsWritable num → IsWordOf num.size num
+word_of num written = record { same = refl; sized = record { some = written.some; most = written.small }; fits = written.fits }
 
 -- what one of these frames holds at first lies in it
 pub init_fits : (rows : List FrameRow) (owner : Option ℕ) (start : ℕ) (frames : List Allocation) → ((i : ℕ) (frame : Allocation) → slice_get frames i ≡ Some frame → slice_get rows (start + i) ≡ Some (row_for owner frame))
-    → (init : InitialValue) → start_faults frames init ≡ [] → StartIsWritten init → InitFits rows owner (numbered_init start frames init)
+    → (init : InitialValue) → InitHasNoFault frames init → InitialIsWritable init → InitFits rows owner (numbered_init start frames init)
 init_fits rows owner start frames standing init none written =
-    let f = found_frame frames init.name (start_faults_at init) (λ e. cc) none in
-    let fits = when_not (start_fits f.frame.bits init) (Size init.name None) f.none in
-    let parts = and_parts ((init.num.size % 8) == 0) (nat_le (8 * init.offset + init.num.size) f.frame.bits) fits in
-    let word = word_of init.num written.0 in
+    let f = found_at frames init.name none.frame none.found in
+    let parts = and_parts ((init.num.size % 8) == 0) (nat_le (8 * init.offset + init.num.size) none.frame.bits) none.fits in
+    let word = word_of init.num written.num in
     record {
-      row = row_for owner f.frame;
-      at = ap (λ (o : Option ℕ). slice_get rows (unwrap_or (option_map (λ p. start + p) o) 0)) f.place ∙ standing f.i f.frame f.at;
+      row = row_for owner none.frame;
+      at = ap (λ (o : Option ℕ). slice_get rows (unwrap_or (option_map (λ p. start + p) o) 0)) f.1 ∙ standing f.0 none.frame f.2;
       owned = refl;
       word = word;
       cell = cell_from init.num.size word.sized (eqb-true (init.num.size % 8) 0 parts.0);
-      lies = leb-true (8 * init.offset + init.num.size) f.frame.bits parts.1;
+      lies = leb-true (8 * init.offset + init.num.size) none.frame.bits parts.1;
     }
 
 -- what a global frame holds at first
-pub global_init_fits : (whole : WholeProgram) (init : InitialValue) → start_faults whole.decls init ≡ [] → StartIsWritten init → InitFits (frame_rows whole) None (numbered_init 0 whole.decls init)
+pub global_init_fits : (whole : WholeProgram) (init : InitialValue) → InitHasNoFault whole.decls init → InitialIsWritable init → InitFits (frame_rows whole) None (numbered_init 0 whole.decls init)
 global_init_fits whole = init_fits (frame_rows whole) None 0 whole.decls (decl_of_all whole)
 
 -- and a frame of a function
-pub own_init_fits : (whole : WholeProgram) (k : ℕ) (func : Function) → slice_get whole.funcs k ≡ Some func → (init : InitialValue) → start_faults func.decls init ≡ [] → StartIsWritten init
+pub own_init_fits : (whole : WholeProgram) (k : ℕ) (func : Function) → slice_get whole.funcs k ≡ Some func → (init : InitialValue) → InitHasNoFault func.decls init → InitialIsWritable init
     → InitFits (frame_rows whole) (Some k) (numbered_init (first_frame whole k + length func.args) func.decls init)
 own_init_fits whole k func at = init_fits (frame_rows whole) (Some k) (first_frame whole k + length func.args) func.decls (decl_at whole k func at)
 
 -- an exported frame keeps the rules
-pub export_keeps : (whole : WholeProgram) (name : List ℕ) → export_faults whole.decls name ≡ [] → KeepsExport (frame_rows whole) (export_number whole name)
+pub export_keeps : (whole : WholeProgram) (name : List ℕ) → ExportHasNoFault whole.decls name → KeepsExport (frame_rows whole) (export_number whole name)
 export_keeps whole name none =
-    let f = found_frame whole.decls name (export_faults_at name) (λ e. cc) none in
+    let f = found_at whole.decls name none.frame none.found in
     record {
-      row = row_for None f.frame;
-      at = ap (λ (o : Option ℕ). slice_get (frame_rows whole) (unwrap_or (option_map (λ p. 0 + p) o) 0)) f.place ∙ decl_of_all whole f.i f.frame f.at;
+      row = row_for None none.frame;
+      at = ap (λ (o : Option ℕ). slice_get (frame_rows whole) (unwrap_or (option_map (λ p. 0 + p) o) 0)) f.1 ∙ decl_of_all whole f.0 none.frame f.2;
       owned = refl;
-      sized = when_not (is_export_size f.frame.bits) (Size name None) f.none;
+      sized = none.size;
     }

@@ -1,5 +1,5 @@
 -- Sizes of numbered expressions.
-use Rattle.std.proofs.Common.{◌≡◌, ◌≤◌, ◌<◌, ◌+◌, ◌-◌, ℕ, Bool, true, false, cond, ◌&&◌, nat_le, nat_lt, List, [], length, drop, slice_index, ◌==◌, Option, Some, None, IsSome, is_some, is_none, option_map, refl, ap, sym, subst, leb-true, arith}
+use Rattle.std.proofs.Common.{◌≡◌, ◌<◌, ◌+◌, ℕ, Bool, true, false, cond, ◌&&◌, nat_le, nat_lt, List, length, drop, slice_index, ◌==◌, Option, Some, None, IsSome, is_some, is_none, option_map, refl, ap, sym, subst, leb-true, arith}
 use Rattle.std.proofs.lemmas.Bool.{false≢true, and_parts}
 use Rattle.std.proofs.lemmas.Bool.Decides.{nat_tests}
 use Rattle.std.proofs.lemmas.Option.{same_Some, cond_some}
@@ -9,14 +9,14 @@ use Rattle.alf_ops.specs.declared.layout.Layout.TheVariants.{Unary, Sum, Carry, 
 use Rattle.alf_ops.specs.Table.{result_size, operand_size, operand_sizes, layout_of, size_count, is_size, is_typed, is_written_so, result_by_layout}
 use Rattle.alf_ops.specs.OperandLaws.{operands_end, operands_go_on}
 use Rattle.alf_program.specs.Tree.{NamedExpression, NamedExpressions, Number, Address, Load, Apply, Empty, With, Do, Return, Function, WholeProgram, with_frames, all_with_frames}
-use Rattle.alf_faults.specs.Fault.{Unknown, is_exactly}
+use Rattle.alf_faults.specs.Fault.{is_exactly}
 use Rattle.alf_faults.specs.TermSizes.{term_size, operands_fit, return_size, same_size}
-use Rattle.alf_faults.specs.Unknowns.{is_frame, unknown_in, unknown_among, entry_unknowns}
+use Rattle.alf_faults.specs.NoFault.{IsSeen, SeesFrames, SeesAllFrames}
 use Rattle.alf_check.specs.declared.rows.FrameRow.{FrameRow}
 use Rattle.alf_check.specs.Kept.{IsSize, IsWordOf, SeesFrame, HasSize, HaveSizes, GivesSize}
 use Rattle.alf_check.specs.KeptLaws.{cell_from}
-use Rattle.alf_check.proofs.Written.{IsWritten, AreWritten, EntryIsWritten}
-use Rattle.alf_check.proofs.Faultless.{no_parts, when_not, exactly}
+use Rattle.alf_program.specs.Writable.{PartsAreWritable, AllPartsAreWritable, ItemIsWritable}
+use Rattle.alf_check.proofs.Standing.{exactly}
 use Rattle.alf_check.proofs.SeenFrames.{word_of}
 
 -- ---- sizes of results
@@ -68,30 +68,29 @@ no_size (Some size) e = absurd (false≢true e)
 
 -- ---- expressions
 
-module _ (whole : WholeProgram) (func : Function) (rows : List FrameRow) (k : ℕ) (frame : List ℕ → ℕ) (known : (name : List ℕ) → is_frame whole func name ≡ true → SeesFrame rows k (frame name)) where
+module _ (whole : WholeProgram) (func : Function) (rows : List FrameRow) (k : ℕ) (frame : List ℕ → ℕ) (known : (name : List ℕ) → IsSeen whole func name → SeesFrame rows k (frame name)) where
   mutual
     -- an expression that names what stands somewhere has its size
-    pub sized : (t : NamedExpression) (size : ℕ) → IsWritten t → unknown_in whole func t ≡ [] → term_size t ≡ Some size → HasSize rows k size (with_frames frame t)
+    pub sized : (t : NamedExpression) (size : ℕ) → PartsAreWritable t → SeesFrames whole func t → term_size t ≡ Some size → HasSize rows k size (with_frames frame t)
     sized (Number n) size written none is = subst (λ (z : ℕ). IsWordOf z n) (same_Some n.size size is) (word_of n written)
-    sized (Address name offset) size written none is = record { same = same_Some 32 size is; offset_fits = written; sees = known name (when_not (is_frame whole func name) (Unknown name) none) }
+    sized (Address name offset) size written none is = record { same = same_Some 32 size is; offset_fits = written.offset; sees = known name none }
     sized (Load bits at) size written none is =
         let c = cond_some (is_exactly 32 (term_size at)) bits size is in
-        record { same = c.1; cell = cell_from bits (record { some = written.0; most = written.1 }) written.2; address = sized at 32 written.3 none (exactly 32 (term_size at) c.0) }
+        record { same = c.1; cell = cell_from bits (record { some = written.0.some; most = written.0.small }) written.0.bytes; address = sized at 32 written.1 none (exactly 32 (term_size at) c.0) }
     sized (Apply op sizes operands) size written none is =
         let c = chosen (operands_fit op sizes 0 operands) (result_size op sizes) size is in
-        record { result_is = c.1; sized = operator_sized op sizes size c.1; operands = each_sized operands op sizes 0 written (ap is_some c.1) none c.0 }
+        record { result_is = c.1; sized = operator_sized op sizes size c.1; operands = each_sized operands op sizes 0 written.2 (ap is_some c.1) none c.0 }
 
-    each_sized : (ts : NamedExpressions) (op : Op) (sizes : List ℕ) (i : ℕ) → AreWritten ts → IsSome (result_size op sizes) → unknown_among whole func ts ≡ [] → operands_fit op sizes i ts ≡ true
+    each_sized : (ts : NamedExpressions) (op : Op) (sizes : List ℕ) (i : ℕ) → AllPartsAreWritable ts → IsSome (result_size op sizes) → SeesAllFrames whole func ts → operands_fit op sizes i ts ≡ true
         → HaveSizes rows k (drop i (operand_sizes op sizes)) (all_with_frames frame ts)
     each_sized Empty op sizes i written typed none fits = rw (operands_end op sizes i typed (no_size (operand_size op sizes i) fits)) tt
     each_sized (With t ts) op sizes i written typed none fits =
-        let parts = no_parts (unknown_in whole func t) (unknown_among whole func ts) none in
         let tests = and_parts (same_size (operand_size op sizes i) (term_size t)) (operands_fit op sizes (i + 1) ts) fits in
         let same = both_sizes (operand_size op sizes i) (term_size t) tests.0 in
-        rw (operands_go_on op sizes i same.0 same.1) (sized t same.0 written.0 parts.0 same.2, each_sized ts op sizes (i + 1) written.1 typed parts.1 tests.1)
+        rw (operands_go_on op sizes i same.0 same.1) (sized t same.0 written.0 none.0 same.2, each_sized ts op sizes (i + 1) written.1 typed none.1 tests.1)
 
   -- what a return gives
-  pub gives_size : (value : Option NamedExpression) (size : ℕ) → EntryIsWritten (Do (Return value)) → entry_unknowns whole func (Do (Return value)) ≡ [] → return_size value ≡ Some size
+  pub gives_size : (value : Option NamedExpression) (size : ℕ) → ItemIsWritable (Do (Return value)) → ((e : NamedExpression) → value ≡ Some e → SeesFrames whole func e) → return_size value ≡ Some size
       → GivesSize rows k size (option_map (with_frames frame) value)
   gives_size None size written none is = sym (same_Some 0 size is)
-  gives_size (Some t) size written none is = sized t size written none is
+  gives_size (Some t) size written sees is = sized t size written.parts (sees t refl) is

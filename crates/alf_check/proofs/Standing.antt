@@ -1,20 +1,19 @@
 -- What stands at the place of the first that passes a test, and in parts of a list.
-use Rattle.std.proofs.Common.{◌≡◌, ◌+◌, ◌<◌, ℕ, zero, suc, Bool, true, false, List, [], ◌∷◌, ◌++◌, length, slice_get, Contains, if◌then◌else◌, Option, Some, None, is_some, option_map, refl, ap, sym, ◌∙◌, subst, arith}
+use Rattle.std.proofs.Common.{◌≡◌, ◌≢◌, ◌+◌, ℕ, zero, suc, Bool, true, List, [], ◌∷◌, ◌++◌, length, slice_get, All, AllPairs, Contains, inl, inr, eqb-true, Option, Some, None, is_some, option_map, refl, ap, sym, ◌∙◌, subst, arith}
 use Rattle.std.specs.Str.{bytes_eq}
 use Rattle.std.specs.List.{range_with_len}
-use Rattle.std.proofs.lemmas.Bool.{false≢true}
-use Rattle.std.proofs.lemmas.Option.{none-some, same_Some}
+use Rattle.std.proofs.lemmas.Bool.{false≢true, cases_lt}
+use Rattle.std.proofs.lemmas.Option.{none-some, same_Some, slice_get_within, get_or_from_slice_get}
 use Rattle.std.proofs.lemmas.Slice.Eq.{bytes_eq-Decides}
-use Rattle.lists.specs.Members.{no_member, first_or_further}
+use Rattle.std.proofs.lemmas.List.Elements.{All-contains}
+use Rattle.lists.specs.Members.{contained, no_member, first_or_further}
 use Rattle.lists.specs.Tests.{by_test}
 use Rattle.alf_names.specs.Places.{place_of}
-use Rattle.alf_check.proofs.Written.{Each}
+use Rattle.alf_faults.specs.Fault.{is_exactly}
 
 -- it holds of a member if of each
-pub of_each : {A : Type 0} (Holds : A → Type 0) (xs : List A) (k : ℕ) (x : A) → Each Holds xs → slice_get xs k ≡ Some x → Holds x
-of_each Holds [] k x each at = absurd (none-some x at)
-of_each Holds (first ∷ xs) zero x each at = subst Holds (same_Some first x at) each.0
-of_each Holds (first ∷ xs) (suc k) x each at = of_each Holds xs k x each.1 at
+pub of_each : {A : Type 0} (Holds : A → Type 0) (xs : List A) (k : ℕ) (x : A) → All Holds xs → slice_get xs k ≡ Some x → Holds x
+of_each Holds xs k x all at = All-contains Holds xs x all (contained xs k x at)
 
 -- ---- names
 
@@ -61,6 +60,22 @@ stands passes (x ∷ xs) i e = by_test (passes x)
 pub place_there : (o : Option ℕ) → is_some o ≡ true → (i : ℕ) × (o ≡ Some i)
 place_there None e = absurd (false≢true e)
 place_there (Some i) e = (i, refl)
+
+-- where no two have one name, two of one name stand at one place
+pub at_one_place : {A B : Type 0} (name : A → B) (xs : List A) → AllPairs (λ a b. name a ≢ name b) xs → (i j : ℕ) (x y : A) → slice_get xs i ≡ Some x → slice_get xs j ≡ Some y → name x ≡ name y → i ≡ j
+at_one_place name xs apart i j x y at there same =
+    let low = slice_get_within xs i x at in
+    let high = slice_get_within xs j y there in
+    let here = ap name (get_or_from_slice_get xs i x x at) in
+    let other = ap name (get_or_from_slice_get xs j y x there) in
+    elim (cases_lt i j) [
+      | inl before ↦ absurd (apart i j x before high (here ∙ same ∙ sym other))
+      | inr past ↦ elim (cases_lt j i) [ inl before ↦ absurd (apart j i x before low (other ∙ sym same ∙ sym here)) | inr past' ↦ omega arith ]
+    ]
+
+pub exactly : (n : ℕ) (found : Option ℕ) → is_exactly n found ≡ true → found ≡ Some n
+exactly n None e = absurd (false≢true e)
+exactly n (Some k) e = ap Some (eqb-true k n e)
 
 -- ---- lists one after the other
 

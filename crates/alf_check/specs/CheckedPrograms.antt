@@ -7,7 +7,7 @@
 --   blocks_at program f, rank_of program f   the blocks of function f, and its rank
 --   CheckedParts        the same in the code's parts
 --   term_of, act_of, end_of, block_of, function_in, seen   what the code's values stand for
-use Rattle.std.specs.Prelude.{ℕ, List, [], ◌∷◌, map, Option, slice_get, slice_index}
+use Rattle.std.specs.Prelude.{ℕ, List, [], map, Option, slice_get, slice_index}
 use Rattle.std.specs.Option.{option_map, option_map_or}
 use Rattle.alf_program.specs.Tree.{NumberedExpression, Number, Address, Load, Apply, expressions_of}
 use Rattle.alf_check.specs.declared.rows.FrameRow.{FrameRow}

@@ -2,7 +2,7 @@
 --   ShareNoByte a b         two rows are of other frames, or of cells of one frame that share no byte
 --   KeepsInput program row  the row is of a cell of a global frame or of an argument of the root, and its range is one of the cell's size
 --   KeepInputs program rows   each row does, and no two share a byte
-use Rattle.std.specs.Prelude.{◌≡◌, ◌≤◌, ◌<◌, ◌+◌, ◌*◌, ◌-◌, ◌^◌, ◌⊎◌, ℕ, true, List, All, AllPairs, Contains, Option, Some, None, slice_get, ℤ, pos}
+use Rattle.std.specs.Prelude.{◌≡◌, ◌≤◌, ◌+◌, ◌*◌, ◌-◌, ◌^◌, ◌⊎◌, ℕ, true, List, All, AllPairs, Contains, Some, None, slice_get, pos}
 use lib.IntN.{◌-ℤ◌, neg_ℤ}
 use lib.Signed.{◌<ℤ◌, ◌≤ℤ◌}
 use Rattle.alf_faults.specs.Sizes.{is_export_size}

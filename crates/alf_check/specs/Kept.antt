@@ -14,14 +14,15 @@
 --   KeepsFrames program      the frames do, and each is where its owner has it
 --   KeepsExport rows f       so does an exported frame
 --   IsBounded program        its counts are below 2^32 - 1
---   IsChecked program        the program is one that some text spells and that passes the checks, with numbers in place of names
+--   IsWithinLimits program   its functions, frames and bytes of frames are within the limits of a text
+--   IsChecked program        the program is one that some text can spell and that passes the checks, with numbers in place of names
 --   IsKept program           the whole program keeps the rules
-use Rattle.std.specs.Prelude.{◌≡◌, ◌≢◌, ◌<◌, ◌≤◌, ◌+◌, ◌*◌, ◌%◌, ◌^◌, ◌⊎◌, ℕ, suc, true, List, [], ◌∷◌, ◌++◌, length, All, AllPairs, Contains, Option, Some, None, slice_get}
-use Rattle.std.specs.List.{AllZip}
+use Rattle.std.specs.Prelude.{◌≡◌, ◌≢◌, ◌<◌, ◌≤◌, ◌+◌, ◌*◌, ◌/◌, ◌%◌, ◌^◌, ◌⊎◌, ℕ, suc, true, List, [], ◌∷◌, ◌++◌, length, All, AllPairs, Contains, Option, Some, None, slice_get}
+use Rattle.std.specs.List.{AllZip, sum_by}
 use Rattle.alf_ops.specs.Table.{result_size, operand_sizes}
 use Rattle.alf_program.specs.declared.program.Num.{Num}
 use Rattle.alf_program.specs.Tree.{NumberedExpression, NumberedExpressions, Number, Address, Load, Apply, Empty, With, WholeProgram}
-use Rattle.alf_text.specs.Language.{IsSpelled}
+use Rattle.alf_program.specs.Writable.{IsWritable}
 use Rattle.alf_faults.specs.Sizes.{is_export_size}
 use Rattle.alf_check.specs.declared.rows.FrameRow.{FrameRow}
 use Rattle.alf_check.specs.declared.rows.InitRow.{InitRow}
@@ -251,11 +252,11 @@ pub record KeepsFrames (program : NumberedProgram) : Type 0 where
   pub own : (f k : ℕ) (row : FrameRow) → slice_get program.frames f ≡ Some row → row.owner ≡ Some k → HasFrame program k f
   pub names : (k f g : ℕ) (a b : FrameRow) → slice_get program.frames f ≡ Some a → slice_get program.frames g ≡ Some b → IsSeen k a → IsSeen k b → a.name ≡ b.name → f ≡ g
 
--- the program is one that some text spells and that passes the checks, with numbers in place of names
+-- the program is one that some text can spell and that passes the checks, with numbers in place of names
 pub record IsChecked (program : NumberedProgram) : Type 0 where
   pub whole : WholeProgram
   pub root : List ℕ
-  pub spelled : IsSpelled whole
+  pub writable : IsWritable whole
   pub passes : Passes whole root
   pub numbers : program ≡ numbered whole root program.ranks
 
@@ -266,10 +267,21 @@ pub record IsBounded (program : NumberedProgram) : Type 0 where
   pub exports : length program.exports < 4294967295
   pub blocks : All (λ (function : NumberedFunction). length function.blocks < 4294967295) program.funcs
 
+-- how many bytes a frame has
+abbrev pub row_bytes : FrameRow → ℕ
+row_bytes row = row.bits / 8
+
+-- at most 256 functions and frames, and 1,048,576 bytes of frames in all
+pub record IsWithinLimits (program : NumberedProgram) : Type 0 where
+  pub funcs : length program.funcs ≤ 256
+  pub frames : length program.frames ≤ 256
+  pub bytes : sum_by row_bytes program.frames ≤ 1048576
+
 -- what every checked program keeps
 pub record IsKept (program : NumberedProgram) : Type 0 where
   pub checked : IsChecked program
   pub bounded : IsBounded program
+  pub limits : IsWithinLimits program
   pub frames : KeepsFrames program
   pub functions : (k : ℕ) (function : NumberedFunction) → slice_get program.funcs k ≡ Some function → KeepsFunction program k function
   pub names : (k j : ℕ) (f g : NumberedFunction) → slice_get program.funcs k ≡ Some f → slice_get program.funcs j ≡ Some g → f.name ≡ g.name → k ≡ j

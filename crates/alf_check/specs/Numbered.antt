@@ -6,7 +6,7 @@
 --   numbered_inits start frames inits    what frames hold at first, where the first of the frames has number start
 --   numbered_function whole first func   a function whose first frame has this number
 --   numbered whole root ranks            the program, which starts with the function of this name, with these ranks
-use Rattle.std.specs.Prelude.{ℕ, suc, ◌+◌, ◌-◌, List, [], ◌∷◌, ◌++◌, map, length, Some, None, slice_get, unwrap_or}
+use Rattle.std.specs.Prelude.{ℕ, suc, ◌+◌, ◌-◌, List, [], ◌∷◌, map, length, slice_get, unwrap_or}
 use Rattle.std.specs.Option.{option_map, option_map_or}
 use Rattle.std.specs.List.{flat_map, range_with_len}
 use Rattle.alf_program.specs.declared.program.Num.{Num}

@@ -2,7 +2,7 @@
 
 ghost use Rattle.std.specs.Prelude.{◌≡◌, ◌<◌, ℕ, List, [], Some, IsSome, map, length, IfOk, IfErr, OnOk};
 ghost use Rattle.alf_program.specs.Tree.{function_of, program_of};
-ghost use Rattle.alf_text.specs.Language.{IsSpelled};
+ghost use Rattle.alf_program.specs.Writable.{IsWritable};
 ghost use Rattle.alf_names.specs.Places.{function_place};
 ghost use Rattle.alf_faults.specs.Fault.{earliest};
 ghost use Rattle.alf_faults.specs.Faults.{faults_in};
@@ -19,7 +19,6 @@ use crate::program::{Checked, numbered};
 use alf_faults::{ItemFault, first_fault};
 use alf_names::function_named;
 use alf_program::{Func, Program};
-use alf_text::spelled_programs_are_written;
 use call_cycles::{CallFault, call_ranks, ranked_calls_have_no_cycle};
 use flow_base::Name;
 use std::alloc::{AllocError, Global};
@@ -28,15 +27,14 @@ use std::alloc::{AllocError, Global};
 ///
 /// Names and sizes are checked first, in the order of the text, then recursion, and then that there
 /// is a function to start with. Whether calls are ever reached does not count. The program is one
-/// that some text spells, as one that was read is. Takes memory for the tables of names, the calls
+/// that some text can spell, as one that was read is. Takes memory for the tables of names, the calls
 /// and the answer; the program is given up.
 pub fn check(alloc: Global, program: Program, root: &str) -> Result<Checked, CheckFault>
-    requires spelled { IsSpelled (program_of program) }
+    requires writable { IsWritable (program_of program) }
     ensures passes { IfOk result (λ checked. Passes (program_of program) root.now) }
     ensures numbered { IfOk result (λ checked. seen checked ≡ numbered (program_of program) root.now (seen checked).ranks) }
     ensures told { IfErr result (λ fault. IsTold (program_of program) root.now fault) }
 {
-    spelled_programs_are_written();
     ranked_calls_have_no_cycle();
     let root = root.as_bytes();
     if let Err(fault) = check_items(alloc, &program) {

@@ -3,8 +3,7 @@
 ghost use Rattle.std.specs.Prelude.{◌≡◌, ◌<◌, ◌^◌, ℕ, List, [], map, length, All, IfOk, IsSome, slice_get, Some, None};
 ghost use Rattle.std.specs.Coded.{codes};
 ghost use Rattle.alf_program.specs.Tree.{program_of};
-ghost use Rattle.alf_text.specs.Language.{IsSpelled};
-ghost use Rattle.alf_text.specs.Spelled.{WholeIsWritten};
+ghost use Rattle.alf_program.specs.Writable.{IsWritable};
 ghost use Rattle.alf_check.specs.Checking.{calls_in, Passes};
 ghost use Rattle.call_cycles.specs.Calls.{IsRanked};
 ghost use Rattle.alf_check.specs.Kept.{KeepsBlock, KeepsExport, KeepsFrames, InitFits, IsKept};
@@ -18,6 +17,7 @@ use crate::lookup::func_number;
 use crate::numbering::all_functions;
 use crate::rows::{Block, FrameRow, FuncParts, FuncRow, InitRow};
 use crate::tables::{export_numbers, frame_rows, init_rows};
+use alf_faults::no_fault_is_by_parts;
 use alf_program::Program;
 use std::alloc::{AllocError, Global};
 use std::marker::Model;
@@ -61,7 +61,7 @@ impl Model for Checked {
 }
 
 impl Checked {
-    /// What every checked program keeps, among it that some text spells it.
+    /// What every checked program keeps, among it that some text can spell it.
     pub fn keeps(&self)
         ensures { IsKept (seen self.now) }
     {
@@ -158,12 +158,12 @@ pub(crate) fn numbered(
     root: &[u8],
     ranks: Vec<u32>,
 ) -> Result<Checked, AllocError>
-    requires spelled { IsSpelled (program_of program.now) }
-    requires written { WholeIsWritten (program_of program.now) }
+    requires writable { IsWritable (program_of program.now) }
     requires passes { Passes (program_of program.now) root.now }
     requires ranked { IsRanked (calls_in (program_of program.now)) ranks.items }
     ensures { IfOk result (λ checked. seen checked ≡ numbered (program_of program.now) root.now (seen checked).ranks) }
 {
+    no_fault_is_by_parts();
     few(&program.funcs)?;
     let frames = frame_rows(alloc, program)?;
     let funcs = all_functions(alloc, program)?;

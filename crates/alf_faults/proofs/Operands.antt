@@ -2,6 +2,7 @@
 use Rattle.std.proofs.Common.{◌≡◌, ◌<◌, ◌≤◌, ℕ, Bool, true, false, List, Some, None, length, refl, arith}
 use Rattle.std.specs.List.{slice_get, slice_index}
 use Rattle.std.proofs.lemmas.Option.{slice_get_within}
+use Rattle.lists.specs.Tests.{by_test}
 use Rattle.alf_ops.specs.declared.operator.Op.{Op}
 use Rattle.alf_ops.specs.declared.layout.Layout.{Layout}
 use Rattle.alf_ops.specs.declared.layout.Layout.TheVariants.{Unary, Sum, Carry, Joined, First, Second, Binary, Comparison, Extension, Truncation, Field, Choice}
@@ -21,10 +22,6 @@ at_most_three Extension m n h = omega arith
 at_most_three Truncation m n h = omega arith
 at_most_three Field m n h = omega arith
 at_most_three Choice m n h = omega arith
-
-by_test : {A : Type 0} (v : Bool) → (v ≡ true → A) → (v ≡ false → A) → A
-by_test true if_true if_false = if_true refl
-by_test false if_true if_false = if_false refl
 
 -- an operand stands below the third place
 pub operand_within : (op : Op) (sizes : List ℕ) (i n : ℕ) → operand_size op sizes i ≡ Some n → i < 3

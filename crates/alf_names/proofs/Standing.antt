@@ -2,8 +2,9 @@
 use Rattle.std.proofs.Common.{◌≡◌, ◌+◌, ◌<◌, ℕ, suc, Bool, List, [], ◌∷◌, map, length, drop, get_or, drop-cons, zero-add, Option, Some, refl, ap, sym, ◌∙◌, subst, position, IfSome, if◌then◌else◌}
 use Rattle.std.proofs.lemmas.List.{length-map}
 use Rattle.std.specs.Option.{option_map}
+use Rattle.lists.specs.Tests.{by_test}
 use Rattle.alf_names.specs.Places.{place_of}
-use Rattle.alf_names.specs.PlaceLaws.{by_test, position_place, counted, place_within}
+use Rattle.alf_names.specs.PlaceLaws.{position_place, counted, place_within}
 
 -- a place among what members stand for
 pub place_of-map : {A B : Type 0} (f : A → B) (passes : B → Bool) (xs : List A) → place_of passes (map f xs) ≡ place_of (λ x. passes (f x)) xs

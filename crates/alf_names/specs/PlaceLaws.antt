@@ -3,12 +3,8 @@ use Rattle.std.specs.Option.{option_map}
 use Rattle.std.specs.List.{position_or_len}
 use Rattle.std.proofs.Common.{◌≡◌, ◌+◌, ◌<◌, ℕ, suc, Bool, true, false, cond, ltb, List, [], ◌∷◌, length, Option, Some, None, refl, ap, ◌∙◌, position, arith, IfSome}
 use Rattle.std.proofs.lemmas.Bool.Decides.{nat_tests}
+use Rattle.lists.specs.Tests.{by_test}
 use Rattle.alf_names.specs.Places.{place_of}
-
--- what holds where a test passes and where it does not
-pub by_test : {A : Type 0} (v : Bool) → (v ≡ true → A) → (v ≡ false → A) → A
-by_test true if_true if_false = if_true refl
-by_test false if_true if_false = if_false refl
 
 -- one further back
 shifted : (n m : ℕ) → cond (ltb (1 + n) (suc m)) (Some (1 + n)) None ≡ option_map (λ k. k + 1) (cond (ltb n m) (Some n) None)

@@ -4,10 +4,11 @@
 --   canonical_text whole     its text
 -- One space stands between two tokens, but in its place a line feed before each member of the lists
 -- `decls`, `arg_decls`, `inits`, `funcs` and `stmts`. A line feed ends the text.
-use Rattle.std.specs.Prelude.{ℕ, List, [], ◌∷◌, ◌++◌, map, Option, Some, None, Bool, ◌-◌, ◌^◌, nat_le, if◌then◌else◌, codes}
+use Rattle.std.specs.Prelude.{ℕ, List, [], ◌∷◌, ◌++◌, map, Option, Some, None, if◌then◌else◌, codes}
 use Rattle.std.specs.List.{flat_map}
 use Rattle.std.specs.Fmt.{decimal}
 use Rattle.alf_ops.specs.Names.{spelling}
+use Rattle.alf_ops.specs.TwosComplement.{is_negative, distance}
 use Rattle.alf_tokens.specs.declared.token.Kind.TheVariants as kinds
 use Rattle.alf_tokens.specs.Printed.{Mark, text_of_marks}
 use Rattle.alf_program.specs.declared.program.Num.{Num}
@@ -58,15 +59,8 @@ if_any marks (Some x) = marks x
 abbrev pub ref_marks : List ℕ → List ℕ → List Mark
 ref_marks w n = braced space w (a_number 32 ∷ a_name n ∷ [])
 
--- the highest bit of its size is set
-abbrev pub is_negative : ℕ → ℕ → Bool
-is_negative size bits = nat_le (2 ^ (size - 1)) bits
-
--- how far below 0 a negative number lies
-abbrev pub distance : ℕ → ℕ → ℕ
-distance size bits = 2 ^ size - bits
-
-abbrev pub signed_marks : ℕ → ℕ → List Mark
+-- the signed reading of a word: { minus N } where it is N below 0, else the word itself
+unfoldable pub signed_marks : ℕ → ℕ → List Mark
 signed_marks size bits = if is_negative size bits then braced space (codes "minus") (a_number (distance size bits) ∷ []) else a_number bits ∷ []
 
 abbrev pub dec_signed_marks : ℕ → ℕ → List Mark
@@ -75,7 +69,7 @@ dec_signed_marks size bits = braced space (codes "dec_signed") (a_number size �
 abbrev pub dec_unsigned_marks : ℕ → ℕ → List Mark
 dec_unsigned_marks size bits = braced space (codes "dec_unsigned") (a_number size ∷ a_number bits ∷ [])
 
-abbrev pub num_marks : Num → List Mark
+unfoldable pub num_marks : Num → List Mark
 num_marks n = if n.signed then dec_signed_marks n.size n.bits else dec_unsigned_marks n.size n.bits
 
 abbrev pub label_marks : ℕ → List ℕ → List Mark

@@ -1,9 +1,12 @@
 //! Tokens of canonical texts, and the names and numbers that are made of them.
 
-ghost use Rattle.std.specs.Prelude.{◌≡◌, ◌∷◌, [], OnOk, true};
+ghost use Rattle.std.specs.Prelude.{◌≡◌, ◌≤◌, ◌<◌, ◌^◌, ◌∷◌, [], OnOk, true, false};
 ghost use Rattle.alf_printer.specs.Printing.{put, all_put};
-ghost use Rattle.alf_printer.specs.Canonical.{opens, closes, a_word, a_number, a_name, ref_marks, is_negative, distance, signed_marks, dec_signed_marks, dec_unsigned_marks, num_marks, label_marks, address_marks};
+ghost use Rattle.alf_ops.specs.TwosComplement.{is_negative};
+ghost use Rattle.alf_printer.specs.Canonical.{opens, closes, a_word, a_number, a_name, ref_marks, label_marks, address_marks};
+ghost use Rattle.alf_printer.specs.Canonical.{signed_marks, dec_signed_marks, dec_unsigned_marks, num_marks};
 
+use alf_ops::{distance, is_negative};
 use alf_program::Num;
 use flow_base::Name;
 use itoa::Buffer;
@@ -67,30 +70,19 @@ pub fn put_ref(out: &mut Vec<u8>, word: &[u8], name: &Name) -> Result<(), AllocE
     Ok(())
 }
 
-/// Whether the highest bit of the size is set.
+/// A value fits in its size, from 1 to 64 bits. Any other is printed as it stands.
 #[tactic(auto, using(crate::proofs::Printing::printing))]
-fn is_negative(size: u32, bits: u64) -> bool
-    ensures { result ≡ is_negative size bits }
+fn is_word(size: u32, bits: u64) -> bool
+    ensures word { result ≡ true → (1 ≤ size) × (size ≤ 64) × (bits < 2 ^ size) }
+    ensures other { result ≡ false → is_negative size bits ≡ false }
 {
-    let sign = size.saturating_sub(1);
-    sign < 64 && 1u64 << sign <= bits
+    (1..=64).contains(&size) && u128::from(bits) < 1_u128 << size
 }
 
-/// How far below 0 a negative number lies.
-#[tactic(auto, using(crate::proofs::Printing::printing))]
-fn distance(size: u32, bits: u64) -> u64
-    requires { is_negative size bits ≡ true }
-    ensures { result ≡ distance size bits }
-{
-    if size < 64 {
-        (1u64 << size).saturating_sub(bits)
-    } else {
-        u64::MAX - bits + 1
-    }
-}
-
+#[tactic(auto, unfolding(crate::specs::Canonical::signed_marks))]
 fn put_minus(out: &mut Vec<u8>, size: u32, bits: u64) -> Result<(), AllocError>
-    requires { is_negative size bits ≡ true }
+    requires word { (1 ≤ size) × (size ≤ 64) × (bits < 2 ^ size) }
+    requires below { is_negative size bits ≡ true }
     ensures { OnOk result (out.new.items ≡ all_put out.old.items (signed_marks size bits)) }
 {
     open(out, b' ', b"minus")?;
@@ -99,10 +91,11 @@ fn put_minus(out: &mut Vec<u8>, size: u32, bits: u64) -> Result<(), AllocError>
     Ok(())
 }
 
+#[tactic(auto, unfolding(crate::specs::Canonical::signed_marks))]
 fn put_signed(out: &mut Vec<u8>, size: u32, bits: u64) -> Result<(), AllocError>
     ensures { OnOk result (out.new.items ≡ all_put out.old.items (signed_marks size bits)) }
 {
-    if is_negative(size, bits) {
+    if is_word(size, bits) && is_negative(size, bits) {
         put_minus(out, size, bits)
     } else {
         put_number(out, bits)
@@ -129,6 +122,7 @@ pub fn put_dec_unsigned(out: &mut Vec<u8>, size: u32, bits: u64) -> Result<(), A
     Ok(())
 }
 
+#[tactic(auto, unfolding(crate::specs::Canonical::num_marks))]
 pub fn put_num(out: &mut Vec<u8>, num: &Num) -> Result<(), AllocError>
     ensures { OnOk result (out.new.items ≡ all_put out.old.items (num_marks num.now)) }
 {

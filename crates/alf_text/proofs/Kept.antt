@@ -6,6 +6,7 @@ use Rattle.std.specs.Str.{bytes_eq}
 use Rattle.std.proofs.lemmas.Bool.{leb-true}
 use Rattle.std.proofs.lemmas.Bool.Decides.{nat_tests}
 use Rattle.std.proofs.lemmas.List.Elements.{All-nil, All-cons}
+use Rattle.lists.specs.Tests.{by_test}
 use Rattle.flow_base.specs.Digits.{prefix_digits, number_of}
 use Rattle.flow_base.specs.declared.place.Which.TheVariants.{Functions, Frames, FrameBytes, AllBytes}
 use Rattle.grammar.specs.Exact.{ok_is, ok_no_err}
@@ -24,7 +25,8 @@ use Rattle.alf_program.specs.Writable.{most_depth, most_frame_bytes, IsName, IsS
 use Rattle.alf_text.specs.Grammar.{Fault, Limit, most_functions, most_frames, most_bytes, Room, Rule, misfit, outside, or_outside, or_number, fits_number, number_within, from_least, number_between, fits_below, either, opening, closing, end, some_word, word, between, fixed, size, at_most, name, begin, unknown, opens, opens_target, one_function, one_frame, fits_frame, more_bytes, bits, reference, references, offset, zero_offset, label_tail, label, alloc, allocs, address_tail, address, unsigned, minus, signed_bits, signed, num_tail, num, ref_place, init, inits, operator_named, operand_count, unsigned_term, signed_term, address_term, load, further, sizes, apply, operator, expr_tail, nested, expr, whole_expr, target, default_arm, switch, with_word, store, label_item, null, leaving, jump, result_word, call, returns, item_tail, item, closing_after, stmts, scope, arg_decls, function_tail, function, functions, closing_empty, empty, addr_unit, macro_defs, little_endian, heading, exports, imports, program}
 use Rattle.alf_text.specs.Language.{start, IsSpelled}
 use Rattle.alf_text.proofs.Named.{text_name}
-use Rattle.alf_text.proofs.Written.{need, needs, func_needs, all_need, half_power, some_power, some_sizes}
+use Rattle.alf_text.proofs.Signed.{half_power, some_power, word_fits}
+use Rattle.alf_text.proofs.Written.{need, needs, func_needs, all_need, some_sizes}
 use Rattle.alf_text.proofs.Needs.{same_room, full, whole_needs, whole_counted}
 
 -- a token that is named well
@@ -34,10 +36,6 @@ Good t = is_named_well t ≡ true
 -- each value that the rule spells is so, and nothing is counted
 abbrev Stays : {some : Bool} {A : Type 0} → Rule some A → (A → Type 0) → Type 0
 Stays p Q = Keeping.Stays Good p.form Q
-
-by_test : {A : Type 0} (v : Bool) → (v ≡ true → A) → (v ≡ false → A) → A
-by_test true if_true if_false = if_true refl
-by_test false if_true if_false = if_false refl
 
 -- what holds of each member holds of all
 all_of : {A : Type 0} (Holds : A → Type 0) (xs : List A) → Each Holds xs → All Holds xs
@@ -241,7 +239,7 @@ minus_passes s = stays (λ room. begin_passes (codes "minus") >>- λ _ _. at_mos
 signed_bits_keep : (s : ℕ) (m : Option ℕ) → IsSize s → Stays (signed_bits s m) (λ b. b < 2 ^ s)
 unfolding signed_bits
 signed_bits_keep s None w = weakened (at_most_keeps (2 ^ (s - 1) - 1)) (λ b h. omega (arith, h, half_power s w.0, some_power (s - 1)))
-signed_bits_keep s (Some d) w = stays (λ room. done (grind (arith, some_power s), refl))
+signed_bits_keep s (Some d) w = stays (λ room. done (word_fits s d, refl))
 
 signed_keeps : Stays signed NumIsWritable
 unfolding signed

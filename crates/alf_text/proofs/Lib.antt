@@ -6,8 +6,8 @@ pub mod FirstMeaning
 pub mod FirstPrograms
 pub mod Decimals
 pub mod Named
+pub mod Signed
 pub mod Written
 pub mod Marked
 pub mod Needs
 pub mod Kept
-pub mod Spelled

@@ -1,22 +1,22 @@
 -- The canonical tokens of a writable tree can be printed: a line a rule.
 --   Prints marks   each of the marks can be printed
-use Rattle.std.proofs.Common.{◌≡◌, ◌<◌, ◌≤◌, ◌-◌, ◌^◌, ℕ, Bool, true, false, List, [], ◌∷◌, ◌++◌, map, All, Option, Some, None, refl, arith, codes}
+use Rattle.std.proofs.Common.{◌≡◌, ◌<◌, ◌-◌, ◌^◌, ℕ, Bool, true, false, List, [], ◌∷◌, ◌++◌, map, All, Option, Some, None, refl, arith, codes}
 use Rattle.std.specs.Prelude.{IfSome}
 use Rattle.std.specs.List.{flat_map, list_all}
 use Rattle.std.proofs.lemmas.List.Folds.{list_all-append}
 use Rattle.std.proofs.lemmas.List.Elements.{All-head, All-tail, All-nil}
-use Rattle.std.proofs.lemmas.Bool.{leb-true}
 use Rattle.alf_ops.specs.declared.operator.Op.{Op}
 use Rattle.alf_ops.specs.declared.operator.Op.TheVariants.{Neg, Select}
 use Rattle.alf_ops.specs.Names.{spelling}
+use Rattle.alf_ops.specs.TwosComplement.{is_negative}
 use Rattle.alf_tokens.specs.Printed.{Mark, is_separator, is_word_text, is_mark}
 use Rattle.alf_program.specs.declared.program.Num.{Num}
 use Rattle.alf_program.specs.Tree.{NamedExpression, NamedExpressions, Number, Address, Load, Apply, Empty, With, Statement, Null, Store, Jump, Switch, Call, Return, BodyItem, Label, Do, Allocation, InitialValue, Function, WholeProgram}
 use Rattle.alf_program.specs.Writable.{IsName, IsSize, IsFurther, AreSizesOf, NumIsWritable, AddressIsWritable, PartsAreWritable, AllPartsAreWritable, ExpressionIsWritable, TargetIsWritable, StatementIsWritable, ItemIsWritable, AllocationIsWritable, InitialIsWritable, FunctionIsWritable, IsWritable}
-use Rattle.alf_printer.specs.Canonical.{space, line_feed, closes, a_word, a_number, a_name, braced, listed, if_any, ref_marks, refs_marks, is_negative, distance, signed_marks, dec_signed_marks, dec_unsigned_marks, num_marks, label_marks, address_marks, frame_marks, start_marks, starts_marks, term_marks, terms_marks, target_marks, act_marks, entry_marks, function_marks, names_marks, head_marks, program_marks}
+use Rattle.alf_printer.specs.Canonical.{space, line_feed, closes, a_word, a_number, a_name, braced, listed, if_any, ref_marks, refs_marks, signed_marks, dec_signed_marks, dec_unsigned_marks, num_marks, label_marks, address_marks, frame_marks, start_marks, starts_marks, term_marks, terms_marks, target_marks, act_marks, entry_marks, function_marks, names_marks, head_marks, program_marks}
 use Rattle.alf_text.proofs.Decimals.{decimal_text}
 use Rattle.alf_text.proofs.Named.{name_text}
-use Rattle.alf_text.proofs.Written.{low_power, half_power, some_power}
+use Rattle.alf_text.proofs.Signed.{low_power, some_power, below}
 
 record Prints (marks : List Mark) : Type 0 where
   all : list_all is_mark marks ≡ true
@@ -68,15 +68,17 @@ unsigned_prints : (s b : ℕ) → IsSize s → b < 2 ^ s → Prints (dec_unsigne
 unsigned_prints s b w lt = braced_prints space (codes "dec_unsigned") refl refl (size_prints s w then number_prints b (omega (arith, lt, low_power s w.1)))
 
 signed_prints : (s b : ℕ) → IsSize s → b < 2 ^ s → Prints (dec_signed_marks s b)
+unfolding signed_marks
 signed_prints s b w lt = braced_prints space (codes "dec_signed") refl refl (size_prints s w then by_sign (is_negative s b) refl)
   where
     by_sign : (negative : Bool) → is_negative s b ≡ negative → Prints (signed_marks s b)
     by_sign true e =
-        let low : distance s b ≤ 2 ^ (s - 1) = omega (arith, half_power s w.0, leb-true _ _ e) in
-        rw e (braced_prints space (codes "minus") refl refl (number_prints (distance s b) (omega (arith, low, half_power s w.0, low_power s w.1, some_power (s - 1)))))
+        let is = below s b lt e in
+        rw (e, is.far) (braced_prints space (codes "minus") refl refl (number_prints (2 ^ s - b) (omega (arith, is.near, low_power s w.1, some_power (s - 1)))))
     by_sign false e = rw e (number_prints b (omega (arith, lt, low_power s w.1)))
 
 num_prints : (n : Num) → NumIsWritable n → Prints (num_marks n)
+unfolding num_marks
 num_prints n w = by_sign n.signed
   where
     by_sign : (signed : Bool) → Prints (num_marks (record { signed = signed; size = n.size; bits = n.bits }))

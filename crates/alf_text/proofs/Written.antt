@@ -1,11 +1,9 @@
 -- The canonical tokens of a writable tree are read as that tree: a line a rule.
-use Rattle.std.proofs.Common.{◌≡◌, ◌<◌, ◌≤◌, ◌+◌, ◌-◌, ◌*◌, ◌/◌, ◌%◌, ◌^◌, ℕ, zero, suc, Bool, true, false, List, [], ◌∷◌, ◌++◌, map, length, All, Ok, Option, Some, None, refl, ap, ◌∙◌, arith, codes, leb, eqb, eq-eqb}
+use Rattle.std.proofs.Common.{◌≡◌, ◌<◌, ◌≤◌, ◌+◌, ◌-◌, ◌/◌, ◌%◌, ◌^◌, ℕ, zero, suc, pos, neg_ℤ, Bool, true, false, List, [], ◌∷◌, ◌++◌, map, length, All, Ok, Option, Some, None, refl, ap, ◌∙◌, arith, codes, leb, eqb, eq-eqb}
 use Rattle.std.specs.Prelude.{nat_le, decimal, IfSome}
 use Rattle.std.specs.List.{flat_map}
 use Rattle.std.specs.Str.{bytes_eq}
-use Rattle.std.proofs.Math.Pow.{pow_mono}
-use Rattle.std.proofs.Math.Nat.{pow-succ', mod-eq_of_lt}
-use Rattle.std.proofs.lemmas.Bool.{le-leb, leb-true, leb-false}
+use Rattle.std.proofs.lemmas.Bool.{le-leb}
 use Rattle.std.proofs.lemmas.Slice.Eq.{bytes_eq-Decides}
 use Rattle.std.proofs.lemmas.List.Elements.{All-head, All-tail}
 use Rattle.flow_base.specs.Digits.{prefix_digits}
@@ -18,14 +16,16 @@ use Rattle.alf_ops.specs.declared.operator.Op.{Op}
 use Rattle.alf_ops.specs.declared.operator.Op.TheVariants.{Neg, Select}
 use Rattle.alf_ops.specs.Table.{layout_of, size_count}
 use Rattle.alf_ops.specs.Names.{spelling}
+use Rattle.alf_ops.specs.TwosComplement.{word as word_of, is_negative}
 use Rattle.alf_tokens.specs.Tokens.{Lexeme}
 use Rattle.alf_tokens.specs.Printed.{Mark, token_before, tokens_before}
 use Rattle.alf_program.specs.declared.program.Num.{Num}
 use Rattle.alf_program.specs.Tree.{NamedExpression, NamedExpressions, Number, Address, Load, Apply, Empty, With, Statement, Null, Store, Jump, Switch, Call, Return, BodyItem, Label, Do, Allocation, InitialValue, Function, WholeProgram, expressions_of}
 use Rattle.alf_program.specs.Writable.{most_depth, most_frame_bytes, IsSize, IsFurther, AreSizesOf, NumIsWritable, AddressIsWritable, count, PartsAreWritable, AllPartsAreWritable, depth_of, most_deep, ExpressionIsWritable, TargetIsWritable, StatementIsWritable, ItemIsWritable, AllocationIsWritable, InitialIsWritable, ends_well, FunctionIsWritable, IsWritable}
 use Rattle.alf_text.specs.Grammar.{Room, Rule, number_between, number_within, opening, closing, end, some_word, word, between, fixed, size, at_most, name, begin, opens, opens_target, one_function, one_frame, fits_frame, more_bytes, bits, reference, references, offset, zero_offset, label_tail, label, alloc, allocs, address_tail, address, unsigned, minus, signed_bits, signed, num_tail, num, ref_place, init, inits, operator_named, unsigned_term, signed_term, address_term, load, further, sizes, apply, operator, expr_tail, nested, expr, whole_expr, target, default_arm, switch, with_word, store, label_item, null, leaving, jump, result_word, call, returns, item_tail, item, closing_after, stmts, scope, arg_decls, function_tail, function, functions, closing_empty, empty, addr_unit, macro_defs, little_endian, heading, exports, imports, program}
-use Rattle.alf_printer.specs.Canonical.{space, closes, a_word, a_number, listed, if_any, ref_marks, refs_marks, is_negative, distance, signed_marks, num_marks, label_marks, address_marks, frame_marks, decls_marks, start_marks, starts_marks, term_marks, terms_marks, target_marks, default_marks, act_marks, entry_marks, scope_marks, function_marks, names_marks, head_marks, parts_marks, globals_marks, program_marks}
+use Rattle.alf_printer.specs.Canonical.{space, closes, a_word, a_number, listed, if_any, ref_marks, refs_marks, signed_marks, num_marks, label_marks, address_marks, frame_marks, decls_marks, start_marks, starts_marks, term_marks, terms_marks, target_marks, default_marks, act_marks, entry_marks, scope_marks, function_marks, names_marks, head_marks, parts_marks, globals_marks, program_marks}
 use Rattle.alf_text.proofs.Decimals.{decimal_within}
+use Rattle.alf_text.proofs.Signed.{low_power, some_power, half_power, below, not_below, word_back}
 
 -- ---- marks
 
@@ -123,15 +123,6 @@ frames_read w fs all more room = rw (
 size_own : (s : ℕ) → IsSize s → number_between 1 64 1 (decimal s) ≡ Some s
 size_own s w = own_digits 1 64 1 s (omega (arith, w.1)) w.0 w.1 (omega arith)
 
-pub low_power : (s : ℕ) → s ≤ 64 → 2 ^ s ≤ 2 ^ 64
-low_power s le = pow_mono {i = s} {j = 64} le
-
-pub some_power : (s : ℕ) → 1 ≤ 2 ^ s
-some_power s = pow_mono {i = 0} {j = s} (omega arith)
-
-pub half_power : (s : ℕ) → 1 ≤ s → 2 ^ s ≡ 2 * 2 ^ (s - 1)
-half_power s some = let e : s ≡ suc (s - 1) = omega arith in ap (λ (n : ℕ). 2 ^ n) e ∙ pow-succ' 2 (s - 1)
-
 offset_own : (o : ℕ) → o < 2 ^ 32 → number_within (2 ^ 32 - 1) (prefix_digits (decimal o)) ≡ Some o
 offset_own o lt = decimal_within (2 ^ 32 - 1) o (omega (arith, lt)) (omega (arith, lt))
 
@@ -144,24 +135,26 @@ unsigned_reads s b w lt more room =
 
 signed_reads : (s b : ℕ) → IsSize s → b < 2 ^ s → (more : List Lexeme) (room : Room)
     → signed.form.reading (place (tokens_before more (a_number s ∷ signed_marks s b ++ closes ∷ [])) room) ≡ Ok (record { signed = true; size = s; bits = b }, place more room)
-unfolding signed size between minus begin opening word at_most signed_bits closing
+unfolding signed size between minus begin opening word at_most signed_bits closing signed_marks
 signed_reads s b w lt more room = by_sign (is_negative s b) refl
   where
     by_sign : (negative : Bool) → is_negative s b ≡ negative
         → signed.form.reading (place (tokens_before more (a_number s ∷ signed_marks s b ++ closes ∷ [])) room) ≡ Ok (record { signed = true; size = s; bits = b }, place more room)
     by_sign true e =
+        let is = below s b lt e in
         let half = half_power s w.0 in
-        let low : distance s b ≤ 2 ^ (s - 1) = omega (arith, half, leb-true _ _ e) in
-        let own : number_within (2 ^ (s - 1)) (prefix_digits (decimal (distance s b))) ≡ Some (distance s b) = decimal_within (2 ^ (s - 1)) (distance s b) (omega (arith, low, half, low_power s w.1, some_power (s - 1))) low in
-        let back : (2 ^ s - distance s b) % 2 ^ s ≡ b = let same : 2 ^ s - distance s b ≡ b = omega (arith, lt) in rw same (mod-eq_of_lt lt) in
-        rw (e, size_own s w, own, back) refl
+        let low : 2 ^ s - b ≤ 2 ^ (s - 1) = omega (arith, half, is.near) in
+        let own : number_within (2 ^ (s - 1)) (prefix_digits (decimal (2 ^ s - b))) ≡ Some (2 ^ s - b)
+        = decimal_within (2 ^ (s - 1)) (2 ^ s - b) (omega (arith, low, half, low_power s w.1, some_power (s - 1))) low in
+        let back : word_of s (neg_ℤ (pos (2 ^ s - b))) ≡ b = word_back s b (omega (arith, is.near, some_power (s - 1))) lt in
+        rw (e, is.far, size_own s w, own, back) refl
     by_sign false e =
-        let low : b ≤ 2 ^ (s - 1) - 1 = omega (arith, leb-false _ _ e) in
+        let low : b ≤ 2 ^ (s - 1) - 1 = omega (arith, not_below s b lt e) in
         let own : number_within (2 ^ (s - 1) - 1) (prefix_digits (decimal b)) ≡ Some b = decimal_within (2 ^ (s - 1) - 1) b (omega (arith, lt, low_power s w.1)) low in
         rw (e, size_own s w, own) refl
 
 num_reads : (n : Num) → NumIsWritable n → (more : List Lexeme) (room : Room) → num.form.reading (place (tokens_before more (num_marks n)) room) ≡ Ok (n, place more room)
-unfolding num opening some_word num_tail
+unfolding num opening some_word num_tail num_marks
 num_reads n w more room = by_sign n.signed
   where
     by_sign : (signed : Bool) → num.form.reading (place (tokens_before more (num_marks (record { signed = signed; size = n.size; bits = n.bits }))) room) ≡ Ok (record { signed = signed; size = n.size; bits = n.bits }, place more room)
@@ -247,7 +240,7 @@ some_depth (Load s e) = omega arith
 some_depth (Apply op ss es) = omega arith
 
 number_reads : (n : Num) (inner : Rule true NamedExpression) → NumIsWritable n → (more : List Lexeme) (room : Room) → (nested inner).form.reading (place (tokens_before more (num_marks n)) room) ≡ Ok (Number n, place more room)
-unfolding nested opening some_word expr_tail unsigned_term signed_term
+unfolding nested opening some_word expr_tail unsigned_term signed_term num_marks
 number_reads n inner w more room = by_sign n.signed
   where
     by_sign : (signed : Bool) → (nested inner).form.reading (place (tokens_before more (num_marks (record { signed = signed; size = n.size; bits = n.bits }))) room) ≡ Ok (Number (record { signed = signed; size = n.size; bits = n.bits }), place more room)
@@ -295,6 +288,7 @@ whole_reads t w more room = expr_reads t most_depth w.depth w.parts more room
 
 -- an expression begins with a brace
 num_opens : (n : Num) (more : List Lexeme) (room : Room) → opens (place (tokens_before more (num_marks n)) room) ≡ true
+unfolding num_marks
 num_opens n more room = by_sign n.signed
   where
     by_sign : (signed : Bool) → opens (place (tokens_before more (num_marks (record { signed = signed; size = n.size; bits = n.bits }))) room) ≡ true

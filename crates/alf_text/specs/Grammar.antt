@@ -3,7 +3,7 @@
 --   Place            where a text is read from: the tokens ahead, and what there may still be of what is counted
 --   Rule some A      a part of the grammar that spells values of type A, and takes some of the text where some is true
 --   fits, fits_word, fits_number, fits_name   one token, which fits its place or is the departure
-use Rattle.std.specs.Prelude.{ℕ, zero, suc, ◌+◌, ◌-◌, ◌/◌, ◌%◌, ◌^◌, ◌&&◌, ◌==◌, List, [], ◌∷◌, length, Bool, true, false, Result, Ok, Err, Option, Some, None, nat_le, if◌then◌else◌, codes}
+use Rattle.std.specs.Prelude.{ℕ, pos, neg_ℤ, zero, suc, ◌+◌, ◌-◌, ◌/◌, ◌%◌, ◌^◌, ◌&&◌, ◌==◌, List, [], ◌∷◌, Bool, true, false, Result, Ok, Err, Option, Some, None, nat_le, if◌then◌else◌, codes}
 use Rattle.std.specs.Str.{bytes_eq}
 use Rattle.flow_base.specs.Digits.{prefix_digits, number_of}
 use Rattle.flow_base.specs.declared.place.Which.{Which}
@@ -13,9 +13,10 @@ use Rattle.grammar.specs.Rule.{token, judge, refuse, value, spend, weaken, ◌>>
 use Rattle.grammar.specs.Rule as rules
 use Rattle.alf_ops.specs.declared.operator.Op.{Op}
 use Rattle.alf_ops.specs.declared.operator.Op.TheVariants.{Select}
-use Rattle.alf_ops.specs.Layouts.{size_count, operands_by_layout}
+use Rattle.alf_ops.specs.Layouts.{size_count}
 use Rattle.alf_ops.specs.Table.{layout_of}
 use Rattle.alf_ops.specs.Names.{spelling, operators}
+use Rattle.alf_ops.specs.TwosComplement.{word as word_of}
 use Rattle.alf_tokens.specs.declared.token.Kind.{Kind}
 use Rattle.alf_tokens.specs.declared.token.Kind.TheVariants as kinds
 use Rattle.alf_tokens.specs.Tokens.{Lexeme, is_kind}
@@ -328,7 +329,7 @@ minus s = do
 -- the word of a number with its sign
 unfoldable pub signed_bits : ℕ → Option ℕ → Rule false ℕ
 signed_bits s None = weaken (at_most (2 ^ (s - 1) - 1))
-signed_bits s (Some n) = value ((2 ^ s - n) % 2 ^ s)
+signed_bits s (Some n) = value (word_of s (neg_ℤ (pos n)))
 
 -- { dec_signed SIZE N } or { dec_signed SIZE { minus N } }, after its word
 unfoldable pub signed : Rule true Num

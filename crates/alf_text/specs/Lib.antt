@@ -4,7 +4,6 @@ pub use Rattle.alf_printer.specs.Canonical
 pub mod Grammar
 pub mod Reading
 pub mod Language
-pub mod Spelled
 pub mod First
 pub mod FirstTests
 pub mod FirstText

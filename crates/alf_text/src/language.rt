@@ -3,12 +3,14 @@
 ghost use Rattle.std.specs.Prelude.{◌≡◌, ◌-◌, ◌≤◌, ℕ, not, List, length, take, filter, reverse, Ok, Err, IfOk, IfErr, IfSome, IsSomeAnd};
 ghost use Rattle.std.specs.List.{prefix_len};
 ghost use Rattle.alf_program.specs.Tree.{program_of};
+ghost use Rattle.alf_program.specs.Writable.{IsWritable};
 ghost use Rattle.alf_text.specs.Reading.{fault_of};
 ghost use Rattle.alf_text.specs.Language.{Means, HasOneMeaning, departure_of, placed, place_of, place_after, is_line_feed};
 
 use crate::fault::Departure;
 use crate::reader::{Counts, Reader};
 use crate::text_fault::TextFault;
+use crate::writable::writable_programs_are_spelled;
 use alf_program::Program;
 use flow_base::{Name, Place};
 use std::alloc::Global;
@@ -28,7 +30,10 @@ pub fn read(alloc: Global, bytes: &[u8]) -> Result<Program, TextFault>
     // A text means one thing (`one_meaning`), and this is it.
     ensures spelled { IfOk result (λ program. Means bytes.now (Ok (program_of program))) }
     ensures departs { IfErr result (λ fault. IfSome (departure_of fault) (λ departure. Means bytes.now (Err departure))) }
+    // The condition of the checks.
+    ensures writable { IfOk result (λ program. IsWritable (program_of program)) }
 {
+    writable_programs_are_spelled();
     let mut reader = Reader::new(alloc, bytes, LIMITS);
     match reader.program() {
         Ok(program) => Ok(program),

@@ -34,7 +34,7 @@ mod first;
 pub use alf_program::{Alloc, Expr, Func, Init, Item, Num, Program, Stmt};
 pub use first::{FirstFault, first_texts, read_first};
 pub use language::{one_meaning, read};
-pub use laws::{canonical_texts_are_read_back, spelled_programs_are_written};
+pub use laws::canonical_texts_are_read_back;
 pub use printing::print;
 pub use text_fault::TextFault;
 pub use writable::writable_programs_are_spelled;

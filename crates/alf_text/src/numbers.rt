@@ -1,12 +1,13 @@
 //! Numbers with a size.
 
-ghost use Rattle.std.specs.Prelude.{◌≡◌, ◌≤◌, ◌-◌, ◌^◌, ◌%◌, IfOk, IfSome};
+ghost use Rattle.std.specs.Prelude.{◌≡◌, ◌≤◌, ◌<◌, ◌-◌, ◌^◌, IfOk, IfSome};
 ghost use Rattle.grammar.specs.Rule.{maybe};
 ghost use Rattle.alf_text.specs.Grammar.{opens, at_most, unsigned, minus, signed_bits, signed, num_tail, num};
 ghost use Rattle.alf_text.specs.Reading.{position, Reads};
 
 use crate::fault::{Departure, outside};
 use crate::reader::Reader;
+use alf_ops::negated;
 use alf_program::Num;
 
 // The greatest word of this size.
@@ -15,16 +16,6 @@ fn greatest(size: u32) -> u64
     ensures { result ≡ 2 ^ size - 1 }
 {
     ((1_u128 << size) - 1) as u64
-}
-
-// The word of this size that is so far below 0.
-fn negated(size: u32, distance: u64) -> u64
-    requires sized { size ≤ 64 }
-    requires near { distance ≤ 2 ^ (size - 1) }
-    ensures { result ≡ (2 ^ size - distance) % 2 ^ size }
-{
-    let all = 1_u128 << size;
-    ((all - u128::from(distance)) % all) as u64
 }
 
 impl<'a> Reader<'a> {
@@ -68,7 +59,7 @@ impl<'a> Reader<'a> {
         Ok(Some(distance))
     }
 
-    #[tactic(auto, unfolding(crate::specs::Grammar::signed_bits))]
+    #[tactic(auto, unfolding(crate::specs::Grammar::signed_bits), using(crate::proofs::Signed::half_below))]
     fn signed_bits(&mut self, size: u32, minus: Option<u64>) -> Result<u64, Departure<'a>>
         requires sized { (1 ≤ size) × (size ≤ 64) }
         requires near { IfSome minus (λ distance. distance ≤ 2 ^ (size - 1)) }

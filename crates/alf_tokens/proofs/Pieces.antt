@@ -12,7 +12,7 @@ use Rattle.alf_tokens.specs.declared.token.Kind.{Kind}
 use Rattle.alf_tokens.specs.declared.token.Kind.TheVariants as kinds
 use Rattle.alf_tokens.specs.Bytes.{is_blank, is_word_byte, is_name_byte, begins_with, to_close, closes, one_more}
 use Rattle.alf_tokens.specs.Tokens.{Lexeme, pieces_of, name_piece, closed_piece, comment_piece, number_piece, piece, text_of, lexeme_of, cut, is_numeral, is_token, shown, tokens_from}
-use Rattle.alf_tokens.specs.Printed.{is_name_text, bytes_of, piece_bytes, is_named_well}
+use Rattle.alf_tokens.specs.Printed.{bytes_of, piece_bytes, is_named_well}
 
 pub and_left : (a b : Bool) → a && b ≡ true → a ≡ true
 and_left true b h = refl

@@ -1,6 +1,7 @@
 -- The facts and the cost, read off the counts.
 use Rattle.std.proofs.Common.{◌≡◌, ◌<◌, ◌+◌, ◌==◌, ℕ, suc, Bool, not, cond, List, [], ◌∷◌, ◌++◌, Option, None, Some, map, length, drop, get_or, sum, refl, ap, arith}
 use Rattle.std.proofs.lemmas.List.Sums.{sum_by-cons}
+use Rattle.lists.specs.Tests.{by_test}
 use Rattle.alf_ops.specs.declared.history.RunFault.{RunFault}
 use Rattle.alf_ops.specs.declared.history.RunFault.TheVariants.{Uninit}
 use Rattle.alf_program.specs.Tree.{BodyItem}
@@ -11,7 +12,6 @@ use Rattle.sweet_cli.specs.Facts.{dead_facts, total_facts, alarms_at, alarm_fact
 use Rattle.sweet_cli.specs.Listed.{dead_from, totals_from, alarms_from, alarm_of, listed}
 use Rattle.sweet_cli.specs.declared.fact.Fact.{Fact}
 use Rattle.sweet_cli.specs.declared.fact.Fact.TheVariants.{Dead, Total}
-use Rattle.sweet_cli.proofs.Cutting.{by_test}
 use Rattle.sweet_cli.proofs.Ranks.{node_rank}
 
 -- 1 where the test passes

@@ -1,12 +1,9 @@
 -- What blocks have in all.
 use Rattle.std.proofs.Common.{◌≡◌, ◌<◌, ◌+◌, ℕ, zero, suc, Bool, true, false, List, [], ◌∷◌, ◌++◌, ◌⊎◌, inl, inr, None, Some, slice_get, length, drop, drop-cons, get_or, add-one, refl, ap, sym, ◌∙◌, subst, append_assoc, append-nil, arith}
+use Rattle.lists.specs.Tests.{by_test}
 use Rattle.alf_program.specs.Tree.{BodyItem}
 use Rattle.alf_text.specs.First.{Among}
 use Rattle.alf_check.specs.Blocks.{begins_between, joined, blocks_of}
-
-pub by_test : {A : Type 0} (v : Bool) → (v ≡ true → A) → (v ≡ false → A) → A
-by_test true if_true if_false = if_true refl
-by_test false if_true if_false = if_false refl
 
 pub some_is : {A : Type 0} {a b : A} → Some a ≡ Some b → a ≡ b
 some_is h = cc

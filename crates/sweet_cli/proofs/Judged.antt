@@ -7,7 +7,7 @@ use Rattle.alf_text.specs.First.{main_alone, IsFirst}
 use Rattle.alf_text.specs.FirstText.{FirstText}
 use Rattle.alf_text.specs.Language.{Departure, Means, HasOneMeaning}
 use Rattle.alf_check.specs.Blocks.{blocks_of}
-use Rattle.work.specs.Outcome.{Outcome, refused, Unbounded}
+use Rattle.work.specs.Outcome.{Outcome, refused}
 use Rattle.work.specs.declared.stop.Stop.{Stop}
 use Rattle.work.specs.Work.{IsOnly}
 use Rattle.work.specs.Works.{Judges}

@@ -1,5 +1,6 @@
 -- The items of a first text have one run and one numbering, so that what is exact for one is sound for all.
 use Rattle.std.proofs.Common.{◌≡◌, ◌<◌, ◌+◌, ◌==◌, ◌≢◌, ℕ, suc, false, inl, inr, List, [], ◌∷◌, ◌++◌, Option, None, Some, length, slice_get, length-append, append_assoc, refl, ap, sym, ◌∙◌, subst, arith, rules}
+use Rattle.lists.specs.Tests.{by_test}
 use Rattle.alf_ops.specs.declared.history.RunFault.{RunFault}
 use Rattle.alf_program.specs.Tree.{BodyItem}
 use Rattle.alf_text.specs.First.{main_alone, IsFirst}
@@ -11,7 +12,6 @@ use Rattle.sweet_cli.specs.Edges.{LabelsAreOne}
 use Rattle.sweet_cli.specs.Facts.{Findings, IsSound, IsReportOf, IsReportWithin, AllHold, IsFactOf, HasAlarm, dead_facts, total_facts, alarms_at, alarm_facts}
 use Rattle.sweet_cli.specs.declared.fact.Fact.{Fact}
 use Rattle.sweet_cli.specs.declared.fact.Fact.TheVariants.{Alarm}
-use Rattle.sweet_cli.proofs.Cutting.{by_test}
 use Rattle.sweet_cli.proofs.Ranks.{node_back}
 use Rattle.sweet_cli.proofs.Standing.{labels_one}
 use Rattle.sweet_cli.proofs.OneStep.{steps_one, edge_of}

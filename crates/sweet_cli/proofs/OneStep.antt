@@ -1,5 +1,6 @@
 -- Where each label stands in one block, there is one step from a node with a history.
 use Rattle.std.proofs.Common.{◌≡◌, ◌==◌, ℕ, suc, true, false, List, [], ◌∷◌, inl, inr, Option, None, Some, refl, ap, sym, ◌∙◌, subst}
+use Rattle.lists.specs.Tests.{by_test}
 use Rattle.alf_ops.specs.declared.history.RunFault.TheVariants.{Uninit}
 use Rattle.alf_program.specs.declared.program.Num.{Num}
 use Rattle.alf_program.specs.Tree.{Null, Store, Jump, Switch, Call, Return, BodyItem, Label, Do}
@@ -9,7 +10,7 @@ use Rattle.sweet_cli.specs.Nodes as edges
 use Rattle.sweet_cli.specs.Memory.{History, value_of, executed}
 use Rattle.sweet_cli.specs.Runs.{Step, onwards, over, Executes, target_of, Steps, enters, faults, returns, jumps, switches, switch_faults, falls}
 use Rattle.sweet_cli.specs.Edges.{LabelsAreOne}
-use Rattle.sweet_cli.proofs.Cutting.{some_is, by_test}
+use Rattle.sweet_cli.proofs.Cutting.{some_is}
 use Rattle.sweet_cli.proofs.Standing.{last_one}
 
 -- the label that a switch takes is one of its labels

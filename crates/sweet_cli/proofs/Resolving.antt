@@ -1,6 +1,7 @@
 -- What stands for the names of frames and for labels.
 use Rattle.std.proofs.Common.{◌≡◌, ◌<◌, ◌+◌, ◌==◌, ℕ, zero, suc, List, [], ◌∷◌, ◌++◌, inl, inr, get_or, take, drop, add-one, length, refl, sym, subst, arith}
 use Rattle.std.proofs.Math.Seq.{take-suc}
+use Rattle.lists.specs.Tests.{by_test}
 use Rattle.alf_program.specs.declared.program.Alloc.{Alloc}
 use Rattle.alf_program.specs.declared.program.Num.{Num}
 use Rattle.alf_program.specs.Tree.{BodyItem, names_of}
@@ -8,7 +9,7 @@ use Rattle.alf_text.specs.First.{Named, EachTarget}
 use Rattle.sweet_cli.specs.Nodes.{StandsIn}
 use Rattle.sweet_cli.specs.Runs.{target_of}
 use Rattle.sweet_cli.specs.Resolved.{name_at, AreTargets, chosen}
-use Rattle.sweet_cli.proofs.Cutting.{by_test, front}
+use Rattle.sweet_cli.proofs.Cutting.{front}
 
 -- ---- frames
 

@@ -1,9 +1,9 @@
 -- The search over a table marks what is reached.
 use Rattle.std.proofs.Common.{◌≡◌, ◌<◌, ◌+◌, ℕ, zero, suc, Bool, true, false, List, [], ◌∷◌, ◌++◌, ◌⊎◌, inl, inr, get_or, set, replicate, Vec, Global, length, length-append, length-set, refl, ap, sym, ◌∙◌, subst, arith}
 use Rattle.std.proofs.lemmas.List.{get_or-set_same, get_or-replicate, length-replicate, length-map, get_or-map}
+use Rattle.lists.specs.Tests.{by_test}
 use Rattle.sweet_cli.specs.Edges.{IsIn, rows_of}
 use Rattle.sweet_cli.specs.Search.{HasEdge, Reaches, begins, leads_on, IsClosed, IsMarked, IsMarking, Search, search_at, put, put_all, unmarked}
-use Rattle.sweet_cli.proofs.Cutting.{by_test}
 use Rattle.sweet_cli.proofs.Ranks.{in_front, in_last, in_push}
 
 -- ---- marks

@@ -6,12 +6,13 @@ use Rattle.std.proofs.Math.ListN.{drop_of_length-le}
 use Rattle.alf_program.specs.Tree.{Address}
 use Rattle.std.proofs.lemmas.Grind.{get_or-set_at}
 use Rattle.std.proofs.lemmas.Slice.Eq.{bytes_eq-Decides}
+use Rattle.lists.specs.Tests.{by_test}
 use Rattle.alf_text.specs.First.{Named, NamesDiffer}
 use Rattle.sweet_cli.specs.Memory.{History, stored_in}
 use Rattle.sweet_cli.specs.Resolved.{name_at, operand_value, PutWithin, PutsWithin, puts_executed}
 use Rattle.sweet_cli.specs.Cells.{AreCells}
 use Rattle.sweet_cli.specs.declared.operand.Put.{Put}
-use Rattle.sweet_cli.proofs.Cutting.{by_test, front}
+use Rattle.sweet_cli.proofs.Cutting.{front}
 
 -- the cells behind some of the stores
 pub record PutSoFar (frames : List (List ℕ)) (history : History) (puts rest : List Put) (cells : List (Option ℕ)) : Type 0 where

@@ -4,6 +4,7 @@ use Rattle.std.proofs.lemmas.List.Folds.{sum_by-replicate}
 use Rattle.std.proofs.lemmas.List.Sums.{sum_by_push, sum_by-set}
 use Rattle.std.proofs.lemmas.Grind.{get_or_default_zero, get_or-set_at}
 use Rattle.std.proofs.lemmas.List.{get_or-replicate, length-replicate}
+use Rattle.lists.specs.Tests.{by_test}
 use Rattle.alf_ops.specs.declared.history.RunFault.{RunFault}
 use Rattle.alf_ops.specs.declared.history.RunFault.TheVariants.{Uninit}
 use Rattle.alf_program.specs.Tree.{BodyItem}
@@ -13,7 +14,6 @@ use Rattle.sweet_cli.specs.Runs.{Steps, onwards, over, Runs, ends, goes_on, Runs
 use Rattle.sweet_cli.specs.Tally.{IsCount, IsTally}
 use Rattle.sweet_cli.specs.Cells.{AreCells, Did}
 use Rattle.sweet_cli.specs.declared.moves.Move.{Move}
-use Rattle.sweet_cli.proofs.Cutting.{by_test}
 use Rattle.sweet_cli.proofs.Ranks.{node_rank}
 
 -- what completes the run from this node with this history completes the whole

@@ -10,7 +10,8 @@ use clap::ArgMatches;
 /// A command.
 #[derive(Clone, Copy)]
 pub enum Command<'a> {
-    /// `analyse`: the name of the program's file, and the most nodes that a run may have.
+    /// `analyse`: the name of the program's file, and the most nodes that a run may have, which is 1
+    /// to 1,000,000, and 100,000 where the words do not say.
     Analyse { file: &'a str, turns: u32 },
     /// `print`: the name of the program's file.
     Print { file: &'a str },

@@ -1,4 +1,4 @@
-//! The words are read.
+//! Words to a command: `clap` reads them, and its matches are taken apart.
 ghost use Rattle.std.specs.Prelude.{◌≡◌, ◌≢◌, map, None, Some, Err, IfOk, option_map, string_bytes};
 ghost use Rattle.clap.specs.Words.{app_of, kind_of, subcommand_rows_of};
 ghost use Rattle.sweet_words.specs.Commands.{command_of};
@@ -23,6 +23,10 @@ pub enum WordsFault {
 }
 
 /// The command of the words, which stand after the program's name.
+///
+/// The texts of a command are those of the words: nothing is copied. `clap` is asked first, whether
+/// it takes the words, and then the values: the file, then the number. Each of these gives `Usage`.
+/// Takes memory for `clap`'s command and its matches, and holds none of it after.
 pub fn read(alloc: Global, words: &[String]) -> Result<Command<'_>, WordsFault>
     ensures command { IfOk result (λ command. command_of (map string_bytes words.now) ≡ Some (command_meant command)) }
     ensures usage { result ≡ Err WordsFault.Usage → command_of (map string_bytes words.now) ≡ None }

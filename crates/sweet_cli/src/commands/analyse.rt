@@ -50,12 +50,7 @@ fn analysing<F: Shelf>(
 
 // The report of the run of the program that is read.
 #[tactic(auto, unfolding(crate::specs::Analyse::report_in))]
-fn report_in<F: Shelf>(
-    alloc: Global,
-    file: &str,
-    turns: u32,
-    shelf: &mut F,
-) -> Result<Report, Stop>
+fn report_in<F: Shelf>(alloc: Global, file: &str, turns: u32, shelf: &mut F) -> Result<Report, Stop>
     ensures { Works (report_in file.now turns) (λ report. findings_of report) (F.state shelf.old) result (F.state shelf.new) }
 {
     let program = first_program_in(alloc, file, shelf)?;
@@ -70,11 +65,7 @@ fn run_report(alloc: Global, program: &Program, turns: u32) -> Result<Report, St
     let report = report_of(alloc, &program.decls, items_of_main(program), turns)?;
     match report {
         Some(report) => Ok(report),
-        None => Err(stopped(
-            alloc,
-            Why::Unbounded,
-            "unbounded 0 \"main\":entry\n",
-        )),
+        None => Err(stopped(alloc, Why::Unbounded, "unbounded 0 \"main\":entry\n")),
     }
 }
 

@@ -1,4 +1,4 @@
-use Rattle.std.proofs.Common.{◌≡◌, ◌<◌, length, map, subst, sym, ap, arith, rules}
+use Rattle.std.proofs.Common.{◌≡◌, ◌<◌, length, subst, sym, ap, arith, rules}
 use Rattle.std.proofs.lemmas.List.{length-map}
 use Rattle.alf_program.specs.Tree.{function_of, program_of}
 use Rattle.alf_check.specs.CheckedPrograms.{CheckedParts, seen}
@@ -24,4 +24,4 @@ invariant_of-result c =
     let long = length-map c.args.program.now.funcs.items function_of in
     let funcs : length whole.funcs < 4294967295 = let few : length c.args.program.now.funcs.items < 4294967295 = search rules in omega arith in
     let few = bounded whole parts (search rules) c.in_ok-frames.ensures.few funcs c.in_ok-exports.ensures.few c.in_ok-funcs.ensures.few in
-    subst IsKept (sym is) (kept whole c.args.root.now parts.ranks c.requires.spelled c.requires.written c.requires.passes c.requires.ranked (subst IsBounded is few))
+    subst IsKept (sym is) (kept whole c.args.root.now parts.ranks c.requires.writable c.requires.passes ((c.no_fault_is_by_parts.ensures whole).0 c.requires.passes.sound) c.requires.ranked (subst IsBounded is few))

@@ -14,6 +14,13 @@ returns-in-Ok-clause-spelled c =
     = subst (λ (p : Place). program.form.reading p ≡ Ok (program_of c.in-Ok.program, position c.program.new.self)) c.new-reader.ensures c.in-Ok.ensures in
     read_means c.args.bytes.now (Ok (program_of c.in-Ok.program, position c.program.new.self)) e
 
+pub returns-in-Ok-clause-writable : goal.returns-in-Ok-clause-writable
+returns-in-Ok-clause-writable c =
+    let e : program.form.reading (start c.args.bytes.now) ≡ Ok (program_of c.in-Ok.program, position c.program.new.self)
+    = subst (λ (p : Place). program.form.reading p ≡ Ok (program_of c.in-Ok.program, position c.program.new.self)) c.new-reader.ensures c.in-Ok.ensures in
+    (c.writable_programs_are_spelled.ensures.exactly (program_of c.in-Ok.program)).0
+    (c.args.bytes.now, read_means c.args.bytes.now (Ok (program_of c.in-Ok.program, position c.program.new.self)) e)
+
 pub returns-in-Err-clause-departs : goal.returns-in-Err-clause-departs
 returns-in-Err-clause-departs c =
     let e : Fails (fault_of c.in-Err.departure) (program.form.reading (start c.args.bytes.now)) = subst (λ (p : Place). Fails (fault_of c.in-Err.departure) (program.form.reading p)) c.new-reader.ensures c.in-Err.ensures in

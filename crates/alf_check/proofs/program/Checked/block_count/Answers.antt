@@ -1,4 +1,4 @@
-use Rattle.std.proofs.Common.{◌≡◌, ◌<◌, ◌∙◌, Some, ap, length, slice_get, arith, rules}
+use Rattle.std.proofs.Common.{◌≡◌, ◌<◌, ◌∙◌, Some, ap, length, slice_get, rules}
 use Rattle.alf_check.specs.CheckedPrograms.{CheckedParts, blocks_at, seen}
 use Rattle.alf_check.proofs.LookedUp.{count_blocks, few_blocks}
 use Rattle.alf_check.proofs.program.Checked.block_count.Goals as goal

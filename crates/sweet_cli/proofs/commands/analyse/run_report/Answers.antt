@@ -1,11 +1,10 @@
 -- The report of the one run, or that it has more nodes than the turns, is the only meaning.
-use Rattle.std.proofs.Common.{◌≡◌, List, ℕ, map, Ok, Err, refl, sym, subst}
-use Rattle.alf_program.specs.Tree.{BodyItem, WholeProgram, item_of, names_of, program_of}
+use Rattle.std.proofs.Common.{map, Ok, Err, refl, sym, subst}
+use Rattle.alf_program.specs.Tree.{WholeProgram, item_of, names_of, program_of}
 use Rattle.alf_text.specs.First.{main_alone, IsFirst}
-use Rattle.work.specs.Outcome.{Outcome, Unbounded}
 use Rattle.work.specs.Work.{IsOnly}
 use Rattle.work.specs.Works.{stop_judges}
-use Rattle.sweet_cli.specs.Facts.{Findings, findings_of}
+use Rattle.sweet_cli.specs.Facts.{findings_of}
 use Rattle.sweet_cli.specs.Analyse.{RunMeans, unbounded}
 use Rattle.sweet_cli.proofs.Judged.{run_only}
 use Rattle.sweet_cli.proofs.commands.analyse.run_report.Goals as goal

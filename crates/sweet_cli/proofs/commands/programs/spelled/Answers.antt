@@ -9,6 +9,8 @@ pub returns-in-Ok : goal.returns-in-Ok
 returns-in-Ok c = spelled_only c.args.bytes.now (c.one_meaning.ensures c.args.bytes.now) (program_of c.in-Ok.program) c.in-Ok.ensures.spelled
 
 pub returns-in-Ok-fault_line : goal.returns-in-Ok-fault_line
-returns-in-Ok-fault_line c =
-    (refl, departed_only c.args.bytes.now (c.one_meaning.ensures c.args.bytes.now) (departure_of c.in-Err.fault) c.in-Ok-fault_line.line.items
-    c.in-Ok-fault_line.ensures c.in-Err.ensures.departs)
+returns-in-Ok-fault_line c = (
+  refl,
+  departed_only c.args.bytes.now (c.one_meaning.ensures c.args.bytes.now) (departure_of c.in-Err.fault) c.in-Ok-fault_line.line.items
+      c.in-Ok-fault_line.ensures c.in-Err.ensures.departs,
+)

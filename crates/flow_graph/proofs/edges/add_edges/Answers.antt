@@ -1,19 +1,24 @@
-use Rattle.std.proofs.Common.{◌≡◌, ◌∙◌, ◌<◌, ◌+◌, ℕ, List, [], ◌∷◌, ◌++◌, Option, Some, None, get_or, slice_get, length, Contains, AllPairs, ap, sym, subst, arith}
+use Rattle.std.proofs.Common.{◌≡◌, ◌∙◌, ◌<◌, ◌≤◌, ◌+◌, ℕ, List, [], ◌∷◌, ◌++◌, Option, Some, None, get_or, slice_get, length, take, Contains, All, AllPairs, refl, ap, sym, subst, arith}
 use Rattle.std.proofs.Math.Seq.{take-length}
 use Rattle.std.proofs.lemmas.List.Elements.{Contains-get_or}
 use Rattle.walks.specs.ListLaws.{same_default}
 use Rattle.alf_check.specs.CheckedPrograms.{NumberedProgram, seen}
-use Rattle.flow_graph.specs.Nodes.{Node, Leads, goes_on}
+use Rattle.flow_graph.specs.Nodes.{Node, Goal, Leads, IsKeptNode, goes_on}
 use Rattle.flow_graph.specs.Numbering.{block_rank}
 use Rattle.flow_graph.specs.Places.{node_at, node_of, nodes_of}
 use Rattle.flow_graph.specs.Goals.{AreGoals}
 use Rattle.flow_graph.specs.Listing.{IsListed, IsDoneBefore}
 use Rattle.flow_graph.specs.declared.place.Place.{Place}
 use Rattle.flow_graph.specs.declared.goals.Goals.{Goals}
-use Rattle.flow_graph.proofs.Among.{nodes_long, stands_at}
-use Rattle.flow_graph.proofs.Whole.{kept_at}
+use Rattle.flow_graph.proofs.Among.{nodes_long, stands_is, stands_at}
 use Rattle.flow_graph.proofs.Listing.{IsDoneInRow, row_first, row_more, row_all, end_more}
 use Rattle.flow_graph.proofs.edges.add_edges.Goals as goal
+
+-- the node of a place is kept
+kept_at : (program : NumberedProgram) (places : List Place) (from : ℕ) (place : Place) → from < length places → place ≡ get_or places from place → All (IsKeptNode program) (nodes_of places) → IsKeptNode program (node_of place)
+kept_at program places from place low is kept =
+    let long = nodes_long places in
+    subst (λ (n : Node). IsKeptNode program n) (stands_is places from place low is (node_of place)) (kept from (node_of place) (omega arith))
 
 pub leads_from-requires : goal.leads_from-requires
 leads_from-requires c = kept_at (seen c.args.checked.now) c.args.places.now c.args.from c.index-places-from.result c.requires.there c.index-places-from.is c.requires.numbered.kept

@@ -16,3 +16,6 @@ pub mod FaultSets
 pub mod WordSets
 pub mod Machines
 pub mod Recordings
+pub mod StretchLaws
+pub mod Executions
+pub mod ExecutionLaws

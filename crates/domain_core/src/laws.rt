@@ -50,7 +50,7 @@ pub fn an_outline_nests_its_scopes()
     ensures nested { (o : Shape) → IsOutline o → (s t n : ℕ) → Holds o s n → Holds o t n → LeadsTo o.scopes t s ⊎ LeadsTo o.scopes s t }
     ensures inside { (o : Shape) → IsOutline o → (s t n : ℕ) → LeadsTo o.scopes t s → Holds o s n → Holds o t n }
     ensures smallest { (o : Shape) → IsOutline o → (t n m : ℕ) → Holds o t n → Holds o (slice_index o.own n) m → Holds o t m }
-    ensures around { (o : Shape) → IsOutline o → (t n : ℕ) → n < length o.own → Contains (scopes_around o n) t ↔ Holds o t n }
+    ensures around { (o : Shape) → IsOutline o → (t n : ℕ) → Contains (scopes_around o n) t ↔ Holds o t n }
 {}
 
 /// In every outline the header of a scope lies on every walk from node 0 to a node of the scope.

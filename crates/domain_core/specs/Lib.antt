@@ -19,3 +19,7 @@ pub mod Recordings
 pub mod StretchLaws
 pub mod Executions
 pub mod ExecutionLaws
+pub mod WordSetLaws
+pub mod MachineLaws
+pub mod RecordingLaws
+pub mod FaultLaws

@@ -3,7 +3,7 @@
 --   from_more   another is followed by the chain of its parent
 --   own_low, holds_by, around_by   what such walks tell from a node's row
 --   any_last, any_other, any_here   whether a scope is on such a chain
-use Rattle.std.proofs.Common.{◌≡◌, ◌≢◌, ◌==◌, ℕ, zero, suc, ◌+◌, Bool, true, false, List, [], ◌∷◌, ◌<◌, ◌↔◌, IsTrue, length, map, reverse, get_or, subst, Option, Some, None, refl, ap, sym, ◌∙◌, arith, add-one}
+use Rattle.std.proofs.Common.{◌≡◌, ◌≢◌, ◌==◌, ℕ, zero, suc, ◌+◌, Bool, true, false, List, [], ◌∷◌, ◌<◌, ◌↔◌, IsTrue, length, map, reverse, get_or, subst, Some, None, refl, ap, sym, ◌∙◌, arith, add-one}
 use Rattle.std.specs.List.{list_any}
 use Rattle.std.proofs.lemmas.Bool.{ne_eqb, eq-eqb}
 use Rattle.std.proofs.lemmas.List.{length-map}

@@ -4,7 +4,7 @@
 --   execution_starts    an execution starts at the header
 --   turns_mean          the iteration number of a scope is the number of its headers in the open execution
 --   length-turns_of     there is one number for each scope
-use Rattle.std.proofs.Common.{◌≡◌, ℕ, zero, suc, ◌+◌, ◌<◌, ◌↔◌, Bool, true, false, cond, List, [], ◌∷◌, ◌++◌, length, get_or, replicate, reverse, Contains, refl, sym, ap, ◌∙◌, subst, arith, inl, inr}
+use Rattle.std.proofs.Common.{◌≡◌, ℕ, zero, suc, ◌+◌, ◌<◌, cond, List, [], ◌∷◌, ◌++◌, length, get_or, reverse, Contains, refl, sym, ap, ◌∙◌, subst, arith, inl, inr}
 use Rattle.std.proofs.lemmas.Bool.{cases_Bool}
 use Rattle.std.proofs.lemmas.List.{length-replicate, get_or-replicate, append_assoc, reverse-append, reverse-reverse}
 use Rattle.std.proofs.lemmas.List.Elements.{Contains-push}
@@ -15,7 +15,7 @@ use Rattle.domain_core.specs.OutlineLaws.{held_is, is_holder, holder_low}
 use Rattle.domain_core.specs.Stretches.{IsStretch, Passes, FirstIsNot}
 use Rattle.domain_core.specs.Traces.{IsTrace}
 use Rattle.domain_core.specs.StretchLaws.{found_stretch, stretch_found, stretch_turned, stretch_same}
-use Rattle.domain_core.specs.Executions.{IsExecution, executions, open_execution, header_count, is_header, turn_after, turns_after, turns_of}
+use Rattle.domain_core.specs.Executions.{IsExecution, executions, open_execution, header_count, turn_after, turns_after, turns_of}
 
 module _ (o : Shape) (ok : IsOutline o) (t : ℕ) where
   -- an execution that is found is one of the run

@@ -2,7 +2,7 @@
 --   is_empty   the empty set has no fault
 --   is_new, is_kept   a set with one more fault has this one, and of others those that it had
 --   is_united  a union has the faults of both sides
-use Rattle.std.proofs.Common.{◌≡◌, ◌≢◌, Bool, true, false, ◌||◌, refl}
+use Rattle.std.proofs.Common.{◌≡◌, ◌≢◌, true, false, ◌||◌, refl}
 use Rattle.alf_ops.specs.declared.history.RunFault.{RunFault}
 use Rattle.alf_ops.specs.declared.history.RunFault.TheVariants.{Divide, Uninit, Mixed, Bounds, Dead, Kind, Pointers}
 use Rattle.domain_core.specs.declared.fault_set.FaultSet.{FaultSet}

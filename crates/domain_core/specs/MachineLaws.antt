@@ -1,6 +1,6 @@
 -- What follows from the laws of a stepper.
 --   joined_left, joined_right   a join of two states of one node covers what either covers
-use Rattle.std.proofs.Common.{◌≡◌, ℕ}
+use Rattle.std.proofs.Common.{ℕ}
 use Rattle.domain_core.specs.Orders.{Order, IsOrder}
 use Rattle.domain_core.specs.Machines.{Machine, IsMachine}
 

@@ -12,16 +12,16 @@
 --   chain_is            the first scopes of a chain, as many as there are scopes, are all of it
 --   held_is, is_holder  the test for Holds is right
 --   around_is           the scopes around a node are those that hold it
-use Rattle.std.proofs.Common.{◌≡◌, ◌≢◌, ◌<◌, ◌≤◌, ◌==◌, ◌||◌, ℕ, zero, suc, Bool, true, false, List, [], ◌∷◌, ◌++◌, ◌⊎◌, ◌↔◌, inl, inr, Option, Some, None, Contains, length, get_or, reverse, refl, ap, sym, ◌∙◌, subst, arith}
+use Rattle.std.proofs.Common.{◌≡◌, ◌≢◌, ◌<◌, ◌≤◌, ◌==◌, ◌||◌, ℕ, zero, suc, Bool, true, false, List, [], ◌∷◌, ◌++◌, ◌⊎◌, ◌↔◌, inl, inr, Some, None, Contains, length, get_or, reverse, refl, ap, sym, ◌∙◌, subst, arith}
 use Rattle.std.specs.List.{list_any, IsDistinct, AllByRecursion}
 use Rattle.std.proofs.lemmas.Bool.{cases_lt, ne_eqb, eqb-true, eq-eqb}
 use Rattle.std.proofs.lemmas.List.{reverse-append, reverse-reverse}
-use Rattle.std.proofs.lemmas.List.Elements.{Contains-append_left, Contains-push, Contains-push_cases}
+use Rattle.std.proofs.lemmas.List.Elements.{Contains-append_left, Contains-push}
 use Rattle.std.proofs.lemmas.Map.Steps.{length-le_from_distinct_below}
 use Rattle.lists.specs.Members.{no_member, first_member, further_member}
 use Rattle.lists.specs.Tests.{by_test}
 use Rattle.walks.specs.Walks.{Walk, stays, goes_on}
-use Rattle.walks.specs.ListLaws.{same_or_not, contains_cases}
+use Rattle.walks.specs.ListLaws.{contains_cases}
 use Rattle.domain_core.specs.declared.outline.ScopeRow.{ScopeRow}
 use Rattle.domain_core.specs.Reducible.{IsEdge, Dominates, IsForwardEdge}
 use Rattle.domain_core.specs.Outlines.{Shape, LeadsTo, here, up, Holds, IsChain, outermost, inner, scopes_from, scopes_around, is_held, parent_of, header_of, IsOutline}
@@ -90,13 +90,15 @@ module _ (scopes : List ScopeRow) where
   chain_once : (s : ℕ) (chain : List ℕ) → IsChain scopes s chain → IsDistinct (λ m n. m == n) chain
   unfolding IsDistinct
   chain_once s chain (outermost {s = x} top) = (tt, tt)
-  chain_once s chain (inner {s = x} {p = p} {chain = rest} e more) =
-      (apart_all x rest (λ y there same.
-          let part = chain_part p y rest more there in
-          let whole = chain_one x part.0 (x ∷ rest) (subst (λ (n : ℕ). IsChain scopes n part.0) (sym same) part.1) (inner e more) in
-          let long : length part.0 ≡ length (x ∷ rest) = ap (λ (xs : List ℕ). length xs) whole in
-          let short = part.2 in
-          omega arith), chain_once p rest more)
+  chain_once s chain (inner {s = x} {p = p} {chain = rest} e more) = (
+    apart_all x rest (λ y there same.
+        let part = chain_part p y rest more there in
+        let whole = chain_one x part.0 (x ∷ rest) (subst (λ (n : ℕ). IsChain scopes n part.0) (sym same) part.1) (inner e more) in
+        let long : length part.0 ≡ length (x ∷ rest) = ap (λ (xs : List ℕ). length xs) whole in
+        let short = part.2 in
+        omega arith),
+    chain_once p rest more,
+  )
 
   -- the first scopes of a chain, at least as many as it has, are all of it
   pub chain_is : (k s : ℕ) (chain : List ℕ) → IsChain scopes s chain → length chain ≤ k → scopes_from scopes k s ≡ chain
@@ -130,10 +132,10 @@ pub in_reverse : (xs : List ℕ) (t : ℕ) → Contains xs t → Contains (rever
 in_reverse [] t there = no_member t there
 in_reverse (x ∷ xs) t there =
     subst (λ (ys : List ℕ). Contains ys t) (sym (reverse-append (x ∷ []) xs)) (
-      elim (contains_cases x xs t there) [
-        | inl e ↦ subst (λ (n : ℕ). Contains (reverse xs ++ x ∷ []) n) (sym e) (Contains-push (reverse xs) x)
-        | inr later ↦ Contains-append_left (reverse xs) (x ∷ []) t (in_reverse xs t later)
-      ]
+    elim (contains_cases x xs t there) [
+      | inl e ↦ subst (λ (n : ℕ). Contains (reverse xs ++ x ∷ []) n) (sym e) (Contains-push (reverse xs) x)
+      | inr later ↦ Contains-append_left (reverse xs) (x ∷ []) t (in_reverse xs t later)
+    ]
     )
 
 pub of_reverse : (xs : List ℕ) (t : ℕ) → Contains (reverse xs) t → Contains xs t

@@ -1,7 +1,7 @@
 -- What follows from the laws of a recorder.
 --   joined_left, joined_right   a join of two recorders of one outline covers what either covers
 --   still_covered, still_summed   what is covered stays so after another recorder goes on, and ended_covered, ended_summed after it ends
-use Rattle.std.proofs.Common.{◌≡◌, ◌<◌, ℕ, List, Contains, length}
+use Rattle.std.proofs.Common.{◌<◌, ℕ, List, Contains, length}
 use Rattle.domain_core.specs.Orders.{Order, IsOrder}
 use Rattle.domain_core.specs.Outlines.{Outlined}
 use Rattle.domain_core.specs.Recordings.{Recording, IsRecording, IsSuited, IsOf}

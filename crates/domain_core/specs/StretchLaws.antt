@@ -147,7 +147,7 @@ module _ (inside : ℕ → Bool) where
       let same = open_one past e (record { rest = rest; is = tail; all = all; ends = ends }) in
       by_test (inside n) (λ yes_in. absurd (starts [] newest refl (subst (λ (k : ℕ). Passes inside k) (sym first) yes_in)))
       (λ clear. rw clear (subst (λ (xs : List ℕ). Contains (with_closed (open_stretch inside past) (closed_stretches inside past)) xs) (sym same)
-          (first_closed (open_stretch inside past) (closed_stretches inside past) (subst (λ (xs : List ℕ). xs ≢ []) same some))))
+      (first_closed (open_stretch inside past) (closed_stretches inside past) (subst (λ (xs : List ℕ). xs ≢ []) same some))))
   closed_all (n ∷ past) e newest (m ∷ newer) rest is some all starts ends =
       let tail : past ≡ m ∷ newer ++ (e ++ rest) = (let whole : n ∷ past ≡ newest ∷ m ∷ newer ++ (e ++ rest) = is in cc) in
       let older = closed_all past e m newer rest tail some all (last_less (Passes inside) newest m newer starts) ends in

@@ -1,5 +1,5 @@
 -- What is left to show of `chain`.
-use Rattle.std.proofs.Common.{◌≡◌, ◌<◌, ◌++◌, ◌∷◌, [], ℕ, List, length, ◌+◌, ◌-◌, refl, sym, ◌∙◌, arith, ap}
+use Rattle.std.proofs.Common.{◌≡◌, ◌++◌, ◌∷◌, [], ℕ, List, length, ◌+◌, ◌-◌, sym, ◌∙◌, arith, ap}
 use Rattle.std.proofs.lemmas.List.{append_assoc, append-nil}
 use Rattle.domain_core.specs.Outlines.{scopes_from}
 use Rattle.domain_core.proofs.Chains.{from_last, from_more}
@@ -28,10 +28,10 @@ loop-step-preserved c =
     record {
       low = c.requires.parents l.at c.in-Some.parent l.invariant.low c.in-Some.is;
       same =
-      ap (λ (xs : List ℕ). xs ++ rest) c.in_ok-push.ensures.items
-      ∙ append_assoc l.found.items (l.at ∷ []) rest
-      ∙ ap (λ (xs : List ℕ). l.found.items ++ xs) (sym (from_more c.args.scopes.now (length c.args.scopes.now - l._step) (length c.args.scopes.now - (l._step + 1)) l.at c.in-Some.parent (let low = c.loop-step-test.true in omega arith) c.in-Some.is))
-      ∙ l.invariant.same;
+          ap (λ (xs : List ℕ). xs ++ rest) c.in_ok-push.ensures.items
+          ∙ append_assoc l.found.items (l.at ∷ []) rest
+          ∙ ap (λ (xs : List ℕ). l.found.items ++ xs) (sym (from_more c.args.scopes.now (length c.args.scopes.now - l._step) (length c.args.scopes.now - (l._step + 1)) l.at c.in-Some.parent (let low = c.loop-step-test.true in omega arith) c.in-Some.is))
+          ∙ l.invariant.same;
     }
 
 pub returns : goal.returns

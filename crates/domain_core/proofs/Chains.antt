@@ -3,7 +3,7 @@
 --   from_more   another is followed by the chain of its parent
 --   own_low, holds_by, around_by   what such walks tell from a node's row
 --   any_last, any_other, any_here   whether a scope is on such a chain
-use Rattle.std.proofs.Common.{◌≡◌, ◌≢◌, ◌==◌, ℕ, zero, suc, ◌+◌, Bool, true, false, List, [], ◌∷◌, ◌<◌, ◌↔◌, IsTrue, length, map, reverse, get_or, subst, Option, Some, None, refl, ap, sym, ◌∙◌, arith, add-one}
+use Rattle.std.proofs.Common.{◌≡◌, ◌≢◌, ◌==◌, ℕ, zero, suc, ◌+◌, Bool, true, false, List, [], ◌∷◌, ◌<◌, ◌↔◌, IsTrue, length, map, reverse, get_or, subst, Some, None, refl, ap, sym, ◌∙◌, arith, add-one}
 use Rattle.std.specs.List.{list_any}
 use Rattle.std.proofs.lemmas.Bool.{ne_eqb, eq-eqb}
 use Rattle.std.proofs.lemmas.List.{length-map}
@@ -51,7 +51,7 @@ module _ (z : Outlined) (ok : IsOutline (shape_of z)) (n : ℕ) (row : NodeRow) 
   pub holds_by : (t : ℕ) (answer : Bool) → answer ≡ list_any (λ s. t == s) (scopes_from z.scopes (length z.scopes) row.scope) → IsTrue answer ↔ Holds (shape_of z) t n
   holds_by t answer told =
       let whole : answer ≡ is_held (shape_of z) t n = told ∙ ap (λ (s : ℕ). list_any (λ k. t == k) (scopes_from z.scopes (length z.scopes) s)) (own_at z.nodes n row low is) in
-      ((λ (yes_is : answer ≡ true). held_is (shape_of z) ok t n node_low (sym whole ∙ yes_is)), (λ held. whole ∙ is_holder (shape_of z) ok t n node_low held))
+      ((λ (yes_is : answer ≡ true). held_is (shape_of z) ok t n (sym whole ∙ yes_is)), (λ held. whole ∙ is_holder (shape_of z) ok t n held))
 
   -- and turned round it has the scopes around the node
   pub around_by : (found : List ℕ) → found ≡ scopes_from z.scopes (length z.scopes) row.scope → reverse found ≡ scopes_around (shape_of z) n

@@ -16,3 +16,10 @@ pub mod FaultSets
 pub mod WordSets
 pub mod Machines
 pub mod Recordings
+pub mod StretchLaws
+pub mod Executions
+pub mod ExecutionLaws
+pub mod WordSetLaws
+pub mod MachineLaws
+pub mod RecordingLaws
+pub mod FaultLaws

@@ -1,7 +1,6 @@
 -- What a lattice states of its type.
 --   Order T          which values may be joined, which is above which, and what a join answers
 --   IsOrder T order  it is an order, and a join is above both sides
-use Rattle.std.specs.Prelude.{◌≡◌}
 
 pub record Order (T : Type 0) : Type 1 where
   -- the two may be joined

@@ -12,16 +12,16 @@
 --   chain_is            the first scopes of a chain, as many as there are scopes, are all of it
 --   held_is, is_holder  the test for Holds is right
 --   around_is           the scopes around a node are those that hold it
-use Rattle.std.proofs.Common.{◌≡◌, ◌≢◌, ◌<◌, ◌≤◌, ◌==◌, ◌||◌, ℕ, zero, suc, Bool, true, false, List, [], ◌∷◌, ◌++◌, ◌⊎◌, ◌↔◌, inl, inr, Option, Some, None, Contains, length, get_or, reverse, refl, ap, sym, ◌∙◌, subst, arith}
+use Rattle.std.proofs.Common.{◌≡◌, ◌≢◌, ◌<◌, ◌≤◌, ◌==◌, ◌||◌, ℕ, zero, suc, Bool, true, false, List, [], ◌∷◌, ◌++◌, ◌⊎◌, ◌↔◌, inl, inr, Some, None, Contains, length, get_or, reverse, refl, ap, sym, ◌∙◌, subst, arith}
 use Rattle.std.specs.List.{list_any, IsDistinct, AllByRecursion}
 use Rattle.std.proofs.lemmas.Bool.{cases_lt, ne_eqb, eqb-true, eq-eqb}
 use Rattle.std.proofs.lemmas.List.{reverse-append, reverse-reverse}
-use Rattle.std.proofs.lemmas.List.Elements.{Contains-append_left, Contains-push, Contains-push_cases}
+use Rattle.std.proofs.lemmas.List.Elements.{Contains-append_left, Contains-push}
 use Rattle.std.proofs.lemmas.Map.Steps.{length-le_from_distinct_below}
 use Rattle.lists.specs.Members.{no_member, first_member, further_member}
 use Rattle.lists.specs.Tests.{by_test}
 use Rattle.walks.specs.Walks.{Walk, stays, goes_on}
-use Rattle.walks.specs.ListLaws.{same_or_not, contains_cases}
+use Rattle.walks.specs.ListLaws.{contains_cases}
 use Rattle.domain_core.specs.declared.outline.ScopeRow.{ScopeRow}
 use Rattle.domain_core.specs.Reducible.{IsEdge, Dominates, IsForwardEdge}
 use Rattle.domain_core.specs.Outlines.{Shape, LeadsTo, here, up, Holds, IsChain, outermost, inner, scopes_from, scopes_around, is_held, parent_of, header_of, IsOutline}
@@ -197,24 +197,36 @@ module _ (o : Shape) (ok : IsOutline o) where
       length-le_from_distinct_below chain (length o.scopes) (chain_once o.scopes s chain is)
       (λ t found. lead_low t s (held_leads o.scopes s t chain is (found_member chain t found)) low)
 
+  -- an own scope is a scope of the outline, and so is 0, which is read where there is no node
+  own_within : (n : ℕ) → get_or o.own n 0 < length o.scopes
+  own_within n = each o.own n ok.scopes_within
+    where
+      first_low : 0 < length o.scopes
+      first_low = let low = ok.scopes_within 0 ok.some in omega arith
+
+      each : (own : List ℕ) (k : ℕ) → ((m : ℕ) → m < length own → get_or own m 0 < length o.scopes) → get_or own k 0 < length o.scopes
+      each [] k within = first_low
+      each (s ∷ own) zero within = within 0 (omega arith)
+      each (s ∷ own) (suc k) within = each own k (λ m low. within (suc m) (omega arith))
+
   -- the chain of a node's own scope, as the code walks it
-  pub chain_at : (n : ℕ) → n < length o.own → IsChain o.scopes (get_or o.own n 0) (scopes_from o.scopes (length o.scopes) (get_or o.own n 0))
-  chain_at n low =
-      let own = ok.scopes_within n low in
+  pub chain_at : (n : ℕ) → IsChain o.scopes (get_or o.own n 0) (scopes_from o.scopes (length o.scopes) (get_or o.own n 0))
+  chain_at n =
+      let own = own_within n in
       let r = chain_of (get_or o.own n 0) own in
       subst (λ (chain : List ℕ). IsChain o.scopes (get_or o.own n 0) chain)
       (sym (chain_is o.scopes (length o.scopes) (get_or o.own n 0) r.0 r.1 (chain_short (get_or o.own n 0) r.0 own r.1))) r.1
 
   -- the test for Holds is right
-  pub held_is : (t n : ℕ) → n < length o.own → is_held o t n ≡ true → Holds o t n
-  held_is t n low found = held_leads o.scopes (get_or o.own n 0) t _ (chain_at n low) (found_member _ t found)
+  pub held_is : (t n : ℕ) → is_held o t n ≡ true → Holds o t n
+  held_is t n found = held_leads o.scopes (get_or o.own n 0) t _ (chain_at n) (found_member _ t found)
 
-  pub is_holder : (t n : ℕ) → n < length o.own → Holds o t n → is_held o t n ≡ true
-  is_holder t n low held = member_found _ t (chain_holds o.scopes (get_or o.own n 0) t _ (chain_at n low) held)
+  pub is_holder : (t n : ℕ) → Holds o t n → is_held o t n ≡ true
+  is_holder t n held = member_found _ t (chain_holds o.scopes (get_or o.own n 0) t _ (chain_at n) held)
 
   -- the scopes around a node are those that hold it
-  pub around_is : (t n : ℕ) → n < length o.own → Contains (scopes_around o n) t ↔ Holds o t n
-  around_is t n low = (
-    (λ there. held_leads o.scopes (get_or o.own n 0) t _ (chain_at n low) (of_reverse _ t there)),
-    (λ held. in_reverse _ t (chain_holds o.scopes (get_or o.own n 0) t _ (chain_at n low) held)),
+  pub around_is : (t n : ℕ) → Contains (scopes_around o n) t ↔ Holds o t n
+  around_is t n = (
+    (λ there. held_leads o.scopes (get_or o.own n 0) t _ (chain_at n) (of_reverse _ t there)),
+    (λ held. in_reverse _ t (chain_holds o.scopes (get_or o.own n 0) t _ (chain_at n) held)),
   )

@@ -1,7 +1,7 @@
 -- What a recorder keeps of the trace of a run, beside a book for all runs. Traces are written with the newest node first.
 --   Recording R B         what a recorder names: which outlines suit it, what it covers, and what its calls answer
 --   IsRecording R B order z   the laws of a recorder
-use Rattle.std.specs.Prelude.{◌≡◌, ◌+◌, ◌<◌, ◌≤◌, max, ℕ, List, [], ◌∷◌, Contains, length}
+use Rattle.std.specs.Prelude.{◌+◌, ◌<◌, ◌≤◌, max, ℕ, List, [], ◌∷◌, Contains, length}
 use Rattle.domain_core.specs.Orders.{Order}
 use Rattle.domain_core.specs.Outlines.{Outlined, IsOutline, shape_of}
 use Rattle.domain_core.specs.Traces.{IsTrace}

@@ -4,7 +4,7 @@
 --   falling_reducible     where numbers fall along all edges but back edges, the graph is reducible
 --   crossing_irreducible  where three walks cross, it is not
 --   dominates_same, crossing_same, falling_same   two relations that say the same dominate, cross and fall alike
-use Rattle.std.proofs.Common.{◌≡◌, ◌≢◌, ◌<◌, ◌≤◌, ℕ, zero, suc, List, [], ◌∷◌, ◌++◌, ◌⊎◌, inl, inr, Contains, length, length-append, refl, ap, sym, ◌∙◌, subst, arith}
+use Rattle.std.proofs.Common.{◌≡◌, ◌≢◌, ◌≤◌, ℕ, suc, List, [], ◌∷◌, ◌++◌, inl, inr, Contains, ap, sym, ◌∙◌, subst, arith}
 use Rattle.std.proofs.lemmas.List.{append_assoc}
 use Rattle.std.proofs.lemmas.List.Elements.{Contains-append_left, Contains-append_right, Contains-push, Contains-push_cases}
 use Rattle.std.proofs.lemmas.Bool.{cases_lt}

@@ -1,12 +1,15 @@
 -- Stretches of a trace. A trace is the list of a run's nodes in their order. Where a definition goes along the trace
 -- as the run makes it, the trace is written with the newest node first.
 --   IsStretch Inside trace stretch   a longest part of the trace whose nodes are all inside
---   IsPart Inside Head trace part    a part of the trace from a node at the head, on through nodes that are inside and not at the head, as far as these go
 --   open_stretch inside past         the stretch that is not over, newest first, or []
 --   closed_stretches inside past     those that are over, the newest first
 --   stretches inside past            all of them
---   open_part, closed_parts, parts   the same for parts
-use Rattle.std.specs.Prelude.{◌≡◌, ◌≢◌, ◌⊎◌, ℕ, Bool, List, [], ◌∷◌, ◌++◌, if◌then◌else◌, Contains}
+--   Passes test n                    the node passes the test
+use Rattle.std.specs.Prelude.{◌≡◌, ◌≢◌, ℕ, Bool, true, List, [], ◌∷◌, ◌++◌, if◌then◌else◌, Contains}
+
+-- the node passes the test
+abbrev pub Passes : (ℕ → Bool) → ℕ → Type 0
+Passes test n = test n ≡ true
 
 -- all elements of the list are inside
 abbrev pub AreAll : (ℕ → Type 0) → List ℕ → Type 0

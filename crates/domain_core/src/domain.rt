@@ -38,12 +38,12 @@ pub trait Domain: Lattice {
         ensures { result ≡ sets.applied op sizes.now args.now };
 
     /// The set without words that are in relation to no word of the other, as far as it can be
-    /// told. None where no word is left.
+    /// told. None only where no word is left.
     fn assume(&self, rel: Rel, other: &Self) -> Option<Self>
         requires { sets.size_of self.now ≡ sets.size_of other.now }
         ensures { result ≡ sets.assumed rel self.now other.now };
 
-    /// The set where the word is this one. None where it is not in the set.
+    /// The set where the word is this one. None only where it is not in the set.
     fn only(&self, bits: u64) -> Option<Self>
         ensures { result ≡ sets.only self.now bits };
 

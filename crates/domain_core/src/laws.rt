@@ -1,12 +1,17 @@
 //! What the definitions promise, as clauses of functions that do nothing.
 
-ghost use Rattle.std.specs.Prelude.{◌≡◌, ◌≢◌, ◌<◌, ◌≤◌, ◌-◌, ◌^◌, ◌⊎◌, ◌↔◌, ℕ, List, length, slice_index, Contains, AllPairs};
+ghost use Rattle.std.specs.Prelude.{◌≡◌, ◌≢◌, ◌<◌, ◌≤◌, ◌-◌, ◌^◌, ◌⊎◌, ◌↔◌, ◌∷◌, ◌++◌, ◌||◌, [], ℕ, true, false, List, reverse, length, slice_index, Contains, AllPairs};
 ghost use Rattle.domain_core.specs.Reducible.{IsEdge, IsReducible, IsCrossing, IsFalling, IsForwardEdge, Dominates, IsDecidedBack};
 ghost use Rattle.domain_core.specs.Scopes.{Plan, leads, IsPlan, InScope, IsHeader, IsInside};
 ghost use Rattle.domain_core.specs.Outlines.{Shape, IsOutline, Holds, LeadsTo, header_of, kind_of, scopes_around};
+ghost use Rattle.domain_core.specs.FaultSets.{has_fault, no_faults, with_fault, either};
+ghost use Rattle.domain_core.specs.Traces.{IsTrace};
+ghost use Rattle.domain_core.specs.Stretches.{IsStretch};
+ghost use Rattle.domain_core.specs.Executions.{IsExecution, executions, open_execution, header_count, turns_of};
 ghost use Rattle.domain_core.specs.OutlineOf.{IsOutlineOf};
 
-use crate::ScopeKind;
+use crate::{FaultSet, ScopeKind};
+use alf_ops::RunFault;
 
 /// Where three walks cross, the graph is not reducible.
 pub fn crossing_is_irreducible()
@@ -50,7 +55,7 @@ pub fn an_outline_nests_its_scopes()
     ensures nested { (o : Shape) → IsOutline o → (s t n : ℕ) → Holds o s n → Holds o t n → LeadsTo o.scopes t s ⊎ LeadsTo o.scopes s t }
     ensures inside { (o : Shape) → IsOutline o → (s t n : ℕ) → LeadsTo o.scopes t s → Holds o s n → Holds o t n }
     ensures smallest { (o : Shape) → IsOutline o → (t n m : ℕ) → Holds o t n → Holds o (slice_index o.own n) m → Holds o t m }
-    ensures around { (o : Shape) → IsOutline o → (t n : ℕ) → n < length o.own → Contains (scopes_around o n) t ↔ Holds o t n }
+    ensures around { (o : Shape) → IsOutline o → (t n : ℕ) → Contains (scopes_around o n) t ↔ Holds o t n }
 {}
 
 /// In every outline the header of a scope lies on every walk from node 0 to a node of the scope.
@@ -63,3 +68,27 @@ pub fn forward_edges_rise()
     ensures { (o : Shape) → IsOutline o → (u v : ℕ) → IsForwardEdge (IsEdge o.edges) u v → v < length o.own
         → slice_index o.ranks u < slice_index o.ranks v }
 {}
+
+/// The executions found along a trace that is written newest first are the longest stretches of
+/// the run's nodes that the scope holds, and each one starts at the scope's header.
+pub fn executions_are_longest_stretches()
+    ensures found { (o : Shape) → IsOutline o → (t : ℕ) (past e : List ℕ) → Contains (executions o t past) e → IsExecution o t (reverse past) (reverse e) }
+    ensures all { (o : Shape) → IsOutline o → (t : ℕ) (past e : List ℕ) → IsExecution o t (reverse past) (reverse e) → Contains (executions o t past) e }
+    ensures starts { (o : Shape) → IsOutline o → (t : ℕ) (past front : List ℕ) (h : ℕ) → IsTrace o past → IsStretch (λ n. Holds o t n) past (front ++ h ∷ [])
+        → h ≡ header_of o.scopes t }
+{}
+
+/// The iteration number of a scope is the count of its header in the execution that is not over.
+pub fn iteration_numbers_count_headers()
+    ensures { (o : Shape) (t : ℕ) (past : List ℕ) → t < length o.scopes → slice_index (turns_of o past) t ≡ header_count o t (open_execution o t past) }
+{}
+
+/// A set of faults has what was put into it, and nothing else.
+pub fn fault_sets_are_sets(a: FaultSet, b: FaultSet, kind: RunFault, other: RunFault)
+    ensures empty { has_fault no_faults kind ≡ false }
+    ensures new { has_fault (with_fault a kind) kind ≡ true }
+    ensures kept { kind ≢ other → has_fault (with_fault a kind) other ≡ has_fault a other }
+    ensures united { has_fault (either a b) kind ≡ (has_fault a kind || has_fault b kind) }
+{
+    let _ = (a, b, kind, other);
+}

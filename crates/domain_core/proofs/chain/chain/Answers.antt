@@ -1,5 +1,5 @@
 -- What is left to show of `chain`.
-use Rattle.std.proofs.Common.{◌≡◌, ◌<◌, ◌++◌, ◌∷◌, [], ℕ, List, length, ◌+◌, ◌-◌, refl, sym, ◌∙◌, arith, ap}
+use Rattle.std.proofs.Common.{◌≡◌, ◌++◌, ◌∷◌, [], ℕ, List, length, ◌+◌, ◌-◌, sym, ◌∙◌, arith, ap}
 use Rattle.std.proofs.lemmas.List.{append_assoc, append-nil}
 use Rattle.domain_core.specs.Outlines.{scopes_from}
 use Rattle.domain_core.proofs.Chains.{from_last, from_more}

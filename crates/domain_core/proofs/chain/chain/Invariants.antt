@@ -1,5 +1,5 @@
 -- What the walk up the parents keeps.
-use Rattle.std.proofs.Common.{◌≡◌, ◌<◌, ◌==◌, ◌++◌, ℕ, List, length, ◌+◌, ◌-◌}
+use Rattle.std.proofs.Common.{◌≡◌, ◌<◌, ◌++◌, length, ◌-◌}
 use Rattle.domain_core.specs.Outlines.{scopes_from}
 use Rattle.domain_core.proofs.chain.chain.Given as goal
 

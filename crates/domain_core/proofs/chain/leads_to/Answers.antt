@@ -1,5 +1,5 @@
 -- What is left to show of `leads_to`.
-use Rattle.std.proofs.Common.{◌≡◌, ◌<◌, ◌==◌, ℕ, length, ◌+◌, ◌-◌, refl, sym, ◌∙◌, arith, ap}
+use Rattle.std.proofs.Common.{◌≡◌, ◌==◌, ℕ, length, ◌+◌, ◌-◌, sym, ◌∙◌, arith, ap}
 use Rattle.std.specs.List.{list_any}
 use Rattle.domain_core.specs.Outlines.{scopes_from}
 use Rattle.domain_core.proofs.Chains.{any_here, any_last, any_other}

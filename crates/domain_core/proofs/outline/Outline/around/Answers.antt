@@ -1,7 +1,7 @@
 -- What is left to show of `around`.
-use Rattle.std.proofs.Common.{◌≡◌, ◌<◌, ℕ, length, ap, arith}
+use Rattle.std.proofs.Common.{◌≡◌, ◌<◌, length, ap, arith}
 use Rattle.domain_core.specs.Outlines.{Outlined}
-use Rattle.domain_core.proofs.Chains.{own_low, around_by}
+use Rattle.domain_core.proofs.Chains.{own_low}
 use Rattle.domain_core.proofs.outline.Outline.around.Goals as goal
 
 pub chain-requires-clause-low : goal.chain-requires-clause-low

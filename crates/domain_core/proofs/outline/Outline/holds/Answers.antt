@@ -1,5 +1,5 @@
 -- What is left to show of `holds`.
-use Rattle.std.proofs.Common.{◌≡◌, ◌<◌, ℕ, length, ap, arith}
+use Rattle.std.proofs.Common.{◌≡◌, ◌<◌, length, ap, arith}
 use Rattle.domain_core.specs.Outlines.{Outlined}
 use Rattle.domain_core.proofs.Chains.{own_low, holds_by}
 use Rattle.domain_core.proofs.outline.Outline.holds.Goals as goal

@@ -1,6 +1,6 @@
 -- Iterations along the trace are those of the run.
 --   found_iteration, iteration_found   the iterations found are the parts of executions from one header to before the next
-use Rattle.std.proofs.Common.{◌≡◌, ◌≢◌, ◌==◌, ◌&&◌, ◌<◌, not, ℕ, Bool, true, false, List, [], ◌∷◌, ◌++◌, length, reverse, Contains, refl, ap, sym, ◌∙◌, subst, inl, inr}
+use Rattle.std.proofs.Common.{◌≡◌, ◌&&◌, not, ℕ, Bool, true, false, List, [], ◌∷◌, ◌++◌, reverse, Contains, refl, ap, sym, ◌∙◌, subst, inl, inr}
 use Rattle.std.proofs.lemmas.Bool.{eqb-true, eq-eqb, ne_eqb}
 use Rattle.std.proofs.lemmas.List.{append_assoc, reverse-append, reverse-reverse}
 use Rattle.std.proofs.lemmas.List.Elements.{Contains-append_left, Contains-append_right, Contains-append_cases}
@@ -8,12 +8,12 @@ use Rattle.lists.specs.Members.{no_member, first_member, further_member}
 use Rattle.lists.specs.Tests.{by_test}
 use Rattle.walks.specs.ListLaws.{contains_cases}
 use Rattle.domain_core.specs.Outlines.{Shape, Holds, is_held, header_of, IsOutline}
-use Rattle.domain_core.specs.OutlineLaws.{held_is, is_holder, in_reverse, of_reverse}
-use Rattle.domain_core.specs.Stretches.{Passes, IsStretch, open_stretch, AreAll, FirstIsNot, LastIsNot}
+use Rattle.domain_core.specs.OutlineLaws.{held_is, is_holder, of_reverse}
+use Rattle.domain_core.specs.Stretches.{Passes, open_stretch}
 use Rattle.domain_core.specs.StretchLaws.{IsPrefix, open_is}
-use Rattle.domain_core.specs.Parts.{parts, IsPart}
+use Rattle.domain_core.specs.Parts.{IsPart}
 use Rattle.domain_core.specs.PartLaws.{found_part, part_found}
-use Rattle.domain_core.specs.Executions.{IsExecution, IsIteration, is_header, begins_at, goes_on_at, iterations}
+use Rattle.domain_core.specs.Executions.{IsIteration, is_header, begins_at, goes_on_at, iterations}
 
 -- both of two tests pass
 left_passes : (a b : Bool) → a && b ≡ true → a ≡ true

@@ -1,6 +1,6 @@
 -- The parts that a walk along the trace finds are those of the definition.
 --   found_part, part_found   the parts found are those of the trace
-use Rattle.std.proofs.Common.{◌≡◌, ◌≢◌, ℕ, Bool, true, false, List, [], ◌∷◌, ◌++◌, ◌⊎◌, inl, inr, Contains, refl, ap, sym, ◌∙◌, subst}
+use Rattle.std.proofs.Common.{◌≡◌, ◌≢◌, ℕ, Bool, true, false, List, [], ◌∷◌, ◌++◌, inl, inr, Contains, refl, ap, sym, ◌∙◌, subst}
 use Rattle.lists.specs.Members.{no_member, first_member, further_member}
 use Rattle.lists.specs.Tests.{by_test}
 use Rattle.walks.specs.ListLaws.{contains_cases}
@@ -45,8 +45,8 @@ module _ (begins goes : ℕ → Bool) (apart : (n : ℕ) → goes n ≡ true →
       by_test (begins n)
       (λ is. record { others = []; first = n; older = past; is = refl; part_is = rw is refl; all = λ m there. no_member m there; starts = is })
       (λ clear. by_test (goes n)
-          (λ on. by_rest (λ more. open_found past more) (open_part begins goes past) refl clear on)
-          (λ stop. absurd (some (rw (clear, stop) refl))))
+      (λ on. by_rest (λ more. open_found past more) (open_part begins goes past) refl clear on)
+      (λ stop. absurd (some (rw (clear, stop) refl))))
     where
       by_rest : (open_part begins goes past ≢ [] → IsOpen past (open_part begins goes past)) → (rest : List ℕ) → open_part begins goes past ≡ rest → begins n ≡ false → goes n ≡ true → IsOpen (n ∷ past) (open_part begins goes (n ∷ past))
       by_rest again [] e clear on = absurd (some (rw (clear, on, e) refl))
@@ -120,7 +120,7 @@ module _ (begins goes : ℕ → Bool) (apart : (n : ℕ) → goes n ≡ true →
       let same : open_part begins goes past ≡ p = open_is past p (subst (λ (xs : List ℕ). IsOpen xs p) tail part) in
       by_test (goes n) (λ on. absurd (ends [] newest refl (subst (λ (k : ℕ). Passes goes k) (sym first) on)))
       (λ stop. rw stop (subst (λ (xs : List ℕ). Contains (with_closed (open_part begins goes past) (closed_parts begins goes past)) xs) same
-          (first_closed (open_part begins goes past) (closed_parts begins goes past) (subst (λ (xs : List ℕ). xs ≢ []) (sym same) (open_some opened p part)))))
+      (first_closed (open_part begins goes past) (closed_parts begins goes past) (subst (λ (xs : List ℕ). xs ≢ []) (sym same) (open_some opened p part)))))
   closed_all (n ∷ past) p newest (m ∷ newer) opened is part ends =
       let tail : past ≡ m ∷ newer ++ opened = (let whole : n ∷ past ≡ newest ∷ m ∷ newer ++ opened = is in cc) in
       let older = closed_all past p m newer opened tail part (last_less (Passes goes) newest m newer ends) in

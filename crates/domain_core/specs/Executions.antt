@@ -5,12 +5,15 @@
 --   open_execution o t past    the execution that is not over, newest node first, or []
 --   closed_executions o t past   those that are over, the newest first
 --   executions o t past        all of them: the last may be cut by the end of the trace
+--   begins_at o t n, goes_on_at o t n   an iteration of the scope begins at the node, or goes on through it
+--   open_iteration, closed_iterations, iterations o t past   the same for iterations
 --   header_count o t nodes     the places of the header among the nodes
 --   turn_after o n t turn      the iteration number of the scope once the node is entered
 --   turns_of o past            one iteration number for each scope: 0 for one that does not hold the last node
-use Rattle.std.specs.Prelude.{◌≡◌, ℕ, ◌+◌, Bool, ◌==◌, List, [], ◌∷◌, ◌++◌, if◌then◌else◌, length, replicate}
+use Rattle.std.specs.Prelude.{◌≡◌, ℕ, ◌+◌, Bool, ◌==◌, ◌&&◌, not, List, [], ◌∷◌, ◌++◌, if◌then◌else◌, length, replicate}
 use Rattle.domain_core.specs.Outlines.{Shape, Holds, is_held, header_of}
 use Rattle.domain_core.specs.Stretches.{IsStretch, AreAll, FirstIsNot, open_stretch, closed_stretches, stretches}
+use Rattle.domain_core.specs.Parts.{open_part, closed_parts, parts}
 
 -- ---- by the order of the run
 
@@ -47,6 +50,22 @@ closed_executions o t past = closed_stretches (λ n. is_held o t n) past
 -- all of them
 abbrev pub executions : Shape → ℕ → List ℕ → List (List ℕ)
 executions o t past = stretches (λ n. is_held o t n) past
+
+-- the iteration that is not over, those that are over, and all of them
+abbrev pub begins_at : Shape → ℕ → ℕ → Bool
+begins_at o t n = is_held o t n && is_header o t n
+
+abbrev pub goes_on_at : Shape → ℕ → ℕ → Bool
+goes_on_at o t n = is_held o t n && not (is_header o t n)
+
+abbrev pub open_iteration : Shape → ℕ → List ℕ → List ℕ
+open_iteration o t past = open_part (λ n. begins_at o t n) (λ n. goes_on_at o t n) past
+
+abbrev pub closed_iterations : Shape → ℕ → List ℕ → List (List ℕ)
+closed_iterations o t past = closed_parts (λ n. begins_at o t n) (λ n. goes_on_at o t n) past
+
+abbrev pub iterations : Shape → ℕ → List ℕ → List (List ℕ)
+iterations o t past = parts (λ n. begins_at o t n) (λ n. goes_on_at o t n) past
 
 -- the places of the header
 abbrev pub header_count : Shape → ℕ → List ℕ → ℕ

@@ -23,3 +23,6 @@ pub mod WordSetLaws
 pub mod MachineLaws
 pub mod RecordingLaws
 pub mod FaultLaws
+pub mod Parts
+pub mod PartLaws
+pub mod IterationLaws

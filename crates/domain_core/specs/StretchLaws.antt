@@ -15,43 +15,43 @@ use Rattle.domain_core.specs.Stretches.{Passes, AreAll, LastIsNot, FirstIsNot, I
 -- ---- a stretch before others
 
 -- what is among a stretch and others is the stretch or one of the others
-either_closed : (opened : List ℕ) (others : List (List ℕ)) (e : List ℕ) → Contains (with_closed opened others) e → ((e ≡ opened) × (opened ≢ [])) ⊎ Contains others e
+pub either_closed : (opened : List ℕ) (others : List (List ℕ)) (e : List ℕ) → Contains (with_closed opened others) e → ((e ≡ opened) × (opened ≢ [])) ⊎ Contains others e
 either_closed [] others e there = inr there
 either_closed (n ∷ rest) others e there = elim (contains_cases (n ∷ rest) others e there) [ inl same ↦ inl (same, (λ none. let bad : n ∷ rest ≡ [] = none in cc)) | inr later ↦ inr later ]
 
 -- the others are among it, and the stretch where it is not empty
-further_closed : (opened : List ℕ) (others : List (List ℕ)) (e : List ℕ) → Contains others e → Contains (with_closed opened others) e
+pub further_closed : (opened : List ℕ) (others : List (List ℕ)) (e : List ℕ) → Contains others e → Contains (with_closed opened others) e
 further_closed [] others e there = there
 further_closed (n ∷ rest) others e there = further_member (n ∷ rest) others e there
 
-first_closed : (opened : List ℕ) (others : List (List ℕ)) → opened ≢ [] → Contains (with_closed opened others) opened
+pub first_closed : (opened : List ℕ) (others : List (List ℕ)) → opened ≢ [] → Contains (with_closed opened others) opened
 first_closed [] others some = absurd (some refl)
 first_closed (n ∷ rest) others some = first_member (n ∷ rest) others
 
 -- ---- the last element
 
 -- one more element leaves the last
-last_more : (Inside : ℕ → Type 0) (n m : ℕ) (ms : List ℕ) → LastIsNot Inside (m ∷ ms) → LastIsNot Inside (n ∷ m ∷ ms)
+pub last_more : (Inside : ℕ → Type 0) (n m : ℕ) (ms : List ℕ) → LastIsNot Inside (m ∷ ms) → LastIsNot Inside (n ∷ m ∷ ms)
 last_more Inside n m ms last [] k e is = absurd (let bad : m ∷ ms ≡ [] = cc in cc)
 last_more Inside n m ms last (f ∷ front) k e is = last front k (let tails : m ∷ ms ≡ front ++ k ∷ [] = cc in tails) is
 
 -- and one less too
-last_less : (Inside : ℕ → Type 0) (n m : ℕ) (ms : List ℕ) → LastIsNot Inside (n ∷ m ∷ ms) → LastIsNot Inside (m ∷ ms)
+pub last_less : (Inside : ℕ → Type 0) (n m : ℕ) (ms : List ℕ) → LastIsNot Inside (n ∷ m ∷ ms) → LastIsNot Inside (m ∷ ms)
 last_less Inside n m ms last front k e is = last (n ∷ front) k (ap (λ (xs : List ℕ). n ∷ xs) e) is
 
 -- of one element
-last_one : (Inside : ℕ → Type 0) (n : ℕ) → (Inside n → ⊥) → LastIsNot Inside (n ∷ [])
+pub last_one : (Inside : ℕ → Type 0) (n : ℕ) → (Inside n → ⊥) → LastIsNot Inside (n ∷ [])
 last_one Inside n other [] k e is = other (subst Inside (let same : k ≡ n = cc in same) is)
 last_one Inside n other (f ∷ []) k e is = absurd (let bad : [] ≡ k ∷ [] = cc in cc)
 last_one Inside n other (f ∷ g ∷ front) k e is = absurd (let bad : [] ≡ g ∷ front ++ k ∷ [] = cc in cc)
 
-last_none : (Inside : ℕ → Type 0) → LastIsNot Inside []
+pub last_none : (Inside : ℕ → Type 0) → LastIsNot Inside []
 last_none Inside [] k e is = absurd (cc)
 last_none Inside (f ∷ front) k e is = absurd (cc)
 
 module _ (inside : ℕ → Bool) where
   -- a longest prefix that is inside
-  record IsPrefix (xs e : List ℕ) : Type 0 where
+  pub record IsPrefix (xs e : List ℕ) : Type 0 where
     pub rest : List ℕ
     pub is : xs ≡ e ++ rest
     pub all : AreAll (Passes inside) e
@@ -72,7 +72,7 @@ module _ (inside : ℕ → Bool) where
   both_tests n clear is = let e : false ≡ true = sym clear ∙ is in cc
 
   -- the open stretch is such a prefix
-  open_is : (xs : List ℕ) → IsPrefix xs (open_stretch inside xs)
+  pub open_is : (xs : List ℕ) → IsPrefix xs (open_stretch inside xs)
   open_is [] = record { rest = []; is = refl; all = λ n there. no_member n there; ends = λ n rest e is. let bad : [] ≡ n ∷ rest = e in absurd (cc) }
   open_is (n ∷ past) =
       by_test (inside n)
@@ -90,7 +90,7 @@ module _ (inside : ℕ → Bool) where
       }))
 
   -- and there is no other
-  open_one : (xs e : List ℕ) → IsPrefix xs e → e ≡ open_stretch inside xs
+  pub open_one : (xs e : List ℕ) → IsPrefix xs e → e ≡ open_stretch inside xs
   open_one [] [] r = refl
   open_one [] (y ∷ e) r = absurd (let bad : [] ≡ y ∷ e ++ r.rest = r.is in cc)
   open_one (n ∷ past) [] r =

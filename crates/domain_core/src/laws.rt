@@ -7,7 +7,7 @@ ghost use Rattle.domain_core.specs.Outlines.{Shape, IsOutline, Holds, LeadsTo, h
 ghost use Rattle.domain_core.specs.FaultSets.{has_fault, no_faults, with_fault, either};
 ghost use Rattle.domain_core.specs.Traces.{IsTrace};
 ghost use Rattle.domain_core.specs.Stretches.{IsStretch};
-ghost use Rattle.domain_core.specs.Executions.{IsExecution, executions, open_execution, header_count, turns_of};
+ghost use Rattle.domain_core.specs.Executions.{IsExecution, IsIteration, executions, iterations, open_execution, header_count, turns_of};
 ghost use Rattle.domain_core.specs.OutlineOf.{IsOutlineOf};
 
 use crate::{FaultSet, ScopeKind};
@@ -76,6 +76,13 @@ pub fn executions_are_longest_stretches()
     ensures all { (o : Shape) → IsOutline o → (t : ℕ) (past e : List ℕ) → IsExecution o t (reverse past) (reverse e) → Contains (executions o t past) e }
     ensures starts { (o : Shape) → IsOutline o → (t : ℕ) (past front : List ℕ) (h : ℕ) → IsTrace o past → IsStretch (λ n. Holds o t n) past (front ++ h ∷ [])
         → h ≡ header_of o.scopes t }
+{}
+
+/// The iterations found along such a trace are the parts of executions from one place at the header
+/// to before the next, or to the execution's end.
+pub fn iterations_are_parts_of_executions()
+    ensures found { (o : Shape) → IsOutline o → (t : ℕ) (past p : List ℕ) → Contains (iterations o t past) p → IsIteration o t (reverse past) (reverse p) }
+    ensures all { (o : Shape) → IsOutline o → (t : ℕ) (past p : List ℕ) → IsIteration o t (reverse past) (reverse p) → Contains (iterations o t past) p }
 {}
 
 /// The iteration number of a scope is the count of its header in the execution that is not over.

@@ -17,6 +17,7 @@ const MOST: u64 = 1_048_576;
 
 // The bytes of frame 0, which is global, and the number of the frame of function 0.
 const BYTES: u32 = 65_536;
+
 const OWN: u32 = 1;
 
 fn main(rt: HostRuntime) -> ExitCode {

@@ -14,7 +14,8 @@ use std::test::Fail;
 
 // Frame 0 is global and has 256 bits, frame 1 is global and has 32 bits, frame 2 is of function 0
 // and frame 3 of function 1, and each of these has 64 bits.
-const TEXT: &str = "{ alf { macro_defs } { least_addr_unit 8 } little_endian { exports { frefs } { lrefs } } { imports { frefs } { lrefs } } { decls { alloc 32 \"wide\" 256 } { alloc 32 \"one\" 32 } } { inits } { funcs { func { label 32 { lref 32 \"main\" } { dec_unsigned 32 0 } } { arg_decls } { scope { decls { alloc 32 \"own\" 64 } } { inits } { stmts { return } } } } { func { label 32 { lref 32 \"leaf\" } { dec_unsigned 32 0 } } { arg_decls } { scope { decls { alloc 32 \"own\" 64 } } { inits } { stmts { return } } } } } }";
+const TEXT: &str =
+    "{ alf { macro_defs } { least_addr_unit 8 } little_endian { exports { frefs } { lrefs } } { imports { frefs } { lrefs } } { decls { alloc 32 \"wide\" 256 } { alloc 32 \"one\" 32 } } { inits } { funcs { func { label 32 { lref 32 \"main\" } { dec_unsigned 32 0 } } { arg_decls } { scope { decls { alloc 32 \"own\" 64 } } { inits } { stmts { return } } } } { func { label 32 { lref 32 \"leaf\" } { dec_unsigned 32 0 } } { arg_decls } { scope { decls { alloc 32 \"own\" 64 } } { inits } { stmts { return } } } } } }";
 
 // The program of the text, checked.
 fn checked_text(alloc: Global) -> Result<Checked, Fail> {
@@ -138,12 +139,7 @@ fn left(frames: &mut Frames, count: u32, func: u32) -> &'static str
 }
 
 // What a step gives.
-fn step(
-    alloc: Global,
-    frames: &mut Frames,
-    count: u32,
-    line: &str,
-) -> Result<String, AllocError>
+fn step(alloc: Global, frames: &mut Frames, count: u32, line: &str) -> Result<String, AllocError>
     requires { count ≡ length frames.old.running }
     ensures { length frames.new.running ≡ length frames.old.running }
 {
@@ -311,12 +307,7 @@ fn steps_give_what_the_history_gives(rt: HostRuntime) -> Result<(), Fail> {
 
 // The bytes of frame 0 are 16, 17 and so on, by words of 64 bits. Then a word of this size is stored
 // at offset 8, and cells of 8 to 64 bits are loaded at this offset.
-fn told_at(
-    alloc: Global,
-    checked: &Checked,
-    size: u32,
-    offset: u32,
-) -> Result<String, AllocError> {
+fn told_at(alloc: Global, checked: &Checked, size: u32, offset: u32) -> Result<String, AllocError> {
     let mut frames = Frames::new(alloc, checked)?;
     let words: [u64; 4] = [
         1663540288323457296,
@@ -329,7 +320,14 @@ fn told_at(
             frame: 0,
             offset: 8 * i as u32,
         };
-        stored(&mut frames, at, Value::Int { size: 64, bits: *bits });
+        stored(
+            &mut frames,
+            at,
+            Value::Int {
+                size: 64,
+                bits: *bits,
+            },
+        );
     }
     let at = Value::Ptr {
         frame: 0,

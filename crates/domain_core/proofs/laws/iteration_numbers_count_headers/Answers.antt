@@ -1,0 +1,6 @@
+-- What is left to show of `iteration_numbers_count_headers`.
+use Rattle.domain_core.specs.ExecutionLaws.{turns_mean}
+use Rattle.domain_core.proofs.laws.iteration_numbers_count_headers.Goals as goal
+
+pub returns : goal.returns
+returns c = turns_mean

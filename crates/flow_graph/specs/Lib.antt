@@ -1,0 +1,11 @@
+pub mod Nodes
+pub mod Names
+pub mod Numbering
+pub mod Places
+pub mod Paths
+pub mod PathLaws
+pub mod Goals
+pub mod Faults
+pub mod Growing
+pub mod Listing
+pub mod Graphs

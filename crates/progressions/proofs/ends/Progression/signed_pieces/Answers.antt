@@ -1,0 +1,13 @@
+use Rattle.progressions.specs.ProgressionLaws.{placed_small}
+use Rattle.progressions.specs.PartLaws.{from_least_small}
+use Rattle.progressions.proofs.ends.Progression.signed_pieces.Goals as goal
+
+pub from_least-high-requires-clause-small : goal.from_least-high-requires-clause-small
+from_least-high-requires-clause-small c = placed_small c.args.size c.args.self.now c.requires.least c.requires.most c.requires.placed
+
+pub moved_part-requires-clause-small : goal.moved_part-requires-clause-small
+moved_part-requires-clause-small c = rw c.from_least-high.ensures (from_least_small _ c.args.self.now c.requires.placed.progression
+    (placed_small c.args.size c.args.self.now c.requires.least c.requires.most c.requires.placed))
+
+pub up_to-requires-clause-small : goal.up_to-requires-clause-small
+up_to-requires-clause-small c = placed_small c.args.size c.args.self.now c.requires.least c.requires.most c.requires.placed

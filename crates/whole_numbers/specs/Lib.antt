@@ -1,0 +1,5 @@
+pub mod Numbers
+pub mod MultipleLaws
+pub mod ProductLaws
+pub mod DivisionLaws
+pub mod GcdLaws

@@ -161,9 +161,10 @@ fn step(alloc: Global, frames: &mut Frames, count: u32, line: &str) -> Result<St
 // What the steps of a script give, on frames in which nothing was stored.
 fn told(alloc: Global, checked: &Checked, script: &str) -> Result<String, AllocError> {
     let mut frames = Frames::new(alloc, checked)?;
+    let count = checked.func_count();
     let mut told = String::new(alloc);
     for line in script.split(';') {
-        told.push_str(step(alloc, &mut frames, checked.func_count(), line)?.as_str())?;
+        told.push_str(step(alloc, &mut frames, count, line)?.as_str())?;
         told.push_str("; ")?;
     }
     Ok(told)

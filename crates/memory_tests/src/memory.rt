@@ -1,0 +1,493 @@
+//! The memory of a run, by calls: what loads give after stores, and after functions were entered
+//! and left. A script is a row of steps that end with `;`, an address or a value is `word SIZE BITS`
+//! or `ptr FRAME OFFSET`, and each step tells what it gave.
+
+ghost use Rattle.std.specs.Prelude.{◌≡◌, ◌<◌, ◌≤◌, ◌^◌, length};
+
+use alf_check::{Checked, check};
+use alf_ops::{RunFault, Value};
+use alf_text::read;
+use alf_values::{Frames, ValueFault};
+use std::alloc::{AllocError, Global};
+use std::str::SplitWhitespace;
+use std::test::Fail;
+
+// Frame 0 is global and has 256 bits, frame 1 is global and has 32 bits, frame 2 is of function 0
+// and frame 3 of function 1, and each of these has 64 bits.
+const TEXT: &str =
+    "{ alf { macro_defs } { least_addr_unit 8 } little_endian { exports { frefs } { lrefs } } { imports { frefs } { lrefs } } { decls { alloc 32 \"wide\" 256 } { alloc 32 \"one\" 32 } } { inits } { funcs { func { label 32 { lref 32 \"main\" } { dec_unsigned 32 0 } } { arg_decls } { scope { decls { alloc 32 \"own\" 64 } } { inits } { stmts { return } } } } { func { label 32 { lref 32 \"leaf\" } { dec_unsigned 32 0 } } { arg_decls } { scope { decls { alloc 32 \"own\" 64 } } { inits } { stmts { return } } } } } }";
+
+// The program of the text, checked.
+fn checked_text(alloc: Global) -> Result<Checked, Fail> {
+    match read(alloc, TEXT.as_bytes()) {
+        Ok(program) => match check(alloc, program, "main") {
+            Ok(checked) => Ok(checked),
+            Err(_) => Err(Fail::from(AllocError)),
+        },
+        Err(_) => Err(Fail::from(AllocError)),
+    }
+}
+
+fn word<'a>(words: &mut SplitWhitespace<'a>) -> &'a str {
+    words.next().unwrap_or("")
+}
+
+fn number(words: &mut SplitWhitespace) -> u32 {
+    word(words).parse::<u32>().unwrap_or(0)
+}
+
+fn bits(words: &mut SplitWhitespace) -> u64 {
+    word(words).parse::<u64>().unwrap_or(0)
+}
+
+// The lowest bits of a word.
+fn cut(size: u32, bits: u64) -> u64
+    requires { size ≤ 64 }
+    ensures { result < 2 ^ size }
+{
+    if size >= 64 {
+        bits
+    } else {
+        bits % (1u64 << size)
+    }
+}
+
+fn value(words: &mut SplitWhitespace) -> Value {
+    if word(words) == "ptr" {
+        Value::Ptr {
+            frame: number(words),
+            offset: number(words),
+        }
+    } else {
+        Value::Int {
+            size: number(words),
+            bits: bits(words),
+        }
+    }
+}
+
+fn fault_name(fault: RunFault) -> &'static str {
+    match fault {
+        RunFault::Uninit => "uninit",
+        RunFault::Mixed => "mixed",
+        RunFault::Bounds => "bounds",
+        RunFault::Dead => "dead",
+        RunFault::Kind => "kind",
+        RunFault::Divide | RunFault::Pointers => "no fault of memory",
+    }
+}
+
+// Stores a value whose size is that of a cell.
+fn stored(frames: &mut Frames, at: Value, value: Value) -> &'static str
+    ensures { length frames.new.running ≡ length frames.old.running }
+{
+    let value = match value {
+        Value::Int { size, bits } => {
+            if size < 8 || size > 64 || size % 8 != 0 {
+                return "no cell";
+            }
+            Value::Int {
+                size,
+                bits: cut(size, bits),
+            }
+        }
+        Value::Ptr { .. } => value,
+    };
+    match frames.store(at, value) {
+        Ok(()) => "ok",
+        Err(ValueFault::Run(fault)) => fault_name(fault),
+        Err(ValueFault::Memory) => "memory",
+    }
+}
+
+// What a load gives, of a cell.
+fn loaded(alloc: Global, frames: &Frames, at: Value, size: u32) -> Result<String, AllocError> {
+    if size < 8 || size > 64 || size % 8 != 0 {
+        return String::from_str(alloc, "no cell");
+    }
+    match frames.load(at, size) {
+        Ok(Value::Int { size, bits }) => format!(in alloc; "word {size} {bits}"),
+        Ok(Value::Ptr { frame, offset }) => format!(in alloc; "ptr {frame} {offset}"),
+        Err(fault) => String::from_str(alloc, fault_name(fault)),
+    }
+}
+
+// Enters a function that is there.
+fn entered(frames: &mut Frames, count: u32, func: u32) -> &'static str
+    requires { count ≡ length frames.old.running }
+    ensures { length frames.new.running ≡ length frames.old.running }
+{
+    if func >= count {
+        return "no function";
+    }
+    match frames.enter(func) {
+        Ok(()) => "entered",
+        Err(_) => "memory",
+    }
+}
+
+// Leaves a function that is there.
+fn left(frames: &mut Frames, count: u32, func: u32) -> &'static str
+    requires { count ≡ length frames.old.running }
+    ensures { length frames.new.running ≡ length frames.old.running }
+{
+    if func >= count {
+        return "no function";
+    }
+    frames.leave(func);
+    "left"
+}
+
+// What a step gives.
+fn step(alloc: Global, frames: &mut Frames, count: u32, line: &str) -> Result<String, AllocError>
+    requires { count ≡ length frames.old.running }
+    ensures { length frames.new.running ≡ length frames.old.running }
+{
+    let mut words = line.split_whitespace();
+    let kind = word(&mut words);
+    if kind == "enter" {
+        return String::from_str(alloc, entered(frames, count, number(&mut words)));
+    }
+    if kind == "leave" {
+        return String::from_str(alloc, left(frames, count, number(&mut words)));
+    }
+    let at = value(&mut words);
+    if kind == "store" {
+        return String::from_str(alloc, stored(frames, at, value(&mut words)));
+    }
+    loaded(alloc, frames, at, number(&mut words))
+}
+
+// What the steps of a script give, on frames in which nothing was stored.
+fn told(alloc: Global, checked: &Checked, script: &str) -> Result<String, AllocError> {
+    let mut frames = Frames::new(alloc, checked)?;
+    let count = checked.func_count();
+    let mut told = String::new(alloc);
+    for line in script.split(';') {
+        told.push_str(step(alloc, &mut frames, count, line)?.as_str())?;
+        told.push_str("; ")?;
+    }
+    Ok(told)
+}
+
+// A script, and what its steps give.
+type Case = (&'static str, &'static str, &'static str);
+
+static CASES: [Case; 24] = [
+    (
+        "a word is not wholly stored",
+        "store ptr 1 0 word 8 5; load ptr 1 0 32",
+        "ok; uninit; ",
+    ),
+    (
+        "a byte of a pointer",
+        "store ptr 1 0 ptr 1 0; load ptr 1 0 8",
+        "ok; mixed; ",
+    ),
+    (
+        "a pointer is loaded",
+        "store ptr 0 4 ptr 2 7; load ptr 0 4 32",
+        "ok; ptr 2 7; ",
+    ),
+    (
+        "half of a pointer, and more than one",
+        "store ptr 0 4 ptr 2 7; store ptr 0 8 word 32 1; load ptr 0 4 16; load ptr 0 4 64; load ptr 0 6 32",
+        "ok; ok; mixed; mixed; mixed; ",
+    ),
+    (
+        "a pointer that a byte was stored in",
+        "store ptr 0 4 ptr 2 7; store ptr 0 7 word 8 0; load ptr 0 4 32; load ptr 0 7 8",
+        "ok; ok; mixed; word 8 0; ",
+    ),
+    (
+        "a pointer that each byte was stored in",
+        "store ptr 0 4 ptr 2 7; store ptr 0 4 word 8 1; store ptr 0 5 word 8 2; store ptr 0 6 word 16 772; load ptr 0 4 32",
+        "ok; ok; ok; ok; word 32 50594305; ",
+    ),
+    (
+        "a pointer in the place of a pointer",
+        "store ptr 0 4 ptr 2 7; store ptr 0 4 ptr 3 1; load ptr 0 4 32",
+        "ok; ok; ptr 3 1; ",
+    ),
+    (
+        "a pointer over half of one",
+        "store ptr 0 4 ptr 2 7; store ptr 0 6 ptr 2 7; load ptr 0 4 32; load ptr 0 6 32; load ptr 0 8 32",
+        "ok; ok; mixed; ptr 2 7; uninit; ",
+    ),
+    (
+        "the same pointer twice, side by side",
+        "store ptr 0 4 ptr 2 7; store ptr 0 8 ptr 2 7; load ptr 0 6 32; load ptr 0 4 32; load ptr 0 8 32",
+        "ok; ok; mixed; ptr 2 7; ptr 2 7; ",
+    ),
+    (
+        "words of two sizes",
+        "store ptr 0 0 word 64 578437695752307201; load ptr 0 2 32; store ptr 0 3 word 16 65535; load ptr 0 0 64",
+        "ok; word 32 100992003; ok; word 64 578438773705212417; ",
+    ),
+    (
+        "a frame that is entered twice",
+        "enter 0; store ptr 2 0 word 32 9; load ptr 2 0 32; enter 0; load ptr 2 0 32; store ptr 2 0 word 8 1; load ptr 2 0 8",
+        "entered; ok; word 32 9; entered; uninit; ok; word 8 1; ",
+    ),
+    (
+        "a frame that is left",
+        "enter 0; store ptr 2 0 word 32 9; leave 0; load ptr 2 0 32; store ptr 2 0 word 32 9; enter 0; load ptr 2 0 32",
+        "entered; ok; left; dead; dead; entered; uninit; ",
+    ),
+    (
+        "a function that another calls",
+        "enter 0; store ptr 2 0 word 32 9; load ptr 3 0 32; enter 1; load ptr 3 0 32; store ptr 3 0 ptr 2 0; leave 1; load ptr 2 0 32; load ptr 3 0 32",
+        "entered; ok; dead; entered; uninit; ok; left; word 32 9; dead; ",
+    ),
+    (
+        "a function that is left twice",
+        "enter 0; leave 0; leave 0; load ptr 2 0 8; enter 0; load ptr 2 0 8",
+        "entered; left; left; dead; entered; uninit; ",
+    ),
+    (
+        "global frames stay",
+        "store ptr 1 0 word 32 9; enter 0; load ptr 1 0 32; leave 0; load ptr 1 0 32",
+        "ok; entered; word 32 9; left; word 32 9; ",
+    ),
+    (
+        "no pointer",
+        "load word 32 0 32; store word 32 0 word 8 1; load word 8 99 64",
+        "kind; kind; kind; ",
+    ),
+    (
+        "dead before bounds",
+        "load ptr 2 8 8; store ptr 2 8 word 8 1; load ptr 2 4294967295 64; enter 0; load ptr 2 8 8; store ptr 2 8 word 8 1",
+        "dead; dead; dead; entered; bounds; bounds; ",
+    ),
+    (
+        "no frame",
+        "load ptr 4 0 8; store ptr 4 0 word 8 1; load ptr 4294967295 0 8",
+        "dead; dead; dead; ",
+    ),
+    (
+        "bounds before uninit",
+        "load ptr 1 1 32; load ptr 1 4 8; load ptr 1 3 8; load ptr 1 4294967295 8; load ptr 1 0 64",
+        "bounds; bounds; uninit; bounds; bounds; ",
+    ),
+    (
+        "bounds before mixed",
+        "store ptr 1 0 ptr 1 0; load ptr 1 0 40; load ptr 1 0 24",
+        "ok; bounds; mixed; ",
+    ),
+    (
+        "uninit before mixed",
+        "store ptr 0 0 ptr 1 0; load ptr 0 0 40; load ptr 0 2 32; load ptr 0 0 24",
+        "ok; uninit; uninit; mixed; ",
+    ),
+    (
+        "a store that is refused",
+        "store ptr 1 0 word 32 7; store ptr 1 1 word 32 9; store word 32 0 word 32 9; store ptr 2 0 word 32 9; load ptr 1 0 32",
+        "ok; bounds; kind; dead; word 32 7; ",
+    ),
+    (
+        "the last byte of a frame",
+        "store ptr 0 31 word 8 255; load ptr 0 31 8; store ptr 0 24 word 64 18446744073709551615; load ptr 0 24 64; store ptr 0 25 word 64 1",
+        "ok; word 8 255; ok; word 64 18446744073709551615; bounds; ",
+    ),
+    (
+        "the least and the greatest word of each size",
+        "store ptr 0 0 word 24 16777215; load ptr 0 0 24; store ptr 0 0 word 40 0; load ptr 0 0 40; load ptr 0 0 24",
+        "ok; word 24 16777215; ok; word 40 0; word 24 0; ",
+    ),
+];
+
+#[test]
+fn steps_give_what_the_history_gives(rt: HostRuntime) -> Result<(), Fail> {
+    let alloc = rt.alloc();
+    let checked = checked_text(alloc)?;
+    for (name, script, answers) in &CASES {
+        assert_eq!(rt; told(alloc, &checked, script)?.as_str(), *answers, "{name}");
+    }
+    Ok(())
+}
+
+// The bytes of frame 0 are 16, 17 and so on, by words of 64 bits. Then a word of this size is stored
+// at offset 8, and cells of 8 to 64 bits are loaded at this offset.
+fn told_at(alloc: Global, checked: &Checked, size: u32, offset: u32) -> Result<String, AllocError> {
+    let mut frames = Frames::new(alloc, checked)?;
+    let words: [u64; 4] = [
+        1663540288323457296,
+        2242261671028070680,
+        2820983053732684064,
+        3399704436437297448,
+    ];
+    for (i, bits) in words.iter().enumerate() {
+        let at = Value::Ptr {
+            frame: 0,
+            offset: 8 * i as u32,
+        };
+        stored(
+            &mut frames,
+            at,
+            Value::Int {
+                size: 64,
+                bits: *bits,
+            },
+        );
+    }
+    let at = Value::Ptr {
+        frame: 0,
+        offset: 8,
+    };
+    let bits = 17940079176890708721;
+    stored(&mut frames, at, Value::Int { size, bits });
+    let mut told = format!(in alloc; "{size} {offset}")?;
+    for width in [8, 16, 24, 32, 40, 48, 56, 64] {
+        told.push_str(" ")?;
+        told.push_str(bits_at(alloc, &frames, offset, width)?.as_str())?;
+    }
+    Ok(told)
+}
+
+// The bits of the word that a load gives.
+fn bits_at(alloc: Global, frames: &Frames, offset: u32, size: u32) -> Result<String, AllocError> {
+    if size < 8 || size > 64 || size % 8 != 0 {
+        return String::from_str(alloc, "no cell");
+    }
+    match frames.load(Value::Ptr { frame: 0, offset }, size) {
+        Ok(Value::Int { bits, .. }) => format!(in alloc; "{bits}"),
+        Ok(Value::Ptr { .. }) => String::from_str(alloc, "ptr"),
+        Err(fault) => String::from_str(alloc, fault_name(fault)),
+    }
+}
+
+#[test]
+fn a_load_reads_its_bytes_from_the_newest_stores(rt: HostRuntime) -> Result<(), Fail> {
+    let alloc = rt.alloc();
+    let checked = checked_text(alloc)?;
+    for line in PLACES.split('\n') {
+        let mut words = line.split_whitespace();
+        let size = number(&mut words);
+        let offset = number(&mut words);
+        assert_eq!(rt; told_at(alloc, &checked, size, offset)?.as_str(), line);
+    }
+    Ok(())
+}
+
+// The size of the word, the offset of the loads, and the bits of the word that each of them gives.
+static PLACES: &str = "\
+8 1 17 4625 1249809 336794129 90531107345 24279786918417 6498204251263505 17372378367391896081
+8 2 18 4882 1315602 353637138 94842917650 25383610356498 67860852997624594 1869300703945822994
+8 3 19 5139 1381395 370480147 99154727955 265081457021971 7301955874788371 1880799400860914707
+8 4 20 5396 1447188 387323156 1035474441492 28523265135892 7346872659612948 1952901911683667220
+8 5 21 5653 1512981 4044822037 111419004437 28698721326613 7628523092514325 2025241156154496533
+8 6 22 5910 15800086 435230486 112104380182 29798918330134 7911098266228502 2097581325366138646
+8 7 23 61719 1700119 437907735 116402024727 30902727602455 8193677052211479 2169921498190049559
+8 8 241 6641 1710577 454695409 120713779697 32006550985201 8476255852304881 2242261671028070897
+8 9 25 6681 1776153 471538201 125025589785 33110374423065 8758834652453401 2314601843866147353
+8 10 26 6938 1841946 488381210 129337400090 34214197861146 9041413452602138 2386942016704224026
+8 11 27 7195 1907739 505224219 133649210395 35318021299227 9323992252750875 2459282189542300699
+8 12 28 7452 1973532 522067228 137961020700 36421844737308 9606571052899612 2531622362380377372
+8 13 29 7709 2039325 538910237 142272831005 37525668175389 9889149853048349 2603962535218454045
+8 14 30 7966 2105118 555753246 146584641310 38629491613470 10171728653197086 2676302708056530718
+8 15 31 8223 2170911 572596255 150896451615 39733315051551 10454307453345823 2748642880894607391
+16 1 17 4625 1249809 336794129 90531107345 24279786918417 6498204251263505 17372378367391896081
+16 2 18 4882 1315602 353637138 94842917650 25383610356498 67860852997624594 17505798610176185106
+16 3 19 5139 1381395 370480147 99154727955 265081457021971 68382025821000723 1941879470807127059
+16 4 20 5396 1447188 387323156 1035474441492 267117288363284 7585466682840340 1953140505706894612
+16 5 21 5653 1512981 4044822037 1043426907669 29630729229845 7629455100417557 2025242088162399765
+16 6 22 5910 15800086 4075886358 115745036054 29802558986006 7911101906884374 2097581329006794518
+16 7 23 61719 15921431 452129047 116416246039 30902741823767 8193677066432791 2169921498204270871
+16 8 241 62193 1766129 454750961 120713835249 32006551040753 8476255852360433 2242261671028126449
+16 9 242 6898 1776370 471538418 125025590002 33110374423282 8758834652453618 2314601843866147570
+16 10 26 6938 1841946 488381210 129337400090 34214197861146 9041413452602138 2386942016704224026
+16 11 27 7195 1907739 505224219 133649210395 35318021299227 9323992252750875 2459282189542300699
+16 12 28 7452 1973532 522067228 137961020700 36421844737308 9606571052899612 2531622362380377372
+16 13 29 7709 2039325 538910237 142272831005 37525668175389 9889149853048349 2603962535218454045
+16 14 30 7966 2105118 555753246 146584641310 38629491613470 10171728653197086 2676302708056530718
+16 15 31 8223 2170911 572596255 150896451615 39733315051551 10454307453345823 2748642880894607391
+24 1 17 4625 1249809 336794129 90531107345 24279786918417 6498204251263505 17372378367391896081
+24 2 18 4882 1315602 353637138 94842917650 25383610356498 67860852997624594 17505798610176185106
+24 3 19 5139 1381395 370480147 99154727955 265081457021971 68382025821000723 17578377377037489171
+24 4 20 5396 1447188 387323156 1035474441492 267117288363284 68665536629052692 2014220575653106964
+24 5 21 5653 1512981 4044822037 1043426907669 268224752457237 7868049123644949 2025480682185627157
+24 6 22 5910 15800086 4075886358 1047752939286 30734566889238 7912033914787606 2097582261014697750
+24 7 23 61719 15921431 4092784919 120056901911 30906382479639 8193680707088663 2169921501844926743
+24 8 241 62193 15987441 468972273 120728056561 32006565262065 8476255866581745 2242261671042347761
+24 9 242 62450 1831922 471593970 125025645554 33110374478834 8758834652509170 2314601843866203122
+24 10 243 7155 1842163 488381427 129337400307 34214197861363 9041413452602355 2386942016704224243
+24 11 27 7195 1907739 505224219 133649210395 35318021299227 9323992252750875 2459282189542300699
+24 12 28 7452 1973532 522067228 137961020700 36421844737308 9606571052899612 2531622362380377372
+24 13 29 7709 2039325 538910237 142272831005 37525668175389 9889149853048349 2603962535218454045
+24 14 30 7966 2105118 555753246 146584641310 38629491613470 10171728653197086 2676302708056530718
+24 15 31 8223 2170911 572596255 150896451615 39733315051551 10454307453345823 2748642880894607391
+32 1 17 4625 1249809 336794129 90531107345 24279786918417 6498204251263505 17372378367391896081
+32 2 18 4882 1315602 353637138 94842917650 25383610356498 67860852997624594 17505798610176185106
+32 3 19 5139 1381395 370480147 99154727955 265081457021971 68382025821000723 17578377377037489171
+32 4 20 5396 1447188 387323156 1035474441492 267117288363284 68665536629052692 17650718481883469076
+32 5 21 5653 1512981 4044822037 1043426907669 268224752457237 68948119069857301 2086560752131839509
+32 6 22 5910 15800086 4075886358 1047752939286 269328590116630 8150627938014998 2097820855037925142
+32 7 23 61719 15921431 4092784919 1052064805143 31838390382871 8194612714991895 2169922433852829975
+32 8 241 62193 15987441 4109628145 124368712433 32010205917937 8476259507237617 2242261674683003633
+32 9 242 62450 16053234 485815282 125039866866 33110388700146 8758834666730482 2314601843880424434
+32 10 243 62707 1897715 488436979 129337455859 34214197916915 9041413452657907 2386942016704279795
+32 11 244 7412 1907956 505224436 133649210612 35318021299444 9323992252751092 2459282189542300916
+32 12 28 7452 1973532 522067228 137961020700 36421844737308 9606571052899612 2531622362380377372
+32 13 29 7709 2039325 538910237 142272831005 37525668175389 9889149853048349 2603962535218454045
+32 14 30 7966 2105118 555753246 146584641310 38629491613470 10171728653197086 2676302708056530718
+32 15 31 8223 2170911 572596255 150896451615 39733315051551 10454307453345823 2748642880894607391
+40 1 17 4625 1249809 336794129 90531107345 24279786918417 6498204251263505 17372378367391896081
+40 2 18 4882 1315602 353637138 94842917650 25383610356498 67860852997624594 17505798610176185106
+40 3 19 5139 1381395 370480147 99154727955 265081457021971 68382025821000723 17578377377037489171
+40 4 20 5396 1447188 387323156 1035474441492 267117288363284 68665536629052692 17650718481883469076
+40 5 21 5653 1512981 4044822037 1043426907669 268224752457237 68948119069857301 17723058658362201621
+40 6 22 5910 15800086 4075886358 1047752939286 269328590116630 69230697884227350 2158900924984137494
+40 7 23 61719 15921431 4092784919 1052064805143 270432413610263 8433206738219287 2170161027876057367
+40 8 241 62193 15987441 4109628145 1056376615665 32942213821169 8477191515140849 2242262606690906865
+40 9 242 62450 16053234 4126471154 128680522738 33114029356018 8758838307386354 2314601847521080306
+40 10 243 62707 16119027 502658291 129351677171 34214212138227 9041413466879219 2386942016718501107
+40 11 244 62964 1963508 505279988 133649266164 35318021354996 9323992252806644 2459282189542356468
+40 12 245 7669 1973749 522067445 137961020917 36421844737525 9606571052899829 2531622362380377589
+40 13 29 7709 2039325 538910237 142272831005 37525668175389 9889149853048349 2603962535218454045
+40 14 30 7966 2105118 555753246 146584641310 38629491613470 10171728653197086 2676302708056530718
+40 15 31 8223 2170911 572596255 150896451615 39733315051551 10454307453345823 2748642880894607391
+48 1 17 4625 1249809 336794129 90531107345 24279786918417 6498204251263505 17372378367391896081
+48 2 18 4882 1315602 353637138 94842917650 25383610356498 67860852997624594 17505798610176185106
+48 3 19 5139 1381395 370480147 99154727955 265081457021971 68382025821000723 17578377377037489171
+48 4 20 5396 1447188 387323156 1035474441492 267117288363284 68665536629052692 17650718481883469076
+48 5 21 5653 1512981 4044822037 1043426907669 268224752457237 68948119069857301 17723058658362201621
+48 6 22 5910 15800086 4075886358 1047752939286 269328590116630 69230697884227350 17795398831214499606
+48 7 23 61719 15921431 4092784919 1052064805143 270432413610263 69513276684431639 2231241097822269719
+48 8 241 62193 15987441 4109628145 1056376615665 271536237048561 8715785538368241 2242501200714134257
+48 9 242 62450 16053234 4126471154 1060688425970 34046037259250 8759770315289586 2314602779528983538
+48 10 243 62707 16119027 4143314163 132992333043 34217852794099 9041417107535091 2386942020359156979
+48 11 244 62964 16184820 519501300 133663487476 35318035576308 9323992267027956 2459282189556577780
+48 12 245 63221 2029301 522122997 137961076469 36421844793077 9606571052955381 2531622362380433141
+48 13 246 7926 2039542 538910454 142272831222 37525668175606 9889149853048566 2603962535218454262
+48 14 30 7966 2105118 555753246 146584641310 38629491613470 10171728653197086 2676302708056530718
+48 15 31 8223 2170911 572596255 150896451615 39733315051551 10454307453345823 2748642880894607391
+56 1 17 4625 1249809 336794129 90531107345 24279786918417 6498204251263505 17372378367391896081
+56 2 18 4882 1315602 353637138 94842917650 25383610356498 67860852997624594 17505798610176185106
+56 3 19 5139 1381395 370480147 99154727955 265081457021971 68382025821000723 17578377377037489171
+56 4 20 5396 1447188 387323156 1035474441492 267117288363284 68665536629052692 17650718481883469076
+56 5 21 5653 1512981 4044822037 1043426907669 268224752457237 68948119069857301 17723058658362201621
+56 6 22 5910 15800086 4075886358 1047752939286 269328590116630 69230697884227350 17795398831214499606
+56 7 23 61719 15921431 4092784919 1052064805143 270432413610263 69513276684431639 17867739004052631831
+56 8 241 62193 15987441 4109628145 1056376615665 271536237048561 69795855484580593 2303581270660346609
+56 9 242 62450 16053234 4126471154 1060688425970 272640060486642 8998364338516978 2314841373552210930
+56 10 243 62707 16119027 4143314163 1065000236275 35149860697331 9042349115438323 2386942952367060211
+56 11 244 62964 16184820 4160157172 137304143348 35321676232180 9323995907683828 2459282193197233652
+56 12 245 63221 16250613 536344309 137975297781 36421859014389 9606571067176693 2531622362394654453
+56 13 246 63478 2095094 538966006 142272886774 37525668231158 9889149853104118 2603962535218509814
+56 14 247 8183 2105335 555753463 146584641527 38629491613687 10171728653197303 2676302708056530935
+56 15 31 8223 2170911 572596255 150896451615 39733315051551 10454307453345823 2748642880894607391
+64 1 17 4625 1249809 336794129 90531107345 24279786918417 6498204251263505 17372378367391896081
+64 2 18 4882 1315602 353637138 94842917650 25383610356498 67860852997624594 17505798610176185106
+64 3 19 5139 1381395 370480147 99154727955 265081457021971 68382025821000723 17578377377037489171
+64 4 20 5396 1447188 387323156 1035474441492 267117288363284 68665536629052692 17650718481883469076
+64 5 21 5653 1512981 4044822037 1043426907669 268224752457237 68948119069857301 17723058658362201621
+64 6 22 5910 15800086 4075886358 1047752939286 269328590116630 69230697884227350 17795398831214499606
+64 7 23 61719 15921431 4092784919 1052064805143 270432413610263 69513276684431639 17867739004052631831
+64 8 241 62193 15987441 4109628145 1056376615665 271536237048561 69795855484580593 17940079176890708721
+64 9 242 62450 16053234 4126471154 1060688425970 272640060486642 70078434284729330 2375921443498423282
+64 10 243 62707 16119027 4143314163 1065000236275 273743883924723 9280943138665715 2387181546390287603
+64 11 244 62964 16184820 4160157172 1069312046580 36253684135412 9324927915587060 2459283125205136884
+64 12 245 63221 16250613 4177000181 141615953653 36425499670261 9606574707832565 2531622366035310325
+64 13 246 63478 16316406 553187318 142287108086 37525682452470 9889149867325430 2603962535232731126
+64 14 247 63735 2160887 555809015 146584697079 38629491669239 10171728653252855 2676302708056586487
+64 15 248 8440 2171128 572596472 150896451832 39733315051768 10454307453346040 2748642880894607608";

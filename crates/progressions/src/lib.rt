@@ -15,6 +15,9 @@ mod images;
 mod parts;
 mod pieces;
 
+// Tests of what the calls ask for.
+mod conditions;
+
 // Laws that the definitions keep.
 mod laws;
 

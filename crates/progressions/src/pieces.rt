@@ -10,7 +10,7 @@ use whole_numbers::Whole;
 
 /// 2 to the size.
 #[tactic(auto, using(crate::specs::ProgressionLaws::full_most))]
-fn power(size: u32) -> Whole
+pub(crate) fn power(size: u32) -> Whole
     requires { size ≤ 64 }
     ensures value { result ≡ full size }
     ensures most { result ≤ℤ pos (2 ^ 64) }

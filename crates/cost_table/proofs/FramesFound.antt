@@ -2,7 +2,7 @@
 --   FoundFrame args name f rows g   it is one of the rows, the first of which has number f, and may be an input's
 --   frame_found                     what is found is
 --   may_be                          it is global or an argument of the root
-use Rattle.std.proofs.Common.{◌≡◌, ◌+◌, ◌⊎◌, inl, inr, ℕ, zero, suc, Bool, true, false, ◌&&◌, ◌||◌, nat_eq, List, [], ◌∷◌, Contains, Option, Some, None, is_none, slice_get, refl, ap, sym, ◌∙◌, subst, arith}
+use Rattle.std.proofs.Common.{◌≡◌, ◌+◌, ◌⊎◌, inl, inr, ℕ, suc, true, ◌||◌, nat_eq, List, [], ◌∷◌, Option, Some, None, is_none, slice_get, refl, subst, arith}
 use Rattle.std.specs.List.{list_any}
 use Rattle.std.specs.Option.{option_map_or}
 use Rattle.std.proofs.lemmas.Bool.{and_parts, false≢true}

@@ -1,6 +1,6 @@
 -- Entries of inputs.
 --   entry_some   an entry with its keys
-use Rattle.std.proofs.Common.{◌≡◌, ℕ, ℤ, pos, true, List, Some, refl}
+use Rattle.std.proofs.Common.{◌≡◌, ℕ, pos, true, List, Some, refl}
 use Rattle.std.specs.Prelude.{codes}
 use Rattle.toml.specs.Data.{Members}
 use Rattle.cost_table.specs.declared.input_entry.Cells.{Cells}

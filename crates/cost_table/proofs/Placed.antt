@@ -8,18 +8,14 @@
 --   free_apart       none shares a byte with an earlier row if no byte has a mark
 --   met_shares       one does if some byte has a mark
 --   marks_more       once their bytes are marked, the marks are those of all rows
-use Rattle.std.proofs.Common.{◌≡◌, ◌<◌, ◌≤◌, ◌+◌, ◌*◌, ◌/◌, ◌-◌, ◌^◌, ◌⊎◌, ◌++◌, inl, inr, ⊎_elim, ℕ, zero, suc, ℤ, pos, true, List, [], ◌∷◌, length, All, Contains, Bool, Option, Some, None, slice_get, refl, ap, sym, ◌∙◌, subst, arith}
-use Rattle.std.specs.Prelude.{◌==◌, ◌||◌, max}
+use Rattle.std.proofs.Common.{◌≡◌, ◌<◌, ◌≤◌, ◌+◌, ◌*◌, ◌/◌, ◌-◌, ◌⊎◌, ◌++◌, inl, inr, ⊎_elim, ℕ, zero, suc, true, List, [], length, All, Contains, Bool, Option, Some, None, slice_get, refl, ap, sym, ◌∙◌, subst, arith}
+use Rattle.std.specs.Prelude.{max}
 use Rattle.std.specs.List.{AllPairs}
 use Rattle.std.specs.Option.{option_map_or}
-use Rattle.std.proofs.Math.Nat.{suc-mul}
 use Rattle.std.proofs.lemmas.Bool.Decides.{nat_tests}
-use Rattle.std.proofs.lemmas.Int.{ints}
 use Rattle.std.proofs.lemmas.Option.{same_Some, slice_get_within}
-use Rattle.std.proofs.lemmas.List.Elements.{All-nil, All-cons, All-append, All-contains, Contains-append_cases, Contains-append_left, Contains-append_right}
+use Rattle.std.proofs.lemmas.List.Elements.{All-append, All-contains, Contains-append_cases, Contains-append_left, Contains-append_right}
 use Rattle.std.proofs.lemmas.List.Kept.{AllPairs-cons}
-use lib.IntN.{neg_ℤ, ◌-ℤ◌}
-use lib.Signed.{◌<ℤ◌, ◌≤ℤ◌}
 use Rattle.lists.specs.Members.{contained, all_members}
 use Rattle.alf_faults.specs.Sizes.{is_export_size}
 use Rattle.alf_check.specs.declared.rows.FrameRow.{FrameRow}
@@ -29,7 +25,7 @@ use Rattle.alf_check.specs.Inputs.{KeepsInput, KeepInputs, ShareNoByte}
 use Rattle.alf_check.specs.Kept.{KeepsFrame, IsKept}
 use Rattle.cost_table.specs.declared.input_entry.Cells.{Cells}
 use Rattle.cost_table.specs.declared.input_entry.Run.{Run}
-use Rattle.cost_table.specs.Inputs.{AreApart, IsRun, LiesIn, after, first_row, rows_from, rows_of, root_arguments, input_frame, whole}
+use Rattle.cost_table.specs.Inputs.{AreApart, IsRun, LiesIn, after, first_row, rows_from, rows_of, root_arguments, whole}
 use Rattle.cost_table.specs.Marks.{AreMarks, IsMarkedIn, IsTaken, MarksIn, end_of, start_of}
 use Rattle.cost_table.proofs.FramesFound.{FoundFrame, frame_found, may_be}
 use Rattle.cost_table.proofs.Orders.{below_or_not}
@@ -135,17 +131,17 @@ module _ (program : NumberedProgram) (entry : List ℕ × Cells) (run : Run) (fi
       ⊎_elim
       (λ (before : a.offset + a.size / 8 < c.offset + 1). inl (omega (arith, before, a_exact.0)))
       (λ (not_before : c.offset + 1 ≤ a.offset + a.size / 8). ⊎_elim
-        (λ (after_it : c.offset + c.size / 8 < a.offset + 1). inr (omega (arith, after_it, exact.0, bits)))
-        (λ (not_after : a.offset + 1 ≤ c.offset + c.size / 8).
-          let frame : a.frame ≡ first.frame = same ∙ is.frame in
-          let byte : IsTaken earlier first.frame (max a.offset c.offset) = record { row = a; among = among; frame = frame; low = omega arith; high = omega (arith, not_before, not_after, a_exact, exact, bits) } in
-          absurd (free (record {
-            place = first.frame * 65536 + max a.offset c.offset;
-            low = omega (arith, is.from);
-            high = omega (arith, is.to, is.size, not_after, not_before, a_exact, exact, bits);
-            marked = are.marked first.frame (max a.offset c.offset) byte;
-          })))
-        (below_or_not (c.offset + c.size / 8) (a.offset + 1)))
+      (λ (after_it : c.offset + c.size / 8 < a.offset + 1). inr (omega (arith, after_it, exact.0, bits)))
+      (λ (not_after : a.offset + 1 ≤ c.offset + c.size / 8).
+      let frame : a.frame ≡ first.frame = same ∙ is.frame in
+      let byte : IsTaken earlier first.frame (max a.offset c.offset) = record { row = a; among = among; frame = frame; low = omega arith; high = omega (arith, not_before, not_after, a_exact, exact, bits) } in
+      absurd (free (record {
+        place = first.frame * 65536 + max a.offset c.offset;
+        low = omega (arith, is.from);
+        high = omega (arith, is.to, is.size, not_after, not_before, a_exact, exact, bits);
+        marked = are.marked first.frame (max a.offset c.offset) byte;
+      })))
+      (below_or_not (c.offset + c.size / 8) (a.offset + 1)))
       (below_or_not (a.offset + a.size / 8) (c.offset + 1))
 
   pub free_apart : (earlier : List InputRow) (marks : List Bool) → All (KeepsInput program) earlier → AreMarks earlier marks → ¬ IsMarkedIn marks (start_of first) (end_of first run.count) → AreApart earlier (rows_from first run.count)
@@ -182,23 +178,23 @@ module _ (program : NumberedProgram) (entry : List ℕ × Cells) (run : Run) (fi
   kept_mark old new marked place is = ⊎_elim
       (λ (before : place < start_of first). marked.outside place (inl before) ∙ is)
       (λ (from : start_of first ≤ place). ⊎_elim
-        (λ (inside : place < end_of first run.count). marked.inside place from inside)
-        (λ (past : end_of first run.count ≤ place). marked.outside place (inr past) ∙ is)
-        (below_or_not place (end_of first run.count)))
+      (λ (inside : place < end_of first run.count). marked.inside place from inside)
+      (λ (past : end_of first run.count ≤ place). marked.outside place (inr past) ∙ is)
+      (below_or_not place (end_of first run.count)))
       (below_or_not place (start_of first))
 
   -- once their bytes are marked, the marks are those of all rows
   pub marks_more : (earlier : List InputRow) (old new : List Bool) → AreMarks earlier old → MarksIn old new (start_of first) (end_of first run.count) → AreMarks (earlier ++ rows_from first run.count) new
   marks_more earlier old new are marked = record {
     taken = λ f b small is. ⊎_elim
-      (λ (before : f * 65536 + b < start_of first). taken_left earlier (rows_from first run.count) f b (are.taken f b small (sym (marked.outside (f * 65536 + b) (inl before)) ∙ is)))
-      (λ (from : start_of first ≤ f * 65536 + b). ⊎_elim
+        (λ (before : f * 65536 + b < start_of first). taken_left earlier (rows_from first run.count) f b (are.taken f b small (sym (marked.outside (f * 65536 + b) (inl before)) ∙ is)))
+        (λ (from : start_of first ≤ f * 65536 + b). ⊎_elim
         (λ (inside : f * 65536 + b < end_of first run.count). taken_right earlier (rows_from first run.count) f b (taken_new f b small from inside))
         (λ (past : end_of first run.count ≤ f * 65536 + b). taken_left earlier (rows_from first run.count) f b (are.taken f b small (sym (marked.outside (f * 65536 + b) (inr past)) ∙ is)))
         (below_or_not (f * 65536 + b) (end_of first run.count)))
-      (below_or_not (f * 65536 + b) (start_of first));
+        (below_or_not (f * 65536 + b) (start_of first));
     marked = λ f b taken. ⊎_elim
-      (λ (old_one : Contains earlier taken.row). kept_mark old new marked (f * 65536 + b) (are.marked f b (record { row = taken.row; among = old_one; frame = taken.frame; low = taken.low; high = taken.high })))
-      (λ (new_one : Contains (rows_from first run.count) taken.row). let is = cell_of first run.count taken.row new_one in marked.inside (f * 65536 + b) (omega (arith, is.frame, is.from, taken.frame, taken.low)) (omega (arith, is.frame, is.to, is.size, taken.frame, taken.high)))
-      (Contains-append_cases earlier (rows_from first run.count) taken.row taken.among);
+        (λ (old_one : Contains earlier taken.row). kept_mark old new marked (f * 65536 + b) (are.marked f b (record { row = taken.row; among = old_one; frame = taken.frame; low = taken.low; high = taken.high })))
+        (λ (new_one : Contains (rows_from first run.count) taken.row). let is = cell_of first run.count taken.row new_one in marked.inside (f * 65536 + b) (omega (arith, is.frame, is.from, taken.frame, taken.low)) (omega (arith, is.frame, is.to, is.size, taken.frame, taken.high)))
+        (Contains-append_cases earlier (rows_from first run.count) taken.row taken.among);
   }

@@ -5,7 +5,7 @@
 --   IsCellOf row n c     c is one of n cells that begin at the row's: of its frame, size and range, and within them
 --   cell_of              each member of the rows is
 --   taken_from           each byte of the cells is one of a row
-use Rattle.std.proofs.Common.{◌≡◌, ◌<◌, ◌≤◌, ◌+◌, ◌*◌, ◌/◌, ◌-◌, ◌⊎◌, ⊎_elim, ℕ, zero, suc, List, [], ◌∷◌, Contains, refl, ap, sym, subst, arith}
+use Rattle.std.proofs.Common.{◌≡◌, ◌<◌, ◌≤◌, ◌+◌, ◌*◌, ◌/◌, ◌-◌, ⊎_elim, ℕ, zero, suc, List, ◌∷◌, Contains, refl, ap, subst, arith}
 use Rattle.std.proofs.Math.Nat.{suc-mul}
 use Rattle.lists.specs.Members.{no_member, first_member, further_member, first_or_further}
 use Rattle.alf_check.specs.declared.rows.InputRow.{InputRow}

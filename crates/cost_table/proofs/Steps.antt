@@ -4,7 +4,7 @@
 --   right_more     the first entries are right, and one more
 --   RowsSoFar      rows and marks of the first entries, which are right
 --   all_right      all are, where as many are as there are
-use Rattle.std.proofs.Common.{◌≡◌, ◌<◌, ◌≤◌, ◌+◌, ◌⊎◌, ⊎_elim, ◌*◌, ℕ, Bool, List, [], ◌∷◌, ◌++◌, length, take, Some, slice_get, refl, ap, sym, ◌∙◌, subst, arith}
+use Rattle.std.proofs.Common.{◌≡◌, ◌<◌, ◌≤◌, ◌+◌, ⊎_elim, ◌*◌, ℕ, Bool, List, [], ◌∷◌, ◌++◌, length, take, Some, slice_get, refl, ap, sym, ◌∙◌, subst, arith}
 use Rattle.std.specs.List.{flat_map}
 use Rattle.std.proofs.lemmas.List.{append-nil, take_more, take_all}
 use Rattle.std.proofs.lemmas.List.Elements.{All-nil}
@@ -32,9 +32,9 @@ pub right_more : (judging : Judging) (entries : List Data) (i : ℕ) (datum : Da
 right_more judging entries i datum below at right = λ k other low stands. ⊎_elim
     (λ (before : k < i). below k other before stands)
     (λ (last : i ≤ k).
-      let same : i ≡ k = omega arith in
-      let is : datum ≡ other = same_Some datum other (sym at ∙ ap (slice_get entries) same ∙ stands) in
-      subst (λ (j : ℕ). judging.Right (take j entries) j other) same (subst (judging.Right (take i entries) i) is right))
+    let same : i ≡ k = omega arith in
+    let is : datum ≡ other = same_Some datum other (sym at ∙ ap (slice_get entries) same ∙ stands) in
+    subst (λ (j : ℕ). judging.Right (take j entries) j other) same (subst (judging.Right (take i entries) i) is right))
     (below_or_not k i)
 
 -- all are right, where as many are as there are

@@ -3,4 +3,3 @@ pub mod Documents
 pub mod Entries
 pub mod Inputs
 pub mod Marks
--- pub mod Blocks

@@ -1,4 +1,4 @@
-//! The meaning of the TOML files: what words a run is given, and what a block costs.
+//! The meaning of the TOML files: today, which cells an inputs file gives a run, and their ranges.
 //!
 //! The text is read by the kit's `toml`, and what its table means is a definition over the members of
 //! the document. Each refusal names the entry of the first fault.
@@ -16,10 +16,5 @@ mod input_rows;
 mod row_list;
 mod taken;
 
-// Costs: entries, and the costs of all blocks.
-// mod block_costs;
-// mod cost_entry;
-
-// pub use block_costs::{Costs, costs};
 pub use fault::TableFault;
 pub use input_rows::inputs;

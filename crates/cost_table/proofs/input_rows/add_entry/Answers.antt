@@ -1,7 +1,6 @@
-use Rattle.std.proofs.Common.{◌≡◌, Some, refl, sym, subst, arith}
-use Rattle.toml.specs.View.{view}
+use Rattle.std.proofs.Common.{refl, sym, subst, arith}
 use Rattle.alf_check.specs.CheckedPrograms.{seen}
-use Rattle.cost_table.specs.Inputs.{AreApart, IsInRange, input_entry, rows_of}
+use Rattle.cost_table.specs.Inputs.{AreApart}
 use Rattle.cost_table.proofs.Placed.{Placed, frame_small, room_of, rows_are, free_apart, met_shares, marks_more, keep_more}
 use Rattle.cost_table.proofs.input_rows.add_entry.Goals as goal
 

@@ -1,10 +1,16 @@
-use Rattle.std.proofs.Common.{◌≡◌, ◌∙◌, map, length, subst, arith}
+use Rattle.std.proofs.Common.{◌∙◌, map, subst, arith}
 use Rattle.std.proofs.lemmas.List.{length-map}
 use Rattle.toml.specs.View.{view}
 use Rattle.alf_check.specs.CheckedPrograms.{seen}
 use Rattle.cost_table.specs.Inputs.{IsWrongInput, entry_rows, input_judging}
-use Rattle.cost_table.proofs.Steps.{all_made, all_right, none_yet, one_more}
+use Rattle.cost_table.proofs.Steps.{all_made, all_right, one_more}
 use Rattle.cost_table.proofs.input_rows.all_rows.Goals as goal
+
+pub loop-place-preserved : goal.loop-place-preserved
+loop-place-preserved c = (
+  c.loop-place.invariant.0,
+  one_more (seen c.args.checked.now) (map view c.args.values.now) c.loop-place.place c.loop-place.rows.items c.add_entry.new.rows.items c.loop-place.marks c.add_entry.new.marks (view c.nth.result.now) c.loop-place.invariant.1 c.nth.ensures c.in_default-add_entry.ensures.right c.in_default-add_entry.ensures.more c.in_default-add_entry.ensures.keep c.in_default-add_entry.ensures.same_length c.in_default-add_entry.ensures.marked,
+)
 
 pub returns-in-Err-clause-first : goal.returns-in-Err-clause-first
 returns-in-Err-clause-first c = λ other. record {

@@ -1,4 +1,4 @@
-use Rattle.std.proofs.Common.{◌≡◌, ◌/◌, ◌∙◌, arith, append_assoc}
+use Rattle.std.proofs.Common.{◌/◌, arith, append_assoc}
 use Rattle.cost_table.proofs.RowsFrom.{rows_step, room_step}
 use Rattle.cost_table.proofs.row_list.add_rows.Goals as goal
 

@@ -1,0 +1,10 @@
+-- The lemmas.
+pub mod Seen
+pub mod RowsFrom
+pub mod Orders
+pub mod InputEntries
+pub mod Pairs
+pub mod FramesFound
+pub mod Placed
+pub mod Lying
+pub mod Steps

@@ -1,0 +1,10 @@
+//! Tests of `cost_table`. Without tests this library is empty.
+#![tactic(auto)]
+
+// A program, files and answers in a short notation.
+#[cfg(test)]
+mod sketch;
+
+// Inputs files.
+#[cfg(test)]
+mod inputs;

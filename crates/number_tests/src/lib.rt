@@ -7,6 +7,10 @@ mod wholes;
 
 // Hulls and images, parts and pieces.
 #[cfg(test)]
+mod given;
+#[cfg(test)]
 mod images;
 #[cfg(test)]
 mod parts;
+#[cfg(test)]
+mod pieces;

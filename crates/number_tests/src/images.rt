@@ -1,18 +1,10 @@
 //! Hulls and images, from sets of numbers and by the letter of their rules.
 
-use progressions::{Progression, hulls_are_least, images_have_all};
+use crate::given::of;
+use progressions::{hulls_are_least, images_have_all};
 use std::process::Abort;
 use std::test::Fail;
 use whole_numbers::Whole;
-
-/// The progression with these ends and this step.
-fn of(lo: i128, hi: i128, step: i128) -> Progression {
-    Progression {
-        lo: Whole::of(lo),
-        hi: Whole::of(hi),
-        step: Whole::of(step),
-    }
-}
 
 /// Two progressions, and their sums, differences, products and hull.
 static PAIRS: [[i128; 18]; 39] = [

@@ -12,7 +12,7 @@
 --   cost_entries members         the entries, if only `default` and `cost` stand at the top: a cost, an array of tables
 --   MeansCosts bytes program table     the file means these costs
 --   RefusesCosts bytes program fault   the file is refused for this fault
-use Rattle.std.specs.Prelude.{◌≡◌, ◌<◌, ◌+◌, ◌^◌, ℕ, ℤ, pos, Bool, true, false, ◌&&◌, ◌||◌, List, [], ◌∷◌, length, Option, Some, None, IsSome, is_some, codes, unwrap_or, if◌then◌else◌, nat_eq, ltb}
+use Rattle.std.specs.Prelude.{◌≡◌, ◌<◌, ◌+◌, ◌^◌, ℕ, ℤ, pos, Bool, false, ◌&&◌, ◌||◌, List, [], ◌∷◌, length, Option, Some, None, IsSome, is_some, codes, unwrap_or, if◌then◌else◌, nat_eq, ltb}
 use Rattle.std.specs.Option.{option_and_then, option_map_or, option_or}
 use Rattle.std.specs.Str.{bytes_eq}
 use lib.IntN.{negsuc}

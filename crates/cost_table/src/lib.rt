@@ -19,6 +19,7 @@ mod taken;
 
 // Costs: entries, and the costs of all blocks.
 mod block_costs;
+mod blocks;
 mod cost_entry;
 mod cost_rows;
 

@@ -1,4 +1,5 @@
-//! The meaning of the TOML files: today, which cells an inputs file gives a run, and their ranges.
+//! The meaning of the TOML files: which cells an inputs file gives a run, and their ranges; what each
+//! block costs by a costs file.
 //!
 //! The text is read by the kit's `toml`, and what its table means is a definition over the members of
 //! the document. Each refusal names the entry of the first fault.
@@ -16,5 +17,17 @@ mod input_rows;
 mod row_list;
 mod taken;
 
+// Costs: entries, and the costs of all blocks.
+mod block_costs;
+mod blocks;
+mod cost_entry;
+mod cost_rows;
+
+// What every file keeps.
+mod laws;
+
+pub use block_costs::Costs;
+pub use cost_rows::costs;
 pub use fault::TableFault;
 pub use input_rows::inputs;
+pub use laws::a_file_has_one_answer;

@@ -7,7 +7,8 @@ use c_tokens::{
 use std::alloc::Global;
 use std::test::Fail;
 
-/// A letter for what a token is: `k` for a keyword, `u` for a comment that is not closed.
+/// A letter for what a token is: `k` for a keyword, `q` and `u` for a literal and a comment that are
+/// not closed.
 fn letter(token: Token<'_>) -> u8 {
     match token.kind {
         Kind::White => b'w',
@@ -17,6 +18,7 @@ fn letter(token: Token<'_>) -> u8 {
         Kind::StringLiteral => b's',
         Kind::Punctuator => b'p',
         Kind::Other => b'o',
+        Kind::OpenLiteral => b'q',
         Kind::OpenComment => b'u',
     }
 }
@@ -70,7 +72,7 @@ static NAMES_AND_NUMBERS: [Row; 22] = [
     ("@`\\", "o:@ o:` o:\\"),
 ];
 
-static LITERALS: [Row; 30] = [
+static LITERALS: [Row; 31] = [
     ("'a' ' ' '\"'", "c:'a' c:' ' c:'\"'"),
     (
         "'\\n' '\\0' '\\\\' '\\''",
@@ -79,30 +81,31 @@ static LITERALS: [Row; 30] = [
     ("'ab' '\\012'", "c:'ab' c:'\\012'"),
     ("'\\x4' '\\x4g'", "c:'\\x4' c:'\\x4g'"),
     ("'\\u00e4' '\\U000000e4'", "c:'\\u00e4' c:'\\U000000e4'"),
-    ("''", "o:' o:'"),
-    ("'a", "o:' i:a"),
-    ("'a\n'", "o:' i:a o:'"),
-    ("'\\", "o:' o:\\"),
-    ("'\\q'", "o:' o:\\ i:q o:'"),
-    ("'\\8'", "o:' o:\\ n:8 o:'"),
-    ("'\\x'", "o:' o:\\ i:x o:'"),
-    ("'\\u00e'", "o:' o:\\ i:u00e o:'"),
-    ("'\\U000000e'", "o:' o:\\ i:U000000e o:'"),
-    ("'\\\n'", "o:' o:\\ o:'"),
+    ("''", "q:''"),
+    ("'a", "q:'a"),
+    ("'a\n'", "q:'a q:'"),
+    ("'\\", "q:'\\"),
+    ("'\\q'", "q:'\\q'"),
+    ("'\\8'", "q:'\\8'"),
+    ("'\\x'", "q:'\\x'"),
+    ("'\\u00e'", "q:'\\u00e'"),
+    ("'\\U000000e'", "q:'\\U000000e'"),
+    ("'\\\n'", "q:'\\ q:'"),
     ("\"\" \"a b\"", "s:\"\" s:\"a b\""),
     ("\"'\" \"\\\"\"", "s:\"'\" s:\"\\\"\""),
-    ("\"a", "o:\" i:a"),
-    ("\"a\n\"", "o:\" i:a o:\""),
-    ("\"a\\\"", "o:\" i:a o:\\ o:\""),
+    ("\"a", "q:\"a"),
+    ("\"a\n\"", "q:\"a q:\""),
+    ("\"a\\\"", "q:\"a\\\""),
     ("\"/*\" */", "s:\"/*\" p:* p:/"),
     ("'//' x", "c:'//' i:x"),
     ("L'a' L\"a\" L\"\"", "c:L'a' s:L\"a\" s:L\"\""),
     ("L 'a'", "i:L c:'a'"),
-    ("L''", "i:L o:' o:'"),
-    ("L'a", "i:L o:' i:a"),
+    ("L''", "i:L q:''"),
+    ("L'a", "i:L q:'a"),
     ("l'a' LL'a'", "i:l c:'a' i:LL c:'a'"),
     ("L/**/'a'", "i:L c:'a'"),
     ("'a''b'", "c:'a' c:'b'"),
+    ("'\\q b' /*c*/ d", "q:'\\q b' /*c*/ d"),
     ("'a'b 'a'1", "c:'a' i:b c:'a' n:1"),
 ];
 

@@ -12,8 +12,8 @@ use Rattle.c_tokens.specs.declared.token.Kind.TheVariants as kinds
 use Rattle.c_tokens.specs.Bytes.{is_blank, in_line}
 use Rattle.c_tokens.specs.Ends.{comment_end, closes_comment, goes_on_in_comment, literal_end, closes_literal, goes_on_in_literal, start_of, is_end}
 use Rattle.c_tokens.specs.Punctuators.{is_pair, is_triple, is_quadruple, is_punctuator}
-use Rattle.c_tokens.specs.Kinds.{only, kind_of_one, comment_kind}
-use Rattle.c_tokens.specs.Cutting.{comment_piece, literal_piece, begins_triple, begins_quadruple, symbol_piece}
+use Rattle.c_tokens.specs.Kinds.{only, kind_of_one, comment_kind, literal_kind, quoted_kind}
+use Rattle.c_tokens.specs.Cutting.{comment_piece, wide_piece, quoted_piece, begins_triple, begins_quadruple, symbol_piece}
 use Rattle.c_tokens.proofs.Prefixes.{run_passes, run_most}
 use Rattle.c_tokens.proofs.Ending.{end_within, end_of_prefix, end_kept}
 
@@ -88,14 +88,13 @@ module _ (b : ℕ) (cs : List ℕ) where
   }
 
   -- a literal of which the quote is the second byte
-  pub wide_fits : (q : ℕ) (kind otherwise : Kind) → kind_of_one b ≡ otherwise
-      → Fits (λ xs. only (is_end (literal_end q xs) xs) kind) b cs (literal_piece (literal_end q cs) kind 2 otherwise)
-  wide_fits q kind otherwise single = at_end (literal_end q cs) refl
+  pub wide_fits : (q : ℕ) → kind_of_one b ≡ kinds.Identifier → Fits (λ xs. only (is_end (literal_end q xs) xs) (literal_kind q)) b cs (wide_piece q (literal_end q cs))
+  wide_fits q single = at_end (literal_end q cs) refl
     where
-      found : (k : ℕ) → is_some (only (is_end (literal_end q (take k cs)) (take k cs)) kind) ≡ true → literal_end q cs ≡ Some (length (take k cs))
-      found k h = end_of_prefix (closes_literal q) (goes_on_in_literal q) (start_of q) cs k (length (take k cs)) (is_end_at (literal_end q (take k cs)) (take k cs) (only_some _ kind h))
+      found : (k : ℕ) → is_some (only (is_end (literal_end q (take k cs)) (take k cs)) (literal_kind q)) ≡ true → literal_end q cs ≡ Some (length (take k cs))
+      found k h = end_of_prefix (closes_literal q) (goes_on_in_literal q) (start_of q) cs k (length (take k cs)) (is_end_at (literal_end q (take k cs)) (take k cs) (only_some _ (literal_kind q) h))
 
-      at_end : (o : Option ℕ) → literal_end q cs ≡ o → Fits (λ xs. only (is_end (literal_end q xs) xs) kind) b cs (literal_piece o kind 2 otherwise)
+      at_end : (o : Option ℕ) → literal_end q cs ≡ o → Fits (λ xs. only (is_end (literal_end q xs) xs) (literal_kind q)) b cs (wide_piece q o)
       at_end None e = record { within = omega arith; known = inl (refl, single); most = λ k le h. let f = found k h in absurd cc }
       at_end (Some j) e =
           let inside = end_within (closes_literal q) (goes_on_in_literal q) (start_of q) cs j e in
@@ -107,24 +106,41 @@ module _ (b : ℕ) (cs : List ℕ) where
           }
 
   -- a literal of which the quote is the first byte
-  pub quote_fits : (q c : ℕ) (kind otherwise : Kind) → kind_of_one b ≡ otherwise
-      → Fits (λ xs. only (is_end (literal_end q (c ∷ xs)) (c ∷ xs)) kind) b cs (literal_piece (literal_end q (c ∷ cs)) kind 1 otherwise)
-  quote_fits q c kind otherwise single = at_end (literal_end q (c ∷ cs)) refl
+  pub quote_fits : (q c : ℕ) → kind_of_one b ≡ kinds.OpenLiteral
+      → Fits (λ xs. quoted_kind q (literal_end q (c ∷ xs)) (c ∷ xs)) b cs (quoted_piece q (literal_end q (c ∷ cs)) (prefix_len in_line (c ∷ cs)))
+  quote_fits q c single = at_end (literal_end q (c ∷ cs)) refl
     where
-      found : (k : ℕ) → is_some (only (is_end (literal_end q (c ∷ take k cs)) (c ∷ take k cs)) kind) ≡ true → literal_end q (c ∷ cs) ≡ Some (suc (length (take k cs)))
-      found k h = end_of_prefix (closes_literal q) (goes_on_in_literal q) (start_of q) (c ∷ cs) (suc k) (suc (length (take k cs)))
-          (is_end_at (literal_end q (c ∷ take k cs)) (c ∷ take k cs) (only_some _ kind h))
+      open_before : literal_end q (c ∷ cs) ≡ None → (k : ℕ) (o : Option ℕ) → literal_end q (c ∷ take k cs) ≡ o → o ≡ None
+      open_before e k None f = refl
+      open_before e k (Some j) f = let g : literal_end q (c ∷ cs) ≡ Some j = end_of_prefix (closes_literal q) (goes_on_in_literal q) (start_of q) (c ∷ cs) (suc k) j f in absurd cc
 
-      at_end : (o : Option ℕ) → literal_end q (c ∷ cs) ≡ o → Fits (λ xs. only (is_end (literal_end q (c ∷ xs)) (c ∷ xs)) kind) b cs (literal_piece o kind 1 otherwise)
-      at_end None e = record { within = omega arith; known = inl (refl, single); most = λ k le h. let f = found k h in absurd cc }
+      open_fits : literal_end q (c ∷ cs) ≡ None → ((k : ℕ) → literal_end q (c ∷ take k cs) ≡ None) → (l : ℕ) → prefix_len in_line (c ∷ cs) ≡ l
+          → Fits (λ xs. quoted_kind q (literal_end q (c ∷ xs)) (c ∷ xs)) b cs (kinds.OpenLiteral, l + 1)
+      open_fits e open_at zero is = record {
+        within = omega arith;
+        known = inl (refl, single);
+        most = λ k le h. let p : list_all in_line (c ∷ take k cs) ≡ true = only_some _ kinds.OpenLiteral (rw (open_at k) at h) in omega (arith, run_most in_line (c ∷ cs) (suc k) (omega arith) p, is);
+      }
+      open_fits e open_at (suc l) is = record {
+        within = omega (arith, prefix_len-le-length in_line (c ∷ cs), is);
+        known = let p : list_all in_line (c ∷ take l cs) ≡ true = (rw is at (run_passes in_line (c ∷ cs))) in inr (l, omega arith, rw (open_at l, p) refl);
+        most = λ k le h. let p : list_all in_line (c ∷ take k cs) ≡ true = only_some _ kinds.OpenLiteral (rw (open_at k) at h) in omega (arith, run_most in_line (c ∷ cs) (suc k) (omega arith) p, is);
+      }
+
+      at_end : (o : Option ℕ) → literal_end q (c ∷ cs) ≡ o → Fits (λ xs. quoted_kind q (literal_end q (c ∷ xs)) (c ∷ xs)) b cs (quoted_piece q o (prefix_len in_line (c ∷ cs)))
+      at_end None e = open_fits e (λ k. open_before e k (literal_end q (c ∷ take k cs)) refl) (prefix_len in_line (c ∷ cs)) refl
       at_end (Some zero) e = let inside = end_within (closes_literal q) (goes_on_in_literal q) (start_of q) (c ∷ cs) 0 e in absurd (omega arith)
       at_end (Some (suc j)) e =
           let inside = end_within (closes_literal q) (goes_on_in_literal q) (start_of q) (c ∷ cs) (suc j) e in
-          let ends : literal_end q (c ∷ take j cs) ≡ Some (suc j) = end_kept (closes_literal q) (goes_on_in_literal q) (start_of q) (c ∷ cs) (suc j) (suc j) e (omega arith) in
+          let ends : (k : ℕ) → j ≤ k → literal_end q (c ∷ take k cs) ≡ Some (suc j) = λ k le. end_kept (closes_literal q) (goes_on_in_literal q) (start_of q) (c ∷ cs) (suc j) (suc k) e (omega arith) in
           record {
             within = omega arith;
-            known = let l : suc (length (take j cs)) ≡ suc j = ap suc (length-take-le j cs (omega arith)) in inr (j, omega arith, rw (ends, l, eq-eqb (suc j) (suc j) refl) refl);
-            most = λ k le h. let f = found k h in let l : length (take k cs) ≡ k = length-take-le k cs le in let same : suc j ≡ suc (length (take k cs)) = cc in omega arith;
+            known = let l : suc (length (take j cs)) ≡ suc j = ap suc (length-take-le j cs (omega arith)) in inr (j, omega arith, rw (ends j (omega arith), l, eq-eqb (suc j) (suc j) refl) refl);
+            most = λ k le h. elim (cases_lt k j) [
+              | inl lt ↦ omega arith
+              | inr ge ↦ let l : suc (length (take k cs)) ≡ suc k = ap suc (length-take-le k cs le) in
+                  let same : suc j ≡ suc k = eqb-true (suc j) (suc k) (only_some (suc j == suc k) (literal_kind q) (rw (ends k ge, l) at h)) in omega arith
+            ];
           }
 
 symbol_most : (b c : ℕ) (cs : List ℕ) (k : ℕ) → k ≤ length cs → is_punctuator (b ∷ c ∷ take k cs) ≡ true → k + 2 ≤ (symbol_piece b c cs).1

@@ -11,7 +11,7 @@ use Rattle.c_tokens.specs.declared.token.Kind.{Kind}
 use Rattle.c_tokens.specs.declared.token.Kind.TheVariants as kinds
 use Rattle.c_tokens.specs.Bytes.{is_blank, is_letter, is_word_byte, is_quote}
 use Rattle.c_tokens.specs.Numbers.{marks_exponent, is_number_rest, number_len, starts_number}
-use Rattle.c_tokens.specs.Kinds.{kind_of_one, literal_kind, opens_comment, opens_line_comment, is_wide, kind_of_more, kind_of}
+use Rattle.c_tokens.specs.Kinds.{kind_of_one, opens_comment, opens_line_comment, is_wide, kind_of_more, kind_of}
 use Rattle.c_tokens.specs.Cutting.{longer_piece, cut_piece}
 use Rattle.c_tokens.specs.Tokens.{longest_within, longest}
 use Rattle.c_tokens.proofs.Prefixes.{run_passes, run_most, number_goes_on, number_most, number_within}
@@ -19,10 +19,10 @@ use Rattle.c_tokens.proofs.Fitting.{Fits, by_tests, blank_fits, comment_fits, li
 
 -- ---- what single bytes are
 
-pub quote_alone : (b : ℕ) → is_quote b ≡ true → kind_of_one b ≡ kinds.Other
+pub quote_alone : (b : ℕ) → is_quote b ≡ true → kind_of_one b ≡ kinds.OpenLiteral
 quote_alone b h = elim (or_cases (b == 39) (b == 34) h) [
-  | inl e ↦ subst (λ (b : ℕ). kind_of_one b ≡ kinds.Other) (sym (eqb-true b 39 e)) refl
-  | inr e ↦ subst (λ (b : ℕ). kind_of_one b ≡ kinds.Other) (sym (eqb-true b 34 e)) refl
+  | inl e ↦ subst (λ (b : ℕ). kind_of_one b ≡ kinds.OpenLiteral) (sym (eqb-true b 39 e)) refl
+  | inr e ↦ subst (λ (b : ℕ). kind_of_one b ≡ kinds.OpenLiteral) (sym (eqb-true b 34 e)) refl
 ]
 
 letter_alone : (b c : ℕ) → is_wide b c ≡ true → kind_of_one b ≡ kinds.Identifier
@@ -47,12 +47,12 @@ longer_fits b c cs =
     by_tests fits (is_blank b) _ _ _ _ (blank_fits b cs) (λ blank.
     by_tests fits (opens_comment b c) _ _ _ _ (λ _. comment_fits b cs) (λ _.
     by_tests fits (opens_line_comment b c) _ _ _ _ (λ _. line_fits b cs) (λ _.
-    by_tests fits (is_wide b c) _ _ _ _ (λ h. wide_fits b cs c (literal_kind c) kinds.Identifier (letter_alone b c h)) (λ _.
+    by_tests fits (is_wide b c) _ _ _ _ (λ h. wide_fits b cs c (letter_alone b c h)) (λ _.
     by_tests fits (is_letter b) _ _ _ _ (λ h. run_fits b cs (list_all is_word_byte) c kinds.Identifier _ (omega (arith, prefix_len-le-length is_word_byte (c ∷ cs))) (run_passes is_word_byte (c ∷ cs))
     (λ m le. run_most is_word_byte (c ∷ cs) m (omega arith)) (λ _. rw (blank, h) refl)) (λ letter.
     by_tests fits (starts_number b c) _ _ _ _ (λ h. run_fits b cs (is_number_rest false) c kinds.Number _ (omega (arith, number_within false (c ∷ cs))) (number_goes_on false (c ∷ cs))
     (λ m le. number_most false (c ∷ cs) m (omega arith)) (number_alone b c cs blank letter h)) (λ _.
-    by_tests fits (is_quote b) _ _ _ _ (λ h. quote_fits b cs b c (literal_kind b) kinds.Other (quote_alone b h)) (λ _. symbol_fits b c cs)))))))
+    by_tests fits (is_quote b) _ _ _ _ (λ h. quote_fits b cs b c (quote_alone b h)) (λ _. symbol_fits b c cs)))))))
 
 -- ---- every piece
 

@@ -19,6 +19,7 @@ printed_shown kinds.Character h = refl
 printed_shown kinds.StringLiteral h = refl
 printed_shown kinds.Punctuator h = refl
 printed_shown kinds.Other h = refl
+printed_shown kinds.OpenLiteral h = refl
 printed_shown kinds.OpenComment h = refl
 
 kind_is : (o : Option Kind) → has_printed_kind o ≡ true → (kind : Kind) × (o ≡ Some kind) × (is_white kind ≡ false)

@@ -5,7 +5,7 @@ use Rattle.std.specs.Prelude.{◌==◌}
 use Rattle.std.specs.Option.{is_some}
 use Rattle.std.specs.List.{list_all}
 use Rattle.std.specs.Char.{is_ascii_digit}
-use Rattle.std.proofs.lemmas.Bool.{ne_eqb, cases_lt, and_parts}
+use Rattle.std.proofs.lemmas.Bool.{eqb-true, ne_eqb, cases_lt, and_parts}
 use Rattle.std.proofs.lemmas.List.{take_at}
 use Rattle.c_tokens.specs.declared.token.Kind.{Kind}
 use Rattle.c_tokens.specs.declared.token.Kind.TheVariants as kinds
@@ -13,7 +13,7 @@ use Rattle.c_tokens.specs.Bytes.{is_blank, is_letter, is_word_byte, is_quote, in
 use Rattle.c_tokens.specs.Ends.{comment_end, literal_end, closes_literal, goes_on_in_literal, start_of, is_end}
 use Rattle.c_tokens.specs.Numbers.{goes_on, starts_number}
 use Rattle.c_tokens.specs.Punctuators.{is_punctuator}
-use Rattle.c_tokens.specs.Kinds.{only, kind_of_one, comment_kind, literal_kind, opens_comment, opens_line_comment, is_wide, kind_of_more, kind_of}
+use Rattle.c_tokens.specs.Kinds.{only, kind_of_one, comment_kind, literal_kind, quoted_kind, opens_comment, opens_line_comment, is_wide, kind_of_more, kind_of}
 use Rattle.c_tokens.specs.Cutting.{cut_piece}
 use Rattle.c_tokens.specs.Printed.{is_printed_kind, has_printed_kind, can_print}
 use Rattle.c_tokens.proofs.Prefixes.{run_ends, number_ends}
@@ -138,6 +138,10 @@ white_unprinted : (t : Bool) → has_printed_kind (only t kinds.White) ≡ true 
 white_unprinted true h = cc
 white_unprinted false h = cc
 
+open_unprinted : (t : Bool) → has_printed_kind (only t kinds.OpenLiteral) ≡ true → ⊥
+open_unprinted true h = cc
+open_unprinted false h = cc
+
 comment_unprinted : (o : Option ℕ) (xs : List ℕ) → has_printed_kind (comment_kind o xs) ≡ true → ⊥
 comment_unprinted None xs h = cc
 comment_unprinted (Some n) xs h = white_unprinted (n == length xs) h
@@ -147,6 +151,16 @@ module _ (s : ℕ) (is : Separates s) where
   literal_ends q xs more h =
       let e = end_before (closes_literal q) (goes_on_in_literal q) (start_of q) xs (s ∷ more) (length xs) (is_end_at (literal_end q xs) xs h) in
       rw e (ne_eqb (length xs) (length (xs ++ s ∷ more)) (λ same. omega (arith, length-append xs (s ∷ more))))
+
+  quoted_ends : (q : ℕ) (xs more : List ℕ) → has_printed_kind (quoted_kind q (literal_end q xs) xs) ≡ true → quoted_kind q (literal_end q (xs ++ s ∷ more)) (xs ++ s ∷ more) ≡ None
+  quoted_ends q xs more = at_end (literal_end q xs) refl
+    where
+      at_end : (o : Option ℕ) → literal_end q xs ≡ o → has_printed_kind (quoted_kind q o xs) ≡ true → quoted_kind q (literal_end q (xs ++ s ∷ more)) (xs ++ s ∷ more) ≡ None
+      at_end None e h = absurd (open_unprinted (list_all in_line xs) h)
+      at_end (Some n) e h =
+          let same : n ≡ length xs = eqb-true n (length xs) (only_printed (n == length xs) (literal_kind q) h) in
+          let f : literal_end q (xs ++ s ∷ more) ≡ Some n = end_before (closes_literal q) (goes_on_in_literal q) (start_of q) xs (s ∷ more) n e in
+          rw f (only_none _ (literal_kind q) (ne_eqb n (length (xs ++ s ∷ more)) (λ eq. omega (arith, length-append xs (s ∷ more)))))
 
   punctuator_ends : (b c : ℕ) (cs more : List ℕ) → is_punctuator (b ∷ c ∷ (cs ++ s ∷ more)) ≡ false
   punctuator_ends b c [] more = is.third b c more
@@ -163,7 +177,7 @@ module _ (s : ℕ) (is : Separates s) where
       by_test none (is_wide b s) _ _ (λ h. let f = (and_parts (b == 76) (is_quote s) h).1 in let g = is.quote in absurd cc) (λ _.
       by_test none (is_letter b) _ _ (λ _. rw is.word refl) (λ _.
       by_test none (starts_number b s) _ _ (λ _. rw (is.number false) refl) (λ _.
-      by_test none (is_quote b) _ _ (λ h. let f : is_printed_kind kinds.Other ≡ true = (rw (quote_alone b h) at printed) in absurd cc) (λ _. rw (is.second b more) refl)))))))
+      by_test none (is_quote b) _ _ (λ h. let f : is_printed_kind kinds.OpenLiteral ≡ true = (rw (quote_alone b h) at printed) in absurd cc) (λ _. rw (is.second b more) refl)))))))
 
   after_more : (b c : ℕ) (cs more : List ℕ) → has_printed_kind (kind_of_more b c cs) ≡ true → kind_of_more b c (cs ++ s ∷ more) ≡ None
   after_more b c cs more =
@@ -174,7 +188,7 @@ module _ (s : ℕ) (is : Separates s) where
       by_both ends (is_wide b c) _ _ _ _ (λ _ h. only_none _ (literal_kind c) (literal_ends c cs more (only_printed _ (literal_kind c) h))) (λ _.
       by_both ends (is_letter b) _ _ _ _ (λ _ h. only_none _ kinds.Identifier (run_ends is_word_byte (c ∷ cs) s more is.word)) (λ _.
       by_both ends (starts_number b c) _ _ _ _ (λ _ h. only_none _ kinds.Number (number_ends false (c ∷ cs) s more is.number)) (λ _.
-      by_both ends (is_quote b) _ _ _ _ (λ _ h. only_none _ (literal_kind b) (literal_ends b (c ∷ cs) more (only_printed _ (literal_kind b) h))) (λ _ h. only_none _ kinds.Punctuator (punctuator_ends b c cs more))))))))
+      by_both ends (is_quote b) _ _ _ _ (λ _ h. quoted_ends b (c ∷ cs) more h) (λ _ h. only_none _ kinds.Punctuator (punctuator_ends b c cs more))))))))
 
   after_text : (text more : List ℕ) → can_print text ≡ true → kind_of (text ++ s ∷ more) ≡ None
   unfolding can_print kind_of

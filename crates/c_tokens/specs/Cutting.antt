@@ -15,10 +15,15 @@ abbrev pub comment_piece : Option ℕ → ℕ → Kind × ℕ
 comment_piece None n = (kinds.OpenComment, n + 2)
 comment_piece (Some n) all = (kinds.White, n + 2)
 
--- a literal after so many bytes, or one byte of this kind
-abbrev pub literal_piece : Option ℕ → Kind → ℕ → Kind → Kind × ℕ
-literal_piece None kind before otherwise = (otherwise, 1)
-literal_piece (Some n) kind before otherwise = (kind, n + before)
+-- a literal after L and its quote, or the name L
+abbrev pub wide_piece : ℕ → Option ℕ → Kind × ℕ
+wide_piece q None = (kinds.Identifier, 1)
+wide_piece q (Some n) = (literal_kind q, n + 2)
+
+-- a literal after its quote, where so many bytes of its line are left
+abbrev pub quoted_piece : ℕ → Option ℕ → ℕ → Kind × ℕ
+quoted_piece q None line = (kinds.OpenLiteral, line + 1)
+quoted_piece q (Some n) line = (literal_kind q, n + 1)
 
 abbrev pub begins_triple : ℕ → ℕ → List ℕ → Bool
 begins_triple a b [] = false
@@ -41,10 +46,10 @@ longer_piece b c cs =
     if is_blank b then (kinds.White, 1)
     else if opens_comment b c then comment_piece (comment_end cs) (length cs)
     else if opens_line_comment b c then (kinds.White, prefix_len in_line cs + 2)
-    else if is_wide b c then literal_piece (literal_end c cs) (literal_kind c) 2 kinds.Identifier
+    else if is_wide b c then wide_piece c (literal_end c cs)
     else if is_letter b then (kinds.Identifier, prefix_len is_word_byte (c ∷ cs) + 1)
     else if starts_number b c then (kinds.Number, number_len false (c ∷ cs) + 1)
-    else if is_quote b then literal_piece (literal_end b (c ∷ cs)) (literal_kind b) 1 kinds.Other
+    else if is_quote b then quoted_piece b (literal_end b (c ∷ cs)) (prefix_len in_line (c ∷ cs))
     else symbol_piece b c cs
 
 unfoldable pub cut_piece : List ℕ → Kind × ℕ

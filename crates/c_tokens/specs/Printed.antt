@@ -1,5 +1,5 @@
 -- Texts that are printed from tokens.
---   can_print text    the text is one token that can be printed: neither a byte that is in no other token, nor an open comment
+--   can_print text    the text is one token that can be printed: neither a byte that is in no other token, nor a literal or a comment that is not closed
 --   printed_text ts   the texts of tokens in order, with one space between two of them and one line feed at the end
 use Rattle.std.specs.Prelude.{ℕ, List, [], ◌∷◌, ◌++◌, drop, Bool, true, false, Option, Some, None}
 use Rattle.std.specs.List.{flat_map}
@@ -10,6 +10,7 @@ use Rattle.c_tokens.specs.Kinds.{kind_of}
 abbrev pub is_printed_kind : Kind → Bool
 is_printed_kind kinds.White = false
 is_printed_kind kinds.Other = false
+is_printed_kind kinds.OpenLiteral = false
 is_printed_kind kinds.OpenComment = false
 is_printed_kind _ = true
 

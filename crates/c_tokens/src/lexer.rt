@@ -1,9 +1,11 @@
 //! The longest piece that some bytes begin with.
 
 ghost use Rattle.std.specs.Prelude.{◌≡◌, ◌+◌, ◌<◌, ◌^◌, length};
+ghost use Rattle.std.specs.List.{prefix_len};
+ghost use Rattle.c_tokens.specs.Bytes.{in_line};
 ghost use Rattle.c_tokens.specs.Ends.{comment_end, literal_end};
 ghost use Rattle.c_tokens.specs.Kinds.{kind_of_one, literal_kind, opens_comment, opens_line_comment, is_wide};
-ghost use Rattle.c_tokens.specs.Cutting.{comment_piece, literal_piece, symbol_piece, longer_piece, cut_piece};
+ghost use Rattle.c_tokens.specs.Cutting.{comment_piece, wide_piece, quoted_piece, symbol_piece, longer_piece, cut_piece};
 
 use crate::bytes::{is_blank, is_letter, is_quote, line_len, word_len};
 use crate::comments::comment_end;
@@ -21,6 +23,8 @@ fn kind_of_one(byte: u8) -> Kind
         Kind::Identifier
     } else if byte.is_ascii_digit() {
         Kind::Number
+    } else if is_quote(byte) {
+        Kind::OpenLiteral
     } else if is_single(byte) {
         Kind::Punctuator
     } else {
@@ -74,13 +78,13 @@ pub fn cut_piece(bytes: &[u8]) -> (Kind, usize)
     } else if opens_line_comment(*first, *second) {
         (Kind::White, line_len(rest) + 2)
     } else if is_wide(*first, *second) {
-        literal_piece(*second, rest, 2, Kind::Identifier)
+        wide_piece(*second, rest)
     } else if is_letter(*first) {
         (Kind::Identifier, word_len(others) + 1)
     } else if starts_number(*first, *second) {
         (Kind::Number, number_len(others) + 1)
     } else if is_quote(*first) {
-        literal_piece(*first, others, 1, Kind::Other)
+        quoted_piece(*first, others)
     } else {
         symbol_piece(*first, *second, rest)
     }
@@ -97,15 +101,25 @@ fn comment_piece(bytes: &[u8]) -> (Kind, usize)
     }
 }
 
-// A literal after its quote, before which and with which stand so many bytes. Where it does not end, the first of them is a piece of
-// another kind.
-fn literal_piece(quote: u8, bytes: &[u8], before: usize, otherwise: Kind) -> (Kind, usize)
-    requires { length bytes.now + before < 2 ^ 64 }
-    ensures { result ≡ literal_piece (literal_end quote bytes.now) (literal_kind quote) before otherwise }
+// A literal after L and its quote, or the name L.
+fn wide_piece(quote: u8, bytes: &[u8]) -> (Kind, usize)
+    requires { length bytes.now + 2 < 2 ^ 64 }
+    ensures { result ≡ wide_piece quote (literal_end quote bytes.now) }
 {
     match literal_end(quote, bytes) {
-        Some(len) => (literal_kind(quote), len + before),
-        None => (otherwise, 1),
+        Some(len) => (literal_kind(quote), len + 2),
+        None => (Kind::Identifier, 1),
+    }
+}
+
+// A literal after its quote. One that is not closed goes to the end of its line.
+fn quoted_piece(quote: u8, bytes: &[u8]) -> (Kind, usize)
+    requires { length bytes.now + 1 < 2 ^ 64 }
+    ensures { result ≡ quoted_piece quote (literal_end quote bytes.now) (prefix_len in_line bytes.now) }
+{
+    match literal_end(quote, bytes) {
+        Some(len) => (literal_kind(quote), len + 1),
+        None => (Kind::OpenLiteral, line_len(bytes) + 1),
     }
 }
 

@@ -15,6 +15,8 @@ pub enum Kind {
     Punctuator,
     /// One byte that is in none of these.
     Other,
+    /// A quote of which no literal is closed, up to the end of its line.
+    OpenLiteral,
     /// A comment that is not closed, up to the end of the text.
     OpenComment,
 }

@@ -1,12 +1,13 @@
 -- The pieces of a text, and its tokens by their first piece.
-use Rattle.std.proofs.Common.{◌≡◌, ℕ, zero, suc, ◌≤◌, ◌<◌, Bool, true, false, cond, List, [], ◌∷◌, ◌++◌, length, take, drop, filter, Some, refl, sym, ap, subst, arith, take-append-drop}
+use Rattle.std.proofs.Common.{◌≡◌, ℕ, zero, suc, ◌+◌, ◌-◌, ◌≤◌, ◌<◌, Bool, true, false, cond, List, [], ◌∷◌, ◌++◌, length, take, drop, filter, Some, refl, sym, ap, subst, ◌∙◌, arith, take-append-drop}
 use Rattle.std.specs.List.{flat_map, All}
-use Rattle.std.proofs.lemmas.List.{length-drop}
+use Rattle.std.proofs.lemmas.List.{length-drop, length-take-le, drop-drop}
 use Rattle.std.proofs.lemmas.List.Elements.{All-nil, All-cons}
 use Rattle.c_tokens.specs.declared.token.Kind.{Kind}
 use Rattle.c_tokens.specs.Kinds.{kind_of}
 use Rattle.c_tokens.specs.Cutting.{cut_piece}
 use Rattle.c_tokens.specs.Tokens.{Lexeme, longest, piece_of, cut, pieces_of, is_token, shown, tokens_of}
+use Rattle.c_tokens.specs.Laws.{StandsIn}
 use Rattle.c_tokens.proofs.Longest.{piece_is_cut, longest_is}
 
 -- the longest piece, as a record on its length
@@ -91,6 +92,29 @@ all_known (suc n) (b ∷ bs) =
 pub tokens_known : (bytes : List ℕ) → All (λ (t : Lexeme). kind_of t.text ≡ Some t.kind) (tokens_of bytes)
 unfolding tokens_of pieces_of
 tokens_known bytes = all_known (length bytes) bytes
+
+-- each piece stands in the text, where the rest of the text from it on is what is left
+stands_first : (bytes : List ℕ) (t : Lexeme) (ts : List Lexeme) → StandsIn bytes t → All (StandsIn bytes) ts → (w : Bool) → All (StandsIn bytes) (cond w (t ∷ ts) ts)
+stands_first bytes t ts here more true = All-cons (StandsIn bytes) t ts here more
+stands_first bytes t ts here more false = more
+
+all_stand : (n : ℕ) (bytes : List ℕ) (k : ℕ) (rest : List ℕ) → drop k bytes ≡ rest → k + length rest ≡ length bytes → All (StandsIn bytes) (filter is_token (cut n rest))
+all_stand zero bytes k rest e len = All-nil (StandsIn bytes)
+all_stand (suc n) bytes k [] e len = All-nil (StandsIn bytes)
+all_stand (suc n) bytes k (b ∷ bs) e len =
+    let h = piece_at b bs in
+    let l = longest (b ∷ bs) in
+    let fits : l ≤ length (b ∷ bs) = omega (arith, h.longest, h.fits) in
+    let at : length bytes - length (b ∷ bs) ≡ k = omega arith in
+    let size : length (take l (b ∷ bs)) ≡ l = length-take-le l (b ∷ bs) fits in
+    let here : StandsIn bytes (piece_of (take l (b ∷ bs)) (length (b ∷ bs))) = record { within = omega arith; there = rw (at, e, size) refl } in
+    let next : drop (k + l) bytes ≡ drop l (b ∷ bs) = sym (drop-drop l k bytes) ∙ ap (drop l) e in
+    let more = all_stand n bytes (k + l) (drop l (b ∷ bs)) next (omega (arith, length-drop l (b ∷ bs))) in
+    stands_first bytes (piece_of (take l (b ∷ bs)) (length (b ∷ bs))) (filter is_token (cut n (drop l (b ∷ bs)))) here more (is_token (piece_of (take l (b ∷ bs)) (length (b ∷ bs))))
+
+pub tokens_stand : (bytes : List ℕ) → All (StandsIn bytes) (tokens_of bytes)
+unfolding tokens_of pieces_of
+tokens_stand bytes = all_stand (length bytes) bytes 0 bytes refl (omega arith)
 
 -- ---- as a cursor uses it: p is the piece that was cut
 

@@ -29,6 +29,9 @@ mod laws;
 
 pub use cursor::Cursor;
 pub use keywords::is_keyword;
-pub use laws::{printed_texts_are_cut, texts_are_their_pieces, tokens_are_known_by_their_texts};
+pub use laws::{
+    printed_texts_are_cut, texts_are_their_pieces, tokens_are_known_by_their_texts,
+    tokens_stand_in_their_texts,
+};
 pub use places::place_of;
 pub use token::{Kind, Token};

@@ -1,0 +1,4 @@
+mod Cutting
+mod Doing
+mod Examples
+mod Functions

@@ -1,10 +1,12 @@
 -- Functions that are called are functions.
-use Rattle.std.proofs.Common.{◌≡◌, ◌<◌, ℕ, zero, suc, List, [], ◌∷◌, map, length, get_or, Option, Some, None, unwrap_or, IfSome, Contains, ⊎_elim, ap, sym, arith}
+use Rattle.std.proofs.Common.{◌≡◌, ◌<◌, ℕ, zero, suc, List, [], ◌∷◌, map, length, get_or, Option, Some, None, unwrap_or, IfSome, Contains, ap, sym, subst, arith}
 use Rattle.std.specs.List.{flat_map}
 use Rattle.std.proofs.lemmas.List.{length-map}
-use Rattle.std.proofs.lemmas.List.Elements.{Contains-append_cases}
+use Rattle.std.proofs.lemmas.List.Elements.{Contains-get_or}
+use Rattle.lists.specs.Members.{no_member, first_or_further}
+use Rattle.lists.specs.Images.{mapped, from_joined}
 use Rattle.alf_program.specs.declared.program.Func.{Func}
-use Rattle.alf_program.specs.Tree.{function_of, Null, Store, Jump, Switch, Call, Return, BodyItem, Label, Do, Function}
+use Rattle.alf_program.specs.Tree.{function_of, Call, BodyItem, Do, Function}
 use Rattle.alf_names.specs.Places.{function_place}
 use Rattle.alf_names.specs.PlaceLaws.{place_within}
 use Rattle.call_cycles.specs.Calls.{CallsWithin}
@@ -12,45 +14,27 @@ use Rattle.call_cycles.specs.CallLaws.{caller_low}
 use Rattle.alf_check.specs.Numbers.{func_number}
 use Rattle.alf_check.specs.Checking.{called_by, calls_among, name_at}
 
-contains_none : (x : ℕ) → Contains [] x → ⊥
-contains_none x (k, low, e) = omega arith
-
-contains_only : (x y : ℕ) → Contains (x ∷ []) y → y ≡ x
-contains_only x y (zero, low, e) = sym e
-contains_only x y (suc k, low, e) = absurd (omega arith)
-
-or_first : (found : Option ℕ) (n : ℕ) → 0 < n → IfSome found (λ place. place < n) → unwrap_or found 0 < n
-or_first None n some low = some
-or_first (Some place) n some low = low
-
 pub number_low : (all : List Function) (name : List ℕ) → 0 < length all → func_number all name < length all
-number_low all name some = or_first (function_place all name) (length all) some (place_within _ all)
+number_low all name some = by_place (function_place all name) (place_within _ all)
+  where
+    by_place : (place : Option ℕ) → IfSome place (λ k. k < length all) → unwrap_or place 0 < length all
+    by_place None low = some
+    by_place (Some k) low = low
 
 called_low : (all : List Function) (item : BodyItem) (g : ℕ) → 0 < length all → Contains (called_by all item) g → g < length all
-called_low all (Label label) g some h = absurd (contains_none g h)
-called_low all (Do Null) g some h = absurd (contains_none g h)
-called_low all (Do (Store at value)) g some h = absurd (contains_none g h)
-called_low all (Do (Jump label)) g some h = absurd (contains_none g h)
-called_low all (Do (Switch value targets others)) g some h = absurd (contains_none g h)
-called_low all (Do (Call label args result)) g some h =
-    let e = contains_only (func_number all label) g h in let low = number_low all label some in omega arith
-called_low all (Do (Return value)) g some h = absurd (contains_none g h)
-
-row_low : (all : List Function) (items : List BodyItem) (g : ℕ) → 0 < length all → Contains (flat_map (called_by all) items) g → g < length all
-row_low all [] g some h = absurd (contains_none g h)
-row_low all (item ∷ items) g some h =
-    ⊎_elim (λ k. called_low all item g some k) (λ k. row_low all items g some k) (Contains-append_cases (called_by all item) (flat_map (called_by all) items) g h)
-
-rows_low : (all funcs : List Function) (f g : ℕ) → 0 < length all → Contains (get_or (calls_among all funcs) f []) g → g < length all
-rows_low all [] f g some h = absurd (contains_none g h)
-rows_low all (func ∷ funcs) zero g some h = row_low all func.items g some h
-rows_low all (func ∷ funcs) (suc f) g some h = rows_low all funcs f g some h
+called_low all (Do (Call label args result)) g some c =
+    first_or_further (func_number all label) [] g c (λ e. let low = number_low all label some in omega arith) (no_member g)
+called_low all item g some c = no_member g c
 
 pub calls_within : (all : List Function) → CallsWithin (calls_among all all)
-calls_within all f g h =
-    let long = length-map all (λ func. flat_map (called_by all) func.items) in
-    let low = caller_low (calls_among all all) f g h in
-    let called = rows_low all all f g (omega arith) h in
+calls_within all f g c =
+    let calls = calls_among all all in
+    let called = λ (func : Function). flat_map (called_by all) func.items in
+    let long = length-map all called in
+    let low = caller_low calls f g c in
+    let row = mapped called all (get_or calls f []) (Contains-get_or calls f [] low) in
+    let item = from_joined (called_by all) row.0.items g (subst (λ (xs : List ℕ). Contains xs g) (sym row.2) c) in
+    let inside = called_low all item.0 g (omega arith) item.2 in
     omega arith
 
 -- the name of the function at a place

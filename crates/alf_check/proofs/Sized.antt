@@ -1,5 +1,5 @@
 -- Sizes of numbered expressions.
-use Rattle.std.proofs.Common.{◌≡◌, ◌<◌, ◌+◌, ℕ, Bool, true, false, cond, ◌&&◌, nat_le, nat_lt, List, length, drop, slice_index, ◌==◌, Option, Some, None, IsSome, is_some, is_none, option_map, refl, ap, sym, subst, leb-true, arith}
+use Rattle.std.proofs.Common.{◌≡◌, ◌<◌, ◌+◌, ℕ, Bool, true, false, cond, ◌&&◌, nat_le, nat_lt, List, length, drop, slice_index, ◌==◌, Option, Some, None, IsSome, is_some, is_none, refl, ap, subst, leb-true, arith}
 use Rattle.std.proofs.lemmas.Bool.{false≢true, and_parts}
 use Rattle.std.proofs.lemmas.Bool.Decides.{nat_tests}
 use Rattle.std.proofs.lemmas.Option.{same_Some, cond_some}
@@ -8,16 +8,16 @@ use Rattle.alf_ops.specs.declared.layout.Layout.{Layout}
 use Rattle.alf_ops.specs.declared.layout.Layout.TheVariants.{Unary, Sum, Carry, Joined, First, Second, Binary, Comparison, Extension, Truncation, Field, Choice}
 use Rattle.alf_ops.specs.Table.{result_size, operand_size, operand_sizes, layout_of, size_count, is_size, is_typed, is_written_so, result_by_layout}
 use Rattle.alf_ops.specs.OperandLaws.{operands_end, operands_go_on}
-use Rattle.alf_program.specs.Tree.{NamedExpression, NamedExpressions, Number, Address, Load, Apply, Empty, With, Do, Return, Function, WholeProgram, with_frames, all_with_frames}
+use Rattle.alf_program.specs.Tree.{NamedExpression, NamedExpressions, Number, Address, Load, Apply, Empty, With, Function, WholeProgram, with_frames, all_with_frames}
 use Rattle.alf_faults.specs.Fault.{is_exactly}
-use Rattle.alf_faults.specs.TermSizes.{term_size, operands_fit, return_size, same_size}
+use Rattle.alf_faults.specs.TermSizes.{term_size, operands_fit, same_size}
 use Rattle.alf_faults.specs.NoFault.{IsSeen, SeesFrames, SeesAllFrames}
 use Rattle.alf_check.specs.declared.rows.FrameRow.{FrameRow}
-use Rattle.alf_check.specs.Kept.{IsSize, IsWordOf, SeesFrame, HasSize, HaveSizes, GivesSize}
+use Rattle.alf_check.specs.Kept.{IsSize, IsWordOf, SeesFrame, HasSize, HaveSizes}
 use Rattle.alf_check.specs.KeptLaws.{cell_from}
-use Rattle.alf_program.specs.Writable.{PartsAreWritable, AllPartsAreWritable, ItemIsWritable}
-use Rattle.alf_check.proofs.Standing.{exactly}
-use Rattle.alf_check.proofs.SeenFrames.{word_of}
+use Rattle.alf_program.specs.Writable.{PartsAreWritable, AllPartsAreWritable}
+use Rattle.alf_check.proofs.Places.{exactly}
+use Rattle.alf_check.proofs.Frames.{word_of}
 
 -- ---- sizes of results
 
@@ -88,9 +88,3 @@ module _ (whole : WholeProgram) (func : Function) (rows : List FrameRow) (k : �
         let tests = and_parts (same_size (operand_size op sizes i) (term_size t)) (operands_fit op sizes (i + 1) ts) fits in
         let same = both_sizes (operand_size op sizes i) (term_size t) tests.0 in
         rw (operands_go_on op sizes i same.0 same.1) (sized t same.0 written.0 none.0 same.2, each_sized ts op sizes (i + 1) written.1 typed none.1 tests.1)
-
-  -- what a return gives
-  pub gives_size : (value : Option NamedExpression) (size : ℕ) → ItemIsWritable (Do (Return value)) → ((e : NamedExpression) → value ≡ Some e → SeesFrames whole func e) → return_size value ≡ Some size
-      → GivesSize rows k size (option_map (with_frames frame) value)
-  gives_size None size written none is = sym (same_Some 0 size is)
-  gives_size (Some t) size written sees is = sized t size written.parts (sees t refl) is

@@ -2,8 +2,9 @@
 
 ghost use Rattle.std.specs.Prelude.{◌≡◌, ◌<◌, ◌+◌, ◌^◌, map, length, All, IfOk};
 ghost use Rattle.alf_program.specs.Tree.{program_of, function_of};
+ghost use Rattle.alf_program.specs.Writable.{frames_of};
 ghost use Rattle.alf_check.specs.Blocks.{blocks_of};
-ghost use Rattle.alf_check.specs.Numbers.{frames_among, numbers_in};
+ghost use Rattle.alf_check.specs.Numbers.{numbers_in};
 ghost use Rattle.alf_check.specs.Numbered.{numbered_blocks, numbered_function, functions_from};
 ghost use Rattle.alf_check.specs.CheckedPrograms.{block_of, function_in};
 ghost use Rattle.alf_check.specs.declared.rows.FuncParts.{FuncParts};
@@ -21,7 +22,7 @@ use std::alloc::{AllocError, Global};
 
 /// The functions in their order.
 pub fn all_functions(alloc: Global, program: &Program) -> Result<Vec<FuncParts>, AllocError>
-    requires frames { length (program_of program.now).decls + frames_among (program_of program.now).funcs < 4294967295 }
+    requires frames { length (frames_of (program_of program.now)) < 4294967295 }
     requires funcs { length program.now.funcs.items < 4294967295 }
     ensures are { IfOk result (λ functions. map function_in functions.items
         ≡ functions_from (program_of program.now) (length (program_of program.now).decls) (program_of program.now).funcs) }

@@ -12,30 +12,26 @@ use Rattle.alf_names.specs.PlaceLaws.{place_within}
 use Rattle.call_cycles.specs.Calls.{CallsWithin}
 use Rattle.call_cycles.specs.CallLaws.{caller_low}
 use Rattle.alf_check.specs.Numbers.{func_number}
+use Rattle.alf_check.proofs.Places.{by_option}
 use Rattle.alf_check.specs.Checking.{called_by, calls_among, name_at}
 
 pub number_low : (all : List Function) (name : List ℕ) → 0 < length all → func_number all name < length all
-number_low all name some = by_place (function_place all name) (place_within _ all)
-  where
-    by_place : (place : Option ℕ) → IfSome place (λ k. k < length all) → unwrap_or place 0 < length all
-    by_place None low = some
-    by_place (Some k) low = low
+number_low all name some =
+    by_option (λ o. IfSome o (λ k. k < length all) → unwrap_or o 0 < length all) (function_place all name) (λ e low. some) (λ k e low. low) (place_within _ all)
 
 called_low : (all : List Function) (item : BodyItem) (g : ℕ) → 0 < length all → Contains (called_by all item) g → g < length all
 called_low all (Do (Call label args result)) g some c =
-    first_or_further (func_number all label) [] g c (λ e. let low = number_low all label some in omega arith) (no_member g)
+    first_or_further (func_number all label) [] g c (λ e. omega (arith, number_low all label some)) (no_member g)
 called_low all item g some c = no_member g c
 
 pub calls_within : (all : List Function) → CallsWithin (calls_among all all)
 calls_within all f g c =
     let calls = calls_among all all in
     let called = λ (func : Function). flat_map (called_by all) func.items in
-    let long = length-map all called in
     let low = caller_low calls f g c in
     let row = mapped called all (get_or calls f []) (Contains-get_or calls f [] low) in
     let item = from_joined (called_by all) row.0.items g (subst (λ (xs : List ℕ). Contains xs g) (sym row.2) c) in
-    let inside = called_low all item.0 g (omega arith) item.2 in
-    omega arith
+    omega (arith, length-map all called, called_low all item.0 g (omega (arith, length-map all called)) item.2)
 
 -- the name of the function at a place
 pub name_there : (funcs : List Func) (k : ℕ) (func : Func) → k < length funcs → func ≡ get_or funcs k func → func.name ≡ name_at (map function_of funcs) k

@@ -24,7 +24,7 @@ use Rattle.alf_check.specs.Numbers.{row_for, rows_of, rows_from, frame_rows, fra
 use Rattle.alf_check.specs.Numbered.{numbered_init, export_number}
 use Rattle.alf_check.specs.Kept.{row_bytes, IsWordOf, KeepsFrame, IsSeen, SeesFrame, InitFits, KeepsExport}
 use Rattle.alf_check.specs.KeptLaws.{cell_from}
-use Rattle.alf_check.proofs.Places.{its_name, first_place, stands, at_left, at_right, at_cases, OnePlace, one_place, one_place_of_both}
+use Rattle.alf_check.proofs.Places.{by_option, its_name, first_place, stands, at_left, at_right, at_cases, OnePlace, one_place, one_place_of_both}
 
 -- ---- rows in the order of the text
 
@@ -44,6 +44,9 @@ of_functions n [] = refl
 of_functions n (func ∷ funcs) =
     rw (rows_split n func funcs, map-append frame_of (rows_of (Some n) (own_frames func)) (rows_from (suc n) funcs), of_owner (Some n) (own_frames func), of_functions (suc n) funcs) refl
 
+own_count : (n : ℕ) (func : Function) → length (rows_of (Some n) (own_frames func)) ≡ length func.args + length func.decls
+own_count n func = length-map (own_frames func) (row_for (Some n)) ∙ length-append func.args func.decls
+
 own_row : (n : ℕ) (funcs : List Function) (k i f m : ℕ) (func : Function) (frame : Allocation) → slice_get funcs k ≡ Some func → slice_get (own_frames func) i ≡ Some frame → f ≡ frames_before funcs k + i → m ≡ n + k
     → slice_get (rows_from n funcs) f ≡ Some (row_for (Some m) frame)
 own_row n [] k i f m func frame at own place is = absurd (none-some func at)
@@ -54,8 +57,7 @@ own_row n (first ∷ funcs) zero i f m func frame at own place is =
     rw (same, owner, rows_split n first funcs)
     (at_left (rows_of (Some n) (own_frames first)) (rows_from (suc n) funcs) i (row_for (Some n) frame) (slice_get-map (row_for (Some n)) (own_frames first) i ∙ ap (option_map (row_for (Some n))) here))
 own_row n (first ∷ funcs) (suc k) i f m func frame at own place is =
-    let rows = length-map (own_frames first) (row_for (Some n)) in
-    let frames = length-append first.args first.decls in
+    let long = own_count n first in
     rw (rows_split n first funcs) (at_right (rows_of (Some n) (own_frames first)) (rows_from (suc n) funcs) (frames_before funcs k + i) f (omega arith)
     ∙ own_row (suc n) funcs k i (frames_before funcs k + i) m func frame at own refl (omega arith))
 
@@ -69,15 +71,13 @@ pub record IsOwnFrame (funcs : List Function) (k f : ℕ) (frame : Allocation) :
 own_of : (n : ℕ) (funcs : List Function) (f : ℕ) (row : FrameRow) → slice_get (rows_from n funcs) f ≡ Some row → (k : ℕ) × (row.owner ≡ Some (n + k)) × IsOwnFrame funcs k f (frame_of row)
 own_of n [] f row at = absurd (none-some row at)
 own_of n (func ∷ funcs) f row at =
-    let rows = length-map (own_frames func) (row_for (Some n)) in
-    let frames = length-append func.args func.decls in
+    let long = own_count n func in
     at_cases (rows_of (Some n) (own_frames func)) (rows_from (suc n) funcs) f row (rw (rows_split n func funcs) at at)
     (λ here.
     let m = mapped_at (row_for (Some n)) (own_frames func) f row here in
     (0, ap (λ (x : FrameRow). x.owner) (sym m.2) ∙ ap Some (omega arith), record { func = func; i = f; at = refl; own = m.1 ∙ ap (λ (x : FrameRow). Some (frame_of x)) m.2; place = omega arith }))
     (λ j e there.
     let more = own_of (suc n) funcs j row there in
-    let place = more.2.place in
     (suc more.0, more.1 ∙ ap Some (omega arith), record { func = more.2.func; i = more.2.i; at = more.2.at; own = more.2.own; place = omega arith }))
 
 abbrev pub IsFrame : WholeProgram → Option ℕ → ℕ → Allocation → Type 0
@@ -102,17 +102,16 @@ module _ (whole : WholeProgram) where
       let all = subst (All Written) (sym frames_are) (All-append Written whole.decls (flat_map own_frames whole.funcs) written.decls own) in
       all_members KeepsFrame (frame_rows whole) (λ row c.
       let w = All-contains Written (map frame_of (frame_rows whole)) (frame_of row) all (image frame_of (frame_rows whole) row c) in
-      let some = w.some in let bytes = w.bytes in let most = w.small in record { some = omega arith; most = omega arith; bytes = bytes })
+      record { some = omega arith; most = omega arith; bytes = w.bytes })
 
   -- a row is that of a frame of its owner
   pub is_frame : (owner : Option ℕ) (f : ℕ) (row : FrameRow) → slice_get (frame_rows whole) f ≡ Some row → row.owner ≡ owner → IsFrame whole owner f (frame_of row)
   is_frame owner f row at owned =
-      let count = length-map whole.decls (row_for None) in
       subst (λ (o : Option ℕ). IsFrame whole o f (frame_of row)) owned (at_cases (rows_of None whole.decls) (rows_from 0 whole.funcs) f row at
       (λ here. let m = mapped_at (row_for None) whole.decls f row here in subst (λ (x : FrameRow). IsFrame whole x.owner f (frame_of x)) m.2 m.1)
       (λ j e there.
       let own = own_of 0 whole.funcs j row there in
-      subst (λ (o : Option ℕ). IsFrame whole o f (frame_of row)) (sym (own.1 ∙ ap Some (zero-add own.0))) (j, (let is : f ≡ length whole.decls + j = omega arith in is), own.2)))
+      subst (λ (o : Option ℕ). IsFrame whole o f (frame_of row)) (sym (own.1 ∙ ap Some (zero-add own.0))) (j, (let is : f ≡ length whole.decls + j = omega (arith, length-map whole.decls (row_for None)) in is), own.2)))
 
   -- and each frame has its row
   pub decls_stand : StandAt (frame_rows whole) None 0 whole.decls
@@ -122,8 +121,7 @@ module _ (whole : WholeProgram) where
   module _ (k : ℕ) (func : Function) (at : slice_get whole.funcs k ≡ Some func) where
     pub own_stand : StandAt (frame_rows whole) (Some k) (first_frame whole k) (own_frames func)
     own_stand i frame own =
-        let count = length-map whole.decls (row_for None) in
-        at_right (rows_of None whole.decls) (rows_from 0 whole.funcs) (frames_before whole.funcs k + i) (first_frame whole k + i) (omega arith)
+        at_right (rows_of None whole.decls) (rows_from 0 whole.funcs) (frames_before whole.funcs k + i) (first_frame whole k + i) (omega (arith, length-map whole.decls (row_for None)))
         ∙ own_row 0 whole.funcs k i (frames_before whole.funcs k + i) k func frame at own refl (sym (zero-add k))
 
     pub args_stand : StandAt (frame_rows whole) (Some k) (first_frame whole k) func.args
@@ -168,10 +166,6 @@ module _ (whole : WholeProgram) (none : HasNoFault whole) where
       let y = is_frame whole (Some k) g b there own' in
       let one = same_Some x.2.func y.2.func (sym x.2.at ∙ y.2.at) in
       let equal = own_apart k y.2.func y.2.at x.2.i y.2.i (frame_of a) (frame_of b) (ap (λ (z : Function). slice_get (own_frames z) x.2.i) (sym one) ∙ x.2.own) y.2.own same in
-      let here = x.2.place in
-      let other = y.2.place in
-      let e = x.1 in
-      let e' = y.1 in
       omega arith
 
 -- ---- numbers of names
@@ -179,11 +173,9 @@ module _ (whole : WholeProgram) (none : HasNoFault whole) where
 -- a name that one of the frames has, or what holds of the other number
 number_of : (Holds : ℕ → Type 0) (start : ℕ) (frames : List Allocation) (name : List ℕ) (other : ℕ) → ((i : ℕ) (frame : Allocation) → slice_get frames i ≡ Some frame → Holds (start + i))
     → (frame_place frames name ≡ None → Holds other) → Holds (unwrap_or (placed start frames name) other)
-number_of Holds start frames name other each none = by_place (frame_place frames name) refl
-  where
-    by_place : (place : Option ℕ) → frame_place frames name ≡ place → Holds (unwrap_or (option_map (λ p. start + p) place) other)
-    by_place None e = none e
-    by_place (Some i) e = let s = stands (λ (frame : Allocation). bytes_eq frame.name name) frames i e in each i s.member s.at
+number_of Holds start frames name other each none =
+    by_option (λ o. Holds (unwrap_or (option_map (λ p. start + p) o) other)) (frame_place frames name) none
+    (λ i e. let s = stands (λ (frame : Allocation). bytes_eq frame.name name) frames i e in each i s.member s.at)
 
 not_none : {A : Type 0} (frames : List Allocation) (name : List ℕ) → IsFrameNamed frames name → frame_place frames name ≡ None → A
 not_none frames name named none =
@@ -208,11 +200,9 @@ word_of num written = record { same = refl; sized = record { some = written.some
 module _ (rows : List FrameRow) (owner : Option ℕ) (start : ℕ) (frames : List Allocation) (standing : StandAt rows owner start frames) where
   -- the number of the first frame of the name is that of its row
   row_found : (name : List ℕ) (frame : Allocation) → frame_at frames (frame_place frames name) ≡ Some frame → slice_get rows (unwrap_or (placed start frames name) 0) ≡ Some (row_for owner frame)
-  row_found name frame found = by_place (frame_place frames name) found
-    where
-      by_place : (place : Option ℕ) → frame_at frames place ≡ Some frame → slice_get rows (unwrap_or (option_map (λ p. start + p) place) 0) ≡ Some (row_for owner frame)
-      by_place None e = absurd (none-some frame e)
-      by_place (Some i) e = standing i frame e
+  row_found name frame found =
+      by_option (λ o. frame_at frames o ≡ Some frame → slice_get rows (unwrap_or (option_map (λ p. start + p) o) 0) ≡ Some (row_for owner frame)) (frame_place frames name)
+      (λ e f. absurd (none-some frame f)) (λ i e f. standing i frame f) found
 
   -- what one of these frames holds at first lies in it
   pub init_fits : (init : InitialValue) → InitHasNoFault frames init → InitialIsWritable init → InitFits rows owner (numbered_init start frames init)

@@ -1,6 +1,6 @@
 -- Programs that pass the checks keep the rules.
 --   IsBlockAt b block   block b of the function is that of some of its items
---   IsReturnOf value    the function has a return that gives this
+--   GivesFirstSize value   a return of the function gives this, and it has the size of the first one
 use Rattle.std.proofs.Common.{◌≡◌, ◌≢◌, ◌<◌, ◌+◌, ◌-◌, ◌%◌, ◌^◌, ℕ, zero, suc, true, false, List, [], ◌∷◌, map, flat_map, length, get_or, slice_get, slice_index_or, All, AllPairs, Contains, Option, Some, None, IfSome, IsSome, is_some, option_map, unwrap_or, zero-add, add-zero, refl, ap, sym, ◌∙◌, subst, eqb-true, arith}
 use Rattle.std.specs.List.{AllZip, range_with_len, sum_by}
 use Rattle.std.specs.Option.{option_map_or}
@@ -30,7 +30,7 @@ use Rattle.alf_check.specs.Numbered.{numbered_init, numbered_targets, statements
 use Rattle.alf_check.specs.Checking.{called_by, calls_in, Passes}
 use Rattle.alf_check.specs.Kept.{IsCellSize, HasSize, IsFrameOf, InitFits, KeepsExport, KeepsStatement, ArgumentKeeps, GoesOn, TargetKeeps, CallKeeps, GivesSize, Gives, EachReturn, KeepsEnding, KeepsBlock, KeepsResult, IsBlockOf, HasOneReturnSize, KeepsFunction, HasFrame, IsBounded, IsWithinLimits, IsKept}
 use Rattle.alf_check.specs.KeptLaws.{size_within, cell_from}
-use Rattle.alf_check.proofs.Places.{of_each, same_name, stands, one_place, range_parts, range_has, all_in_range, range_apart}
+use Rattle.alf_check.proofs.Places.{of_each, by_option, same_name, stands, one_place, range_parts, range_has, all_in_range, range_apart}
 use Rattle.alf_check.proofs.Frames.{frame_of, StandAt, count_rows, same_bytes, frames_are, keeps_rows, is_frame, own_stand, args_stand, decls_stand, own_decls_stand, names_apart, sees, init_fits, export_keeps}
 use Rattle.alf_check.proofs.Blocks.{in_items, some_block, block_within, last_of, goes_on}
 use Rattle.alf_check.proofs.Sized.{sized}
@@ -124,8 +124,8 @@ module _ (whole : WholeProgram) (root ranks : List ℕ) (none : HasNoFault whole
     has_size t size = sized whole func rows k numbers.frame (sees whole k func at) t size
 
     -- an expression of whole bytes gives a cell
-    is_cell : (t : NamedExpression) (size : ℕ) → HasSize rows k size (term t) → size % 8 ≡ 0 → IsCellSize size
-    is_cell t size has bytes = cell_from size (size_within rows k size (term t) has) bytes
+    is_cell : (e : NumberedExpression) (size : ℕ) → HasSize rows k size e → size % 8 ≡ 0 → IsCellSize size
+    is_cell e size has bytes = cell_from size (size_within rows k size e has) bytes
 
     arguments_fit : (owner : Option ℕ) (start : ℕ) (frames : List Allocation) (args : List NamedExpression) → AllZip (λ arg frame. term_size arg ≡ Some frame.bits) args frames → SeesAllFrames whole func (expressions_of args)
         → All ExpressionIsWritable args → All AllocationIsWritable frames → StandAt rows owner start frames → AllZip (ArgumentKeeps rows k) (range_with_len start (length frames)) (map term args)
@@ -134,7 +134,7 @@ module _ (whole : WholeProgram) (root ranks : List ℕ) (none : HasNoFault whole
     arguments_fit owner start (f ∷ frames) [] sizes seen w v standing = absurd sizes
     arguments_fit owner start (f ∷ frames) (arg ∷ args) sizes seen w v standing =
         let has = has_size arg f.bits (All-head ExpressionIsWritable arg args w).parts seen.0 sizes.0 in (
-          record { row = row_for owner f; at = ap (slice_get rows) (sym (add-zero start)) ∙ standing 0 f refl; cell = is_cell arg f.bits has (All-head AllocationIsWritable f frames v).bytes; value_has = has },
+          record { row = row_for owner f; at = ap (slice_get rows) (sym (add-zero start)) ∙ standing 0 f refl; cell = is_cell (term arg) f.bits has (All-head AllocationIsWritable f frames v).bytes; value_has = has },
           arguments_fit owner (start + 1) frames args sizes.1 seen.1 (All-tail ExpressionIsWritable arg args w) (All-tail AllocationIsWritable f frames v)
               (λ i g is. ap (slice_get rows) (let e : (start + 1) + i ≡ start + suc i = omega arith in e) ∙ standing (suc i) g is),
         )
@@ -166,57 +166,52 @@ module _ (whole : WholeProgram) (root ranks : List ℕ) (none : HasNoFault whole
 
     -- ---- returns
 
-    record IsReturnOf (value : Option NumberedExpression) : Type 0 where
-      j : ℕ
-      v : Option NamedExpression
-      is : slice_get func.items j ≡ Some (Do (text.Return v))
-      same : option_map term v ≡ value
-      returned : IsReturned whole k func j v
+    return_gives : (j : ℕ) (v : Option NamedExpression) (size : ℕ) → slice_get func.items j ≡ Some (Do (text.Return v)) → return_size v ≡ Some size → GivesSize rows k size (option_map term v)
+    return_gives j v size is =
+        by_option (λ o. IfSome o ExpressionIsWritable → ((e : NamedExpression) → o ≡ Some e → SeesFrames whole func e) → return_size o ≡ Some size → GivesSize rows k size (option_map term o)) v
+        (λ none w seen has. sym (same_Some 0 size has)) (λ t some w seen has. has_size t size w.parts (seen t refl) has) (item_is_written j (Do (text.Return v)) is) (no_fault j (Do (text.Return v)) is).sees
 
-    return_of : (b : ℕ) (block : NumberedBlock) (value : Option NumberedExpression) → slice_get (function k func).blocks b ≡ Some block → block.ending ≡ Return value → IsReturnOf value
+    record GivesFirstSize (value : Option NumberedExpression) : Type 0 where
+      found : FirstReturn
+      first : first_return func.items ≡ Some found
+      size : ℕ
+      found_size : found.size ≡ Some size
+      gives : GivesSize rows k size value
+
+    return_of : (b : ℕ) (block : NumberedBlock) (value : Option NumberedExpression) → slice_get (function k func).blocks b ≡ Some block → block.ending ≡ Return value → GivesFirstSize value
     return_of b block value is end =
         let here = block_at b block is in
-        let found = return_end numbers (suc b) here.last value (here.end ∙ end) in
-        let at_item = placed func.items here.last here.among ∙ ap Some found.1 in
-        record { j = here.among.0; v = found.0; is = at_item; same = found.2; returned = is_returned whole none k func at here.among.0 found.0 at_item }
-
-    return_gives : (j : ℕ) (v : Option NamedExpression) (size : ℕ) → slice_get func.items j ≡ Some (Do (text.Return v)) → return_size v ≡ Some size → GivesSize rows k size (option_map term v)
-    return_gives j v size is = by_value v (item_is_written j (Do (text.Return v)) is) (no_fault j (Do (text.Return v)) is).sees
-      where
-        by_value : (v : Option NamedExpression) → IfSome v ExpressionIsWritable → ((e : NamedExpression) → v ≡ Some e → SeesFrames whole func e) → return_size v ≡ Some size → GivesSize rows k size (option_map term v)
-        by_value None w seen has = sym (same_Some 0 size has)
-        by_value (Some t) w seen has = has_size t size w.parts (seen t refl) has
+        let v = return_end numbers (suc b) here.last value (here.end ∙ end) in
+        let item = placed func.items here.last here.among ∙ ap Some v.1 in
+        let g = is_returned whole none k func at here.among.0 v.0 item in
+        record { found = g.found; first = g.first; size = g.size; found_size = g.found_size; gives = subst (GivesSize rows k g.size) v.2 (return_gives here.among.0 v.0 g.size item g.value_size) }
 
     one_size : HasOneReturnSize rows k (function k func).blocks
     one_size = record {
       size = size_of (first_return func.items);
       each = λ b block value is end.
           let r = return_of b block value is end in
-          let g = r.returned in
-          let size : g.size ≡ size_of (first_return func.items) = sym (ap size_of g.first ∙ ap (λ (o : Option ℕ). unwrap_or o 0) g.found_size) in
-          subst (λ (z : ℕ). GivesSize rows k z value) size (subst (GivesSize rows k g.size) r.same (return_gives r.j r.v g.size r.is g.value_size));
+          subst (λ (size : ℕ). GivesSize rows k size value) (sym (ap size_of r.first ∙ ap (λ (o : Option ℕ). unwrap_or o 0) r.found_size)) r.gives;
     }
 
     -- what a call takes that agrees with the first return, another return of its size gives
-    gives_to : (number : List ℕ × ℕ → ℕ × ℕ) (size i : ℕ) (to : Option (List ℕ × ℕ)) (first v : Option NamedExpression) → return_size first ≡ Some size → GivesSize rows k size (option_map term first) → GivesSize rows k size (option_map term v)
-        → agrees (is_some to) (return_at i first) ≡ true → Gives rows k (option_map number to) (option_map term v)
+    gives_to : (number : List ℕ × ℕ → ℕ × ℕ) (size i : ℕ) (to : Option (List ℕ × ℕ)) (first : Option NamedExpression) (value : Option NumberedExpression) → return_size first ≡ Some size
+        → GivesSize rows k size (option_map term first) → GivesSize rows k size value → agrees (is_some to) (return_at i first) ≡ true → Gives rows k (option_map number to) value
     gives_to number size i None None None has first gives ok = tt
-    gives_to number size i None None (Some t) has first gives ok = absurd (let none = same_Some 0 size has in let some = (size_within rows k size (term t) gives).some in omega arith)
-    gives_to number size i None (Some t) v has first gives ok = absurd (false≢true ok)
-    gives_to number size i (Some to) None v has first gives ok = absurd (false≢true ok)
-    gives_to number size i (Some to) (Some t) None has first gives ok = absurd (let some = (size_within rows k size (term t) first).some in omega arith)
-    gives_to number size i (Some to) (Some t) (Some u) has first gives ok =
-        record { size = size; cell = is_cell u size gives (eqb-true (size % 8) 0 (ap is_bytes (sym has) ∙ ok)); value_has = gives }
+    gives_to number size i None None (Some e) has first gives ok = absurd (omega (arith, same_Some 0 size has, (size_within rows k size e gives).some))
+    gives_to number size i None (Some t) value has first gives ok = absurd (false≢true ok)
+    gives_to number size i (Some to) None value has first gives ok = absurd (false≢true ok)
+    gives_to number size i (Some to) (Some t) None has first gives ok = absurd (omega (arith, (size_within rows k size (term t) first).some))
+    gives_to number size i (Some to) (Some t) (Some e) has first gives ok =
+        record { size = size; cell = is_cell e size gives (eqb-true (size % 8) 0 (ap is_bytes (sym has) ∙ ok)); value_has = gives }
 
     result_fits : (to : Option (List ℕ × ℕ)) (number : List ℕ × ℕ → ℕ × ℕ) → ((found : FirstReturn) → first_return func.items ≡ Some found → agrees (is_some to) found ≡ true)
         → EachReturn (Gives rows k (option_map number to)) (function k func).blocks
     result_fits to number agree b block value is end =
         let r = return_of b block value is end in
-        let g = r.returned in
-        let f = first_from 0 func.items g.found g.first in
-        let has : return_size f.value ≡ Some g.size = ap (λ (x : FirstReturn). x.size) (sym f.is) ∙ g.found_size in
-        subst (Gives rows k (option_map number to)) r.same
-        (gives_to number g.size (0 + f.place) to f.value r.v has (return_gives f.place f.value g.size f.at has) (return_gives r.j r.v g.size r.is g.value_size) (ap (agrees (is_some to)) (sym f.is) ∙ agree g.found g.first))
+        let f = first_from 0 func.items r.found r.first in
+        let has : return_size f.value ≡ Some r.size = ap (λ (x : FirstReturn). x.size) (sym f.is) ∙ r.found_size in
+        gives_to number r.size (0 + f.place) to f.value value has (return_gives f.place f.value r.size f.at has) r.gives (ap (agrees (is_some to)) (sym f.is) ∙ agree r.found r.first)
 
   module _ (k : ℕ) (func : Function) (at : slice_get whole.funcs k ≡ Some func) where
     -- ---- statements
@@ -229,7 +224,7 @@ module _ (whole : WholeProgram) (root ranks : List ℕ) (none : HasNoFault whole
         let cell = bytes_size (term_size value) item.value_bytes in
         let has = has_size k func at value cell.0 w.1.parts item.value_sees cell.1 in
         All-cons (KeepsStatement rows k) (Store (term k func at to) (term k func at value)) []
-        (record { address = has_size k func at to 32 w.0.parts item.at_sees item.at_size; stored = record { size = cell.0; cell = is_cell k func at value cell.0 has cell.2; value_has = has } })
+        (record { address = has_size k func at to 32 w.0.parts item.at_sees item.at_size; stored = record { size = cell.0; cell = is_cell k func at (term k func at value) cell.0 has cell.2; value_has = has } })
         (All-nil (KeepsStatement rows k))
     keeps_statements i item is = All-nil (KeepsStatement rows k)
 
@@ -237,7 +232,7 @@ module _ (whole : WholeProgram) (root ranks : List ℕ) (none : HasNoFault whole
 
     -- a label that stands leads to a block
     leads : (label : List ℕ) → Contains func.items (Label label) → IsBlockOf program k (block_number func.items label)
-    leads label among = let within = block_within func.items label among in let count = count_at k func at in omega arith
+    leads label among = omega (arith, block_within func.items label among, count_at k func at)
 
     -- a call is one of its function's calls, and leads to a lower rank
     lower : (i : ℕ) (item : BodyItem) (f : ℕ) → slice_get func.items i ≡ Some item → Contains (called_by whole.funcs item) f → slice_index_or ranks f 0 < slice_index_or ranks k 0
@@ -247,10 +242,10 @@ module _ (whole : WholeProgram) (root ranks : List ℕ) (none : HasNoFault whole
         (sym (get_or_from_slice_get (calls_in whole) k (calls func) [] (slice_get-map calls whole.funcs k ∙ ap (option_map calls) at)))
         (joined (called_by whole.funcs) func.items item f (contained func.items i item is) called))
 
-    keeps_result : (number : List ℕ × ℕ → ℕ × ℕ) (result : Option (List ℕ × ℕ)) → IfSome result AddressIsWritable → ((target : List ℕ × ℕ) → result ≡ Some target → IsSeen whole func target.0)
+    keeps_result : (result : Option (List ℕ × ℕ)) → IfSome result AddressIsWritable → ((target : List ℕ × ℕ) → result ≡ Some target → IsSeen whole func target.0)
         → KeepsResult rows k (option_map (λ to. ((numbers k func at).frame to.0, to.1)) result)
-    keeps_result number None fits seen = tt
-    keeps_result number (Some to) fits seen = record { sees = sees whole k func at to.0 (seen to refl); offset_fits = fits.offset }
+    keeps_result None fits seen = tt
+    keeps_result (Some to) fits seen = record { sees = sees whole k func at to.0 (seen to refl); offset_fits = fits.offset }
 
     keeps_call : (b i : ℕ) (label : List ℕ) (args : List NamedExpression) (result : Option (List ℕ × ℕ)) → slice_get func.items i ≡ Some (Do (text.Call label args result)) → GoesOn program k b (suc b)
         → KeepsEnding program k b (end_by (numbers k func at) (suc b) (Do (text.Call label args result)))
@@ -269,7 +264,7 @@ module _ (whole : WholeProgram) (root ranks : List ℕ) (none : HasNoFault whole
           lower = lower i (Do (text.Call label args result)) p is (subst (Contains (func_number whole.funcs label ∷ [])) number (first_member (func_number whole.funcs label) []));
           args_keep = arguments_fit k func at (Some p) (first_frame whole p) called.args args item.sizes item.sees w.1 (is_written p called item.at).args (args_stand whole p called item.at);
           gives = result_fits p called item.at result to (λ r first. agreed whole none p called item.at k func i label args result at is name item.agrees r first);
-          result_keeps = keeps_result to result w.2 item.result_sees;
+          result_keeps = keeps_result result w.2 item.result_sees;
           goes_on = on;
         })
 
@@ -301,10 +296,7 @@ module _ (whole : WholeProgram) (root ranks : List ℕ) (none : HasNoFault whole
         let here = block_at k func at b block is in
         let part_in = contained (blocks_of func.items) b here.part here.part_at in
         let goes : is_ending here.last ≡ false → GoesOn program k b (suc b) =
-        λ other. record {
-          next_is = refl;
-          there = (let more = goes_on func.items (is_written k func at).ends b here.part here.last here.part_at here.last_at other in let count = count_at k func at in omega arith);
-        }
+        λ other. record { next_is = refl; there = omega (arith, goes_on func.items (is_written k func at).ends b here.part here.last here.part_at here.last_at other, count_at k func at) }
         in
         let statements : All (KeepsStatement rows k) (flat_map (statements_by (numbers k func at).frame) here.part) =
         all_joined (KeepsStatement rows k) (statements_by (numbers k func at).frame) here.part
@@ -322,19 +314,17 @@ module _ (whole : WholeProgram) (root ranks : List ℕ) (none : HasNoFault whole
         let first = first_frame whole k in
         let n = length func.args + length func.decls in
         let w = is_written k func at in
-        let count = count_blocks (numbers k func at) 0 (blocks_of func.items) in
-        let some = some_block func.items w.ends in
         record {
           others = range_with_len (first + length func.args) (length func.decls);
           arguments_first = range_parts first (length func.args) (length func.decls);
           owned = all_in_range (IsFrameOf rows (Some k)) first n (λ i low.
               let none : Allocation = record { name = []; bits = 0 } in
               let frame = get_or (own_frames func) i none in
-              record { row = row_for (Some k) frame; at = own_stand whole k func at i frame (slice_get-get_or (own_frames func) i none (let all = length-append func.args func.decls in omega arith)); owned = refl });
+              record { row = row_for (Some k) frame; at = own_stand whole k func at i frame (slice_get-get_or (own_frames func) i none (omega (arith, length-append func.args func.decls))); owned = refl });
           apart = range_apart first n;
           inits = all_images (InitFits rows (Some k)) (numbered_init (first + length func.args) func.decls) func.inits
               (λ init c. init_fits rows (Some k) (first + length func.args) func.decls (own_decls_stand whole k func at) init ((none.funcs k func at).inits init c) (All-contains InitialIsWritable func.inits init w.inits c));
-          some = omega arith;
+          some = omega (arith, some_block func.items w.ends, count_blocks (numbers k func at) 0 (blocks_of func.items));
           blocks = keeps_block;
           returns = one_size k func at;
         }
@@ -345,34 +335,28 @@ module _ (whole : WholeProgram) (root ranks : List ℕ) (none : HasNoFault whole
   has_frame f k row at owned =
       let is = is_frame whole (Some k) f row at owned in
       let own = is.2 in
-      let low = slice_get_within (own_frames own.func) own.i (frame_of row) own.own in
-      let count = length-append own.func.args own.func.decls in
-      let behind = is.1 in
-      let place = own.place in
-      record { function = function k own.func; at = there k own.func own.at; among = range_has (first_frame whole k) (length own.func.args + length own.func.decls) own.i f (omega arith) (omega arith) }
+      let n = length own.func.args + length own.func.decls in
+      let low : own.i < n = omega (arith, slice_get_within (own_frames own.func) own.i (frame_of row) own.own, length-append own.func.args own.func.decls) in
+      record { function = function k own.func; at = there k own.func own.at; among = range_has (first_frame whole k) n own.i f low (omega arith) }
 
   names_differ : (k j : ℕ) (f g : NumberedFunction) → slice_get program.funcs k ≡ Some f → slice_get program.funcs j ≡ Some g → f.name ≡ g.name → k ≡ j
   names_differ k j f g at other same =
       let x = of_function k f at in
       let y = of_function j g other in
-      one_place (λ (z : Function). z.name) whole.funcs none.funcs_differ k j x.0 y.0 x.1 y.1 (ap (λ (z : NumberedFunction). z.name) x.2 ∙ same ∙ ap (λ (z : NumberedFunction). z.name) (sym y.2))
+      let name = λ (z : NumberedFunction). z.name in
+      one_place (λ (z : Function). z.name) whole.funcs none.funcs_differ k j x.0 y.0 x.1 y.1 (ap name x.2 ∙ same ∙ ap name (sym y.2))
 
   within : IsWithinLimits program
-  within =
-      let funcs = count_functions whole (length whole.decls) whole.funcs in
-      let few = written.few_functions in
-      let count = count_rows whole in
-      let frames = written.few_frames in
-      let sum = same_bytes rows 0 ∙ ap (sum_by frame_bytes) (frames_are whole) in
-      let bytes = written.few_bytes in
-      record { funcs = omega arith; frames = omega arith; bytes = omega arith }
+  within = record {
+    funcs = omega (arith, written.few_functions, count_functions whole (length whole.decls) whole.funcs);
+    frames = omega (arith, written.few_frames, count_rows whole);
+    bytes = omega (arith, written.few_bytes, same_bytes rows 0 ∙ ap (sum_by frame_bytes) (frames_are whole));
+  }
 
   pub kept : Passes whole root → IsBounded program → IsKept program
   kept passes bounded =
-      let start = place_within (λ (func : Function). bytes_eq func.name root) whole.funcs in
       let count = count_functions whole (length whole.decls) whole.funcs in
       let calls = length-map whole.funcs (λ func. flat_map (called_by whole.funcs) func.items) in
-      let one_each = ranked.one_each in
       record {
         checked = record { whole = whole; root = root; writable = written; passes = passes; numbers = refl };
         bounded = bounded;
@@ -383,11 +367,8 @@ module _ (whole : WholeProgram) (root ranks : List ℕ) (none : HasNoFault whole
         inits = all_images (InitFits rows None) (numbered_init 0 whole.decls) whole.inits
             (λ init c. init_fits rows None 0 whole.decls (decls_stand whole) init (none.inits init c) (All-contains InitialIsWritable whole.inits init written.inits c));
         exports = all_images (KeepsExport rows) (export_number whole) whole.exports (λ name c. export_keeps whole name (none.exports name c));
-        root = root_low (function_place whole.funcs root) passes.starts start;
-        ranked = omega arith;
-        ranks_low = λ k below. let low = ranked.within k (omega arith) in omega arith;
+        root = by_option (λ o. IsSome o → IfSome o (λ k. k < length whole.funcs) → unwrap_or o 0 < length program.funcs) (function_place whole.funcs root)
+            (λ e some low. absurd (false≢true some)) (λ k e some low. omega arith) passes.starts (place_within _ whole.funcs);
+        ranked = omega (arith, ranked.one_each);
+        ranks_low = λ k below. omega (arith, ranked.within k (omega arith));
       }
-    where
-      root_low : (place : Option ℕ) → IsSome place → IfSome place (λ k. k < length whole.funcs) → unwrap_or place 0 < length program.funcs
-      root_low None some low = absurd (false≢true some)
-      root_low (Some k) some low = let count = count_functions whole (length whole.decls) whole.funcs in omega arith

@@ -1,7 +1,7 @@
 -- Lists by places.
 --   Stands passes xs i     what passes stands at place i
 --   OnePlace name xs       what has one name stands at one place
-use Rattle.std.proofs.Common.{◌≡◌, ◌≢◌, ◌<◌, ◌+◌, ℕ, zero, suc, Bool, true, List, [], ◌∷◌, ◌++◌, length, slice_get, get_or, All, AllPairs, Contains, inl, inr, eqb-true, lt-ltb, Option, Some, None, ap, sym, ◌∙◌, subst, arith}
+use Rattle.std.proofs.Common.{◌≡◌, ◌≢◌, ◌<◌, ◌+◌, ℕ, zero, suc, Bool, true, List, [], ◌∷◌, ◌++◌, length, slice_get, get_or, All, AllPairs, Contains, inl, inr, eqb-true, lt-ltb, Option, Some, None, zero-add, add-zero, refl, ap, sym, ◌∙◌, subst, arith}
 use Rattle.std.specs.Str.{bytes_eq}
 use Rattle.std.specs.List.{range_with_len, position_or_len}
 use Rattle.std.proofs.lemmas.Bool.{false≢true, cases_lt, cases_order, cond-true}
@@ -19,6 +19,11 @@ use Rattle.alf_faults.specs.Fault.{is_exactly}
 -- it holds of a member if of each
 pub of_each : {A : Type 0} (Holds : A → Type 0) (xs : List A) (k : ℕ) (x : A) → All Holds xs → slice_get xs k ≡ Some x → Holds x
 of_each Holds xs k x all at = All-contains Holds xs x all (contained xs k x at)
+
+-- what holds of an option, by what it is
+pub by_option : {A : Type 0} (Holds : Option A → Type 0) (o : Option A) → (o ≡ None → Holds None) → ((x : A) → o ≡ Some x → Holds (Some x)) → Holds o
+by_option Holds None none some = none refl
+by_option Holds (Some x) none some = some x refl
 
 -- ---- names
 
@@ -39,7 +44,7 @@ pub first_place : {A : Type 0} (passes : A → Bool) (xs : List A) (x : A) → C
 first_place passes xs x c e =
     let early : position_or_len passes xs < length xs = elim (cases_lt c.0 (position_or_len passes xs)) [
       | inl before ↦ absurd (false≢true (sym (fails_before_first passes xs c.0 x before) ∙ ap passes c.2 ∙ e))
-      | inr found ↦ (let low = c.1 in omega arith)
+      | inr found ↦ omega arith
     ] in
     (position_or_len passes xs, sym (position_place passes xs) ∙ cond-true _ _ None (lt-ltb (position_or_len passes xs) (length xs) early))
 
@@ -98,22 +103,15 @@ one_place_of_both name xs ys left right other i j x y at there same =
 -- ---- numbers that follow one another
 
 pub range_parts : (a n m : ℕ) → range_with_len a (n + m) ≡ range_with_len a n ++ range_with_len (a + n) m
-range_parts a zero m = ap (λ (x : ℕ). range_with_len a x) (omega arith) ∙ ap (λ (x : ℕ). range_with_len x m) (omega arith)
-range_parts a (suc n) m =
-    ap (λ (x : ℕ). range_with_len a x) (let e : suc n + m ≡ suc (n + m) = omega arith in e)
-    ∙ ap (λ (x : List ℕ). a ∷ x) (range_parts (a + 1) n m ∙ ap (λ (x : ℕ). range_with_len (a + 1) n ++ range_with_len x m) (omega arith))
+range_parts a zero m = rw (zero-add, add-zero) refl
+range_parts a (suc n) m = let long : suc n + m ≡ suc (n + m) = omega arith in let behind : a + suc n ≡ (a + 1) + n = omega arith in rw (long, behind, range_parts (a + 1) n m) refl
 
 pub range_has : (a n i f : ℕ) → i < n → f ≡ a + i → Contains (range_with_len a n) f
-range_has a n i f low is = let long = length-range_with_len a n in (i, omega arith, get_or-range_with_len a n i f low ∙ sym is)
+range_has a n i f low is = (i, omega (arith, length-range_with_len a n), get_or-range_with_len a n i f low ∙ sym is)
 
 pub all_in_range : (Holds : ℕ → Type 0) (a n : ℕ) → ((i : ℕ) → i < n → Holds (a + i)) → All Holds (range_with_len a n)
-all_in_range Holds a n each i d inside =
-    let long = length-range_with_len a n in let low : i < n = omega arith in subst Holds (sym (get_or-range_with_len a n i d low)) (each i low)
+all_in_range Holds a n each i d inside = let low : i < n = omega (arith, length-range_with_len a n) in rw (get_or-range_with_len a n i d low) (each i low)
 
 pub range_apart : (a n : ℕ) → AllPairs (λ f g. f ≢ g) (range_with_len a n)
 range_apart a n i j d low high same =
-    let long = length-range_with_len a n in
-    let inside : j < n = omega arith in
-    let here = get_or-range_with_len a n i d (omega arith) in
-    let there = get_or-range_with_len a n j d inside in
-    absurd (omega arith)
+    let inside : j < n = omega (arith, length-range_with_len a n) in absurd (omega (arith, get_or-range_with_len a n i d (omega arith), get_or-range_with_len a n j d inside))

@@ -16,7 +16,7 @@ use Rattle.alf_faults.specs.NoFault.{HasNoFault}
 use Rattle.alf_faults.specs.TermSizes.{return_size, same_size}
 use Rattle.alf_faults.specs.Returns.{return_at, first_return, first_return_from, agrees, is_before, is_breach, function_has_breach, is_breached}
 use Rattle.alf_faults.specs.Sizes.{agrees_behind, breaks_calls, fits_return}
-use Rattle.alf_check.proofs.Places.{same_name, its_name, first_place, stands, one_place}
+use Rattle.alf_check.proofs.Places.{by_option, same_name, its_name, first_place, stands, one_place}
 use Rattle.alf_check.proofs.Sized.{both_sizes}
 
 -- ---- the first return
@@ -65,14 +65,13 @@ module _ (whole : WholeProgram) (none : HasNoFault whole) (p : ℕ) (called : Fu
       place.1 ∙ ap Some (one_place (λ (f : Function). f.name) whole.funcs none.funcs_differ place.0 p found.member called found.at called_at (same_name found.member.name called.name found.passed))
 
   pub is_returned : (j : ℕ) (value : Option NamedExpression) → slice_get called.items j ≡ Some (Do (Return value)) → IsReturned whole p called j value
-  is_returned j value is = by_first (first_return called.items) refl ((none.funcs p called called_at).items j (Do (Return value)) is).fits
-    where
-      by_first : (o : Option FirstReturn) → first_return called.items ≡ o → fits_return whole p called.name j o (return_size value) ≡ true → IsReturned whole p called j value
-      by_first None first e = absurd (false≢true e)
-      by_first (Some found) first e =
-          let parts = and_parts (same_size found.size (return_size value)) (not (breaks_calls whole p called.name j found)) e in
-          let sizes = both_sizes found.size (return_size value) parts.0 in
-          record { found = found; first = first; size = sizes.0; found_size = sizes.1; value_size = sizes.2; unbroken = not-true (breaks_calls whole p called.name j found) parts.1 }
+  is_returned j value is =
+      by_option (λ o. fits_return whole p called.name j o (return_size value) ≡ true → IsReturned whole p called j value) (first_return called.items) (λ first e. absurd (false≢true e))
+      (λ found first e.
+      let parts = and_parts (same_size found.size (return_size value)) (not (breaks_calls whole p called.name j found)) e in
+      let sizes = both_sizes found.size (return_size value) parts.0 in
+      record { found = found; first = first; size = sizes.0; found_size = sizes.1; value_size = sizes.2; unbroken = not-true (breaks_calls whole p called.name j found) parts.1 })
+      ((none.funcs p called called_at).items j (Do (Return value)) is).fits
 
   -- a call of it agrees with its first return, which stands before the call or, as another item, behind it
   pub agreed : (k : ℕ) (func : Function) (i : ℕ) (label : List ℕ) (args : List NamedExpression) (result : Option (List ℕ × ℕ)) → slice_get whole.funcs k ≡ Some func → slice_get func.items i ≡ Some (Do (Call label args result))

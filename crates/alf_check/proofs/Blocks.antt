@@ -158,7 +158,13 @@ block_along (item ∷ next ∷ items) n label =
     ∙ label_behind label item n begins parts _ e (block_along (next ∷ items) m label)))
 
 -- the number at the place of a label is that of its block, and 0 where it does not stand
-pub number_at : (items : List BodyItem) (label : List ℕ) (place : Option ℕ) → place ≡ label_place items label → unwrap_or (option_map (λ k. get_or (numbers_along 0 items) k 0) place) 0 ≡ block_number items label
+number_at : (items : List BodyItem) (label : List ℕ) (place : Option ℕ) → place ≡ label_place items label → unwrap_or (option_map (λ k. get_or (numbers_along 0 items) k 0) place) 0 ≡ block_number items label
 number_at items label place is =
     ap (λ (x : Option ℕ). unwrap_or x 0) (ap (option_map (λ k. get_or (numbers_along 0 items) k 0)) is ∙ block_along items 0 label
     ∙ by_option (λ o. option_map (λ k. k + 0) o ≡ o) (place_of (has_label label) (blocks_of items)) (λ none. refl) (λ k some. ap Some (add-zero k)))
+
+pub block_at : (items : List BodyItem) (label : List ℕ) (place : ℕ) → Some place ≡ label_place items label → block_number items label ≡ get_or (numbers_along 0 items) place 0
+block_at items label place is = sym (number_at items label (Some place) is)
+
+pub block_none : (items : List BodyItem) (label : List ℕ) → None ≡ label_place items label → block_number items label ≡ 0
+block_none items label is = sym (number_at items label None is)

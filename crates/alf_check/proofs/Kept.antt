@@ -1,51 +1,208 @@
 -- Programs that pass the checks keep the rules.
---   IsBlockAt b block   block b of the function is that of some of its items
+--   IsFirst items n found              the first return is that of an item, where the first item has number n
+--   IsReturned whole k func j value    this return has the size of the function's first one, and where it is that one, no call before it disagrees
 --   GivesFirstSize value   a return of the function gives this, and it has the size of the first one
-use Rattle.std.proofs.Common.{◌≡◌, ◌≢◌, ◌<◌, ◌+◌, ◌-◌, ◌%◌, ◌^◌, ℕ, zero, suc, true, false, List, [], ◌∷◌, map, flat_map, length, get_or, slice_get, slice_index_or, All, AllPairs, Contains, Option, Some, None, IfSome, IsSome, is_some, option_map, unwrap_or, zero-add, add-zero, refl, ap, sym, ◌∙◌, subst, eqb-true, arith}
-use Rattle.std.specs.List.{AllZip, range_with_len, sum_by}
-use Rattle.std.specs.Option.{option_map_or}
-use Rattle.std.specs.Str.{bytes_eq}
-use Rattle.std.proofs.lemmas.Bool.{false≢true}
-use Rattle.std.proofs.lemmas.List.{length-map, length-append}
-use Rattle.std.proofs.lemmas.List.Elements.{All-nil, All-cons, All-head, All-tail, All-contains}
-use Rattle.std.proofs.lemmas.Option.{same_Some, slice_get_within, slice_get-get_or, slice_get-map, get_or_from_slice_get}
-use Rattle.lists.specs.Members.{contained, placed, first_member}
-use Rattle.lists.specs.Images.{mapped_at, some_image, all_images, all_joined, joined}
-use Rattle.alf_program.specs.declared.program.Num.{Num}
-use Rattle.alf_program.specs.Tree.{NamedExpression, Allocation, BodyItem, Label, Do, Function, WholeProgram, NumberedExpression, expressions_of, with_frames}
-use Rattle.alf_program.specs.Tree as text
-use Rattle.alf_program.specs.Writable.{PartsAreWritable, ExpressionIsWritable, TargetIsWritable, AddressIsWritable, ItemIsWritable, AllocationIsWritable, InitialIsWritable, FunctionIsWritable, IsWritable, own_frames, frame_bytes, is_ending}
-use Rattle.alf_names.specs.Places.{function_place}
-use Rattle.alf_names.specs.PlaceLaws.{place_within}
-use Rattle.call_cycles.specs.Calls.{IsRanked}
-use Rattle.alf_faults.specs.declared.returns.FirstReturn.{FirstReturn}
-use Rattle.alf_faults.specs.TermSizes.{term_size, return_size, is_bytes}
-use Rattle.alf_faults.specs.Returns.{return_at, first_return, agrees}
-use Rattle.alf_faults.specs.NoFault.{IsSeen, SeesFrames, SeesAllFrames, ItemHasNoFault, HasNoFault}
+use Rattle.std.proofs.Common.{◌≡◌, ◌<◌, ◌+◌, ℕ, Bool, true, false, cond, ◌&&◌, nat_le, nat_lt, List, length, drop, slice_index, ◌==◌, Option, Some, None, IsSome, is_some, is_none, refl, ap, subst, leb-true, arith, zero, suc, not, ◌||◌, [], ◌∷◌, slice_get, zero-add, add-zero, sym, ◌∙◌, eq-eqb, map, get_or, unwrap_or, IfSome, Contains, ◌≢◌, ◌-◌, ◌%◌, ◌^◌, flat_map, slice_index_or, All, AllPairs, option_map, eqb-true}
+use Rattle.std.proofs.lemmas.Bool.{false≢true, and_parts, or_parts, not-true, not-false}
+use Rattle.std.proofs.lemmas.Bool.Decides.{nat_tests}
+use Rattle.std.proofs.lemmas.Option.{same_Some, cond_some, none-some, slice_get_within, slice_get-get_or, slice_get-map, get_or_from_slice_get}
+use Rattle.alf_ops.specs.declared.operator.Op.{Op}
+use Rattle.alf_ops.specs.declared.layout.Layout.{Layout}
+use Rattle.alf_ops.specs.declared.layout.Layout.TheVariants.{Carry, Joined, First, Second, Comparison, Extension, Truncation, Field}
+use Rattle.alf_ops.specs.Table.{result_size, operand_size, operand_sizes, layout_of, size_count, is_size, is_typed, is_written_so, result_by_layout}
+use Rattle.alf_ops.specs.OperandLaws.{operands_end, operands_go_on}
+use Rattle.alf_program.specs.Tree.{NamedExpression, NamedExpressions, Number, Address, Load, Apply, Empty, With, Function, WholeProgram, with_frames, all_with_frames, BodyItem, Do, Allocation, Label, NumberedExpression, expressions_of}
+use Rattle.alf_faults.specs.Fault.{is_exactly, any_from}
+use Rattle.alf_faults.specs.TermSizes.{term_size, operands_fit, same_size, return_size, is_bytes}
+use Rattle.alf_faults.specs.NoFault.{IsSeen, SeesFrames, SeesAllFrames, HasNoFault, ItemHasNoFault}
 use Rattle.alf_check.specs.declared.rows.FrameRow.{FrameRow}
+use Rattle.alf_check.specs.Kept.{IsSize, IsWordOf, SeesFrame, HasSize, HaveSizes, IsCellSize, IsFrameOf, InitFits, KeepsExport, KeepsStatement, ArgumentKeeps, GoesOn, TargetKeeps, CallKeeps, GivesSize, Gives, EachReturn, KeepsEnding, KeepsBlock, KeepsResult, IsBlockOf, HasOneReturnSize, KeepsFunction, HasFrame, IsBounded, IsWithinLimits, IsKept}
+use Rattle.alf_check.specs.KeptLaws.{cell_from, size_within}
+use Rattle.alf_program.specs.Writable.{PartsAreWritable, AllPartsAreWritable, ExpressionIsWritable, TargetIsWritable, AddressIsWritable, ItemIsWritable, AllocationIsWritable, InitialIsWritable, FunctionIsWritable, IsWritable, own_frames, frame_bytes, is_ending}
+use Rattle.std.specs.Str.{bytes_eq}
+use Rattle.lists.specs.Members.{contained, no_member, first_or_further, placed, first_member}
+use Rattle.lists.specs.Tests.{by_test}
+use Rattle.alf_names.specs.Places.{function_place}
+use Rattle.alf_faults.specs.declared.returns.FirstReturn.{FirstReturn}
+use Rattle.alf_faults.specs.Returns.{return_at, first_return, first_return_from, agrees, is_before, is_breach, function_has_breach, is_breached}
+use Rattle.alf_faults.specs.Sizes.{agrees_behind, breaks_calls, fits_return}
+use Rattle.std.specs.List.{flat_map, AllZip, range_with_len, sum_by}
+use Rattle.std.proofs.lemmas.List.{length-map, length-append}
+use Rattle.std.proofs.lemmas.List.Elements.{Contains-get_or, All-nil, All-cons, All-head, All-tail, All-contains}
+use Rattle.lists.specs.Images.{mapped, from_joined, mapped_at, some_image, all_images, all_joined, joined}
+use Rattle.alf_names.specs.PlaceLaws.{place_within}
+use Rattle.call_cycles.specs.Calls.{CallsWithin, IsRanked}
+use Rattle.call_cycles.specs.CallLaws.{caller_low}
+use Rattle.alf_check.specs.Numbers.{func_number, Numbers, row_for, frame_rows, frames_before, first_frame, block_number, numbers_in}
+use Rattle.alf_check.specs.Checking.{called_by, calls_among, calls_in, Passes}
+use Rattle.std.specs.Option.{option_map_or}
+use Rattle.alf_program.specs.declared.program.Num.{Num}
+use Rattle.alf_program.specs.Tree as text
 use Rattle.alf_check.specs.CheckedPrograms.{NumberedBlock, NumberedFunction, NumberedProgram, Null, Store, Fall, Return, blocks_at}
 use Rattle.alf_check.specs.Blocks.{blocks_of}
-use Rattle.alf_check.specs.Numbers.{Numbers, row_for, frame_rows, frames_before, first_frame, func_number, block_number, numbers_in}
 use Rattle.alf_check.specs.Numbered.{numbered_init, numbered_targets, statements_by, end_by, numbered_block, numbered_blocks, numbered_function, functions_from, export_number, numbered}
-use Rattle.alf_check.specs.Checking.{called_by, calls_in, Passes}
-use Rattle.alf_check.specs.Kept.{IsCellSize, HasSize, IsFrameOf, InitFits, KeepsExport, KeepsStatement, ArgumentKeeps, GoesOn, TargetKeeps, CallKeeps, GivesSize, Gives, EachReturn, KeepsEnding, KeepsBlock, KeepsResult, IsBlockOf, HasOneReturnSize, KeepsFunction, HasFrame, IsBounded, IsWithinLimits, IsKept}
-use Rattle.alf_check.specs.KeptLaws.{size_within, cell_from}
-use Rattle.alf_check.proofs.Places.{of_each, by_option, same_name, stands, one_place, range_parts, range_has, all_in_range, range_apart}
-use Rattle.alf_check.proofs.Frames.{frame_of, StandAt, count_rows, same_bytes, frames_are, keeps_rows, is_frame, own_stand, args_stand, decls_stand, own_decls_stand, names_apart, sees, init_fits, export_keeps}
 use Rattle.alf_check.proofs.Blocks.{in_items, some_block, block_within, last_of, goes_on}
-use Rattle.alf_check.proofs.Sized.{sized}
-use Rattle.alf_check.proofs.Returns.{IsReturned, first_from, is_returned, agreed}
+use Rattle.alf_check.proofs.Places.{exactly, by_option, same_name, its_name, first_place, stands, one_place, of_each, range_parts, range_has, all_in_range, range_apart, word_of, frame_of, StandAt, count_rows, same_bytes, frames_are, keeps_rows, is_frame, own_stand, args_stand, decls_stand, own_decls_stand, names_apart, sees, init_fits, export_keeps}
+
+-- ---- sizes of results
+
+size_from : (m : ℕ) → is_size m ≡ true → IsSize m
+size_from m e = let parts = and_parts (nat_le 1 m) (nat_le m 64) e in record { some = leb-true 1 m parts.0; most = leb-true m 64 parts.1 }
+
+-- where sizes may stand in a row, its result has one
+result_sized : (layout : Layout) (m n h : ℕ) → is_typed layout m n h ≡ true → IsSize (result_by_layout layout m n h)
+result_sized Carry m n h e = record { some = omega arith; most = omega arith }
+result_sized Joined m n h e = size_from (m + n) (and_parts (is_size m && is_size n) (is_size (m + n)) e).1
+result_sized First m n h e = size_from m (and_parts (is_size m) (is_size n) e).0
+result_sized Second m n h e = size_from n (and_parts (is_size m) (is_size n) e).1
+result_sized Comparison m n h e = record { some = omega arith; most = omega arith }
+result_sized Extension m n h e = size_from n (and_parts (is_size m) (is_size n) (and_parts (is_size m && is_size n) (nat_le m n) e).0).1
+result_sized Truncation m n h e = size_from n (and_parts (is_size m) (is_size n) (and_parts (is_size m && is_size n) (nat_le n m) e).0).1
+result_sized Field m n h e =
+    let parts = and_parts (is_size m && nat_le n h) (nat_lt h m) e in
+    let size = size_from m (and_parts (is_size m) (nat_le n h) parts.0).0 in
+    let below : h < m = grind (arith, nat_tests) in
+    record { some = omega arith; most = omega arith }
+result_sized layout m n h e = size_from m e
+
+operator_sized : (op : Op) (sizes : List ℕ) (size : ℕ) → result_size op sizes ≡ Some size → IsSize size
+operator_sized op sizes size is =
+    let layout = layout_of op in
+    let c = cond_some (is_written_so layout sizes) (result_by_layout layout (slice_index sizes 0) (slice_index sizes 1) (slice_index sizes 2)) size is in
+    subst IsSize c.1 (result_sized layout _ _ _ (and_parts (length sizes == size_count layout) _ c.0).1)
+
+-- ---- sizes that are the same
+
+pub both_sizes : (a b : Option ℕ) → same_size a b ≡ true → (size : ℕ) × (a ≡ Some size) × (b ≡ Some size)
+both_sizes None b e = absurd (false≢true e)
+both_sizes (Some size) b e = (size, refl, exactly size b e)
+
+chosen : (b : Bool) (o : Option ℕ) (size : ℕ) → cond b o None ≡ Some size → (b ≡ true) × (o ≡ Some size)
+chosen true o size e = (refl, e)
+chosen false o size e = cc
+
+no_size : (o : Option ℕ) → is_none o ≡ true → o ≡ None
+no_size None e = refl
+no_size (Some size) e = absurd (false≢true e)
+
+-- ---- expressions
+
+module _ (whole : WholeProgram) (func : Function) (rows : List FrameRow) (k : ℕ) (frame : List ℕ → ℕ) (known : (name : List ℕ) → IsSeen whole func name → SeesFrame rows k (frame name)) where
+  mutual
+    -- an expression that names what stands somewhere has its size
+    pub sized : (t : NamedExpression) (size : ℕ) → PartsAreWritable t → SeesFrames whole func t → term_size t ≡ Some size → HasSize rows k size (with_frames frame t)
+    sized (Number n) size written none is = subst (λ (z : ℕ). IsWordOf z n) (same_Some n.size size is) (word_of n written)
+    sized (Address name offset) size written none is = record { same = same_Some 32 size is; offset_fits = written.offset; sees = known name none }
+    sized (Load bits at) size written none is =
+        let c = cond_some (is_exactly 32 (term_size at)) bits size is in
+        record { same = c.1; cell = cell_from bits (record { some = written.0.some; most = written.0.small }) written.0.bytes; address = sized at 32 written.1 none (exactly 32 (term_size at) c.0) }
+    sized (Apply op sizes operands) size written none is =
+        let c = chosen (operands_fit op sizes 0 operands) (result_size op sizes) size is in
+        record { result_is = c.1; sized = operator_sized op sizes size c.1; operands = each_sized operands op sizes 0 written.2 (ap is_some c.1) none c.0 }
+
+    each_sized : (ts : NamedExpressions) (op : Op) (sizes : List ℕ) (i : ℕ) → AllPartsAreWritable ts → IsSome (result_size op sizes) → SeesAllFrames whole func ts → operands_fit op sizes i ts ≡ true
+        → HaveSizes rows k (drop i (operand_sizes op sizes)) (all_with_frames frame ts)
+    each_sized Empty op sizes i written typed none fits = rw (operands_end op sizes i typed (no_size (operand_size op sizes i) fits)) tt
+    each_sized (With t ts) op sizes i written typed none fits =
+        let tests = and_parts (same_size (operand_size op sizes i) (term_size t)) (operands_fit op sizes (i + 1) ts) fits in
+        let same = both_sizes (operand_size op sizes i) (term_size t) tests.0 in
+        rw (operands_go_on op sizes i same.0 same.1) (sized t same.0 written.0 none.0 same.2, each_sized ts op sizes (i + 1) written.1 typed none.1 tests.1)
+
+-- ---- functions that are called
+
+number_low : (all : List Function) (name : List ℕ) → 0 < length all → func_number all name < length all
+number_low all name some =
+    by_option (λ o. IfSome o (λ k. k < length all) → unwrap_or o 0 < length all) (function_place all name) (λ e low. some) (λ k e low. low) (place_within _ all)
+
+called_low : (all : List Function) (item : BodyItem) (g : ℕ) → 0 < length all → Contains (called_by all item) g → g < length all
+called_low all (Do (text.Call label args result)) g some c =
+    first_or_further (func_number all label) [] g c (λ e. omega (arith, number_low all label some)) (no_member g)
+called_low all item g some c = no_member g c
+
+pub calls_within : (all : List Function) → CallsWithin (calls_among all all)
+calls_within all f g c =
+    let calls = calls_among all all in
+    let called = λ (func : Function). flat_map (called_by all) func.items in
+    let low = caller_low calls f g c in
+    let row = mapped called all (get_or calls f []) (Contains-get_or calls f [] low) in
+    let item = from_joined (called_by all) row.0.items g (subst (λ (xs : List ℕ). Contains xs g) (sym row.2) c) in
+    omega (arith, length-map all called, called_low all item.0 g (omega (arith, length-map all called)) item.2)
+
+-- ---- the first return
+
+pub record IsFirst (items : List BodyItem) (n : ℕ) (found : FirstReturn) : Type 0 where
+  pub place : ℕ
+  pub value : Option NamedExpression
+  pub at : slice_get items place ≡ Some (Do (text.Return value))
+  pub is : found ≡ return_at (n + place) value
+
+pub first_from : (n : ℕ) (items : List BodyItem) (found : FirstReturn) → first_return_from n items ≡ Some found → IsFirst items n found
+first_from n [] found e = absurd (none-some found e)
+first_from n (Do (text.Return value) ∷ items) found e = record { place = 0; value = value; at = refl; is = sym (same_Some (return_at n value) found e) ∙ ap (λ (i : ℕ). return_at i value) (sym (add-zero n)) }
+first_from n (item ∷ items) found e =
+    let f = first_from (n + 1) items found e in
+    record { place = suc f.place; value = f.value; at = f.at; is = f.is ∙ ap (λ (i : ℕ). return_at i f.value) (omega arith) }
+
+-- ---- returns and calls
+
+-- a member passes no test that none passes
+none_any : {A : Type 0} (test : ℕ → A → Bool) (n : ℕ) (xs : List A) (k m : ℕ) (x : A) → m ≡ n + k → any_from test n xs ≡ false → slice_get xs k ≡ Some x → test m x ≡ false
+none_any test n [] k m x is none at = absurd (none-some x at)
+none_any test n (y ∷ xs) zero m x is none at =
+    let here = (or_parts (test n y) (any_from test (n + 1) xs) none).0 in let same = same_Some y x at in let e : m ≡ n = omega arith in cc
+none_any test n (y ∷ xs) (suc k) m x is none at = none_any test (n + 1) xs k m x (omega arith) (or_parts (test n y) (any_from test (n + 1) xs) none).1 at
+
+-- an item that comes first in the text, or another one
+before_other : (p m k i : ℕ) → is_before p m k i ≡ false → (p ≡ k → m ≡ i → ⊥) → is_before k i p m ≡ true
+before_other p m k i later other = grind (arith, nat_tests)
+
+pub record IsReturned (whole : WholeProgram) (k : ℕ) (func : Function) (j : ℕ) (value : Option NamedExpression) : Type 0 where
+  pub found : FirstReturn
+  pub first : first_return func.items ≡ Some found
+  pub size : ℕ
+  pub found_size : found.size ≡ Some size
+  pub value_size : return_size value ≡ Some size
+  pub unbroken : breaks_calls whole k func.name j found ≡ false
+
+module _ (whole : WholeProgram) (none : HasNoFault whole) (p : ℕ) (called : Function) (called_at : slice_get whole.funcs p ≡ Some called) where
+  -- the function is the first of its name
+  first_of_name : function_place whole.funcs called.name ≡ Some p
+  first_of_name =
+      let named = λ (f : Function). bytes_eq f.name called.name in
+      let place = first_place named whole.funcs called (contained whole.funcs p called called_at) (its_name called.name called.name refl) in
+      let found = stands named whole.funcs place.0 place.1 in
+      place.1 ∙ ap Some (one_place (λ (f : Function). f.name) whole.funcs none.funcs_differ place.0 p found.member called found.at called_at (same_name found.member.name called.name found.passed))
+
+  pub is_returned : (j : ℕ) (value : Option NamedExpression) → slice_get called.items j ≡ Some (Do (text.Return value)) → IsReturned whole p called j value
+  is_returned j value is =
+      by_option (λ o. fits_return whole p called.name j o (return_size value) ≡ true → IsReturned whole p called j value) (first_return called.items) (λ first e. absurd (false≢true e))
+      (λ found first e.
+      let parts = and_parts (same_size found.size (return_size value)) (not (breaks_calls whole p called.name j found)) e in
+      let sizes = both_sizes found.size (return_size value) parts.0 in
+      record { found = found; first = first; size = sizes.0; found_size = sizes.1; value_size = sizes.2; unbroken = not-true (breaks_calls whole p called.name j found) parts.1 })
+      ((none.funcs p called called_at).items j (Do (text.Return value)) is).fits
+
+  -- a call of it agrees with its first return, which stands before the call or, as another item, behind it
+  pub agreed : (k : ℕ) (func : Function) (i : ℕ) (label : List ℕ) (args : List NamedExpression) (result : Option (List ℕ × ℕ)) → slice_get whole.funcs k ≡ Some func → slice_get func.items i ≡ Some (Do (text.Call label args result))
+      → label ≡ called.name → agrees_behind p (first_return called.items) k i (is_some result) ≡ true → (found : FirstReturn) → first_return called.items ≡ Some found → agrees (is_some result) found ≡ true
+  agreed k func i label args result at is same fits found first =
+      let agrees_if : (not (is_before p found.item k i) || agrees (is_some result) found) ≡ true = ap (λ (o : Option FirstReturn). agrees_behind p o k i (is_some result)) (sym first) ∙ fits in
+      let f = first_from 0 called.items found first in
+      let number : found.item ≡ f.place = ap (λ (r : FirstReturn). r.item) f.is ∙ zero-add f.place in
+      let r = is_returned f.place f.value f.at in
+      let unbroken = ap (breaks_calls whole p called.name f.place) (same_Some found r.found (sym first ∙ r.first)) ∙ r.unbroken in
+      let breached : is_breached whole.funcs called.name found p ≡ false = rw (eq-eqb found.item f.place number, first_of_name, eq-eqb p p refl) at unbroken in
+      let clear = none_any (function_has_breach called.name found p) 0 whole.funcs k k func (sym (zero-add k)) breached at in
+      let here = none_any (is_breach called.name found p k) 0 func.items i i (Do (text.Call label args result)) (sym (zero-add i)) clear is in
+      let other : p ≡ k → found.item ≡ i → ⊥ = λ e g. cc in
+      by_test (is_before p found.item k i) (λ before. rw before at agrees_if)
+      (λ later. not-false (agrees (is_some result) found) (rw (before_other p found.item k i later other, its_name label called.name same) at here))
 
 -- ---- what tests say
 
 bytes_size : (o : Option ℕ) → is_bytes o ≡ true → (size : ℕ) × (o ≡ Some size) × (size % 8 ≡ 0)
 bytes_size None e = absurd (false≢true e)
 bytes_size (Some size) e = (size, refl, eqb-true (size % 8) 0 e)
-
--- the size that a function's first return gives
-abbrev size_of : Option FirstReturn → ℕ
-size_of None = 0
-size_of (Some found) = unwrap_or found.size 0
 
 -- ---- functions and blocks by their places
 
@@ -111,9 +268,6 @@ module _ (whole : WholeProgram) (root ranks : List ℕ) (none : HasNoFault whole
     item_is_written : (i : ℕ) (item : BodyItem) → slice_get func.items i ≡ Some item → ItemIsWritable item
     item_is_written i item is = of_each ItemIsWritable func.items i item is_written.items is
 
-    no_fault : (i : ℕ) (item : BodyItem) → slice_get func.items i ≡ Some item → ItemHasNoFault whole k func i item
-    no_fault = (none.funcs k func at).items
-
     -- there are as many blocks as of items
     count_at : length (blocks_at program k) ≡ length (blocks_of func.items)
     count_at = ap (λ (o : Option NumberedFunction). length (option_map_or (λ (x : NumberedFunction). x.blocks) o [])) (there k func at) ∙ count_blocks numbers 0 (blocks_of func.items)
@@ -130,46 +284,35 @@ module _ (whole : WholeProgram) (root ranks : List ℕ) (none : HasNoFault whole
     arguments_fit : (owner : Option ℕ) (start : ℕ) (frames : List Allocation) (args : List NamedExpression) → AllZip (λ arg frame. term_size arg ≡ Some frame.bits) args frames → SeesAllFrames whole func (expressions_of args)
         → All ExpressionIsWritable args → All AllocationIsWritable frames → StandAt rows owner start frames → AllZip (ArgumentKeeps rows k) (range_with_len start (length frames)) (map term args)
     arguments_fit owner start [] [] sizes seen w v standing = tt
-    arguments_fit owner start [] (arg ∷ args) sizes seen w v standing = absurd sizes
-    arguments_fit owner start (f ∷ frames) [] sizes seen w v standing = absurd sizes
     arguments_fit owner start (f ∷ frames) (arg ∷ args) sizes seen w v standing =
         let has = has_size arg f.bits (All-head ExpressionIsWritable arg args w).parts seen.0 sizes.0 in (
           record { row = row_for owner f; at = ap (slice_get rows) (sym (add-zero start)) ∙ standing 0 f refl; cell = is_cell (term arg) f.bits has (All-head AllocationIsWritable f frames v).bytes; value_has = has },
           arguments_fit owner (start + 1) frames args sizes.1 seen.1 (All-tail ExpressionIsWritable arg args w) (All-tail AllocationIsWritable f frames v)
               (λ i g is. ap (slice_get rows) (let e : (start + 1) + i ≡ start + suc i = omega arith in e) ∙ standing (suc i) g is),
         )
+    arguments_fit owner start frames args sizes seen w v standing = absurd sizes
 
     -- ---- blocks
 
-    record IsBlockAt (b : ℕ) (block : NumberedBlock) : Type 0 where
-      part : List BodyItem
-      part_at : slice_get (blocks_of func.items) b ≡ Some part
-      is : numbered_block numbers (suc b) part ≡ block
-      last : BodyItem
-      last_at : slice_get part (length part - 1) ≡ Some last
-      end : end_by numbers (suc b) last ≡ block.ending
-      among : Contains func.items last
-
-    block_at : (b : ℕ) (block : NumberedBlock) → slice_get (function k func).blocks b ≡ Some block → IsBlockAt b block
-    block_at b block is =
+    -- what holds of each block holds that is made of a part of the items, which has a last one
+    by_part : (Holds : ℕ → NumberedBlock → Type 0)
+        → ((b : ℕ) (part : List BodyItem) (last : BodyItem) → slice_get (blocks_of func.items) b ≡ Some part → slice_get part (length part - 1) ≡ Some last → Contains func.items last
+        → Holds b (record { statements = flat_map (statements_by numbers.frame) part; ending = end_by numbers (suc b) last }))
+        → (b : ℕ) (block : NumberedBlock) → slice_get (function k func).blocks b ≡ Some block → Holds b block
+    by_part Holds each b block is =
         let found = some_image (numbered_block numbers (suc b)) (slice_get (blocks_of func.items) b) block (sym (block_in numbers 0 (blocks_of func.items) b b (sym (zero-add b))) ∙ is) in
-        let last = last_of func.items b found.0 found.1 in
-        record {
-          part = found.0;
-          part_at = found.1;
-          is = found.2;
-          last = last.0;
-          last_at = last.1;
-          end = ap (λ (o : Option BodyItem). option_map_or (end_by numbers (suc b)) o (Fall (suc b))) (sym last.1) ∙ ap (λ (x : NumberedBlock). x.ending) found.2;
-          among = in_items func.items found.0 (contained (blocks_of func.items) b found.0 found.1) last.0 (contained found.0 (length found.0 - 1) last.0 last.1);
-        }
+        let part = found.0 in
+        let last = last_of func.items b part found.1 in
+        let made = ap (λ (o : Option BodyItem). record { statements = flat_map (statements_by numbers.frame) part; ending = option_map_or (end_by numbers (suc b)) o (Fall (suc b)) }) (sym last.1) ∙ found.2 in
+        subst (Holds b) made
+        (each b part last.0 found.1 last.1 (in_items func.items part (contained (blocks_of func.items) b part found.1) last.0 (contained part (length part - 1) last.0 last.1)))
 
     -- ---- returns
 
     return_gives : (j : ℕ) (v : Option NamedExpression) (size : ℕ) → slice_get func.items j ≡ Some (Do (text.Return v)) → return_size v ≡ Some size → GivesSize rows k size (option_map term v)
     return_gives j v size is =
         by_option (λ o. IfSome o ExpressionIsWritable → ((e : NamedExpression) → o ≡ Some e → SeesFrames whole func e) → return_size o ≡ Some size → GivesSize rows k size (option_map term o)) v
-        (λ none w seen has. sym (same_Some 0 size has)) (λ t some w seen has. has_size t size w.parts (seen t refl) has) (item_is_written j (Do (text.Return v)) is) (no_fault j (Do (text.Return v)) is).sees
+        (λ none w seen has. sym (same_Some 0 size has)) (λ t some w seen has. has_size t size w.parts (seen t refl) has) (item_is_written j (Do (text.Return v)) is) ((none.funcs k func at).items j (Do (text.Return v)) is).sees
 
     record GivesFirstSize (value : Option NumberedExpression) : Type 0 where
       found : FirstReturn
@@ -179,31 +322,32 @@ module _ (whole : WholeProgram) (root ranks : List ℕ) (none : HasNoFault whole
       gives : GivesSize rows k size value
 
     return_of : (b : ℕ) (block : NumberedBlock) (value : Option NumberedExpression) → slice_get (function k func).blocks b ≡ Some block → block.ending ≡ Return value → GivesFirstSize value
-    return_of b block value is end =
-        let here = block_at b block is in
-        let v = return_end numbers (suc b) here.last value (here.end ∙ end) in
-        let item = placed func.items here.last here.among ∙ ap Some v.1 in
-        let g = is_returned whole none k func at here.among.0 v.0 item in
-        record { found = g.found; first = g.first; size = g.size; found_size = g.found_size; gives = subst (GivesSize rows k g.size) v.2 (return_gives here.among.0 v.0 g.size item g.value_size) }
+    return_of b block value is end = by_part (λ b block. (value : Option NumberedExpression) → block.ending ≡ Return value → GivesFirstSize value) (λ b part last part_at last_at among value end.
+        let v = return_end numbers (suc b) last value end in
+        let item = placed func.items last among ∙ ap Some v.1 in
+        let g = is_returned whole none k func at among.0 v.0 item in
+        record { found = g.found; first = g.first; size = g.size; found_size = g.found_size; gives = subst (GivesSize rows k g.size) v.2 (return_gives among.0 v.0 g.size item g.value_size) })
+        b block is value end
 
     one_size : HasOneReturnSize rows k (function k func).blocks
-    one_size = record {
-      size = size_of (first_return func.items);
-      each = λ b block value is end.
-          let r = return_of b block value is end in
-          subst (λ (size : ℕ). GivesSize rows k size value) (sym (ap size_of r.first ∙ ap (λ (o : Option ℕ). unwrap_or o 0) r.found_size)) r.gives;
-    }
+    one_size =
+        let size_of : Option FirstReturn → ℕ = λ o. option_map_or (λ (found : FirstReturn). unwrap_or found.size 0) o 0 in
+        record {
+          size = size_of (first_return func.items);
+          each = λ b block value is end.
+              let r = return_of b block value is end in
+              subst (λ (size : ℕ). GivesSize rows k size value) (sym (ap size_of r.first ∙ ap (λ (o : Option ℕ). unwrap_or o 0) r.found_size)) r.gives;
+        }
 
     -- what a call takes that agrees with the first return, another return of its size gives
     gives_to : (number : List ℕ × ℕ → ℕ × ℕ) (size i : ℕ) (to : Option (List ℕ × ℕ)) (first : Option NamedExpression) (value : Option NumberedExpression) → return_size first ≡ Some size
         → GivesSize rows k size (option_map term first) → GivesSize rows k size value → agrees (is_some to) (return_at i first) ≡ true → Gives rows k (option_map number to) value
     gives_to number size i None None None has first gives ok = tt
     gives_to number size i None None (Some e) has first gives ok = absurd (omega (arith, same_Some 0 size has, (size_within rows k size e gives).some))
-    gives_to number size i None (Some t) value has first gives ok = absurd (false≢true ok)
-    gives_to number size i (Some to) None value has first gives ok = absurd (false≢true ok)
     gives_to number size i (Some to) (Some t) None has first gives ok = absurd (omega (arith, (size_within rows k size (term t) first).some))
     gives_to number size i (Some to) (Some t) (Some e) has first gives ok =
         record { size = size; cell = is_cell e size gives (eqb-true (size % 8) 0 (ap is_bytes (sym has) ∙ ok)); value_has = gives }
+    gives_to number size i to first value has first_gives gives ok = absurd (false≢true ok)
 
     result_fits : (to : Option (List ℕ × ℕ)) (number : List ℕ × ℕ → ℕ × ℕ) → ((found : FirstReturn) → first_return func.items ≡ Some found → agrees (is_some to) found ≡ true)
         → EachReturn (Gives rows k (option_map number to)) (function k func).blocks
@@ -219,7 +363,7 @@ module _ (whole : WholeProgram) (root ranks : List ℕ) (none : HasNoFault whole
     keeps_statements : (i : ℕ) (item : BodyItem) → slice_get func.items i ≡ Some item → All (KeepsStatement rows k) (statements_by (numbers k func at).frame item)
     keeps_statements i (Do text.Null) is = All-cons (KeepsStatement rows k) Null [] tt (All-nil (KeepsStatement rows k))
     keeps_statements i (Do (text.Store to value)) is =
-        let item = no_fault k func at i (Do (text.Store to value)) is in
+        let item = (none.funcs k func at).items i (Do (text.Store to value)) is in
         let w = item_is_written k func at i (Do (text.Store to value)) is in
         let cell = bytes_size (term_size value) item.value_bytes in
         let has = has_size k func at value cell.0 w.1.parts item.value_sees cell.1 in
@@ -235,22 +379,19 @@ module _ (whole : WholeProgram) (root ranks : List ℕ) (none : HasNoFault whole
     leads label among = omega (arith, block_within func.items label among, count_at k func at)
 
     -- a call is one of its function's calls, and leads to a lower rank
-    lower : (i : ℕ) (item : BodyItem) (f : ℕ) → slice_get func.items i ≡ Some item → Contains (called_by whole.funcs item) f → slice_index_or ranks f 0 < slice_index_or ranks k 0
-    lower i item f is called =
+    lower : (i : ℕ) (label : List ℕ) (args : List NamedExpression) (result : Option (List ℕ × ℕ)) → slice_get func.items i ≡ Some (Do (text.Call label args result))
+        → slice_index_or ranks (func_number whole.funcs label) 0 < slice_index_or ranks k 0
+    lower i label args result is =
         let calls = λ (g : Function). flat_map (called_by whole.funcs) g.items in
-        ranked.falls k f (subst (λ (xs : List ℕ). Contains xs f)
-        (sym (get_or_from_slice_get (calls_in whole) k (calls func) [] (slice_get-map calls whole.funcs k ∙ ap (option_map calls) at)))
-        (joined (called_by whole.funcs) func.items item f (contained func.items i item is) called))
-
-    keeps_result : (result : Option (List ℕ × ℕ)) → IfSome result AddressIsWritable → ((target : List ℕ × ℕ) → result ≡ Some target → IsSeen whole func target.0)
-        → KeepsResult rows k (option_map (λ to. ((numbers k func at).frame to.0, to.1)) result)
-    keeps_result None fits seen = tt
-    keeps_result (Some to) fits seen = record { sees = sees whole k func at to.0 (seen to refl); offset_fits = fits.offset }
+        let row = get_or_from_slice_get (calls_in whole) k (calls func) [] (slice_get-map calls whole.funcs k ∙ ap (option_map calls) at) in
+        let number = func_number whole.funcs label in
+        ranked.falls k number (subst (λ (xs : List ℕ). Contains xs number) (sym row)
+        (joined (called_by whole.funcs) func.items (Do (text.Call label args result)) number (contained func.items i (Do (text.Call label args result)) is) (first_member number [])))
 
     keeps_call : (b i : ℕ) (label : List ℕ) (args : List NamedExpression) (result : Option (List ℕ × ℕ)) → slice_get func.items i ≡ Some (Do (text.Call label args result)) → GoesOn program k b (suc b)
         → KeepsEnding program k b (end_by (numbers k func at) (suc b) (Do (text.Call label args result)))
     keeps_call b i label args result is on =
-        let item = no_fault k func at i (Do (text.Call label args result)) is in
+        let item = (none.funcs k func at).items i (Do (text.Call label args result)) is in
         let w = item_is_written k func at i (Do (text.Call label args result)) is in
         let p = item.place in
         let called = item.called in
@@ -261,17 +402,18 @@ module _ (whole : WholeProgram) (root ranks : List ℕ) (none : HasNoFault whole
         subst (λ (f : ℕ). CallKeeps program k b f (map (term k func at) args) (option_map to result) (suc b)) (sym number) (record {
           function = function p called;
           at = there p called item.at;
-          lower = lower i (Do (text.Call label args result)) p is (subst (Contains (func_number whole.funcs label ∷ [])) number (first_member (func_number whole.funcs label) []));
+          lower = subst (λ (f : ℕ). slice_index_or ranks f 0 < slice_index_or ranks k 0) number (lower i label args result is);
           args_keep = arguments_fit k func at (Some p) (first_frame whole p) called.args args item.sizes item.sees w.1 (is_written p called item.at).args (args_stand whole p called item.at);
           gives = result_fits p called item.at result to (λ r first. agreed whole none p called item.at k func i label args result at is name item.agrees r first);
-          result_keeps = keeps_result result w.2 item.result_sees;
+          result_keeps = by_option (λ o. IfSome o AddressIsWritable → ((target : List ℕ × ℕ) → o ≡ Some target → IsSeen whole func target.0) → KeepsResult rows k (option_map to o)) result
+              (λ e fits seen. tt) (λ target e fits seen. record { sees = sees whole k func at target.0 (seen target refl); offset_fits = fits.offset }) w.2 item.result_sees;
           goes_on = on;
         })
 
     keeps_end : (b i : ℕ) (last : BodyItem) → slice_get func.items i ≡ Some last → (is_ending last ≡ false → GoesOn program k b (suc b)) → KeepsEnding program k b (end_by (numbers k func at) (suc b) last)
-    keeps_end b i (Do (text.Jump label)) is goes = leads label (no_fault k func at i (Do (text.Jump label)) is)
+    keeps_end b i (Do (text.Jump label)) is goes = leads label ((none.funcs k func at).items i (Do (text.Jump label)) is)
     keeps_end b i (Do (text.Switch value targets others)) is goes =
-        let item = no_fault k func at i (Do (text.Switch value targets others)) is in
+        let item = (none.funcs k func at).items i (Do (text.Switch value targets others)) is in
         let w = item_is_written k func at i (Do (text.Switch value targets others)) is in
         record {
           size = item.size;
@@ -292,20 +434,12 @@ module _ (whole : WholeProgram) (root ranks : List ℕ) (none : HasNoFault whole
     -- ---- blocks
 
     keeps_block : (b : ℕ) (block : NumberedBlock) → slice_get (function k func).blocks b ≡ Some block → KeepsBlock program k b block
-    keeps_block b block is =
-        let here = block_at k func at b block is in
-        let part_in = contained (blocks_of func.items) b here.part here.part_at in
-        let goes : is_ending here.last ≡ false → GoesOn program k b (suc b) =
-        λ other. record { next_is = refl; there = omega (arith, goes_on func.items (is_written k func at).ends b here.part here.last here.part_at here.last_at other, count_at k func at) }
-        in
-        let statements : All (KeepsStatement rows k) (flat_map (statements_by (numbers k func at).frame) here.part) =
-        all_joined (KeepsStatement rows k) (statements_by (numbers k func at).frame) here.part
-        (λ item c. let d = in_items func.items here.part part_in item c in keeps_statements d.0 item (placed func.items item d))
-        in
-        record {
-          statements = subst (λ (x : NumberedBlock). All (KeepsStatement rows k) x.statements) here.is statements;
-          ending = subst (KeepsEnding program k b) here.end (keeps_end b here.among.0 here.last (placed func.items here.last here.among) goes);
-        }
+    keeps_block = by_part k func at (KeepsBlock program k) (λ b part last part_at last_at among. record {
+      statements = all_joined (KeepsStatement rows k) (statements_by (numbers k func at).frame) part
+          (λ item c. let d = in_items func.items part (contained (blocks_of func.items) b part part_at) item c in keeps_statements d.0 item (placed func.items item d));
+      ending = keeps_end b among.0 last (placed func.items last among)
+          (λ other. record { next_is = refl; there = omega (arith, goes_on func.items (is_written k func at).ends b part last part_at last_at other, count_at k func at) });
+    })
 
     -- ---- functions
 

@@ -6,8 +6,7 @@ ghost use Rattle.alf_program.specs.Writable.{frames_of};
 ghost use Rattle.alf_check.specs.Blocks.{blocks_of};
 ghost use Rattle.alf_check.specs.Numbers.{numbers_in};
 ghost use Rattle.alf_check.specs.Numbered.{numbered_blocks, numbered_function, functions_from};
-ghost use Rattle.alf_check.specs.CheckedPrograms.{block_of, function_in};
-ghost use Rattle.alf_check.specs.declared.rows.FuncParts.{FuncParts};
+ghost use Rattle.alf_check.specs.CheckedPrograms.{NumberedFunction, block_of, function_in};
 ghost use Rattle.alf_check.specs.Rows.{IsRow};
 
 use crate::body::blocks;
@@ -26,7 +25,7 @@ pub fn all_functions(alloc: Global, program: &Program) -> Result<Vec<FuncParts>,
     requires funcs { length program.now.funcs.items < 4294967295 }
     ensures are { IfOk result (λ functions. map function_in functions.items
         ≡ functions_from (program_of program.now) (length (program_of program.now).decls) (program_of program.now).funcs) }
-    ensures few { IfOk result (λ functions. All (λ (parts : FuncParts). length parts.blocks.items < 4294967295) functions.items) }
+    ensures few { IfOk result (λ functions. All (λ (function : NumberedFunction). length function.blocks < 4294967295) (map function_in functions.items)) }
 {
     let mut functions = Vec::new(alloc);
     let mut first = program.decls.len() as u32;
@@ -50,7 +49,7 @@ fn function(
     requires funcs { length program.now.funcs.items < 4294967295 }
     requires frames { first + (length func.now.args.items + length func.now.decls.items) < 4294967295 }
     ensures is { IfOk result (λ parts. function_in parts ≡ numbered_function (program_of program.now) first (function_of func.now)) }
-    ensures few { IfOk result (λ parts. length parts.blocks.items < 4294967295) }
+    ensures few { IfOk result (λ parts. length (function_in parts).blocks < 4294967295) }
 {
     let row = row(alloc, first, func)?;
     let blocks = func_blocks(alloc, program, first, func)?;

@@ -1,23 +1,17 @@
 use Rattle.std.proofs.Common.{◌≡◌, ◌<◌, ◌∙◌, map, length, subst, sym, ap, arith, rules}
 use Rattle.std.proofs.lemmas.List.{length-map}
-use Rattle.std.proofs.lemmas.List.Elements.{All-contains}
-use Rattle.lists.specs.Images.{all_images}
 use Rattle.alf_program.specs.Tree.{function_of, program_of}
-use Rattle.alf_check.specs.declared.rows.FuncParts.{FuncParts}
-use Rattle.alf_check.specs.CheckedPrograms.{CheckedParts, NumberedFunction, block_of, function_in, seen}
+use Rattle.alf_check.specs.CheckedPrograms.{CheckedParts, function_in, seen}
 use Rattle.alf_check.specs.Numbers.{frame_rows, func_number}
 use Rattle.alf_check.specs.Numbered.{numbered_inits, functions_from, export_number, numbered}
 use Rattle.alf_check.specs.Kept.{IsBounded, IsKept}
-use Rattle.alf_check.proofs.Frames.{count_rows}
+use Rattle.alf_check.proofs.Places.{count_rows}
 use Rattle.alf_check.proofs.Kept.{count_functions, kept}
 use Rattle.alf_check.proofs.program.numbered.Goals as goal
 
 pub all_functions-requires-clause-frames : goal.all_functions-requires-clause-frames
 all_functions-requires-clause-frames c =
-    let count = count_rows (program_of c.args.program.now) in
-    let rows = ap length c.in_ok-frames.ensures.rows in
-    let few = c.in_ok-frames.ensures.few in
-    omega arith
+    omega (arith, count_rows (program_of c.args.program.now), ap length c.in_ok-frames.ensures.rows, c.in_ok-frames.ensures.few)
 
 pub invariant_of-result : goal.invariant_of-result
 invariant_of-result c =
@@ -29,12 +23,10 @@ invariant_of-result c =
     let exports : parts.exports ≡ map (export_number whole) whole.exports = search rules in
     let root : parts.root ≡ func_number whole.funcs c.args.root.now = search rules in
     let is : seen parts ≡ numbered whole c.args.root.now parts.ranks = λ j. record { frames = frames j; funcs = funcs j; inits = inits j; exports = exports j; root = root j; ranks = parts.ranks } in
-    let count = length-map c.args.program.now.funcs.items function_of in
     let few : IsBounded (seen parts) = record {
       frames = c.in_ok-frames.ensures.few;
-      funcs = (let few : length c.args.program.now.funcs.items < 4294967295 = search rules in let all = ap length funcs ∙ count_functions whole (length whole.decls) whole.funcs in omega arith);
+      funcs = (let few : length c.args.program.now.funcs.items < 4294967295 = search rules in omega (arith, ap length funcs ∙ count_functions whole (length whole.decls) whole.funcs ∙ length-map c.args.program.now.funcs.items function_of));
       exports = c.in_ok-exports.ensures.few;
-      blocks = all_images (λ (function : NumberedFunction). length function.blocks < 4294967295) function_in parts.funcs (λ x h.
-          let few = All-contains (λ (y : FuncParts). length y.blocks.items < 4294967295) parts.funcs x c.in_ok-funcs.ensures.few h in let long = length-map x.blocks.items block_of in omega arith);
+      blocks = c.in_ok-funcs.ensures.few;
     } in
     subst IsKept (sym is) (kept whole c.args.root.now parts.ranks ((c.no_fault_is_by_parts.ensures whole).0 c.requires.passes.sound) c.requires.writable c.requires.ranked c.requires.passes (subst IsBounded is few))

@@ -3,14 +3,14 @@
 ghost use Rattle.std.specs.Prelude.{◌≡◌, ◌<◌, ◌∷◌, map, length, IfOk};
 ghost use Rattle.alf_program.specs.Tree.{item_of};
 ghost use Rattle.alf_check.specs.Blocks.{begins_between, blocks_of, ends_block, is_label};
-ghost use Rattle.alf_check.specs.Cut.{first_length, number_behind, numbers_along};
+ghost use Rattle.alf_check.specs.Cut.{begins_behind, first_length, number_behind, numbers_along};
 
 use crate::count::next_number;
 use alf_program::{Item, Stmt};
 use std::alloc::{AllocError, Global};
 
 /// The items of the first block, and those behind it.
-#[tactic(auto, using(crate::proofs::Cutting::split_within))]
+#[tactic(auto, using(crate::proofs::Blocks::split_within))]
 pub fn split_block(items: &[Item]) -> (&[Item], &[Item])
     requires { 0 < length items.now }
     ensures cut { blocks_of (map item_of items.now) ≡ map item_of result.0.now ∷ blocks_of (map item_of result.1.now) }
@@ -23,9 +23,9 @@ pub fn split_block(items: &[Item]) -> (&[Item], &[Item])
 fn first_length(items: &[Item]) -> usize
     ensures { result ≡ first_length (map item_of items.now) }
 {
-    for at in 1..items.len() {
-        if begins_between(&items[at - 1], &items[at]) {
-            return at;
+    for at in 0..items.len() {
+        if begins_behind(&items[at], &items[at + 1..]) {
+            return at + 1;
         }
     }
     items.len()
@@ -50,10 +50,19 @@ pub fn numbers_along(alloc: Global, items: &[Item]) -> Result<Vec<u32>, AllocErr
 fn number_behind(number: u32, item: &Item, others: &[Item]) -> Result<u32, AllocError>
     ensures { IfOk result (λ behind. behind ≡ number_behind number (item_of item.now) (map item_of others.now)) }
 {
+    if begins_behind(item, others) {
+        return next_number(number);
+    }
+    Ok(number)
+}
+
+// Whether a block begins behind the item, where these follow it.
+fn begins_behind(item: &Item, others: &[Item]) -> bool
+    ensures { result ≡ begins_behind (item_of item.now) (map item_of others.now) }
+{
     match others.first() {
-        Some(next) if begins_between(item, next) => next_number(number),
-        Some(_) => Ok(number),
-        None => Ok(number),
+        Some(next) => begins_between(item, next),
+        None => false,
     }
 }
 

@@ -14,7 +14,7 @@ use Rattle.alf_ops.specs.OperandLaws.{operands_end, operands_go_on}
 use Rattle.alf_program.specs.Tree.{NamedExpression, NamedExpressions, Number, Address, Load, Apply, Empty, With, Function, WholeProgram, with_frames, all_with_frames, BodyItem, Do, Allocation, Label, NumberedExpression, expressions_of}
 use Rattle.alf_faults.specs.Fault.{is_exactly, any_from}
 use Rattle.alf_faults.specs.TermSizes.{term_size, operands_fit, same_size, return_size, is_bytes}
-use Rattle.alf_faults.specs.NoFault.{IsSeen, SeesFrames, SeesAllFrames, HasNoFault, ItemHasNoFault}
+use Rattle.alf_faults.specs.NoFault.{IsSeen, SeesFrames, SeesAllFrames, HasNoFault}
 use Rattle.alf_check.specs.declared.rows.FrameRow.{FrameRow}
 use Rattle.alf_check.specs.Kept.{IsSize, IsWordOf, SeesFrame, HasSize, HaveSizes, IsCellSize, IsFrameOf, InitFits, KeepsExport, KeepsStatement, ArgumentKeeps, GoesOn, TargetKeeps, CallKeeps, GivesSize, Gives, EachReturn, KeepsEnding, KeepsBlock, KeepsResult, IsBlockOf, HasOneReturnSize, KeepsFunction, HasFrame, IsBounded, IsWithinLimits, IsKept}
 use Rattle.alf_check.specs.KeptLaws.{cell_from, size_within}

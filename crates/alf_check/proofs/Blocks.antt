@@ -17,7 +17,7 @@ use Rattle.alf_names.specs.PlaceLaws.{counted}
 use Rattle.alf_check.specs.Blocks.{begins_between, blocks_of}
 use Rattle.alf_check.specs.Blocks as blocks
 use Rattle.alf_check.specs.Numbers.{has_label, block_number}
-use Rattle.alf_check.specs.Cut.{begins_behind, first_length, numbers_along}
+use Rattle.alf_check.specs.Cut.{begins_after, first_length, numbers_along}
 use Rattle.alf_check.proofs.Places.{by_option, its_name, first_place, stands}
 
 -- ---- what the blocks have
@@ -95,10 +95,10 @@ well_last [] last at = absurd (none-some last at)
 well_last (item ∷ []) last at = ap is_ending (same_Some item last at)
 well_last (item ∷ next ∷ items) last at = well_last (next ∷ items) last (rw sub-one (rw sub-one at at))
 
-well_behind : (part : List BodyItem) (item : BodyItem) (items : List BodyItem) → ends_well (part ++ item ∷ items) ≡ ends_well (item ∷ items)
-well_behind [] item items = refl
-well_behind (first ∷ []) item items = refl
-well_behind (first ∷ next ∷ part) item items = well_behind (next ∷ part) item items
+well_after : (part : List BodyItem) (item : BodyItem) (items : List BodyItem) → ends_well (part ++ item ∷ items) ≡ ends_well (item ∷ items)
+well_after [] item items = refl
+well_after (first ∷ []) item items = refl
+well_after (first ∷ next ∷ part) item items = well_after (next ∷ part) item items
 
 -- a block whose last item is no jump, switch or return is not the last
 pub goes_on : (items : List BodyItem) → ends_well items ≡ true → (b : ℕ) (part : List BodyItem) (last : BodyItem) → slice_get (blocks_of items) b ≡ Some part → slice_get part (length part - 1) ≡ Some last → is_ending last ≡ false
@@ -114,13 +114,13 @@ goes_on items well b part last at is other = by_blocks (blocks_of items) ((cut i
     by_blocks (front ∷ [] ∷ parts) some well b at = absurd (let none : 0 < 0 = All-head HasItem [] parts (All-tail HasItem front ([] ∷ parts) some) in omega arith)
     by_blocks (front ∷ (item ∷ next) ∷ parts) some well zero at = omega arith
     by_blocks (front ∷ (item ∷ next) ∷ parts) some well (suc b) at =
-        let more = by_blocks ((item ∷ next) ∷ parts) (All-tail HasItem front ((item ∷ next) ∷ parts) some) (sym (well_behind front item (next ++ all_of parts)) ∙ well) b at in omega arith
+        let more = by_blocks ((item ∷ next) ∷ parts) (All-tail HasItem front ((item ∷ next) ∷ parts) some) (sym (well_after front item (next ++ all_of parts)) ∙ well) b at in omega arith
 
 -- ---- the block of a label, by the numbers along the items
 
 length_along : (n : ℕ) (items : List BodyItem) → length (numbers_along n items) ≡ length items
 length_along n [] = refl
-length_along n (item ∷ items) = ap suc (length_along (if begins_behind item items then suc n else n) items)
+length_along n (item ∷ items) = ap suc (length_along (if begins_after item items then suc n else n) items)
 
 -- a place of an item has a number
 pub along_low : (numbers : List ℕ) (items : List Item) (place : ℕ) → numbers ≡ numbers_along 0 (map item_of items) → place < length items → place < length numbers
@@ -138,12 +138,12 @@ module _ (label : List ℕ) (item : BodyItem) (n : ℕ) where
   label_first false [] e = rw e (ap Some (sym (zero-add n)))
   label_first false (part ∷ parts) e = rw e (ap Some (sym (zero-add n)))
 
-  -- else it is looked for behind it
-  label_behind : (begins : Bool) (parts : List (List BodyItem)) (found : Option ℕ) → is_label_named label item ≡ false → found ≡ option_map (λ k. k + (if begins then suc n else n)) (place_of (has_label label) parts)
+  -- else it is looked for after it
+  label_after : (begins : Bool) (parts : List (List BodyItem)) (found : Option ℕ) → is_label_named label item ≡ false → found ≡ option_map (λ k. k + (if begins then suc n else n)) (place_of (has_label label) parts)
       → found ≡ option_map (λ k. k + n) (place_of (has_label label) (if begins then (item ∷ []) ∷ parts else blocks.joined item parts))
-  label_behind true parts found e h = rw e (h ∙ sym (counted n (place_of (has_label label) parts)))
-  label_behind false [] found e h = rw e h
-  label_behind false (part ∷ parts) found e h = rw (e, by_option (λ o. is_some (option_map (λ k. k + 1) o) ≡ is_some o) (label_place part label) (λ none. refl) (λ k some. refl)) h
+  label_after true parts found e h = rw e (h ∙ sym (counted n (place_of (has_label label) parts)))
+  label_after false [] found e h = rw e h
+  label_after false (part ∷ parts) found e h = rw (e, by_option (λ o. is_some (option_map (λ k. k + 1) o) ≡ is_some o) (label_place part label) (λ none. refl) (λ k some. refl)) h
 
 block_along : (items : List BodyItem) (n : ℕ) (label : List ℕ) → Agree n (numbers_along n items) (label_place items label) (place_of (has_label label) (blocks_of items))
 block_along [] n label = refl
@@ -155,7 +155,7 @@ block_along (item ∷ next ∷ items) n label =
     let numbers = numbers_along m (next ∷ items) in
     by_test (is_label_named label item) (λ e. rw e (label_first label item n begins parts e))
     (λ e. rw e (by_option (λ o. option_map (λ k. get_or (n ∷ numbers) k 0) (option_map (λ k. k + 1) o) ≡ option_map (λ k. get_or numbers k 0) o) (label_place (next ∷ items) label) (λ none. refl) (λ k some. ap Some (rw add-one refl))
-    ∙ label_behind label item n begins parts _ e (block_along (next ∷ items) m label)))
+    ∙ label_after label item n begins parts _ e (block_along (next ∷ items) m label)))
 
 -- the number at the place of a label is that of its block, and 0 where it does not stand
 number_at : (items : List BodyItem) (label : List ℕ) (place : Option ℕ) → place ≡ label_place items label → unwrap_or (option_map (λ k. get_or (numbers_along 0 items) k 0) place) 0 ≡ block_number items label

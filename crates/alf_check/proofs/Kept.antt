@@ -182,7 +182,7 @@ module _ (whole : WholeProgram) (none : HasNoFault whole) (p : ℕ) (called : Fu
       record { found = found; first = first; size = sizes.0; found_size = sizes.1; value_size = sizes.2; unbroken = not-true (breaks_calls whole p called.name j found) parts.1 })
       ((none.funcs p called called_at).items j (Do (text.Return value)) is).fits
 
-  -- a call of it agrees with its first return, which stands before the call or, as another item, behind it
+  -- a call of it agrees with its first return, which stands before the call or, as another item, after it
   pub agreed : (k : ℕ) (func : Function) (i : ℕ) (label : List ℕ) (args : List NamedExpression) (result : Option (List ℕ × ℕ)) → slice_get whole.funcs k ≡ Some func → slice_get func.items i ≡ Some (Do (text.Call label args result))
       → label ≡ called.name → agrees_behind p (first_return called.items) k i (is_some result) ≡ true → (found : FirstReturn) → first_return called.items ≡ Some found → agrees (is_some result) found ≡ true
   agreed k func i label args result at is same fits found first =
@@ -321,8 +321,8 @@ module _ (whole : WholeProgram) (root ranks : List ℕ) (none : HasNoFault whole
       found_size : found.size ≡ Some size
       gives : GivesSize rows k size value
 
-    return_of : (b : ℕ) (block : NumberedBlock) (value : Option NumberedExpression) → slice_get (function k func).blocks b ≡ Some block → block.ending ≡ Return value → GivesFirstSize value
-    return_of b block value is end = by_part (λ b block. (value : Option NumberedExpression) → block.ending ≡ Return value → GivesFirstSize value) (λ b part last part_at last_at among value end.
+    block_return : (b : ℕ) (block : NumberedBlock) (value : Option NumberedExpression) → slice_get (function k func).blocks b ≡ Some block → block.ending ≡ Return value → GivesFirstSize value
+    block_return b block value is end = by_part (λ b block. (value : Option NumberedExpression) → block.ending ≡ Return value → GivesFirstSize value) (λ b part last part_at last_at among value end.
         let v = return_end numbers (suc b) last value end in
         let item = placed func.items last among ∙ ap Some v.1 in
         let g = is_returned whole none k func at among.0 v.0 item in
@@ -335,7 +335,7 @@ module _ (whole : WholeProgram) (root ranks : List ℕ) (none : HasNoFault whole
         record {
           size = size_of (first_return func.items);
           each = λ b block value is end.
-              let r = return_of b block value is end in
+              let r = block_return b block value is end in
               subst (λ (size : ℕ). GivesSize rows k size value) (sym (ap size_of r.first ∙ ap (λ (o : Option ℕ). unwrap_or o 0) r.found_size)) r.gives;
         }
 
@@ -352,7 +352,7 @@ module _ (whole : WholeProgram) (root ranks : List ℕ) (none : HasNoFault whole
     result_fits : (to : Option (List ℕ × ℕ)) (number : List ℕ × ℕ → ℕ × ℕ) → ((found : FirstReturn) → first_return func.items ≡ Some found → agrees (is_some to) found ≡ true)
         → EachReturn (Gives rows k (option_map number to)) (function k func).blocks
     result_fits to number agree b block value is end =
-        let r = return_of b block value is end in
+        let r = block_return b block value is end in
         let f = first_from 0 func.items r.found r.first in
         let has : return_size f.value ≡ Some r.size = ap (λ (x : FirstReturn). x.size) (sym f.is) ∙ r.found_size in
         gives_to number r.size (0 + f.place) to f.value value has (return_gives f.place f.value r.size f.at has) r.gives (ap (agrees (is_some to)) (sym f.is) ∙ agree r.found r.first)

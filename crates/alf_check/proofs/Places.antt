@@ -121,7 +121,7 @@ one_place_of_both name xs ys left right other i j x y at there same =
 
 pub range_parts : (a n m : ℕ) → range_with_len a (n + m) ≡ range_with_len a n ++ range_with_len (a + n) m
 range_parts a zero m = rw (zero-add, add-zero) refl
-range_parts a (suc n) m = let long : suc n + m ≡ suc (n + m) = omega arith in let behind : a + suc n ≡ (a + 1) + n = omega arith in rw (long, behind, range_parts (a + 1) n m) refl
+range_parts a (suc n) m = let long : suc n + m ≡ suc (n + m) = omega arith in let after : a + suc n ≡ (a + 1) + n = omega arith in rw (long, after, range_parts (a + 1) n m) refl
 
 pub range_has : (a n i f : ℕ) → i < n → f ≡ a + i → Contains (range_with_len a n) f
 range_has a n i f low is = (i, omega (arith, length-range_with_len a n), get_or-range_with_len a n i f low ∙ sym is)

@@ -13,7 +13,7 @@ use Rattle.alf_program.specs.Tree.{BodyItem, Label, Do}
 use Rattle.alf_names.specs.Places.{place_of, is_label_named}
 use Rattle.alf_check.specs.Blocks.{ends_block, is_label, begins_between, joined, blocks_of}
 use Rattle.alf_check.specs.Numbers.{Numbers, has_label, block_number}
-use Rattle.alf_items.specs.Stretches.{behind}
+use Rattle.alf_items.specs.Stretches.{items_after}
 use Rattle.alf_items.specs.Cuts.{IsSame}
 
 -- the items from block b on
@@ -102,7 +102,7 @@ or_true : (a b : Bool) → b ≡ true → (a || b) ≡ true
 or_true true b e = refl
 or_true false b e = e
 
--- no label stands behind a statement of a block
+-- no label stands after a statement of a block
 no_label : (label : List ℕ) (i : BodyItem) (items : List BodyItem) → is_label i ≡ false → Trim (i ∷ items) → holds label items ≡ false
 no_label label i [] e t = refl
 no_label label i (Label n ∷ items) e t = absurd (false≢true (sym t.0 ∙ or_true (ends_block i) (not (is_label i)) (ap not e)))
@@ -112,11 +112,11 @@ trim_tail : (i : BodyItem) (items : List BodyItem) → Trim (i ∷ items) → Tr
 trim_tail i [] t = tt
 trim_tail i (j ∷ items) t = t.1
 
-behind_other : (label : List ℕ) (block rest : List BodyItem) → holds label block ≡ false → behind label (block ++ rest) ≡ behind label rest
-behind_other label [] rest e = refl
-behind_other label (item ∷ block) rest e = on (is_label_named label item) (λ h. behind_other label block rest h) e where
-  on : (v : Bool) → (holds label block ≡ false → behind label (block ++ rest) ≡ behind label rest) → (if v then true else holds label block) ≡ false
-      → (if v then block ++ rest else behind label (block ++ rest)) ≡ behind label rest
+after_other : (label : List ℕ) (block rest : List BodyItem) → holds label block ≡ false → items_after label (block ++ rest) ≡ items_after label rest
+after_other label [] rest e = refl
+after_other label (item ∷ block) rest e = on (is_label_named label item) (λ h. after_other label block rest h) e where
+  on : (v : Bool) → (holds label block ≡ false → items_after label (block ++ rest) ≡ items_after label rest) → (if v then true else holds label block) ≡ false
+      → (if v then block ++ rest else items_after label (block ++ rest)) ≡ items_after label rest
   on true go e = absurd (false≢true (sym e))
   on false go e = go e
 
@@ -153,37 +153,37 @@ further_on (Some m) n e = (m, refl, let same : m + 1 ≡ n = cc in sym same ∙ 
 
 module _ (frames : List FrameShape) (numbers : Numbers) where
   -- a label that a block holds leads to the block's start
-  behind_held : (label : List ℕ) (block rest : List BodyItem) → Trim block → holds label block ≡ true → IsSame frames numbers (behind label (block ++ rest)) (block ++ rest)
-  behind_held label [] rest t e = absurd (false≢true e)
-  behind_held label (Label n ∷ block) rest t e = on (is_label_named label (Label n)) (λ h. behind_held label block rest (trim_tail (Label n) block t) h) e where
-    on : (v : Bool) → (holds label block ≡ true → IsSame frames numbers (behind label (block ++ rest)) (block ++ rest)) → (if v then true else holds label block) ≡ true
-        → IsSame frames numbers (if v then block ++ rest else behind label (block ++ rest)) (block ++ rest)
+  after_held : (label : List ℕ) (block rest : List BodyItem) → Trim block → holds label block ≡ true → IsSame frames numbers (items_after label (block ++ rest)) (block ++ rest)
+  after_held label [] rest t e = absurd (false≢true e)
+  after_held label (Label n ∷ block) rest t e = on (is_label_named label (Label n)) (λ h. after_held label block rest (trim_tail (Label n) block t) h) e where
+    on : (v : Bool) → (holds label block ≡ true → IsSame frames numbers (items_after label (block ++ rest)) (block ++ rest)) → (if v then true else holds label block) ≡ true
+        → IsSame frames numbers (if v then block ++ rest else items_after label (block ++ rest)) (block ++ rest)
     on true go e = λ history. refl
     on false go e = go e
-  behind_held label (Do act ∷ block) rest t e = absurd (false≢true (sym (no_label label (Do act) block refl t) ∙ e))
+  after_held label (Do act ∷ block) rest t e = absurd (false≢true (sym (no_label label (Do act) block refl t) ∙ e))
 
   -- each label leads to the start of its block
-  labels_lead : (label : List ℕ) (blocks : List (List BodyItem)) (n : ℕ) → AllTrim blocks → place_of (has_label label) blocks ≡ Some n → IsSame frames numbers (behind label (from_of blocks 0)) (from_of blocks n)
+  labels_lead : (label : List ℕ) (blocks : List (List BodyItem)) (n : ℕ) → AllTrim blocks → place_of (has_label label) blocks ≡ Some n → IsSame frames numbers (items_after label (from_of blocks 0)) (from_of blocks n)
   labels_lead label [] n t at = absurd (cc)
   labels_lead label (block ∷ blocks) n t at = on (has_label label block) refl at (λ m h. labels_lead label blocks m t.1 h) where
     on : (v : Bool) → has_label label block ≡ v → (if v then Some 0 else option_map (λ place. place + 1) (place_of (has_label label) blocks)) ≡ Some n
-        → ((m : ℕ) → place_of (has_label label) blocks ≡ Some m → IsSame frames numbers (behind label (from_of blocks 0)) (from_of blocks m))
-        → IsSame frames numbers (behind label (block ++ from_of blocks 0)) (from_of (block ∷ blocks) n)
+        → ((m : ℕ) → place_of (has_label label) blocks ≡ Some m → IsSame frames numbers (items_after label (from_of blocks 0)) (from_of blocks m))
+        → IsSame frames numbers (items_after label (block ++ from_of blocks 0)) (from_of (block ∷ blocks) n)
     on true h at go =
         let e : 0 ≡ n = cc in
-        subst (λ (k : ℕ). IsSame frames numbers (behind label (block ++ from_of blocks 0)) (from_of (block ∷ blocks) k)) e
-        (behind_held label block (from_of blocks 0) t.0 (sym (holds_is label block) ∙ h))
+        subst (λ (k : ℕ). IsSame frames numbers (items_after label (block ++ from_of blocks 0)) (from_of (block ∷ blocks) k)) e
+        (after_held label block (from_of blocks 0) t.0 (sym (holds_is label block) ∙ h))
     on false h at go =
         let found = further_on (place_of (has_label label) blocks) n at in
-        let e = behind_other label block (from_of blocks 0) (sym (holds_is label block) ∙ h) in
-        subst (λ (k : ℕ). IsSame frames numbers (behind label (block ++ from_of blocks 0)) (from_of (block ∷ blocks) k)) (sym found.2)
+        let e = after_other label block (from_of blocks 0) (sym (holds_is label block) ∙ h) in
+        subst (λ (k : ℕ). IsSame frames numbers (items_after label (block ++ from_of blocks 0)) (from_of (block ∷ blocks) k)) (sym found.2)
         (subst (λ (items : List BodyItem). IsSame frames numbers items (from_of blocks found.0)) (sym e) (go found.0 found.1))
 
   -- a label that stands leads to the block of its number
-  pub label_leads : (items : List BodyItem) (label : List ℕ) → has_label label items ≡ true → IsSame frames numbers (behind label items) (from_of (blocks_of items) (block_number items label))
+  pub label_leads : (items : List BodyItem) (label : List ℕ) → has_label label items ≡ true → IsSame frames numbers (items_after label items) (from_of (blocks_of items) (block_number items label))
   label_leads items label stands =
       let blocks = blocks_of items in
       let found = stands_in label blocks (ap (holds label) (from_blocks items) ∙ sym (holds_is label items) ∙ stands) in
       let number : block_number items label ≡ found.number = ap (λ (o : Option ℕ). unwrap_or o 0) found.at in
-      subst (λ (n : ℕ). IsSame frames numbers (behind label items) (from_of blocks n)) (sym number)
-      (subst (λ (all : List BodyItem). IsSame frames numbers (behind label all) (from_of blocks found.number)) (from_blocks items) (labels_lead label blocks found.number (all_trim items) found.at))
+      subst (λ (n : ℕ). IsSame frames numbers (items_after label items) (from_of blocks n)) (sym number)
+      (subst (λ (all : List BodyItem). IsSame frames numbers (items_after label all) (from_of blocks found.number)) (from_blocks items) (labels_lead label blocks found.number (all_trim items) found.at))

@@ -20,7 +20,7 @@ use Rattle.alf_check.specs.Numbered.{statements_by, numbered_targets, end_by, nu
 use Rattle.alf_runs.specs.Expressions.{value_of}
 use Rattle.alf_runs.specs.Statements.{after_store, after_statements}
 use Rattle.alf_runs.specs.Steps.{target_of}
-use Rattle.alf_items.specs.Stretches.{stored_then, switched, called, returned, numbered_result, label_for, stretch, behind}
+use Rattle.alf_items.specs.Stretches.{stored_then, switched, called, returned, numbered_result, label_for, stretch, items_after}
 use Rattle.alf_items.specs.Cuts.{IsSame, SwitchDoes, CallDoes, ReturnDoes, ThenDoes, BlockDoes, IsCut}
 use Rattle.alf_items.proofs.Cutting.{from_of, Trim, AllTrim, all_trim, from_blocks, label_leads}
 
@@ -42,7 +42,7 @@ target_numbered number (t ∷ targets) others word = on (t.0.bits == word) (targ
   on false e = e
 
 module _ (frames : List FrameShape) (numbers : Numbers) (all : List BodyItem) (from : ℕ → List BodyItem)
-    (lead : (label : List ℕ) → has_label label all ≡ true → IsSame frames numbers (behind label all) (from (numbers.block label))) where
+    (lead : (label : List ℕ) → has_label label all ≡ true → IsSame frames numbers (items_after label all) (from (numbers.block label))) where
   -- the last item of a block
   last_does : (b : ℕ) (item : BodyItem) (rest : List BodyItem) (history : List RunEvent) → IsSame frames numbers rest (from (suc b))
       → ThenDoes frames numbers all from b (end_by numbers (suc b) item) (stretch frames numbers (item ∷ rest) history) (after_statements frames (statements_by numbers.frame item) (Ok history))
@@ -125,7 +125,7 @@ pub is_cut : (frames : List FrameShape) (numbers : Numbers) (items : List BodyIt
 is_cut frames numbers items number =
     let blocks = blocks_of items in
     let lead = λ (label : List ℕ) (stands : has_label label items ≡ true).
-    subst (λ (of : List ℕ → ℕ). IsSame frames numbers (behind label items) (from_of blocks (of label))) (sym number) (label_leads frames numbers items label stands) in
+    subst (λ (of : List ℕ → ℕ). IsSame frames numbers (items_after label items) (from_of blocks (of label))) (sym number) (label_leads frames numbers items label stands) in
     record {
       from = from_of blocks;
       first = from_blocks items;

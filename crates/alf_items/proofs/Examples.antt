@@ -6,7 +6,7 @@ use Rattle.alf_ops.specs.declared.history.FrameShape.{FrameShape}
 use Rattle.alf_ops.specs.declared.history.RunEvent.TheVariants as events
 use Rattle.alf_program.specs.Tree.{NamedExpression, Number, Address, Load, Store, Jump, Switch, Call, Return, Label, Do}
 use Rattle.alf_check.specs.Numbers.{Numbers}
-use Rattle.alf_items.specs.Stretches.{Goes, Enters, Stops, stretch, behind}
+use Rattle.alf_items.specs.Stretches.{Goes, Enters, Stops, stretch, items_after}
 
 -- one global frame of 32 bits, for which each name of a frame stands; each function has number 3
 abbrev frames : List FrameShape
@@ -26,7 +26,7 @@ jumps : stretch frames numbers (Label (65 ∷ []) ∷ Do (Store x_at (word 5)) �
     ≡ Goes (66 ∷ []) (events.Store 0 0 32 (Int 32 5) ∷ [])
 jumps = refl
 
--- a call has the items behind it ahead
+-- a call has the items after it ahead
 calls : stretch frames numbers (Do (Call (102 ∷ []) (word 4 ∷ []) (Some (120 ∷ [], 0))) ∷ Do (Return None) ∷ []) []
     ≡ Enters 3 (Int 32 4 ∷ []) (Some (0, 0)) (Do (Return None) ∷ []) []
 calls = refl
@@ -39,5 +39,5 @@ points : stretch frames numbers (Do (Switch x_at [] (65 ∷ [])) ∷ []) [] ≡ 
 points = refl
 
 -- of two places of a label the first counts
-first_place : behind (65 ∷ []) (Do (Return None) ∷ Label (65 ∷ []) ∷ Do (Jump (66 ∷ [])) ∷ Label (65 ∷ []) ∷ []) ≡ Do (Jump (66 ∷ [])) ∷ Label (65 ∷ []) ∷ []
+first_place : items_after (65 ∷ []) (Do (Return None) ∷ Label (65 ∷ []) ∷ Do (Jump (66 ∷ [])) ∷ Label (65 ∷ []) ∷ []) ≡ Do (Jump (66 ∷ [])) ∷ Label (65 ∷ []) ∷ []
 first_place = refl

@@ -23,7 +23,7 @@ use Rattle.alf_check.specs.Numbered.{numbered_blocks, numbered}
 use Rattle.alf_runs.specs.Expressions.{value_of}
 use Rattle.alf_runs.specs.Statements.{after_statements}
 use Rattle.alf_runs.specs.Steps.{target_of}
-use Rattle.alf_items.specs.Stretches.{End, Falls, Goes, Enters, Leaves, Stops, stretch, behind}
+use Rattle.alf_items.specs.Stretches.{End, Falls, Goes, Enters, Leaves, Stops, stretch, items_after}
 
 module _ (frames : List FrameShape) (numbers : Numbers) where
   -- both stretches do the same
@@ -34,7 +34,7 @@ module _ (frames : List FrameShape) (numbers : Numbers) where
   pub record Leads (all to : List BodyItem) (history : List RunEvent) (end : End) : Type 0 where
     pub label : List ℕ
     pub goes : end ≡ Goes label history
-    pub same : has_label label all ≡ true → IsSame (behind label all) to
+    pub same : has_label label all ≡ true → IsSame (items_after label all) to
 
   -- a switch goes to the block of its word
   abbrev pub SwitchDoes : List BodyItem → (ℕ → List BodyItem) → List (ℕ × ℕ) → ℕ → List RunEvent → End → Result Value RunFault → Type 0
@@ -42,7 +42,7 @@ module _ (frames : List FrameShape) (numbers : Numbers) where
   SwitchDoes all from targets others history end (Ok (Ptr frame offset)) = end ≡ Stops Kind
   SwitchDoes all from targets others history end (Err fault) = end ≡ Stops fault
 
-  -- a call enters, and behind it the same is done as from the next block on
+  -- a call enters, and after it the same is done as from the next block on
   pub record Calls (f : ℕ) (values : List Value) (result : Option (ℕ × ℕ)) (next : List BodyItem) (history : List RunEvent) (end : End) : Type 0 where
     pub rest : List BodyItem
     pub enters : end ≡ Enters f values result rest history

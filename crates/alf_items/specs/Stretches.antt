@@ -1,7 +1,7 @@
 -- What a stretch of a function's items does, up to the first that goes elsewhere.
 --   End                    how a stretch ends: it falls off the items, goes to a label, enters a function, leaves its own, or stops with a fault
 --   stretch frames numbers items history   what the items do in their order; labels do nothing
---   behind label items     the items behind the first place of a label
+--   items_after label items   the items after the first place of a label
 -- The table of frames is that of values, and the numbers tell what each name of the function stands for.
 use Rattle.std.specs.Prelude.{ℕ, List, [], ◌∷◌, map, ◌==◌, if◌then◌else◌, Option, Some, None, Result, Ok, Err}
 use Rattle.std.specs.Option.{option_map}
@@ -23,7 +23,7 @@ use Rattle.alf_runs.specs.Statements.{after_store}
 pub data End : Type 0 where
   Falls : List RunEvent → End
   Goes : List ℕ → List RunEvent → End
-  -- a function with the values of its arguments, the cell of its result, and the items behind the call
+  -- a function with the values of its arguments, the cell of its result, and the items after the call
   Enters : ℕ → List Value → Option (ℕ × ℕ) → List BodyItem → List RunEvent → End
   Leaves : Option Value → List RunEvent → End
   Stops : RunFault → End
@@ -71,7 +71,7 @@ stretch frames numbers (Do (Call label args result) ∷ items) history =
 stretch frames numbers (Do (Return None) ∷ items) history = Leaves None history
 stretch frames numbers (Do (Return (Some value)) ∷ items) history = returned history (value_of frames history (with_frames numbers.frame value))
 
--- the items behind the first place of a label
-abbrev pub behind : List ℕ → List BodyItem → List BodyItem
-behind label [] = []
-behind label (item ∷ items) = if is_label_named label item then items else behind label items
+-- the items after the first place of a label
+abbrev pub items_after : List ℕ → List BodyItem → List BodyItem
+items_after label [] = []
+items_after label (item ∷ items) = if is_label_named label item then items else items_after label items

@@ -20,9 +20,10 @@ use Rattle.alf_check.specs.Numbered.{statements_by, numbered_targets, end_by, nu
 use Rattle.alf_runs.specs.Expressions.{value_of}
 use Rattle.alf_runs.specs.Statements.{after_store, after_statements}
 use Rattle.alf_runs.specs.Steps.{target_of}
-use Rattle.alf_items.specs.Stretches.{stored_then, switched, called, returned, numbered_result, label_for, stretch, items_after}
+use Rattle.alf_items.specs.Stretches.{stored_then, switched, called, returned, numbered_result, label_for, stretch, items_after, IsNamed}
 use Rattle.alf_items.specs.Cuts.{IsSame, SwitchDoes, CallDoes, ReturnDoes, ThenDoes, BlockDoes, IsCut}
 use Rattle.alf_items.proofs.Cutting.{from_of, Trim, AllTrim, all_trim, from_blocks, label_leads}
+use Rattle.alf_items.proofs.Naming.{named_among}
 
 -- the last of more items
 last_of_more : (i j : BodyItem) (items : List BodyItem) → slice_get (i ∷ j ∷ items) (length (i ∷ j ∷ items) - 1) ≡ slice_get (j ∷ items) (length (j ∷ items) - 1)
@@ -129,6 +130,7 @@ is_cut frames numbers items number =
     record {
       from = from_of blocks;
       first = from_blocks items;
+      among = λ b label named. subst (λ (all : List BodyItem). IsNamed all label) (from_blocks items) (named_among blocks b label named);
       does = λ b history.
           let zero_at : 0 + b ≡ b = omega arith in
           subst (λ (n : ℕ). BlockDoes frames numbers items (from_of blocks) n (slice_get (numbered_blocks numbers 0 blocks) b) history) zero_at

@@ -2,3 +2,4 @@ mod Cutting
 mod Doing
 mod Examples
 mod Functions
+mod Naming

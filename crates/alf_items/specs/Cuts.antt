@@ -23,7 +23,7 @@ use Rattle.alf_check.specs.Numbered.{numbered_blocks, numbered}
 use Rattle.alf_runs.specs.Expressions.{value_of}
 use Rattle.alf_runs.specs.Statements.{after_statements}
 use Rattle.alf_runs.specs.Steps.{target_of}
-use Rattle.alf_items.specs.Stretches.{End, Falls, Goes, Enters, Leaves, Stops, stretch, items_after}
+use Rattle.alf_items.specs.Stretches.{End, Falls, Goes, Enters, Leaves, Stops, stretch, items_after, IsNamed}
 
 module _ (frames : List FrameShape) (numbers : Numbers) where
   -- both stretches do the same
@@ -79,6 +79,7 @@ module _ (frames : List FrameShape) (numbers : Numbers) where
   pub record IsCut (all : List BodyItem) (blocks : List NumberedBlock) : Type 0 where
     pub from : ℕ → List BodyItem
     pub first : from 0 ≡ all
+    pub among : (b : ℕ) (label : List ℕ) → IsNamed (from b) label → IsNamed all label
     pub does : (b : ℕ) (history : List RunEvent) → BlockDoes all from b (slice_get blocks b) history
 
 -- the blocks of a function's items do what these do

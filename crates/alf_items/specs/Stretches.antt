@@ -2,8 +2,10 @@
 --   End                    how a stretch ends: it falls off the items, goes to a label, enters a function, leaves its own, or stops with a fault
 --   stretch frames numbers items history   what the items do in their order; labels do nothing
 --   items_after label items   the items after the first place of a label
+--   IsNamed items label    a jump or a switch among the items names the label
+--   GoesToNamed            a stretch goes to labels alone that its items name
 -- The table of frames is that of values, and the numbers tell what each name of the function stands for.
-use Rattle.std.specs.Prelude.{ℕ, List, [], ◌∷◌, map, ◌==◌, if◌then◌else◌, Option, Some, None, Result, Ok, Err}
+use Rattle.std.specs.Prelude.{◌≡◌, ◌⊎◌, Contains, ℕ, List, [], ◌∷◌, map, ◌==◌, if◌then◌else◌, Option, Some, None, Result, Ok, Err}
 use Rattle.std.specs.Option.{option_map}
 use Rattle.alf_ops.specs.declared.history.Value.{Value}
 use Rattle.alf_ops.specs.declared.history.Value.TheVariants.{Int, Ptr}
@@ -75,3 +77,24 @@ stretch frames numbers (Do (Return (Some value)) ∷ items) history = returned h
 abbrev pub items_after : List ℕ → List BodyItem → List BodyItem
 items_after label [] = []
 items_after label (item ∷ items) = if is_label_named label item then items else items_after label items
+
+-- the item is a jump or a switch that names the label
+abbrev pub Names : BodyItem → List ℕ → Type 0
+Names (Label own) label = ⊥
+Names (Do Null) label = ⊥
+Names (Do (Store to value)) label = ⊥
+Names (Do (Jump to)) label = to ≡ label
+Names (Do (Switch value targets others)) label = (others ≡ label) ⊎ Contains (map (λ (target : Num × List ℕ). target.1) targets) label
+Names (Do (Call func args result)) label = ⊥
+Names (Do (Return value)) label = ⊥
+
+-- a jump or a switch among the items names the label
+abbrev pub IsNamed : List BodyItem → List ℕ → Type 0
+IsNamed [] label = ⊥
+IsNamed (item ∷ items) label = Names item label ⊎ IsNamed items label
+
+-- a stretch goes to labels alone that its items name
+abbrev pub GoesToNamed : Type 0
+GoesToNamed = (frames : List FrameShape) (numbers : Numbers) (items : List BodyItem) (history later : List RunEvent) (label : List ℕ)
+    → stretch frames numbers items history ≡ Goes label later
+    → IsNamed items label

@@ -1,5 +1,6 @@
 //! What is true of all items, as clauses of functions that do nothing.
 
+ghost use Rattle.alf_items.specs.Stretches.{GoesToNamed};
 ghost use Rattle.alf_items.specs.Cuts.{BlocksAreCut, FunctionsAreCut};
 
 /// The blocks of a function's items do what these do: from each block on the stretch of the items
@@ -10,4 +11,10 @@ ghost use Rattle.alf_items.specs.Cuts.{BlocksAreCut, FunctionsAreCut};
 pub fn blocks_do_what_their_items_do()
     ensures blocks { BlocksAreCut }
     ensures functions { FunctionsAreCut }
+{}
+
+/// A stretch goes to labels alone that its items name. So where each label that is named stands, as the
+/// checks give it, each that a stretch goes to does.
+pub fn stretches_go_to_named_labels()
+    ensures { GoesToNamed }
 {}

@@ -8,4 +8,4 @@
 // What the definitions promise.
 mod laws;
 
-pub use laws::blocks_do_what_their_items_do;
+pub use laws::{blocks_do_what_their_items_do, stretches_go_to_named_labels};

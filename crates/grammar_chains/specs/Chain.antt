@@ -2,7 +2,7 @@
 --   InTurn goes_on p n x at y rest   n parts, of which the first takes in x, lead to y
 --   chain goes_on p x                as many parts as the chain goes on for
 --   grow goes_on p x                 the same as a rule
-use Rattle.std.proofs.Common.{◌≡◌, ℕ, zero, suc, ◌≤◌, ◌<◌, Bool, true, false, cond, Result, Ok, Err, refl, sym, ap, subst, arith}
+use Rattle.std.proofs.Common.{◌≡◌, ℕ, zero, suc, ◌≤◌, ◌<◌, Bool, true, false, cond, Result, Ok, Err, refl, ap, subst, arith}
 use Rattle.grammar.specs.Form.{At, Form, and_then, left}
 use Rattle.grammar.specs.Exact.{IsExact, Says, ok_no_err, ok_is}
 use Rattle.grammar.specs.Rule.{Rule}

@@ -1,6 +1,6 @@
 -- Parts of a chain, read one after the other as a loop does.
 --   ChainSoFar goes_on p x y rest start   from start on, where the chain begins with x, y was made, and the rest is to come
-use Rattle.std.proofs.Common.{◌≡◌, ℕ, zero, suc, ◌<◌, Bool, true, false, Result, Ok, Err, Option, Some, None, refl, sym, ◌∙◌, arith}
+use Rattle.std.proofs.Common.{◌≡◌, ℕ, zero, suc, ◌<◌, Bool, true, false, Ok, Err, Option, Some, None, refl, sym, arith}
 use Rattle.grammar.specs.Form.{At, left, Fails}
 use Rattle.grammar.specs.Rule.{Rule}
 use Rattle.grammar_chains.specs.Chain.{in_turn, grow}

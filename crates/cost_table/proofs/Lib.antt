@@ -8,3 +8,8 @@ pub mod FramesFound
 pub mod Placed
 pub mod Lying
 pub mod Steps
+pub mod Costing
+pub mod CostEntries
+pub mod OneFault
+pub mod OneInputs
+pub mod OneCosts

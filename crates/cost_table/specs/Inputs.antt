@@ -27,11 +27,11 @@ use Rattle.alf_check.specs.declared.rows.InputRow.{InputRow}
 use Rattle.alf_check.specs.CheckedPrograms.{NumberedFunction, NumberedProgram}
 use Rattle.alf_check.specs.Inputs.{ShareNoByte}
 use Rattle.cost_table.specs.declared.fault.TableFault.{TableFault}
-use Rattle.cost_table.specs.declared.fault.TableFault.TheVariants as faults
 use Rattle.cost_table.specs.declared.input_entry.Cells.{Cells}
 use Rattle.cost_table.specs.declared.input_entry.Run.{Run}
-use Rattle.cost_table.specs.Documents.{IsDocument, only_keys, text_at, number_at, number_or, entries_at}
-use Rattle.cost_table.specs.Entries.{Judging, AllRight, IsFirstFault}
+use Rattle.cost_table.specs.Documents.{only_keys, text_at, number_at, number_or, entries_at}
+use Rattle.cost_table.specs.Entries.{Judging, AllRight, IsRightEntry, IsWrongEntry}
+use Rattle.cost_table.specs.Files.{HasEntries, Refuses}
 
 -- ---- keys
 
@@ -152,33 +152,13 @@ pub record HasCells (program : NumberedProgram) (earlier : List InputRow) (entry
 
 -- ---- entries
 
--- the entry has its keys, its numbers are in their ranges, and its cells are there
-pub record IsRightInput (program : NumberedProgram) (earlier : List InputRow) (datum : Data) : Type 0 where
-  pub entry : List ℕ × Cells
-  pub has_keys : input_entry datum ≡ Some entry
-  pub in_range : IsInRange entry.1
-  pub cells : HasCells program earlier entry
+-- the entry has its keys, its numbers are in their ranges, and its cells are there and free
+abbrev pub IsRightInput : NumberedProgram → List InputRow → Data → Type 0
+IsRightInput program earlier datum = IsRightEntry input_entry (λ entry. IsInRange entry.1) (HasCells program earlier) datum
 
--- the entry has its keys, and a number is outside its range
-pub record IsOutOfRange (datum : Data) : Type 0 where
-  pub entry : List ℕ × Cells
-  pub has_keys : input_entry datum ≡ Some entry
-  pub out : ¬ IsInRange entry.1
-
--- the entry has its keys and its numbers are in their ranges, and a cell is not there or taken
-pub record LacksCell (program : NumberedProgram) (earlier : List InputRow) (datum : Data) : Type 0 where
-  pub entry : List ℕ × Cells
-  pub has_keys : input_entry datum ≡ Some entry
-  pub in_range : IsInRange entry.1
-  pub lacks : ¬ HasCells program earlier entry
-
--- what is wrong with entry k, in the order of tests
+-- what is wrong with entry k
 abbrev pub IsWrongInput : NumberedProgram → List InputRow → ℕ → Data → TableFault → Type 0
-IsWrongInput program earlier k datum (faults.Key place) = (place ≡ Some k) × (input_entry datum ≡ None)
-IsWrongInput program earlier k datum (faults.Range place) = (place ≡ k) × IsOutOfRange datum
-IsWrongInput program earlier k datum (faults.NoSuchCell place) = (place ≡ k) × LacksCell program earlier datum
-IsWrongInput program earlier k datum faults.Toml = ⊥
-IsWrongInput program earlier k datum faults.Memory = ⊥
+IsWrongInput program earlier k datum fault = IsWrongEntry input_entry (λ entry. IsInRange entry.1) (HasCells program earlier) k datum fault
 
 abbrev pub input_judging : NumberedProgram → Judging
 input_judging program = record {
@@ -196,33 +176,13 @@ is_input_top key = bytes_eq key (codes "input")
 abbrev pub input_entries : Members → Option (List Data)
 input_entries ms = if only_keys is_input_top ms then entries_at (codes "input") ms else None
 
--- the file is a document with these entries
-pub record IsInputs (bytes : List ℕ) (entries : List Data) : Type 0 where
-  pub members : Members
-  pub document : IsDocument bytes members
-  pub told : input_entries members ≡ Some entries
-
--- the file is a document, and a key at the top is at fault
-pub record HasNoInputs (bytes : List ℕ) : Type 0 where
-  pub members : Members
-  pub document : IsDocument bytes members
-  pub untold : input_entries members ≡ None
-
 -- each entry is right, and the rows are those of all entries, in order
 pub record MeansInputs (bytes : List ℕ) (program : NumberedProgram) (rows : List InputRow) : Type 0 where
   pub entries : List Data
-  pub told : IsInputs bytes entries
+  pub told : HasEntries bytes input_entries entries
   pub right : AllRight (input_judging program) entries
   pub all : rows ≡ rows_in program entries
 
--- the fault is that of the first entry that is not right
-pub record HasWrongInput (bytes : List ℕ) (program : NumberedProgram) (fault : TableFault) : Type 0 where
-  pub entries : List Data
-  pub told : IsInputs bytes entries
-  pub first : IsFirstFault (input_judging program) entries fault
-
 -- the file is no document, or has a key fault at the top, or the fault of an entry
-pub data RefusesInputs (bytes : List ℕ) (program : NumberedProgram) : TableFault → Type 0 where
-  NoDocument : ((members : Members) → ¬ IsDocument bytes members) → RefusesInputs bytes program faults.Toml
-  WrongTop : HasNoInputs bytes → RefusesInputs bytes program (faults.Key None)
-  WrongEntry : (fault : TableFault) → HasWrongInput bytes program fault → RefusesInputs bytes program fault
+abbrev pub RefusesInputs : List ℕ → NumberedProgram → TableFault → Type 0
+RefusesInputs bytes program fault = Refuses bytes input_entries (input_judging program) fault

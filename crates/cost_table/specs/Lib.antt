@@ -1,5 +1,9 @@
 -- The files of this folder.
+pub mod CostTables
+pub mod Costs
 pub mod Documents
 pub mod Entries
+pub mod Files
 pub mod Inputs
+pub mod Laws
 pub mod Marks

@@ -17,7 +17,7 @@ use crate::document::document;
 use crate::fault::TableFault;
 use crate::frames::input_frame;
 use crate::input_entry::{Cells, Run, has_input_top, input_entry, run_of};
-use crate::keys::entries_at;
+use crate::keys::{entries_at, nth};
 use crate::row_list::add_rows;
 use crate::taken::{any_marked, mark};
 use alf_check::{Checked, FrameRow, InputRow};
@@ -185,15 +185,6 @@ fn lie_within(offset: u32, run: Run, bytes: u32) -> bool
     ensures beyond { OnFalse result (bytes < offset + run.count * (run.bits / 8)) }
 {
     offset + run.count * (run.bits / 8) <= bytes
-}
-
-// The value of this number.
-#[tactic(auto, using(crate::proofs::Seen::seen_at))]
-fn nth(values: &[Value], place: u32) -> &Value
-    requires { place < length values.now }
-    ensures { slice_get (map view values.now) place ≡ Some (view result.now) }
-{
-    &values[place as usize]
 }
 
 // Marks the bytes of so many cells from the row's on, if none of them has a mark.

@@ -1,6 +1,6 @@
 //! What stands at the keys of a table.
 
-ghost use Rattle.std.specs.Prelude.{◌≡◌, map};
+ghost use Rattle.std.specs.Prelude.{◌≡◌, ◌<◌, length, map, Some, slice_get};
 ghost use Rattle.std.specs.Option.{option_map, option_copied};
 ghost use Rattle.std.specs.List.{list_all};
 ghost use Rattle.toml.specs.View.{table_view, view};
@@ -65,4 +65,13 @@ fn are_tables(values: &[Value]) -> bool
     ensures { result ≡ list_all (λ value. is_table (view value)) values.now }
 {
     values.iter().all(|value| value.is_table())
+}
+
+// The value of this number.
+#[tactic(auto, using(crate::proofs::Seen::seen_at))]
+pub fn nth(values: &[Value], place: u32) -> &Value
+    requires { place < length values.now }
+    ensures { slice_get (map view values.now) place ≡ Some (view result.now) }
+{
+    &values[place as usize]
 }

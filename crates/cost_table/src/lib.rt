@@ -16,5 +16,16 @@ mod input_rows;
 mod row_list;
 mod taken;
 
+// Costs: entries, and the costs of all blocks.
+mod block_costs;
+mod cost_entry;
+mod cost_rows;
+
+// What every file keeps.
+mod laws;
+
+pub use block_costs::Costs;
+pub use cost_rows::costs;
 pub use fault::TableFault;
 pub use input_rows::inputs;
+pub use laws::a_file_has_one_answer;

@@ -1,6 +1,6 @@
 //! Inputs files of a small program.
 
-use crate::sketch::{program, told};
+use crate::sketch::{program, told_inputs};
 use std::test::Fail;
 
 // A file, ` => `, and what is told of it.
@@ -93,7 +93,7 @@ fn each_file_means_its_rows_or_its_first_fault(rt: HostRuntime) -> Result<(), Fa
     for line in FILES.lines() {
         let text = line.split(" => ").nth(0).unwrap_or("");
         let wanted = line.split(" => ").nth(1).unwrap_or("");
-        let found = told(alloc, &checked, text)?;
+        let found = told_inputs(alloc, &checked, text)?;
         assert_eq!(rt; found.as_str(), wanted, "{line}");
     }
     Ok(())

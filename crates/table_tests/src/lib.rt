@@ -5,6 +5,10 @@
 #[cfg(test)]
 mod sketch;
 
+// Costs files.
+#[cfg(test)]
+mod costs;
+
 // Inputs files.
 #[cfg(test)]
 mod inputs;

@@ -64,7 +64,7 @@ returns-clause-right c =
       entry = (c.in-Some.name.now, c.in-Some.cells);
       has_keys = sym c.in-Some.ensures;
       in_range = record { run = c.in-Some-run_of.run'; is_run = c.in-Some-run_of.ensures.some };
-      cells = record {
+      there = record {
         frame = c.in-Some-first_cell.first.frame;
         lies = c.in-Some-first_cell.ensures.lies.0;
         apart = subst (AreApart c.args.rows.now.items) (sym rows) (free_apart (seen c.args.checked.now) (c.in-Some.name.now, c.in-Some.cells) c.in-Some-run_of.run' c.in-Some-first_cell.first placed c.args.rows.now.items c.args.marks.now c.requires.kept.each c.requires.marked c.if-not-take.ensures.taken.1);

@@ -1,7 +1,8 @@
 use Rattle.std.proofs.Common.{map, sym, subst}
 use Rattle.toml.specs.View.{table_view, view}
 use Rattle.alf_check.specs.CheckedPrograms.{seen}
-use Rattle.cost_table.specs.Inputs.{RefusesInputs, NoDocument, WrongTop, WrongEntry}
+use Rattle.cost_table.specs.Inputs.{RefusesInputs}
+use Rattle.cost_table.specs.Files.{NoDocument, WrongTop, WrongEntry}
 use Rattle.cost_table.proofs.input_rows.inputs.Goals as goal
 
 pub returns-in-Err-clause-refused : goal.returns-in-Err-clause-refused

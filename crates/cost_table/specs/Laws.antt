@@ -1,0 +1,33 @@
+-- What every file keeps.
+--   AnswersInputs bytes program answer   the answer to an inputs file, want of memory aside: its rows, or the fault
+--   AnswersCosts bytes program answer    the answer to a costs file: its costs, or the fault
+--   IsOne Answers                        two answers are one
+--   InputsHaveOneAnswer, CostsHaveOneAnswer   for a program each file has one answer at most
+use Rattle.std.specs.Prelude.{◌≡◌, ℕ, List, Result, Ok, Err}
+use Rattle.alf_check.specs.declared.rows.InputRow.{InputRow}
+use Rattle.alf_check.specs.CheckedPrograms.{NumberedProgram}
+use Rattle.cost_table.specs.declared.fault.TableFault.{TableFault}
+use Rattle.cost_table.specs.Inputs.{MeansInputs, RefusesInputs}
+use Rattle.cost_table.specs.CostTables.{CostTable}
+use Rattle.cost_table.specs.Costs.{MeansCosts, RefusesCosts}
+
+-- the answer to an inputs file, want of memory aside
+abbrev pub AnswersInputs : List ℕ → NumberedProgram → Result (List InputRow) TableFault → Type 0
+AnswersInputs bytes program (Ok rows) = MeansInputs bytes program rows
+AnswersInputs bytes program (Err fault) = RefusesInputs bytes program fault
+
+-- the answer to a costs file, want of memory aside
+abbrev pub AnswersCosts : List ℕ → NumberedProgram → Result CostTable TableFault → Type 0
+AnswersCosts bytes program (Ok table) = MeansCosts bytes program table
+AnswersCosts bytes program (Err fault) = RefusesCosts bytes program fault
+
+-- two answers are one
+abbrev pub IsOne : {A : Type 0} → (Result A TableFault → Type 0) → Type 0
+IsOne {A} Answers = (first second : Result A TableFault) → Answers first → Answers second → first ≡ second
+
+-- for a program each file has one answer at most
+abbrev pub InputsHaveOneAnswer : Type 0
+InputsHaveOneAnswer = (bytes : List ℕ) (program : NumberedProgram) → IsOne (AnswersInputs bytes program)
+
+abbrev pub CostsHaveOneAnswer : Type 0
+CostsHaveOneAnswer = (bytes : List ℕ) (program : NumberedProgram) → IsOne (AnswersCosts bytes program)

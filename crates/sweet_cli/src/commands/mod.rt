@@ -7,9 +7,15 @@ ghost use Rattle.sweet_cli.specs.Words.{command_meant};
 ghost use Rattle.sweet_cli.specs.Table.{task_for, task_of};
 ghost use Rattle.sweet_cli.specs.Task.{KeepsPromise};
 
+// What commands have in common.
+mod counting;
+mod programs;
+mod tables;
+
+// The commands.
 mod analyse;
 mod print;
-mod programs;
+mod run;
 
 use crate::words::{Command, WordsFault, read};
 use flow_base::Shelf;
@@ -51,7 +57,36 @@ fn command_text<F: Shelf>(
     ensures promise { IfOk result (λ text. IfSome (F.state shelf.old).files (λ files. (task_for (command_meant command.entry)).Promise files text.items)) }
 {
     match command {
-        Command::Analyse { file, turns } => analyse::analyse(alloc, file, turns, shelf),
+        Command::Analyse {
+            file,
+            root,
+            costs,
+            turns,
+        } => {
+            let given = analyse::Given {
+                file,
+                root,
+                costs,
+                turns,
+            };
+            analyse::analyse(alloc, given, shelf)
+        }
         Command::Print { file } => print::print(alloc, file, shelf),
+        Command::Run {
+            file,
+            root,
+            inputs,
+            costs,
+            turns,
+        } => {
+            let given = run::Given {
+                file,
+                root,
+                inputs,
+                costs,
+                turns,
+            };
+            run::run(alloc, given, shelf)
+        }
     }
 }

@@ -1,0 +1,105 @@
+//! `run FILE`: one run of the program, told.
+
+ghost use Rattle.std.specs.Prelude.{◌≡◌, ◌≤◌, option_map, IfOk, IfSome};
+ghost use Rattle.std.specs.List.{AllZip};
+ghost use Rattle.alf_check.specs.CheckedPrograms.{seen};
+ghost use Rattle.alf_check.specs.Inputs.{KeepInputs};
+ghost use Rattle.flow_graph.specs.Numbering.{IsGraph};
+ghost use Rattle.work.specs.Works.{Works, Judges};
+ghost use Rattle.alf_ops.specs.TwosComplement.{word};
+ghost use Rattle.sweet_cli.specs.Seen.{expanded_of, run_words};
+ghost use Rattle.sweet_cli.specs.Run.{low_words, RunMeans, running, TellsRun};
+
+use crate::commands::counting::counted;
+use crate::commands::programs::{Expanded, expanded_in};
+use crate::commands::tables::{costs_in, inputs_in};
+use crate::lines::{run_text, unbounded_line};
+use alf_check::{Checked, InputRow};
+use alf_runs::{a_run_has_one_end, active_frames_follow_the_call_path};
+use cost_table::Costs;
+use flow_base::Shelf;
+use flow_graph::graphs_are_expansions;
+use run_counts::Counted;
+use std::alloc::{AllocError, Global};
+use whole_numbers::Whole;
+use work::{Stop, Why};
+
+/// What the words give.
+#[derive(Clone, Copy)]
+pub struct Given<'a> {
+    pub file: &'a str,
+    pub root: &'a str,
+    pub inputs: Option<&'a str>,
+    pub costs: Option<&'a str>,
+    pub turns: u32,
+}
+
+/// The text that tells the run.
+pub fn run<F: Shelf>(alloc: Global, given: Given<'_>, shelf: &mut F) -> Result<Vec<u8>, Stop>
+    ensures work { Works (running (run_words given.entry)) (λ text. text.items) (F.state shelf.old) result (F.state shelf.new) }
+    ensures promise { IfOk result (λ text. IfSome (F.state shelf.old).files (λ files. TellsRun (run_words given.entry) files text.items)) }
+{
+    let text = running(alloc, given, shelf)?;
+    Ok(text)
+}
+
+// The order of work.
+#[tactic(auto, unfolding(crate::specs::Run::running))]
+fn running<F: Shelf>(alloc: Global, given: Given<'_>, shelf: &mut F) -> Result<Vec<u8>, Stop>
+    ensures { Works (running (run_words given.entry)) (λ text. text.items) (F.state shelf.old) result (F.state shelf.new) }
+{
+    let expanded = expanded_in(alloc, given.file, given.root, shelf)?;
+    let rows = inputs_in(alloc, &expanded.checked, given.inputs, shelf)?;
+    let costs = costs_in(alloc, &expanded.checked, given.costs, shelf)?;
+    told(alloc, &expanded, &rows, &costs, given.turns)
+}
+
+// What is told of the run whose inputs are the low ends of their ranges.
+fn told(
+    alloc: Global,
+    expanded: &Expanded,
+    rows: &[InputRow],
+    costs: &Costs,
+    turns: u32,
+) -> Result<Vec<u8>, Stop>
+    requires graph { IsGraph (seen expanded.now.checked) expanded.now.graph }
+    requires rows { KeepInputs (seen expanded.now.checked) rows.now }
+    ensures { Judges (RunMeans (expanded_of expanded.now) rows.now costs.now turns) (λ text. text.items) result }
+{
+    a_run_has_one_end();
+    graphs_are_expansions();
+    active_frames_follow_the_call_path();
+    let words = low_words(alloc, rows)?;
+    match counted(alloc, expanded, rows, &words, costs, turns)? {
+        Counted::Over(tally) => {
+            let text = run_text(alloc, &expanded.checked, &expanded.graph, &tally)?;
+            Ok(text)
+        }
+        Counted::Left(_) => {
+            let line = unbounded_line(alloc, &expanded.graph)?;
+            Err(Stop::Told(Why::Unbounded, line))
+        }
+    }
+}
+
+// The words of the low ends of the ranges.
+fn low_words(alloc: Global, rows: &[InputRow]) -> Result<Vec<u64>, AllocError>
+    requires { All (λ (row : InputRow). row.size ≤ 64) rows.now }
+    ensures { IfOk result (λ words. words.items ≡ low_words rows.now) }
+{
+    let mut words = Vec::new(alloc);
+    for row in rows {
+        words.push(low_word(row))?;
+    }
+    Ok(words)
+}
+
+// The word of the low end of a range.
+fn low_word(row: &InputRow) -> u64
+    requires { row.now.size ≤ 64 }
+    ensures { result ≡ word row.now.size row.now.low }
+{
+    Whole::of(row.low)
+        .rest(Whole::power_of_two(row.size))
+        .word()
+}

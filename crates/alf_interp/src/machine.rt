@@ -31,13 +31,16 @@ pub struct Machine<'a> {
 }
 
 impl<'a> Model for Machine<'a> {
-    ghost use Rattle.alf_check.specs.CheckedPrograms.{seen};
+    ghost use Rattle.std.specs.Coded.{codes};
+    ghost use Rattle.alf_check.specs.contracts.rows.Term as e;
     ghost use Rattle.alf_interp.specs.Machines.{RunMachine};
 
     ghost Value = { RunMachine };
 
+    ghost coded = { Prim.hlevel (codes, e.the_row.coded) };
+
     ghost view = { λ machine. record {
-      program = seen machine.checked.now;
+      program = machine.checked.now;
       graph = machine.graph.now;
       node = machine.node;
       memory = machine.frames;
@@ -57,7 +60,7 @@ impl<'a> Machine<'a> {
         requires graph { IsGraph (seen checked.now) graph.now }
         requires rows { KeepInputs (seen checked.now) rows.now }
         requires words { AreWords rows.now words.now }
-        ensures program { IfOk result (λ machine. machine.program ≡ seen checked.now) }
+        ensures program { IfOk result (λ machine. machine.program ≡ checked.now) }
         ensures graph { IfOk result (λ machine. machine.graph ≡ graph.now) }
         ensures first { IfOk result (λ machine. machine.node ≡ 0) }
         ensures stands { IfOk result (λ machine. StandsAt machine (start (seen checked.now) rows.now words.now)) }
@@ -73,7 +76,7 @@ impl<'a> Machine<'a> {
         requires { IsStanding self.old }
         ensures program { self.new.program ≡ self.old.program }
         ensures graph { self.new.graph ≡ self.old.graph }
-        ensures steps { IfOk result (λ moved. (moment : Moment) → StandsAt self.old moment → Tells self.new moved (step self.old.program moment)) }
+        ensures steps { IfOk result (λ moved. (moment : Moment) → StandsAt self.old moment → Tells self.new moved (step (seen self.old.program) moment)) }
     {
         Err(AllocError)
     }

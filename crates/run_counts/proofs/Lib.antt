@@ -1,1 +1,3 @@
 -- Shared lemmas.
+pub mod Placing
+pub mod Turning

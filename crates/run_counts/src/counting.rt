@@ -11,6 +11,7 @@ ghost use Rattle.run_counts.specs.Counts.{Tells};
 use crate::tally::{Counted, RunEnd, Tally};
 use alf_check::{Checked, InputRow};
 use alf_interp::{Machine, Moved};
+use alf_runs::a_run_has_one_continuation;
 use flow_graph::Graph;
 use std::alloc::{AllocError, Global};
 
@@ -32,6 +33,7 @@ pub fn count(
     requires costs { length costs.now ≡ length graph.now.nodes }
     ensures { IfOk result (λ counted. Tells (seen checked.now) graph.now.nodes costs.now (start (seen checked.now) rows.now words.now) turns counted) }
 {
+    a_run_has_one_continuation();
     let mut machine = Machine::start(alloc, checked, graph, rows, words)?;
     let mut counts = vec![in alloc; 0u32; graph.node_count() as usize]?;
     let mut cost = 0u64;

@@ -7,28 +7,34 @@ ghost use Rattle.sweet_words.specs.Meant.{command_meant};
 use crate::values::{number, program_file};
 use clap::ArgMatches;
 
-/// A command. Each has the name of the program's file. `root` names the function that the program
-/// starts with, which is `main` where the words do not say. `inputs` and `costs` name files. `turns`
-/// are the most nodes that a run may have, 1 to 1,000,000, and 100,000 where the words do not say.
+/// What `analyse` is given: the name of the program's file, that of the function that it starts with,
+/// which is `main` where the words do not say, the name of the costs file, and the most nodes that a
+/// run may have, 1 to 1,000,000, and 100,000 where the words do not say.
+#[derive(Clone, Copy)]
+pub struct AnalyseWords<'a> {
+    pub file: &'a str,
+    pub root: &'a str,
+    pub costs: Option<&'a str>,
+    pub turns: u32,
+}
+
+/// What `run` is given: the same, and the name of the inputs file.
+#[derive(Clone, Copy)]
+pub struct RunWords<'a> {
+    pub file: &'a str,
+    pub root: &'a str,
+    pub inputs: Option<&'a str>,
+    pub costs: Option<&'a str>,
+    pub turns: u32,
+}
+
+/// A command.
 #[derive(Clone, Copy)]
 pub enum Command<'a> {
-    /// `analyse`
-    Analyse {
-        file: &'a str,
-        root: &'a str,
-        costs: Option<&'a str>,
-        turns: u32,
-    },
-    /// `print`
-    Print { file: &'a str },
-    /// `run`
-    Run {
-        file: &'a str,
-        root: &'a str,
-        inputs: Option<&'a str>,
-        costs: Option<&'a str>,
-        turns: u32,
-    },
+    Analyse(AnalyseWords<'a>),
+    /// The name of the program's file.
+    Print(&'a str),
+    Run(RunWords<'a>),
 }
 
 // The command of this name, with the values that it was given.
@@ -65,19 +71,19 @@ fn analyse<'a>(given: &ArgMatches<'a>) -> Option<Command<'a>>
 {
     let file = program_file(given.get_str("file"))?;
     let turns = turns(given)?;
-    Some(Command::Analyse {
+    Some(Command::Analyse(AnalyseWords {
         file,
         root: root(given),
         costs: given.get_str("costs"),
         turns,
-    })
+    }))
 }
 
 fn print<'a>(given: &ArgMatches<'a>) -> Option<Command<'a>>
     ensures { option_map command_meant result ≡ print_of (first_value (found_of given.now)) }
 {
     let file = program_file(given.get_str("file"))?;
-    Some(Command::Print { file })
+    Some(Command::Print(file))
 }
 
 fn run<'a>(given: &ArgMatches<'a>) -> Option<Command<'a>>
@@ -85,11 +91,11 @@ fn run<'a>(given: &ArgMatches<'a>) -> Option<Command<'a>>
 {
     let file = program_file(given.get_str("file"))?;
     let turns = turns(given)?;
-    Some(Command::Run {
+    Some(Command::Run(RunWords {
         file,
         root: root(given),
         inputs: given.get_str("inputs"),
         costs: given.get_str("costs"),
         turns,
-    })
+    }))
 }

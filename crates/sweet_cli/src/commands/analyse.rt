@@ -4,9 +4,9 @@ ghost use Rattle.std.specs.Prelude.{option_map, IfOk, IfSome};
 ghost use Rattle.alf_check.specs.CheckedPrograms.{seen};
 ghost use Rattle.flow_graph.specs.Numbering.{IsGraph};
 ghost use Rattle.work.specs.Works.{Works, Judges};
-ghost use Rattle.sweet_cli.specs.Words.{AnalyseWords};
 ghost use Rattle.sweet_cli.specs.Facts.{findings_of};
-ghost use Rattle.sweet_cli.specs.Seen.{expanded_of, analyse_words};
+ghost use Rattle.sweet_cli.specs.Words.{analyse_meant};
+ghost use Rattle.sweet_cli.specs.Seen.{expanded_of};
 ghost use Rattle.sweet_cli.specs.Analyse.{ReportMeans, analysing, IsSoundReport};
 
 use crate::Report;
@@ -15,6 +15,7 @@ use crate::commands::programs::{Expanded, expanded_in};
 use crate::commands::tables::costs_in;
 use crate::findings::report;
 use crate::lines::{text_of, unbounded_line};
+use crate::words::AnalyseWords;
 use alf_runs::a_run_has_one_end;
 use cost_table::Costs;
 use flow_base::Shelf;
@@ -23,19 +24,10 @@ use run_counts::Counted;
 use std::alloc::Global;
 use work::{Stop, Why};
 
-/// What the words give.
-#[derive(Clone, Copy)]
-pub struct Given<'a> {
-    pub file: &'a str,
-    pub root: &'a str,
-    pub costs: Option<&'a str>,
-    pub turns: u32,
-}
-
 /// The text of the report.
-pub fn analyse<F: Shelf>(alloc: Global, given: Given<'_>, shelf: &mut F) -> Result<Vec<u8>, Stop>
-    ensures work { Works (analysing (analyse_words given.entry)) (λ text. text.items) (F.state shelf.old) result (F.state shelf.new) }
-    ensures promise { IfOk result (λ text. IfSome (F.state shelf.old).files (λ files. IsSoundReport (analyse_words given.entry) files text.items)) }
+pub fn analyse<F: Shelf>(alloc: Global, given: AnalyseWords<'_>, shelf: &mut F) -> Result<Vec<u8>, Stop>
+    ensures work { Works (analysing (analyse_meant given.entry)) (λ text. text.items) (F.state shelf.old) result (F.state shelf.new) }
+    ensures promise { IfOk result (λ text. IfSome (F.state shelf.old).files (λ files. IsSoundReport (analyse_meant given.entry) files text.items)) }
 {
     let text = analysing(alloc, given, shelf)?;
     Ok(text)
@@ -43,8 +35,8 @@ pub fn analyse<F: Shelf>(alloc: Global, given: Given<'_>, shelf: &mut F) -> Resu
 
 // The order of work.
 #[tactic(auto, unfolding(crate::specs::Analyse::analysing))]
-fn analysing<F: Shelf>(alloc: Global, given: Given<'_>, shelf: &mut F) -> Result<Vec<u8>, Stop>
-    ensures { Works (analysing (analyse_words given.entry)) (λ text. text.items) (F.state shelf.old) result (F.state shelf.new) }
+fn analysing<F: Shelf>(alloc: Global, given: AnalyseWords<'_>, shelf: &mut F) -> Result<Vec<u8>, Stop>
+    ensures { Works (analysing (analyse_meant given.entry)) (λ text. text.items) (F.state shelf.old) result (F.state shelf.new) }
 {
     let expanded = expanded_in(alloc, given.file, given.root, shelf)?;
     let costs = costs_in(alloc, &expanded.checked, given.costs, shelf)?;

@@ -57,36 +57,8 @@ fn command_text<F: Shelf>(
     ensures promise { IfOk result (λ text. IfSome (F.state shelf.old).files (λ files. (task_for (command_meant command.entry)).Promise files text.items)) }
 {
     match command {
-        Command::Analyse {
-            file,
-            root,
-            costs,
-            turns,
-        } => {
-            let given = analyse::Given {
-                file,
-                root,
-                costs,
-                turns,
-            };
-            analyse::analyse(alloc, given, shelf)
-        }
-        Command::Print { file } => print::print(alloc, file, shelf),
-        Command::Run {
-            file,
-            root,
-            inputs,
-            costs,
-            turns,
-        } => {
-            let given = run::Given {
-                file,
-                root,
-                inputs,
-                costs,
-                turns,
-            };
-            run::run(alloc, given, shelf)
-        }
+        Command::Analyse(given) => analyse::analyse(alloc, given, shelf),
+        Command::Print(file) => print::print(alloc, file, shelf),
+        Command::Run(given) => run::run(alloc, given, shelf),
     }
 }

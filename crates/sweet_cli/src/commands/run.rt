@@ -7,13 +7,15 @@ ghost use Rattle.alf_check.specs.Inputs.{KeepInputs};
 ghost use Rattle.flow_graph.specs.Numbering.{IsGraph};
 ghost use Rattle.work.specs.Works.{Works, Judges};
 ghost use Rattle.alf_ops.specs.TwosComplement.{word};
-ghost use Rattle.sweet_cli.specs.Seen.{expanded_of, run_words};
+ghost use Rattle.sweet_cli.specs.Words.{run_meant};
+ghost use Rattle.sweet_cli.specs.Seen.{expanded_of};
 ghost use Rattle.sweet_cli.specs.Run.{low_words, RunMeans, running, TellsRun};
 
 use crate::commands::counting::counted;
 use crate::commands::programs::{Expanded, expanded_in};
 use crate::commands::tables::{costs_in, inputs_in};
 use crate::lines::{run_text, unbounded_line};
+use crate::words::RunWords;
 use alf_check::{Checked, InputRow};
 use alf_runs::{a_run_has_one_end, active_frames_follow_the_call_path};
 use cost_table::Costs;
@@ -24,20 +26,10 @@ use std::alloc::{AllocError, Global};
 use whole_numbers::Whole;
 use work::{Stop, Why};
 
-/// What the words give.
-#[derive(Clone, Copy)]
-pub struct Given<'a> {
-    pub file: &'a str,
-    pub root: &'a str,
-    pub inputs: Option<&'a str>,
-    pub costs: Option<&'a str>,
-    pub turns: u32,
-}
-
 /// The text that tells the run.
-pub fn run<F: Shelf>(alloc: Global, given: Given<'_>, shelf: &mut F) -> Result<Vec<u8>, Stop>
-    ensures work { Works (running (run_words given.entry)) (λ text. text.items) (F.state shelf.old) result (F.state shelf.new) }
-    ensures promise { IfOk result (λ text. IfSome (F.state shelf.old).files (λ files. TellsRun (run_words given.entry) files text.items)) }
+pub fn run<F: Shelf>(alloc: Global, given: RunWords<'_>, shelf: &mut F) -> Result<Vec<u8>, Stop>
+    ensures work { Works (running (run_meant given.entry)) (λ text. text.items) (F.state shelf.old) result (F.state shelf.new) }
+    ensures promise { IfOk result (λ text. IfSome (F.state shelf.old).files (λ files. TellsRun (run_meant given.entry) files text.items)) }
 {
     let text = running(alloc, given, shelf)?;
     Ok(text)
@@ -45,8 +37,8 @@ pub fn run<F: Shelf>(alloc: Global, given: Given<'_>, shelf: &mut F) -> Result<V
 
 // The order of work.
 #[tactic(auto, unfolding(crate::specs::Run::running))]
-fn running<F: Shelf>(alloc: Global, given: Given<'_>, shelf: &mut F) -> Result<Vec<u8>, Stop>
-    ensures { Works (running (run_words given.entry)) (λ text. text.items) (F.state shelf.old) result (F.state shelf.new) }
+fn running<F: Shelf>(alloc: Global, given: RunWords<'_>, shelf: &mut F) -> Result<Vec<u8>, Stop>
+    ensures { Works (running (run_meant given.entry)) (λ text. text.items) (F.state shelf.old) result (F.state shelf.new) }
 {
     let expanded = expanded_in(alloc, given.file, given.root, shelf)?;
     let rows = inputs_in(alloc, &expanded.checked, given.inputs, shelf)?;

@@ -1,9 +1,10 @@
 -- What holds from turn to turn of a run.
-use Rattle.std.proofs.Common.{◌≡◌, ◌<◌, ◌≤◌, ◌+◌, ◌*◌, ℕ, zero, suc, replicate, get_or, List, [], ◌∷◌, ◌++◌, length, set, Some, slice_get, refl, ap, sym, ◌∙◌, subst, length-append, arith, rules}
+use Rattle.std.proofs.Common.{◌≡◌, ◌<◌, ◌≤◌, ◌+◌, ◌*◌, ◌==◌, ℕ, replicate, get_or, List, [], ◌∷◌, ◌++◌, length, set, Some, slice_get, refl, ap, sym, ◌∙◌, subst, length-append, arith, rules}
 use Rattle.std.proofs.lemmas.List.{get_or-replicate, length-replicate}
 use Rattle.std.proofs.lemmas.Option.{slice_get_within}
+use Rattle.std.proofs.lemmas.List.Sums.{count_by-le-length}
 use Rattle.alf_ops.specs.declared.history.RunEvent.{RunEvent}
-use Rattle.alf_check.specs.CheckedPrograms.{NumberedProgram}
+use Rattle.alf_check.specs.CheckedPrograms.{NumberedProgram, CheckedParts, seen}
 use Rattle.flow_graph.specs.Nodes.{Node}
 use Rattle.flow_graph.specs.Numbering.{GraphParts}
 use Rattle.alf_runs.specs.Outcomes.{Outcome}
@@ -30,7 +31,7 @@ stands_so machine (Over outcome) h = absurd h
 -- a run so far: after these turns the machine stands at this node, and the nodes before are counted
 pub record SoFar (program : NumberedProgram) (graph : GraphParts) (costs : List ℕ) (begin : Moment) (turn at : ℕ) (counts : List ℕ) (cost : ℕ) (machine : RunMachine) : Type 0 where
   pub trace : List ℕ
-  pub program_is : machine.program ≡ program
+  pub program_is : seen machine.program ≡ program
   pub graph_is : machine.graph ≡ graph
   pub node_is : machine.node ≡ at
   pub stands : StandsAt machine (after program turn begin)
@@ -40,33 +41,9 @@ pub record SoFar (program : NumberedProgram) (graph : GraphParts) (costs : List 
   pub costed : cost ≡ cost_of costs trace
   pub few : cost ≤ turn * 4294967295
 
--- no node stands in an empty trace
-none_yet : (nodes : List Node) (counts : List ℕ) → counts ≡ replicate (length nodes) 0 → AreCounts nodes [] counts
-none_yet nodes counts zeros = record {
-  one_each = ap length zeros ∙ length-replicate (length nodes) 0;
-  each = λ n less. ap (λ (l : List ℕ). get_or l n 0) zeros ∙ get_or-replicate (length nodes) 0 n;
-}
-
--- before the first turn
-pub at_first : (program : NumberedProgram) (graph : GraphParts) (costs : List ℕ) (begin : Moment) (counts : List ℕ) (machine : RunMachine)
-    → machine.program ≡ program → machine.graph ≡ graph → machine.node ≡ 0 → StandsAt machine begin → counts ≡ replicate (length graph.nodes) 0
-    → SoFar program graph costs begin 0 0 counts 0 machine
-at_first program graph costs begin counts machine p g n stands zeros = record {
-  trace = [];
-  program_is = p;
-  graph_is = g;
-  node_is = n;
-  stands = stands;
-  numbers = tt;
-  long = refl;
-  counted = none_yet graph.nodes counts zeros;
-  costed = refl;
-  few = omega arith;
-}
-
 module _ (program : NumberedProgram) (graph : GraphParts) (costs : List ℕ) (begin : Moment) (turn at : ℕ) (counts : List ℕ) (cost : ℕ) (machine : RunMachine)
     (so : SoFar program graph costs begin turn at counts cost machine) (more : AfterMore) where
-  here : StandsSo machine (after program turn begin)
+  pub here : StandsSo machine (after program turn begin)
   here = stands_so machine (after program turn begin) so.stands
 
   -- the machine's node is that of its number
@@ -76,6 +53,10 @@ module _ (program : NumberedProgram) (graph : GraphParts) (costs : List ℕ) (be
   -- which has a count
   pub low : at < length counts
   low = subst (λ (n : ℕ). at < n) (sym so.counted.one_each) (slice_get_within graph.nodes at here.node node_at)
+
+  -- and has been counted at most once a turn
+  pub counted_low : get_or counts at 0 ≤ turn
+  counted_low = let is = so.counted.each at low in let few = count_by-le-length (λ m. m == at) so.trace in let long = so.long in omega arith
 
   -- one step more
   pub next : after program (turn + 1) begin ≡ step program (after program turn begin)
@@ -95,11 +76,11 @@ module _ (program : NumberedProgram) (graph : GraphParts) (costs : List ℕ) (be
     cost_more = let before = so.costed in let grown = cost_push costs so.trace at in omega arith
 
     -- the run goes on
-    pub goes_on : (to : ℕ) (moved : RunMachine) → moved.program ≡ machine.program → moved.graph ≡ machine.graph → to ≡ moved.node → StandsAt moved (step machine.program (after program turn begin))
+    pub goes_on : (to : ℕ) (moved : RunMachine) → moved.program ≡ machine.program → moved.graph ≡ machine.graph → to ≡ moved.node → StandsAt moved (step (seen machine.program) (after program turn begin))
         → SoFar program graph costs begin (turn + 1) to (set counts at (one + 1)) (cost + price) moved
     goes_on to moved p g n stands = record {
       trace = so.trace ++ at ∷ [];
-      program_is = p ∙ so.program_is;
+      program_is = ap seen p ∙ so.program_is;
       graph_is = g ∙ so.graph_is;
       node_is = sym n;
       stands = subst (λ (m : Moment). StandsAt moved m) (ap (λ (q : NumberedProgram). step q (after program turn begin)) so.program_is ∙ sym next) stands;
@@ -111,7 +92,7 @@ module _ (program : NumberedProgram) (graph : GraphParts) (costs : List ℕ) (be
     }
 
     -- the run is over
-    pub is_over : (turns : ℕ) (tally : Tally) → turn < turns → step machine.program (after program turn begin) ≡ Over (outcome_of tally.end)
+    pub is_over : (turns : ℕ) (tally : Tally) → turn < turns → step (seen machine.program) (after program turn begin) ≡ Over (outcome_of tally.end)
         → tally.counts.items ≡ set counts at (one + 1) → tally.turns ≡ turn + 1 → tally.cost ≡ cost + price → tally.last ≡ at
         → IsCounted program graph.nodes costs begin turns tally
     is_over turns tally less over counts_are turns_are cost_is last_is = record {

@@ -3,11 +3,11 @@
 --   low_before   the nodes up to one that is before a node are before it
 --   high_after   the nodes from one on that is after a node are after it
 --   found_at     a node that is none other's neighbour is found
-use Rattle.std.proofs.Common.{◌≡◌, ◌<◌, ◌≤◌, ◌+◌, ℕ, suc, Option, Some, None, List, length, AllPairs, get_or, slice_get, refl, ap, sym, ◌∙◌, subst, inl, inr, arith, ⊎_elim}
+use Rattle.std.proofs.Common.{◌≡◌, ◌<◌, ◌≤◌, ◌+◌, ℕ, Some, List, length, AllPairs, get_or, slice_get, ap, sym, ◌∙◌, subst, inl, inr, arith}
 use Rattle.std.specs.declared.cmp.Ordering.TheVariants.{Less, Equal, Greater}
 use Rattle.std.proofs.lemmas.Bool.{cases_lt}
 use Rattle.std.proofs.lemmas.List.{length-map, get_or-map}
-use Rattle.std.proofs.lemmas.Option.{slice_get-get_or, get_or_from_slice_get}
+use Rattle.std.proofs.lemmas.Option.{slice_get-get_or}
 use Rattle.flow_graph.specs.Nodes.{Node}
 use Rattle.flow_graph.specs.Numbering.{node_cmp, IsBefore}
 use Rattle.flow_graph.specs.Places.{node_of, nodes_of}

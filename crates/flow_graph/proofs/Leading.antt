@@ -3,15 +3,15 @@
 --   block_low      its block is there
 --   for_place      what is known of a block of this path is known of the place
 --   back_goals     where a return leads
-use Rattle.std.proofs.Common.{◌≡◌, ◌<◌, ◌≤◌, ℕ, List, [], ◌∷◌, reverse, length, Option, Some, None, slice_get, refl, ap, sym, ◌∙◌, subst, arith}
+use Rattle.std.proofs.Common.{◌≡◌, ◌<◌, ℕ, List, [], ◌∷◌, reverse, length, Option, Some, None, ap, sym, ◌∙◌, subst}
 use Rattle.std.proofs.lemmas.List.{reverse-reverse}
-use Rattle.alf_check.specs.CheckedPrograms.{NumberedProgram, NumberedBlock, BlockEnding, Call, blocks_at}
+use Rattle.alf_check.specs.CheckedPrograms.{NumberedProgram, BlockEnding, blocks_at}
 use Rattle.alf_check.specs.Kept.{IsKept}
 use Rattle.flow_graph.specs.Nodes.{Node, Goal, block_node, ending_at, function_at, IsKeptNode, Leads, ReturnLeads, BackLeads}
-use Rattle.flow_graph.specs.Paths.{IsCall, IsCallPath, HasBlock, next_of}
+use Rattle.flow_graph.specs.Paths.{IsCallPath, HasBlock, next_of}
 use Rattle.flow_graph.specs.PathLaws.{kept_is_placed}
 use Rattle.flow_graph.specs.Places.{node_at, node_of}
-use Rattle.flow_graph.specs.Goals.{IsGoalIn, GoalsHave, GoesAfter, GoesBack, AreGoals}
+use Rattle.flow_graph.specs.Goals.{GoesBack, AreGoals}
 use Rattle.flow_graph.specs.declared.place.Place.{Place}
 use Rattle.flow_graph.specs.declared.goals.Goals.{Goals}
 use Rattle.flow_graph.proofs.Targets.{one_goal}

@@ -6,3 +6,9 @@ pub mod Growing
 pub mod Searching
 pub mod Listing
 pub mod Whole
+pub mod OneList
+pub mod OneGraph
+pub mod PathFunctions
+pub mod Expanding
+pub mod Naming
+pub mod GraphNames

@@ -6,23 +6,22 @@
 --   row_first, row_more, row_all   the edges to nodes of one instance, block by block
 --   end_more         the edge to the end
 --   none_listed, all_listed   no edge, and all
-use Rattle.std.proofs.Common.{◌≡◌, ◌≢◌, ◌<◌, ◌≤◌, ◌+◌, ◌⊎◌, ℕ, suc, List, [], ◌∷◌, ◌++◌, length, Option, Some, None, slice_get, get_or, take, reverse, Contains, All, AllPairs, inl, inr, refl, ap, sym, ◌∙◌, subst, arith}
+use Rattle.std.proofs.Common.{◌≡◌, ◌<◌, ◌+◌, ◌⊎◌, ℕ, List, [], ◌∷◌, ◌++◌, length, Option, Some, None, slice_get, get_or, take, reverse, Contains, AllPairs, inl, inr, refl, ap, sym, ◌∙◌, subst, arith}
 use Rattle.std.specs.declared.cmp.Ordering.{Ordering}
-use Rattle.std.specs.declared.cmp.Ordering.TheVariants.{Less, Equal, Greater}
-use Rattle.std.specs.Cmp.Lexicographic.{slice_cmp}
+use Rattle.std.specs.declared.cmp.Ordering.TheVariants.{Less}
 use Rattle.std.specs.Ordering.{nat_cmp, ordering_then}
 use Rattle.std.proofs.lemmas.Cmp.{tied_itself, nat_list_cmp_total}
 use Rattle.std.proofs.lemmas.Bool.{cases_lt}
 use Rattle.std.proofs.lemmas.Bool.Decides.{nat_tests}
-use Rattle.std.proofs.lemmas.Option.{same_Some, slice_get_within, get_or_from_slice_get, slice_get-get_or}
-use Rattle.std.proofs.lemmas.List.{take_more, length-take-le, get_or-take}
+use Rattle.std.proofs.lemmas.Option.{same_Some, slice_get_within, get_or_from_slice_get}
+use Rattle.std.proofs.lemmas.List.{length-take-le, get_or-take}
 use Rattle.std.proofs.lemmas.List.Elements.{Contains-append_left, Contains-push, Contains-push_cases, Contains-get_or, All-contains}
 use Rattle.std.proofs.lemmas.List.Quantifiers.{all_pairs_push}
 use Rattle.lists.specs.Members.{no_member, all_members}
 use Rattle.walks.specs.ListLaws.{same_default}
 use Rattle.alf_check.specs.CheckedPrograms.{NumberedProgram}
 use Rattle.flow_graph.specs.Nodes.{Node, Goal, Leads}
-use Rattle.flow_graph.specs.Numbering.{block_rank, node_cmp, IsBefore, IsNumbering, IsNumberOf, IsStep, IsEdgeBefore, IsEdges}
+use Rattle.flow_graph.specs.Numbering.{block_rank, IsBefore, IsNumberOf, IsStep, IsEdgeBefore, IsEdges}
 use Rattle.flow_graph.specs.Places.{node_at}
 use Rattle.flow_graph.specs.Goals.{AreGoals}
 use Rattle.flow_graph.specs.Listing.{IsListed, IsDoneBefore}

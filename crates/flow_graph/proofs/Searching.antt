@@ -5,17 +5,17 @@
 --   more_nodes     too many nodes that are kept
 --   searched_first, searched_on    the search begins, and goes on
 --   searched_all   when it ends, the nodes are those that are kept
-use Rattle.std.proofs.Common.{◌≡◌, ◌≢◌, ◌<◌, ◌≤◌, ◌+◌, ◌⊎◌, ℕ, suc, List, [], ◌∷◌, ◌++◌, length, Option, Some, None, get_or, take, drop, Contains, All, AllPairs, inl, inr, refl, ap, sym, ◌∙◌, subst, arith}
+use Rattle.std.proofs.Common.{◌≡◌, ◌<◌, ◌≤◌, ◌+◌, ◌⊎◌, ℕ, List, [], ◌∷◌, ◌++◌, length, Option, Some, get_or, take, drop, Contains, All, inl, inr, refl, ap, sym, ◌∙◌, subst, arith}
 use Rattle.std.proofs.lemmas.List.{take_more, take-append-drop}
 use Rattle.std.proofs.lemmas.Option.{same_Some}
 use Rattle.std.proofs.Math.Seq.{take-length}
 use Rattle.std.proofs.lemmas.List.Elements.{Contains-append_left, Contains-push, Contains-push_cases, All-contains}
-use Rattle.lists.specs.Members.{no_member, first_member, first_or_further, all_members}
+use Rattle.lists.specs.Members.{no_member, all_members}
 use Rattle.alf_check.specs.CheckedPrograms.{NumberedProgram}
 use Rattle.flow_base.specs.declared.place.Which.{Which}
 use Rattle.flow_base.specs.declared.place.Which.TheVariants as which
 use Rattle.flow_graph.specs.Nodes.{Node, Leads, IsKeptNode, first, goes_on, first_node}
-use Rattle.flow_graph.specs.Numbering.{IsBefore, IsNumbering, HasMoreNodes, most_nodes}
+use Rattle.flow_graph.specs.Numbering.{IsNumbering, HasMoreNodes, most_nodes}
 use Rattle.flow_graph.specs.Places.{node_at}
 use Rattle.flow_graph.specs.Growing.{IsGrown, Overflows, IsSearched}
 use Rattle.flow_graph.specs.Faults.{FaultTells, LimitTells}

@@ -3,7 +3,7 @@
 --   some_blocks      numbers as blocks: members, and some_ascend their order
 --   one_goal         where a node leads to one node alone
 --   end_leads, leads_end   where a block leads is told by how it ends
-use Rattle.std.proofs.Common.{◌≡◌, ◌<◌, ◌≤◌, ◌↔◌, ℕ, suc, List, [], ◌∷◌, ◌++◌, map, reverse, length, Option, Some, None, slice_get, get_or, drop, Contains, AllPairs, inl, inr, refl, ap, sym, ◌∙◌, subst, arith, append-nil}
+use Rattle.std.proofs.Common.{◌≡◌, ◌<◌, ◌≤◌, ◌↔◌, ℕ, List, [], ◌∷◌, ◌++◌, map, length, Option, Some, slice_get, drop, Contains, AllPairs, inl, inr, refl, ap, sym, ◌∙◌, subst, arith, append-nil}
 use Rattle.std.specs.Option.{option_map}
 use Rattle.std.proofs.Math.ListN.{drop_of_length-le}
 use Rattle.std.proofs.lemmas.List.{length-map, get_or-map}
@@ -13,7 +13,7 @@ use Rattle.alf_check.specs.CheckedPrograms.{NumberedProgram, NumberedBlock, Bloc
 use Rattle.flow_graph.specs.Nodes.{Node, Goal, IsTarget, ending_at, function_at, EndLeads, Leads, block_node}
 use Rattle.flow_graph.specs.Numbering.{block_rank}
 use Rattle.flow_graph.specs.Places.{node_at}
-use Rattle.flow_graph.specs.Goals.{IsGoalIn, GoalsHave, GoesToTargets, AreGoals}
+use Rattle.flow_graph.specs.Goals.{GoalsHave, GoesToTargets, AreGoals}
 use Rattle.flow_graph.specs.declared.goals.Goals.{Goals}
 
 abbrev target_block : ℕ × ℕ → ℕ

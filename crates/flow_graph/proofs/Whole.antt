@@ -7,7 +7,7 @@ use Rattle.alf_check.specs.CheckedPrograms.{NumberedProgram}
 use Rattle.alf_check.specs.Kept.{IsKept}
 use Rattle.flow_graph.specs.Nodes.{Node, IsKeptNode, function_at}
 use Rattle.flow_graph.specs.Names.{node_name}
-use Rattle.flow_graph.specs.Numbering.{IsNumbering, IsEdges, IsGraph, GraphParts, most_nodes, most_edges}
+use Rattle.flow_graph.specs.Numbering.{IsNumbering, IsEdges, IsGraph, most_nodes, most_edges}
 use Rattle.flow_graph.specs.Paths.{IsCallPath}
 use Rattle.flow_graph.specs.PathLaws.{kept_is_placed}
 use Rattle.flow_graph.specs.Places.{node_of, nodes_of}

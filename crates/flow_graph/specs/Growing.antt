@@ -2,7 +2,7 @@
 --   IsGrown nodes pending New nodes' pending'   the nodes grew by the new ones, and the search has yet to go on from those that it did not have
 --   Overflows nodes New       these nodes and the new ones are more than a graph may have
 --   IsSearched program nodes pending   all nodes are kept, and where each leads is among them, if the search is not to go on from it
-use Rattle.std.specs.Prelude.{◌≡◌, ◌≢◌, ◌<◌, ◌≤◌, ◌+◌, ℕ, List, length, ◌⊎◌, Contains, All, AllPairs, Some}
+use Rattle.std.specs.Prelude.{◌≡◌, ◌≢◌, ◌<◌, ◌≤◌, ◌+◌, List, length, ◌⊎◌, Contains, All, AllPairs, Some}
 use Rattle.alf_check.specs.CheckedPrograms.{NumberedProgram}
 use Rattle.flow_graph.specs.Nodes.{Node, Leads, IsKeptNode, first_node}
 use Rattle.flow_graph.specs.Numbering.{IsBefore, most_nodes}

@@ -9,3 +9,4 @@ pub mod Faults
 pub mod Growing
 pub mod Listing
 pub mod Graphs
+pub mod Expansions

@@ -1,7 +1,7 @@
 -- Edges, as they are listed one after another.
 --   IsListed Done edges               the edges are those that are done, each once, in their order
 --   IsDoneBefore program nodes k u v  an edge leads from u, which comes before k, to v
-use Rattle.std.specs.Prelude.{◌≡◌, ◌<◌, ℕ, List, Contains, All, AllPairs}
+use Rattle.std.specs.Prelude.{◌<◌, ℕ, List, Contains, All, AllPairs}
 use Rattle.alf_check.specs.CheckedPrograms.{NumberedProgram}
 use Rattle.flow_graph.specs.Nodes.{Node}
 use Rattle.flow_graph.specs.Numbering.{IsStep, IsEdgeBefore}

@@ -9,7 +9,7 @@
 --   HasMoreEdges program n        the nodes have a numbering within the limit, and more than n edges
 --   GraphParts                    what a graph is seen as
 --   IsGraph program graph         it is that of the program, within the limits
-use Rattle.std.specs.Prelude.{◌≡◌, ◌≢◌, ◌<◌, ◌≤◌, ℕ, suc, List, [], ◌∷◌, map, reverse, length, ◌⊎◌, Option, None, Some, Contains, All, AllPairs, slice_get}
+use Rattle.std.specs.Prelude.{◌≡◌, ◌≢◌, ◌<◌, ◌≤◌, ℕ, suc, List, map, reverse, length, ◌⊎◌, Option, None, Some, Contains, All, AllPairs, slice_get}
 use Rattle.std.specs.declared.cmp.Ordering.{Ordering}
 use Rattle.std.specs.declared.cmp.Ordering.TheVariants.{Less}
 use Rattle.std.specs.Ordering.{nat_cmp, ordering_then}

@@ -1,18 +1,19 @@
 -- What call paths keep.
+--   function_there   a function that is there, with its blocks
 --   ending_keeps     the end of a block keeps the rules of checked programs
 --   call_there       a block that ends with a call is there, and so is the function that it calls
 --   path_there       a call path leads to a function
 --   kept_is_placed   a node that is kept has a call path, and its block is one of the function there
-use Rattle.std.proofs.Common.{◌≡◌, ◌<◌, ℕ, zero, suc, List, [], ◌∷◌, length, Option, Some, None, slice_get, get_or, Contains, map, refl, ap, sym, ◌∙◌, subst, inl, inr, arith, ⊎_elim, ◌⊎◌}
+use Rattle.std.proofs.Common.{◌≡◌, ◌<◌, ℕ, zero, suc, List, [], ◌∷◌, length, Option, Some, None, slice_get, refl, ap, sym, subst, inl, inr, arith}
 use Rattle.std.specs.Option.{option_map, option_map_or}
-use Rattle.std.proofs.lemmas.Option.{slice_get-get_or, same_Some}
+use Rattle.std.proofs.lemmas.Option.{same_Some}
 use Rattle.std.proofs.lemmas.List.Elements.{All-contains}
 use Rattle.lists.specs.Images.{mapped}
 use Rattle.alf_program.specs.Tree.{NumberedExpression}
 use Rattle.alf_check.specs.CheckedPrograms.{NumberedProgram, NumberedBlock, NumberedFunction, BlockEnding, Fall, Jump, Switch, Call, Return, blocks_at}
-use Rattle.alf_check.specs.Kept.{IsKept, KeepsEnding, KeepsFunction, KeepsBlock, CallKeeps, TargetKeeps}
-use Rattle.flow_graph.specs.Nodes.{Node, Goal, entry_node, block_node, ending_at, callee_of, function_at, IsTarget, BackLeads, ReturnLeads, EndLeads, PlaceLeads, Leads, IsKeptNode, first, goes_on}
-use Rattle.flow_graph.specs.Paths.{IsCall, IsCallPath, HasBlock, IsPlaced}
+use Rattle.alf_check.specs.Kept.{IsKept, KeepsEnding, TargetKeeps}
+use Rattle.flow_graph.specs.Nodes.{Node, entry_node, block_node, ending_at, callee_of, function_at, IsTarget, BackLeads, ReturnLeads, EndLeads, PlaceLeads, Leads, IsKeptNode, first, goes_on}
+use Rattle.flow_graph.specs.Paths.{IsCall, IsCallPath, IsPlaced}
 
 -- what stands at a place lies below the length
 below : {X : Type 0} (xs : List X) (k : ℕ) (x : X) → slice_get xs k ≡ Some x → k < length xs
@@ -28,7 +29,7 @@ stands (y ∷ ys) (suc k) h = stands ys k (omega arith)
 
 -- a function that is there, with its blocks
 module _ (program : NumberedProgram) (keeps : IsKept program) where
-  function_there : (f : ℕ) → f < length program.funcs → (function : NumberedFunction) × (slice_get program.funcs f ≡ Some function) × (blocks_at program f ≡ function.blocks)
+  pub function_there : (f : ℕ) → f < length program.funcs → (function : NumberedFunction) × (slice_get program.funcs f ≡ Some function) × (blocks_at program f ≡ function.blocks)
   function_there f low =
       let found = stands program.funcs f low in
       (found.0, found.1, ap (λ (o : Option NumberedFunction). option_map_or (λ (function : NumberedFunction). function.blocks) o []) found.1)

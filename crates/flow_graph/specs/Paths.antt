@@ -1,6 +1,7 @@
 -- Call paths of a program.
 --   IsCall program f b         block b of function f ends with a call
 --   IsCallPath program path    each block of the path is a call of the function there
+--   functions_on program path  the functions on a call path, the newest first and the root last
 --   next_of ending             the block after a call
 --   IsPlaced program node      the node has a call path, and its block is one of the function there
 use Rattle.std.specs.Prelude.{◌≡◌, ◌<◌, ℕ, List, [], ◌∷◌, length, Option, None, Some}
@@ -20,6 +21,11 @@ pub record IsCall (program : NumberedProgram) (f b : ℕ) : Type 0 where
 abbrev pub IsCallPath : NumberedProgram → List ℕ → Type 0
 IsCallPath program [] = Unit {0}
 IsCallPath program (b ∷ path) = IsCall program (function_at program path) b × IsCallPath program path
+
+-- the functions on a call path, the newest first and the root last
+abbrev pub functions_on : NumberedProgram → List ℕ → List ℕ
+functions_on program [] = program.root ∷ []
+functions_on program (b ∷ path) = function_at program (b ∷ path) ∷ functions_on program path
 
 -- the block after a call
 abbrev pub next_of : Option BlockEnding → ℕ

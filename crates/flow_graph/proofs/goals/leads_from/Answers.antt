@@ -1,10 +1,9 @@
-use Rattle.std.proofs.Common.{◌≡◌, ℕ, List, reverse, Some, None, Option, slice_get, option_map, refl, ap, sym, ◌∙◌, subst}
+use Rattle.std.proofs.Common.{◌≡◌, ℕ, List, reverse, Some, Option, slice_get, option_map, ap, subst}
 use Rattle.alf_program.specs.Tree.{NumberedExpression}
 use Rattle.alf_check.specs.CheckedPrograms.{NumberedProgram, NumberedBlock, Switch, Return, blocks_at, block_of, end_of, term_of, seen}
-use Rattle.flow_graph.specs.Nodes.{Goal, block_node, function_at}
-use Rattle.flow_graph.specs.Places.{node_of}
-use Rattle.flow_graph.specs.Goals.{AreGoals, GoesToTargets}
-use Rattle.flow_graph.proofs.Targets.{one_goal, switch_goals, end_leads, leads_end}
+use Rattle.flow_graph.specs.Nodes.{block_node, function_at}
+use Rattle.flow_graph.specs.Goals.{GoesToTargets}
+use Rattle.flow_graph.proofs.Targets.{switch_goals, end_leads, leads_end}
 use Rattle.flow_graph.proofs.Leading.{calls_of, block_low, for_place, back_goals}
 use Rattle.flow_graph.proofs.goals.leads_from.Goals as goal
 

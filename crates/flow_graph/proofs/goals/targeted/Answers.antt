@@ -1,4 +1,4 @@
-use Rattle.std.proofs.Common.{◌≡◌, ◌≤◌, ℕ, List, Option, Some, [], ◌++◌, map, drop, length, append-nil, ap, sym, ◌∙◌, rules}
+use Rattle.std.proofs.Common.{◌≡◌, ◌≤◌, ℕ, List, Option, Some, ◌++◌, map, drop, length, append-nil, ap, sym, ◌∙◌, rules}
 use Rattle.std.proofs.Math.ListN.{drop_of_length-le}
 use Rattle.flow_graph.proofs.Targets.{switch_goes}
 use Rattle.flow_graph.proofs.goals.targeted.Goals as goal

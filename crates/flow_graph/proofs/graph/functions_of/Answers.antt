@@ -1,4 +1,4 @@
-use Rattle.std.proofs.Common.{◌≡◌, ℕ, List, reverse, sym, subst}
+use Rattle.std.proofs.Common.{ℕ, List, reverse, sym, subst}
 use Rattle.alf_check.specs.CheckedPrograms.{seen}
 use Rattle.flow_graph.specs.Paths.{IsCallPath}
 use Rattle.flow_graph.proofs.Whole.{path_at}

@@ -1,4 +1,4 @@
-use Rattle.std.proofs.Common.{◌≡◌, ◌++◌, ℕ, map, drop, reverse}
+use Rattle.std.proofs.Common.{◌≡◌, ◌++◌, map, drop, reverse}
 use Rattle.alf_check.specs.CheckedPrograms.{seen}
 use Rattle.flow_graph.specs.Nodes.{function_at}
 use Rattle.flow_graph.specs.declared.place.Place.{Place}

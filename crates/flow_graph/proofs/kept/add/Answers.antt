@@ -1,7 +1,7 @@
-use Rattle.std.proofs.Common.{◌≡◌, ◌∙◌, [], ◌∷◌, ◌++◌, ◌≤◌, ◌<◌, ℕ, List, ap, refl, sym, subst, arith, length}
+use Rattle.std.proofs.Common.{◌≡◌, [], ◌∷◌, ◌++◌, ℕ, List, refl, sym, subst, arith}
 use Rattle.std.specs.List.{insert}
 use Rattle.flow_graph.specs.Nodes.{Node}
-use Rattle.flow_graph.specs.Places.{node_at, node_of, nodes_of, IsGap}
+use Rattle.flow_graph.specs.Places.{node_at, nodes_of, IsGap}
 use Rattle.flow_graph.specs.Growing.{IsGrown}
 use Rattle.flow_graph.proofs.Among.{nodes_long}
 use Rattle.flow_graph.proofs.Growing.{put_grown, put_overflows}

@@ -1,10 +1,10 @@
-use Rattle.std.proofs.Common.{◌≡◌, ◌∙◌, ◌<◌, ◌≤◌, ◌+◌, ℕ, List, Contains, Option, Some, None, get_or, ap, refl, sym, subst, inl, inr, ◌⊎◌, arith, length, take}
+use Rattle.std.proofs.Common.{◌≡◌, ◌∙◌, ◌<◌, ◌+◌, ℕ, List, Contains, Option, Some, None, get_or, ap, sym, subst, inl, inr, length, take}
 use Rattle.std.proofs.lemmas.Result.{err_from_is_err_and}
 use Rattle.walks.specs.ListLaws.{same_default}
 use Rattle.flow_graph.specs.Nodes.{Node}
 use Rattle.flow_graph.specs.Places.{node_at, nodes_of}
 use Rattle.flow_graph.specs.Goals.{IsGoalIn}
-use Rattle.flow_graph.specs.Growing.{IsGrown, Overflows}
+use Rattle.flow_graph.specs.Growing.{Overflows}
 use Rattle.flow_graph.proofs.Growing.{grown_more, grown_as, overflow_more}
 use Rattle.flow_graph.proofs.Searching.{IsUpTo, up_to_left, up_to_right, up_to_cases, up_to_all, up_to_in, fault_of}
 use Rattle.flow_graph.proofs.kept.add_all.Goals as goal

@@ -1,4 +1,3 @@
-use Rattle.std.proofs.Common.{ℕ}
 use Rattle.flow_graph.specs.Nodes.{Node}
 use Rattle.flow_graph.specs.Places.{nodes_of}
 use Rattle.flow_graph.specs.Growing.{IsGrown}

@@ -1,10 +1,10 @@
-use Rattle.std.proofs.Common.{◌≡◌, Some, Option, subst}
+use Rattle.std.proofs.Common.{Some, Option, subst}
 use Rattle.std.proofs.lemmas.Result.{err_from_is_err_and}
-use Rattle.alf_check.specs.CheckedPrograms.{NumberedProgram, seen}
+use Rattle.alf_check.specs.CheckedPrograms.{seen}
 use Rattle.flow_graph.specs.Nodes.{Node, Leads}
 use Rattle.flow_graph.specs.Places.{node_of, nodes_of}
 use Rattle.flow_graph.specs.Goals.{IsGoalIn, AreGoals}
-use Rattle.flow_graph.specs.Growing.{IsGrown, Overflows}
+use Rattle.flow_graph.specs.Growing.{Overflows}
 use Rattle.flow_graph.specs.declared.goals.Goals.{Goals}
 use Rattle.flow_graph.proofs.Growing.{grown_as, overflow_as}
 use Rattle.flow_graph.proofs.Searching.{fault_of}

@@ -1,8 +1,8 @@
-use Rattle.std.proofs.Common.{◌≡◌, ◌∙◌, [], ◌∷◌, ◌++◌, ◌<◌, ◌≤◌, List, Some, None, Option, ap, sym, subst, arith, length, length-append}
+use Rattle.std.proofs.Common.{◌≡◌, ◌∙◌, [], ◌∷◌, ◌++◌, List, Some, ap, subst, arith}
 use Rattle.std.proofs.lemmas.Result.{err_from_is_err_and}
 use Rattle.std.proofs.lemmas.List.{map_push, nil_from_length}
 use Rattle.alf_check.specs.CheckedPrograms.{NumberedProgram, seen}
-use Rattle.flow_graph.specs.Nodes.{Node, Leads, IsKeptNode, first_node}
+use Rattle.flow_graph.specs.Nodes.{Node, Leads, first_node}
 use Rattle.flow_graph.specs.Numbering.{HasMoreNodes, most_nodes}
 use Rattle.flow_graph.specs.Places.{node_of, nodes_of}
 use Rattle.flow_graph.specs.Growing.{IsGrown, Overflows, IsSearched}

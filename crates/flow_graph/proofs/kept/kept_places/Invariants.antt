@@ -1,4 +1,4 @@
-use Rattle.std.proofs.Common.{◌+◌, ◌*◌, ◌-◌, ℕ, length}
+use Rattle.std.proofs.Common.{◌+◌, ◌*◌, ◌-◌, length}
 use Rattle.alf_check.specs.CheckedPrograms.{seen}
 use Rattle.flow_graph.specs.Places.{nodes_of}
 use Rattle.flow_graph.specs.Growing.{IsSearched}

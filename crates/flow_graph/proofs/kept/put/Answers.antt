@@ -1,6 +1,5 @@
 use Rattle.std.proofs.Common.{◌≡◌, ◌∙◌, ℕ, List, ap, rules}
 use Rattle.std.specs.List.{insert}
-use Rattle.flow_graph.specs.Nodes.{Node}
 use Rattle.flow_graph.specs.Places.{node_at, node_of, nodes_of}
 use Rattle.flow_graph.proofs.Growing.{map_insert}
 use Rattle.flow_graph.proofs.kept.put.Goals as goal

@@ -1,4 +1,4 @@
-use Rattle.std.proofs.Common.{arith, sym, ◌∙◌, ◌+◌, ◌-◌, ◌/◌, ◌<◌, ℕ, length}
+use Rattle.std.proofs.Common.{arith, sym, ◌∙◌, ◌+◌, ◌-◌, ◌/◌, ℕ}
 use Rattle.flow_graph.specs.Places.{node_at}
 use Rattle.flow_graph.proofs.Among.{nodes_long, low_before, high_after, found_at}
 use Rattle.flow_graph.proofs.place.position.Goals as goal

@@ -1,5 +1,4 @@
-use Rattle.std.proofs.Common.{◌-◌, ◌≡◌, ◌<◌, ◌≤◌, ℕ, length, get_or}
-use Rattle.flow_graph.specs.Nodes.{Node}
+use Rattle.std.proofs.Common.{◌-◌, ◌<◌, ◌≤◌, ℕ, length, get_or}
 use Rattle.flow_graph.specs.Numbering.{IsBefore}
 use Rattle.flow_graph.specs.Places.{node_at, nodes_of}
 use Rattle.flow_graph.proofs.place.position.Given as goal

@@ -2,6 +2,7 @@
 --   IsEdgeUpTo edges u e first   edge number first leads from node u, and is at most e
 --   AreFirstEdges graph firsts   for each node from which edges lead, the number of the first of them
 --   HasEdge graph u goal         an edge leads from node u to this node
+--   HasEdgeFrom graph u goal least   so does an edge from this number on
 --   IsNodeWith graph number block   the number is that of a node with this block, or of an entry
 use Rattle.std.specs.Prelude.{◌≡◌, ◌≤◌, ℕ, List, length, Option, Some, slice_get}
 use Rattle.flow_graph.specs.Nodes.{Node}
@@ -30,3 +31,8 @@ pub record IsNodeWith (graph : GraphParts) (number : ℕ) (block : Option ℕ) :
   pub node : Node
   pub at : slice_get graph.nodes number ≡ Some node
   pub block_is : node.block ≡ block
+
+-- an edge from this number on leads from node u to this node
+pub record HasEdgeFrom (graph : GraphParts) (u : ℕ) (goal : Node) (least : ℕ) : Type 0 where
+  pub edge : HasEdge graph u goal
+  pub further : least ≤ edge.number

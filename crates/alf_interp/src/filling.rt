@@ -64,15 +64,15 @@ pub fn put_inputs(frames: &mut Frames, rows: &[InputRow], words: &[u64])
     ensures functions { length frames.new.running ≡ length frames.old.running }
     ensures puts { (history : List RunEvent) → StandsFor frames.old history → InputsHaveRoom (shapes frames.old) history rows.now words.now → StandsFor frames.new (with_inputs rows.now words.now history) }
 {
-    let mut rows = rows;
-    let mut words = words;
-    while let Some((row, other_rows)) = rows.split_first() {
-        let Some((word, other_words)) = words.split_first() else {
+    let mut rest = rows;
+    let mut left = words;
+    while let Some((row, other_rows)) = rest.split_first() {
+        let Some((word, other_words)) = left.split_first() else {
             return;
         };
         put_word(frames, row.frame, row.offset, row.size, *word);
-        rows = other_rows;
-        words = other_words;
+        rest = other_rows;
+        left = other_words;
     }
 }
 
@@ -83,15 +83,15 @@ fn put_arguments(frames: &mut Frames, args: &[u32], values: &[Value])
     ensures functions { length frames.new.running ≡ length frames.old.running }
     ensures puts { (history : List RunEvent) → StandsFor frames.old history → ArgumentsHaveRoom (shapes frames.old) history args.now values.now → StandsFor frames.new (with_arguments args.now values.now history) }
 {
-    let mut args = args;
-    let mut values = values;
-    while let Some((arg, other_args)) = args.split_first() {
-        let Some((value, other_values)) = values.split_first() else {
+    let mut rest = args;
+    let mut left = values;
+    while let Some((arg, other_args)) = rest.split_first() {
+        let Some((value, other_values)) = left.split_first() else {
             return;
         };
         put(frames, *arg, 0, *value);
-        args = other_args;
-        values = other_values;
+        rest = other_args;
+        left = other_values;
     }
 }
 

@@ -26,7 +26,8 @@ pub fn outputs_of(
     ensures { IfOk result (λ told. (history : List RunEvent) → StandsFor frames.now history → outputs (seen checked.now) returned history ≡ outputs_of told) }
 {
     let mut globals = Vec::new(alloc);
-    for frame in checked.exports() {
+    let exports = checked.exports();
+    for frame in exports {
         globals.push(exported(checked, frames, *frame))?;
     }
     Ok(Outputs { returned, globals })

@@ -21,8 +21,10 @@ pub fn run_statements(frames: &mut Frames, acts: &[Act]) -> Result<(), ValueFaul
     ensures functions { length frames.new.running ≡ length frames.old.running }
     ensures does { (history : List RunEvent) → StandsFor frames.old history → Does frames.new (after_statements (shapes frames.old) (map act_of acts.now) (Ok history)) result }
 {
-    for act in acts {
+    let mut rest = acts;
+    while let Some((act, others)) = rest.split_first() {
         run_statement(frames, act)?;
+        rest = others;
     }
     Ok(())
 }

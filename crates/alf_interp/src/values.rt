@@ -118,11 +118,14 @@ pub fn values(alloc: Global, frames: &Frames, terms: &[Term]) -> Result<Vec<Valu
     ensures { (history : List RunEvent) → StandsFor frames.now history
         → GivesAll (operands (map (value_of (shapes frames.now) history) (map term_of terms.now))) result }
 {
-    let mut values = Vec::new(alloc);
-    for term in terms {
-        push(&mut values, value(frames, term)?)?;
+    let mut found = Vec::new(alloc);
+    let mut rest = terms;
+    while let Some((term, others)) = rest.split_first() {
+        let next = value(frames, term)?;
+        push(&mut found, next)?;
+        rest = others;
     }
-    Ok(values)
+    Ok(found)
 }
 
 // Adds a value.

@@ -1,0 +1,4 @@
+mod Leading
+mod Returning
+mod Rooms
+mod Typing

@@ -22,7 +22,6 @@ use Rattle.alf_ops.specs.Values.{size_of, FitsValue}
 use Rattle.alf_ops.specs.Histories.{is_running, is_active, IsSound}
 use Rattle.alf_ops.specs.Pointers.{before, operands}
 use Rattle.alf_program.specs.Tree.{NumberedExpression}
-use Rattle.alf_faults.specs.Sizes.{is_export_size}
 use Rattle.alf_check.specs.declared.rows.FrameRow.{FrameRow}
 use Rattle.alf_check.specs.declared.rows.InitRow.{InitRow}
 use Rattle.alf_check.specs.declared.rows.InputRow.{InputRow}
@@ -51,7 +50,7 @@ fitting_words rows owner (init ∷ inits) fit =
     All-cons IsInitWord init inits (storable init.num.size value here.cell (refl, here.word.fits)) (fitting_words rows owner inits (All-tail (InitFits rows owner) init inits fit))
 
 -- a size that frames are exported with is that of a cell
-pub export_cell : (size : ℕ) → is_export_size size ≡ true → IsCellSize size
+pub export_cell : (size : ℕ) → ((size == 8) || (size == 16) || (size == 32) || (size == 64)) ≡ true → IsCellSize size
 export_cell size h =
     by_test (size == 8) (λ e. at 8 e (record { least = omega arith; most = omega arith; bytes = refl })) (λ a.
     by_test (size == 16) (λ e. at 16 e (record { least = omega arith; most = omega arith; bytes = refl })) (λ b.

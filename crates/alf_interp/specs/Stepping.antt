@@ -1,9 +1,9 @@
 -- A machine by its parts.
 --   IsMachine program graph firsts node memory   the parts belong together
---   machine_at program graph node memory         the machine of these parts
+--   machine_at checked graph node memory         the machine of these parts
 --   next_number node moved                       the number of the node where it stands after a step
 use Rattle.std.specs.Prelude.{◌<◌, ℕ, List, length}
-use Rattle.alf_check.specs.CheckedPrograms.{NumberedProgram}
+use Rattle.alf_check.specs.CheckedPrograms.{CheckedParts, NumberedProgram}
 use Rattle.alf_values.specs.Memories.{RunMemory, IsMadeFor}
 use Rattle.flow_graph.specs.Numbering.{GraphParts, IsGraph}
 use Rattle.alf_interp.specs.declared.moved.Moved.{Moved}
@@ -19,8 +19,8 @@ pub record IsMachine (program : NumberedProgram) (graph : GraphParts) (firsts : 
   pub made : IsMadeFor program memory
 
 -- the machine of these parts
-abbrev pub machine_at : NumberedProgram → GraphParts → ℕ → RunMemory → RunMachine
-machine_at program graph node memory = record { program = program; graph = graph; node = node; memory = memory }
+abbrev pub machine_at : CheckedParts → GraphParts → ℕ → RunMemory → RunMachine
+machine_at checked graph node memory = record { checked = checked; graph = graph; node = node; memory = memory }
 
 -- the number of the node where it stands after a step
 abbrev pub next_number : ℕ → Moved → ℕ

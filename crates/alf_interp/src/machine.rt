@@ -17,7 +17,7 @@ ghost use Rattle.alf_interp.specs.Stepping.{machine_at, next_number};
 use crate::edges::{first_edges, next_func, next_node};
 use crate::filling::{enter, put_inits, put_inputs};
 use crate::moved::Moved;
-use crate::turn::{Instance, Turn, turn};
+use crate::turn::{Instance, Turn, take_turn};
 use alf_check::{Checked, InputRow};
 use alf_runs::{a_step_leads_along_an_edge, active_frames_follow_the_call_path};
 use alf_values::{Frames, ValueFault};
@@ -41,15 +41,19 @@ pub struct Machine<'a> {
 }
 
 impl<'a> Model for Machine<'a> {
+    ghost use Rattle.std.specs.Coded.{codes};
     ghost use Rattle.alf_check.specs.CheckedPrograms.{seen};
+    ghost use Rattle.alf_check.specs.contracts.rows.Term as e;
     ghost use Rattle.alf_interp.specs.Machines.{RunMachine};
 
     ghost Value = { RunMachine };
 
+    ghost coded = { Prim.hlevel (codes, e.the_row.coded) };
+
     ghost use Rattle.alf_interp.specs.Stepping.{IsMachine};
 
     ghost view = { λ machine. record {
-      program = seen machine.checked.now;
+      checked = machine.checked.now;
       graph = machine.graph.now;
       node = machine.node;
       memory = machine.frames;
@@ -71,7 +75,7 @@ impl<'a> Machine<'a> {
         requires graph { IsGraph (seen checked.now) graph.now }
         requires rows { KeepInputs (seen checked.now) rows.now }
         requires words { AreWords rows.now words.now }
-        ensures program { IfOk result (λ machine. machine.program ≡ seen checked.now) }
+        ensures checked { IfOk result (λ machine. machine.checked ≡ checked.now) }
         ensures graph { IfOk result (λ machine. machine.graph ≡ graph.now) }
         ensures first { IfOk result (λ machine. machine.node ≡ 0) }
         ensures stands { IfOk result (λ machine. StandsAt machine (start (seen checked.now) rows.now words.now)) }
@@ -96,9 +100,9 @@ impl<'a> Machine<'a> {
     /// not stepped again.
     pub fn step(&mut self) -> Result<Moved, AllocError>
         requires { IsStanding self.old }
-        ensures program { self.new.program ≡ self.old.program }
+        ensures checked { self.new.checked ≡ self.old.checked }
         ensures graph { self.new.graph ≡ self.old.graph }
-        ensures steps { IfOk result (λ moved. (moment : Moment) → StandsAt self.old moment → Tells self.new moved (step self.old.program moment)) }
+        ensures steps { IfOk result (λ moved. (moment : Moment) → StandsAt self.old moment → Tells self.new moved (step (seen self.old.checked) moment)) }
     {
         let moved = move_on(
             self.alloc,
@@ -137,11 +141,11 @@ fn move_on(
     requires firsts { AreFirstEdges graph.now firsts.now }
     requires there { node < length graph.now.nodes }
     requires made { IsMadeFor (seen checked.now) frames.old }
-    requires standing { IsStanding (machine_at (seen checked.now) graph.now node frames.old) }
+    requires standing { IsStanding (machine_at checked.now graph.now node frames.old) }
     ensures made { IsMadeFor (seen checked.now) frames.new }
     ensures there { IfOk result (λ moved. next_number node moved < length graph.now.nodes) }
-    ensures tells { IfOk result (λ moved. (moment : Moment) → StandsAt (machine_at (seen checked.now) graph.now node frames.old) moment
-        → Tells (machine_at (seen checked.now) graph.now (next_number node moved) frames.new) moved (step (seen checked.now) moment)) }
+    ensures tells { IfOk result (λ moved. (moment : Moment) → StandsAt (machine_at checked.now graph.now node frames.old) moment
+        → Tells (machine_at checked.now graph.now (next_number node moved) frames.new) moved (step (seen checked.now) moment)) }
 {
     checked.keeps();
     a_step_leads_along_an_edge();
@@ -152,7 +156,7 @@ fn move_on(
         func: here.func,
         caller: next_func(graph, firsts, node),
     };
-    match turn(alloc, checked, instance, here.block, frames) {
+    match take_turn(alloc, checked, &instance, here.block, frames) {
         Ok(Turn::On(block)) => Ok(Moved::To(next_node(graph, firsts, node, block))),
         Ok(Turn::Ended(outputs)) => Ok(Moved::Ended(outputs)),
         Err(ValueFault::Run(fault)) => Ok(Moved::Faulted(fault)),

@@ -48,22 +48,22 @@ pub struct Instance<'a> {
 }
 
 /// A step from a block, or from an entry, which only moves on.
-pub fn turn(
+pub fn take_turn(
     alloc: Global,
     checked: &Checked,
-    instance: Instance<'_>,
+    instance: &Instance<'_>,
     block: Option<u32>,
     frames: &mut Frames,
 ) -> Result<Turn, ValueFault>
-    requires here { IsInstance (seen checked.now) (reverse instance.path.now) instance.func }
-    requires block { HasBlock (seen checked.now) instance.func block }
-    requires caller { IsCaller (seen checked.now) (reverse instance.path.now) block instance.caller }
+    requires here { IsInstance (seen checked.now) (reverse instance.now.path.now) instance.now.func }
+    requires block { HasBlock (seen checked.now) instance.now.func block }
+    requires caller { IsCaller (seen checked.now) (reverse instance.now.path.now) block instance.now.caller }
     requires made { IsMadeFor (seen checked.now) frames.old }
     requires remembers { Remembers frames.old }
     ensures made { IsMadeFor (seen checked.now) frames.new }
     ensures turns { (history : List RunEvent) → StandsFor frames.old history
-        → IsPlaced (seen checked.now) (step (seen checked.now) (At (node_at instance.path.now block) history))
-        → Turns frames.new (step (seen checked.now) (At (node_at instance.path.now block) history)) result }
+        → IsPlaced (seen checked.now) (step (seen checked.now) (At (node_at instance.now.path.now block) history))
+        → Turns frames.new (step (seen checked.now) (At (node_at instance.now.path.now block) history)) result }
 {
     match block {
         None => Ok(Turn::On(Some(0))),
@@ -75,19 +75,19 @@ pub fn turn(
 fn run_block(
     alloc: Global,
     checked: &Checked,
-    instance: Instance<'_>,
+    instance: &Instance<'_>,
     block: u32,
     frames: &mut Frames,
 ) -> Result<Turn, ValueFault>
-    requires here { IsInstance (seen checked.now) (reverse instance.path.now) instance.func }
-    requires block { IsBlockOf (seen checked.now) instance.func block }
-    requires caller { IsCaller (seen checked.now) (reverse instance.path.now) (Some block) instance.caller }
+    requires here { IsInstance (seen checked.now) (reverse instance.now.path.now) instance.now.func }
+    requires block { IsBlockOf (seen checked.now) instance.now.func block }
+    requires caller { IsCaller (seen checked.now) (reverse instance.now.path.now) (Some block) instance.now.caller }
     requires made { IsMadeFor (seen checked.now) frames.old }
     requires remembers { Remembers frames.old }
     ensures made { IsMadeFor (seen checked.now) frames.new }
     ensures turns { (history : List RunEvent) → StandsFor frames.old history
-        → IsPlaced (seen checked.now) (block_step (seen checked.now) (reverse instance.path.now) block (slice_get (blocks_at (seen checked.now) instance.func) block) history)
-        → Turns frames.new (block_step (seen checked.now) (reverse instance.path.now) block (slice_get (blocks_at (seen checked.now) instance.func) block) history) result }
+        → IsPlaced (seen checked.now) (block_step (seen checked.now) (reverse instance.now.path.now) block (slice_get (blocks_at (seen checked.now) instance.now.func) block) history)
+        → Turns frames.new (block_step (seen checked.now) (reverse instance.now.path.now) block (slice_get (blocks_at (seen checked.now) instance.now.func) block) history) result }
 {
     let row = checked.block(instance.func, block);
     run_statements(frames, &row.stmts)?;
@@ -98,21 +98,21 @@ fn run_block(
 fn end_block(
     alloc: Global,
     checked: &Checked,
-    instance: Instance<'_>,
+    instance: &Instance<'_>,
     block: u32,
     end: &BlockEnd,
     frames: &mut Frames,
 ) -> Result<Turn, ValueFault>
-    requires here { IsInstance (seen checked.now) (reverse instance.path.now) instance.func }
-    requires ends { ending_at (seen checked.now) instance.func block ≡ Some (end_of end.now) }
-    requires keeps { KeepsEnding (seen checked.now) instance.func block (end_of end.now) }
-    requires caller { IsCaller (seen checked.now) (reverse instance.path.now) (Some block) instance.caller }
+    requires here { IsInstance (seen checked.now) (reverse instance.now.path.now) instance.now.func }
+    requires ends { ending_at (seen checked.now) instance.now.func block ≡ Some (end_of end.now) }
+    requires keeps { KeepsEnding (seen checked.now) instance.now.func block (end_of end.now) }
+    requires caller { IsCaller (seen checked.now) (reverse instance.now.path.now) (Some block) instance.now.caller }
     requires made { IsMadeFor (seen checked.now) frames.old }
     requires remembers { Remembers frames.old }
     ensures made { IsMadeFor (seen checked.now) frames.new }
     ensures turns { (history : List RunEvent) → StandsFor frames.old history
-        → IsPlaced (seen checked.now) (ending_step (seen checked.now) (reverse instance.path.now) block (end_of end.now) history)
-        → Turns frames.new (ending_step (seen checked.now) (reverse instance.path.now) block (end_of end.now) history) result }
+        → IsPlaced (seen checked.now) (ending_step (seen checked.now) (reverse instance.now.path.now) block (end_of end.now) history)
+        → Turns frames.new (ending_step (seen checked.now) (reverse instance.now.path.now) block (end_of end.now) history) result }
 {
     match end {
         BlockEnd::Fall(next) => Ok(Turn::On(Some(*next))),
@@ -183,18 +183,18 @@ fn call(
 fn leave(
     alloc: Global,
     checked: &Checked,
-    instance: Instance<'_>,
+    instance: &Instance<'_>,
     returned: Option<Value>,
     frames: &mut Frames,
 ) -> Result<Turn, ValueFault>
-    requires here { IsInstance (seen checked.now) (reverse instance.path.now) instance.func }
-    requires caller { IsCallerOf (seen checked.now) (reverse instance.path.now) instance.caller }
-    requires taken { IsTaken (reverse instance.path.now) returned }
+    requires here { IsInstance (seen checked.now) (reverse instance.now.path.now) instance.now.func }
+    requires caller { IsCallerOf (seen checked.now) (reverse instance.now.path.now) instance.now.caller }
+    requires taken { IsTaken (reverse instance.now.path.now) returned }
     requires made { IsMadeFor (seen checked.now) frames.old }
     ensures made { IsMadeFor (seen checked.now) frames.new }
     ensures turns { (history : List RunEvent) → StandsFor frames.old history
-        → IsPlaced (seen checked.now) (leave (seen checked.now) (reverse instance.path.now) returned history)
-        → Turns frames.new (leave (seen checked.now) (reverse instance.path.now) returned history) result }
+        → IsPlaced (seen checked.now) (leave (seen checked.now) (reverse instance.now.path.now) returned history)
+        → Turns frames.new (leave (seen checked.now) (reverse instance.now.path.now) returned history) result }
 {
     frames.leave(instance.func);
     match instance.path.split_last() {

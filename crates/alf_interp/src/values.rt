@@ -49,15 +49,15 @@ pub fn evaluate(frames: &Frames, term: &Term) -> Result<Value, RunFault>
 
 // The value of an operator at the values of its operands, or the first fault.
 #[cycle(evaluation)]
-fn operate(frames: &Frames, op: Op, sizes: &[u32], operands: &[Term]) -> Result<Value, RunFault>
+fn operate(frames: &Frames, op: Op, sizes: &[u32], terms: &[Term]) -> Result<Value, RunFault>
     requires shaped { IsSome (result_size op sizes.now) }
-    requires typed { AreTyped (operand_sizes op sizes.now) (expressions_of (map term_of operands.now)) }
+    requires typed { AreTyped (operand_sizes op sizes.now) (expressions_of (map term_of terms.now)) }
     requires remembers { Remembers frames.now }
     ensures { (history : List RunEvent) → StandsFor frames.now history
-        → result ≡ outcome_of_operands op sizes.now (operands (results_of (shapes frames.now) history (expressions_of (map term_of operands.now)))) }
+        → result ≡ outcome_of_operands op sizes.now (operands (results_of (shapes frames.now) history (expressions_of (map term_of terms.now)))) }
 {
     values_have_their_size();
-    match operands {
+    match terms {
         [a] => applied(op, sizes, &[evaluate(frames, a)]),
         [a, b] => applied(op, sizes, &[evaluate(frames, a), evaluate(frames, b)]),
         [a, b, c] => applied(

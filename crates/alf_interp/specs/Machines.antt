@@ -15,7 +15,7 @@ use Rattle.alf_runs.specs.Places.{IsPlace}
 
 -- a machine: its program and the graph of it, the number of a node, and its memory
 pub record RunMachine : Type 0 where
-  pub program : CheckedParts
+  pub checked : CheckedParts
   pub graph : GraphParts
   pub node : ℕ
   pub memory : RunMemory
@@ -24,7 +24,7 @@ pub record RunMachine : Type 0 where
 pub record StandsWith (machine : RunMachine) (node : Node) (history : List RunEvent) : Type 0 where
   pub numbered : slice_get machine.graph.nodes machine.node ≡ Some node
   pub remembers : StandsFor machine.memory history
-  pub placed : IsPlace (seen machine.program) node history
+  pub placed : IsPlace (seen machine.checked) node history
 
 -- so it does at this moment of a run; at an end it stands nowhere
 abbrev pub StandsAt : RunMachine → Moment → Type 0

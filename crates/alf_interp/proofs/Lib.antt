@@ -1,0 +1,5 @@
+mod Leading
+mod Moving
+mod Returning
+mod Rooms
+mod Typing

@@ -9,15 +9,7 @@
 // What is told of a step.
 mod moved;
 
-// What a step is made of.
-mod filling;
-mod outputs;
-mod statements;
-mod turn;
-mod values;
-
-// Where it leads, and the machine.
-mod edges;
+// The machine.
 mod machine;
 
 pub use machine::Machine;

@@ -1,5 +1,5 @@
 -- What is judged has one meaning, but for a line that gives one example of several.
-use Rattle.std.proofs.Common.{◌≡◌, ℕ, List, [], ◌∷◌, Result, Ok, Err, Option, None, Some, IfSome, IsSomeAnd, IsSome, refl, ap, sym, ◌∙◌, subst}
+use Rattle.std.proofs.Common.{◌≡◌, ℕ, List, [], ◌∷◌, Result, Ok, Err, Option, None, Some, IfSome, IsSomeAnd, IsSome, codes, refl, ap, sym, ◌∙◌, subst}
 use Rattle.alf_program.specs.Tree.{WholeProgram}
 use Rattle.alf_text.specs.Language.{Departure, Means, HasOneMeaning}
 use Rattle.alf_names.specs.Places.{function_place}
@@ -72,8 +72,78 @@ module _ (bytes : List ℕ) (one : HasOneMeaning bytes) where
 some_is : {A : Type 0} (x y : A) → Some x ≡ Some y → x ≡ y
 some_is x y e = cc
 
+-- the line of a fault of names and sizes, and that of a root that is not there
+abbrev item_line : Fault → List ℕ
+item_line (Unknown name) = name_line (codes "fault 20 unknown ") name
+item_line (Duplicate name) = name_line (codes "fault 21 duplicate ") name
+item_line (Size name number) = size_line name number
+
+abbrev root_line : List ℕ → List ℕ
+root_line root = name_line (codes "fault 24 root ") root
+
 -- what a line of the checks says
 data Says (whole : WholeProgram) (root : List ℕ) (outcome : Outcome) : Type 0 where
-  item : (fault : Fault) (line : Fault → List ℕ) → earliest (faults_in whole) ≡ Some fault → outcome ≡ refused (line fault) → Says whole root outcome
+  item : (fault : Fault) → earliest (faults_in whole) ≡ Some fault → outcome ≡ refused (item_line fault) → Says whole root outcome
   cycle : (f : ℕ) → faults_in whole ≡ [] → OnCycle (calls_in whole) f → outcome.cause ≡ Example → Says whole root outcome
-  rootless : (line : List ℕ) → faults_in whole ≡ [] → ((f : ℕ) → OnCycle (calls_in whole) f → ⊥) → function_place whole.funcs root ≡ None → outcome ≡ refused line → Says whole root outcome
+  rootless : faults_in whole ≡ [] → ((f : ℕ) → OnCycle (calls_in whole) f → ⊥) → function_place whole.funcs root ≡ None → outcome ≡ refused (root_line root) → Says whole root outcome
+
+module _ (whole : WholeProgram) (root : List ℕ) where
+  says : (outcome : Outcome) (fault : CheckFault) → IsTold whole root fault → check_line fault ≡ Some outcome.text → outcome.cause ≡ check_cause fault → Says whole root outcome
+  says outcome (told.UnknownName name) h line cause = item (Unknown name) h (outcome_is outcome Source _ cause (sym (some_is _ _ line)))
+  says outcome (told.DuplicateName name) h line cause = item (Duplicate name) h (outcome_is outcome Source _ cause (sym (some_is _ _ line)))
+  says outcome (told.Size name number) h line cause = item (Size name number) h (outcome_is outcome Source _ cause (sym (some_is _ _ line)))
+  says outcome (told.Recursion names) h line cause = cycle h.first.first h.sound h.first.on_cycle cause
+  says outcome (told.Root name) h line cause =
+      rootless h.sound h.falls h.none (outcome_is outcome Source (root_line root) cause (sym (some_is _ _ line) ∙ ap root_line h.named))
+  says outcome told.Memory h line cause = absurd (cc)
+
+  -- a program has a fault of names and sizes or none
+  not_both : (fault : Fault) → earliest (faults_in whole) ≡ Some fault → faults_in whole ≡ [] → ⊥
+  not_both fault e none = let same : None ≡ Some fault = sym (ap earliest none) ∙ e in cc
+
+  pass_not : (outcome : Outcome) → Says whole root outcome → Passes whole root → ⊥
+  pass_not outcome (item fault e is) passes = not_both fault e passes.sound
+  pass_not outcome (cycle f none on is) passes = passes.falls f on
+  pass_not outcome (rootless none falls no is) passes = let some : IsSome None = subst IsSome no passes.starts in absurd some
+
+  -- two lines of one program are alike
+  says_one : (x y : Outcome) → Says whole root x → Says whole root y → AreAlike x y
+  says_one x y (item fault e is) (item other f at) = alike x y (is ∙ ap (λ (a : Fault). refused (item_line a)) (some_is fault other (sym e ∙ f)) ∙ sym at)
+  says_one x y (item fault e is) (cycle g none on at) = absurd (not_both fault e none)
+  says_one x y (item fault e is) (rootless none falls no at) = absurd (not_both fault e none)
+  says_one x y (cycle g none on is) (item fault e at) = absurd (not_both fault e none)
+  says_one x y (cycle g none on is) (cycle f no other at) =
+      record { same_cause = is ∙ sym at; lines = subst (λ (c : Cause). LinesAgree c x.text y.text) (sym is) tt }
+  says_one x y (cycle g none on is) (rootless no falls without at) = absurd (falls g on)
+  says_one x y (rootless none falls no is) (item fault e at) = absurd (not_both fault e none)
+  says_one x y (rootless none falls no is) (cycle g other on at) = absurd (falls g on)
+  says_one x y (rootless none falls no is) (rootless other without nothing at) = alike x y (is ∙ sym at)
+
+  -- the program that passes is the only meaning
+  pub passes_only : (program : NumberedProgram) → Passes whole root → program ≡ meant whole root → IsOnly (CheckMeans whole root) (Ok program)
+  passes_only program passes is = record { means = (passes, is); only = only }
+    where
+      only : (y : Result NumberedProgram Outcome) → CheckMeans whole root y → AreAlikeResults (Ok program) y
+      only (Ok other) k = is ∙ sym k.1
+      only (Err o) k = pass_not o (says o k.fault k.told k.line k.cause) passes
+
+  -- the line of the fault that was met is the only meaning
+  pub told_only : (fault : CheckFault) (cause : Cause) (text : List ℕ) → IsTold whole root fault → check_line fault ≡ Some text → cause ≡ check_cause fault
+      → IsOnly (CheckMeans whole root) (Err (record { cause = cause; text = text }))
+  told_only fault cause text h line is = record { means = record { fault = fault; told = h; line = line; cause = is }; only = only }
+    where
+      o : Outcome
+      o = record { cause = cause; text = text }
+
+      only : (y : Result NumberedProgram Outcome) → CheckMeans whole root y → AreAlikeResults (Err o) y
+      only (Ok other) k = pass_not o (says o fault h line is) k.0
+      only (Err x) k = says_one o x (says o fault h line is) (says x k.fault k.told k.line k.cause)
+
+-- no line of the checks tells a failed read
+pub check_read : (fault : CheckFault) (cause : Cause) → cause ≡ check_cause fault → unread_of cause ≡ None
+check_read (told.UnknownName name) cause is = ap unread_of is
+check_read (told.DuplicateName name) cause is = ap unread_of is
+check_read (told.Size name number) cause is = ap unread_of is
+check_read (told.Recursion names) cause is = ap unread_of is
+check_read (told.Root name) cause is = ap unread_of is
+check_read told.Memory cause is = ap unread_of is

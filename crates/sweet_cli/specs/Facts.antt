@@ -108,4 +108,5 @@ pub record IsReportOf (program : NumberedProgram) (nodes : List Node) (costs : C
   pub runs : Runs program nodes start trace outcome
   pub within : length trace ≤ turns
   pub facts : findings.facts ≡ facts_of (length nodes) trace outcome
+  pub alarm : HasAlarm trace outcome findings.facts
   pub bound : findings.bound ≡ cost_of (node_cost program costs) runs.run

@@ -45,7 +45,7 @@ loop-turn-preserved c =
     let told = rw c.in-To.is at (c.in_ok-next.ensures.steps _ so.stands) in
     let price : c.from-cost.result ≤ 4294967295 = search rules in
     goes_on _ _ _ _ _ _ _ _ _ so c.a_run_has_one_continuation.ensures.more c.index_mut.result.now c.from-cost.result c.index_mut.ensures.value c.from-cost.ensures price
-    c.in-To.next c.step.new.self c.step.ensures.program c.step.ensures.graph told.0 told.1
+    c.in-To.next c.step.new.self c.step.ensures.checked c.step.ensures.graph told.0 told.1
 
 pub returns : goal.returns
 returns c =

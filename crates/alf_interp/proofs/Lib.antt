@@ -1,5 +1,0 @@
-mod Leading
-mod Moving
-mod Returning
-mod Rooms
-mod Typing

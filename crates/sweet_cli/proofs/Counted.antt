@@ -1,5 +1,6 @@
 -- What the crate below counts, in terms of the program without its ranks and of its nodes' costs.
-use Rattle.std.proofs.Common.{◌≡◌, ◌<◌, ℕ, List, [], map, Some, refl, ap, sym, ◌∙◌, subst}
+use Rattle.std.proofs.Common.{◌≡◌, ℕ, List, [], map, Result, Ok, Err, IfOk, ap, ◌∙◌, subst}
+use Rattle.std.specs.declared.alloc.AllocError.{AllocError}
 use Rattle.alf_check.specs.CheckedPrograms.{NumberedProgram, seen}
 use Rattle.alf_check.specs.declared.rows.InputRow.{InputRow}
 use Rattle.flow_graph.specs.Numbering.{GraphParts}
@@ -36,3 +37,10 @@ module _ (program : NumberedProgram) (graph : GraphParts) (rows : List InputRow)
       }
   counted_for costs same (told.Left n) h =
       longer program program.ranks [] (start program rows words) turns (record { node = h.node; history = h.history; stands = h.stands })
+
+  -- and so it is of an answer
+  pub all_counted : (costs : List ℕ) → costs ≡ map (node_cost (unranked program) table) graph.nodes → (result : Result Counted AllocError)
+      → IfOk result (λ counted. Tells program graph.nodes costs (start program rows words) turns counted)
+      → IfOk result (λ counted. CountedAs (record { program = unranked program; graph = graph }) rows words table turns counted)
+  all_counted costs same (Ok counted) h = counted_for costs same counted h
+  all_counted costs same (Err error) h = tt

@@ -104,20 +104,20 @@ module _ (whole : WholeProgram) (root : List ℕ) where
   pass_not : (outcome : Outcome) → Says whole root outcome → Passes whole root → ⊥
   pass_not outcome (item fault e is) passes = not_both fault e passes.sound
   pass_not outcome (cycle f none on is) passes = passes.falls f on
-  pass_not outcome (rootless none falls no is) passes = let some : IsSome None = subst IsSome no passes.starts in absurd some
+  pass_not outcome (rootless none falls gone is) passes = let some : IsSome {T = ℕ} None = subst (λ (o : Option ℕ). IsSome o) gone passes.starts in cc
 
   -- two lines of one program are alike
   says_one : (x y : Outcome) → Says whole root x → Says whole root y → AreAlike x y
   says_one x y (item fault e is) (item other f at) = alike x y (is ∙ ap (λ (a : Fault). refused (item_line a)) (some_is fault other (sym e ∙ f)) ∙ sym at)
   says_one x y (item fault e is) (cycle g none on at) = absurd (not_both fault e none)
-  says_one x y (item fault e is) (rootless none falls no at) = absurd (not_both fault e none)
+  says_one x y (item fault e is) (rootless none falls gone at) = absurd (not_both fault e none)
   says_one x y (cycle g none on is) (item fault e at) = absurd (not_both fault e none)
-  says_one x y (cycle g none on is) (cycle f no other at) =
+  says_one x y (cycle g none on is) (cycle f empty other at) =
       record { same_cause = is ∙ sym at; lines = subst (λ (c : Cause). LinesAgree c x.text y.text) (sym is) tt }
-  says_one x y (cycle g none on is) (rootless no falls without at) = absurd (falls g on)
-  says_one x y (rootless none falls no is) (item fault e at) = absurd (not_both fault e none)
-  says_one x y (rootless none falls no is) (cycle g other on at) = absurd (falls g on)
-  says_one x y (rootless none falls no is) (rootless other without nothing at) = alike x y (is ∙ sym at)
+  says_one x y (cycle g none on is) (rootless empty falls without at) = absurd (falls g on)
+  says_one x y (rootless none falls gone is) (item fault e at) = absurd (not_both fault e none)
+  says_one x y (rootless none falls gone is) (cycle g other on at) = absurd (falls g on)
+  says_one x y (rootless none falls gone is) (rootless other without nothing at) = alike x y (is ∙ sym at)
 
   -- the program that passes is the only meaning
   pub passes_only : (program : NumberedProgram) → Passes whole root → program ≡ meant whole root → IsOnly (CheckMeans whole root) (Ok program)

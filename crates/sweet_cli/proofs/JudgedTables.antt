@@ -1,8 +1,9 @@
 -- What a file of inputs or of costs means is its only meaning.
-use Rattle.std.proofs.Common.{◌≡◌, ℕ, List, Result, Ok, Err, Some, codes, refl, ap, sym, ◌∙◌}
+use Rattle.std.proofs.Common.{◌≡◌, ◌≢◌, ℕ, List, Result, Ok, Err, None, Some, codes, refl, ap, sym, ◌∙◌}
 use Rattle.alf_check.specs.CheckedPrograms.{NumberedProgram}
 use Rattle.alf_check.specs.declared.rows.InputRow.{InputRow}
 use Rattle.cost_table.specs.declared.fault.TableFault.{TableFault}
+use Rattle.cost_table.specs.declared.fault.TableFault.TheVariants as faults
 use Rattle.cost_table.specs.CostTables.{CostTable}
 use Rattle.cost_table.specs.Costs.{MeansCosts, RefusesCosts}
 use Rattle.cost_table.specs.Inputs.{MeansInputs, RefusesInputs}
@@ -11,6 +12,10 @@ use Rattle.work.specs.Outcome.{Outcome, Source, AreAlikeResults, refused}
 use Rattle.work.specs.Work.{IsOnly, alike}
 use Rattle.sweet_cli.specs.Tables.{table_line, InputsMean, CostsMean}
 use Rattle.sweet_cli.proofs.Judged.{outcome_is}
+
+-- a fault with a line is no want of memory
+pub not_memory : (role : List ℕ) (fault : TableFault) (text : List ℕ) → table_line role fault ≡ Some text → fault ≢ faults.Memory
+not_memory role fault text line e = let none : Some text ≡ None = sym line ∙ ap (table_line role) e in cc
 
 -- two lines of one fault
 lines_one : (role : List ℕ) (fault other : TableFault) (text : List ℕ) (o : Outcome) → fault ≡ other → table_line role fault ≡ Some text → table_line role other ≡ Some o.text → o.cause ≡ Source

@@ -1,4 +1,6 @@
 -- Shared lemmas.
+pub mod Signed
+pub mod Lows
 pub mod Ranks
 pub mod RanksRuns
 pub mod RanksTables

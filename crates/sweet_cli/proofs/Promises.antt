@@ -22,7 +22,7 @@ use Rattle.sweet_cli.specs.Task.{Task, KeepsPromise, Promised}
 use Rattle.sweet_cli.specs.Words.{AnalyseWords, RunWords}
 use Rattle.sweet_cli.specs.Facts.{IsSound}
 use Rattle.sweet_cli.specs.Programs.{program_in, checked_in, expanded_in, Expanded, meant}
-use Rattle.sweet_cli.specs.Tables.{inputs_in, inputs_told, costs_in, costs_told, AreInputs, AreCosts}
+use Rattle.sweet_cli.specs.Tables.{inputs_in, inputs_told, costs_in, costs_told, Tables, tables_in, AreInputs, AreCosts}
 use Rattle.sweet_cli.specs.Analyse.{analysing, IsSoundReport}
 use Rattle.sweet_cli.specs.Print.{printing, IsSameProgram}
 use Rattle.sweet_cli.specs.Run.{running, IsRunText, TellsRun}
@@ -65,6 +65,14 @@ unfolding inputs_told
 told_rows program None files before rows after (is, same) = is
 told_rows program (Some file) files before rows after (bytes, log, read, (meant, same)) = (bytes, read.2, meant.means)
 
+told_tables : (program : NumberedProgram) (inputs costs : Option (List ℕ)) (files : Files) (before : Log) (tables : Tables) (after : Log)
+    → (tables_in program inputs costs).steps.Gives (Some files) before tables after → AreInputs inputs files program tables.rows × AreCosts costs files program tables.costs
+unfolding tables_in
+told_tables program inputs costs files before tables after (rows, a, first, (spent, b, second, (is, over))) = (
+  subst (λ (t : Tables). AreInputs inputs files program t.rows) (sym is) (told_rows program inputs files before rows a first),
+  subst (λ (t : Tables). AreCosts costs files program t.costs) (sym is) (told_costs program costs files a spent b second),
+)
+
 -- ---- promises
 
 -- a report that was made is sound
@@ -94,23 +102,22 @@ pub tells_run : (given : RunWords) (told : Option Files) (before : Log) (text : 
     → IfSome told (λ files. TellsRun given files text)
 unfolding running
 tells_run given None before text after g = tt
-tells_run given (Some files) before text after (expanded, a, first, (rows, b, second, (costs, c, third, (run, still)))) =
+tells_run given (Some files) before text after (expanded, a, first, (tables, b, second, (told, c, (run, still), (is, over)))) =
     let program = told_program given.file given.root files before expanded a first in
-    let given_rows = told_rows expanded.program given.inputs files a rows b second in
-    let spent = told_costs expanded.program given.costs files b costs c third in
+    let both = told_tables expanded.program given.inputs given.costs files a tables b second in
     record {
       bytes = program.bytes;
       whole = program.whole;
       graph = expanded.graph;
-      rows = rows;
-      costs = costs;
+      rows = tables.rows;
+      costs = tables.costs;
       told = program.told;
       spelled = program.spelled;
       passes = program.passes;
       graph_is = subst (λ (p : NumberedProgram). IsGraph p expanded.graph) program.program_is program.graph_is;
-      rows_told = subst (λ (p : NumberedProgram). AreInputs given.inputs files p rows) program.program_is given_rows;
-      costs_told = subst (λ (p : NumberedProgram). AreCosts given.costs files p costs) program.program_is spent;
-      shown = subst (λ (p : NumberedProgram). IsRunText (record { program = p; graph = expanded.graph }) rows costs given.turns text) program.program_is run.means;
+      rows_told = subst (λ (p : NumberedProgram). AreInputs given.inputs files p tables.rows) program.program_is both.0;
+      costs_told = subst (λ (p : NumberedProgram). AreCosts given.costs files p tables.costs) program.program_is both.1;
+      shown = subst (λ (p : NumberedProgram). IsRunText (record { program = p; graph = expanded.graph }) tables.rows tables.costs given.turns text) program.program_is (subst (λ (l : List ℕ). IsRunText expanded tables.rows tables.costs given.turns l) (sym is) run.means);
     }
 
 -- a text that was printed spells the same program

@@ -1,5 +1,5 @@
 -- Ranks have no part in what a file of inputs or of costs means for a program.
-use Rattle.std.proofs.Common.{◌≡◌, ℕ, List, [], ◌∷◌, Option, None, Some, unwrap_or, refl, ap, sym, ◌∙◌}
+use Rattle.std.proofs.Common.{◌≡◌, ℕ, List, [], ◌∷◌, Option, None, Some, IsSome, unwrap_or, take, refl, ap, sym, ◌∙◌}
 use Rattle.std.specs.Option.{option_or}
 use Rattle.toml.specs.Data.{Data, Members}
 use Rattle.alf_check.specs.CheckedPrograms.{NumberedProgram}
@@ -8,9 +8,9 @@ use Rattle.cost_table.specs.declared.fault.TableFault.{TableFault}
 use Rattle.cost_table.specs.declared.fault.TableFault.TheVariants as faults
 use Rattle.cost_table.specs.Entries.{Judging, AllRight, RightBelow, IsFirstFault, IsRightEntry, IsWrongEntry}
 use Rattle.cost_table.specs.Files.{Refuses, NoDocument, WrongTop, WrongEntry}
-use Rattle.cost_table.specs.Inputs.{HasCells, LiesIn, input_judging, MeansInputs, RefusesInputs}
+use Rattle.cost_table.specs.Inputs.{input_entry, input_entries, IsInRange, rows_in, HasCells, LiesIn, input_judging, MeansInputs, RefusesInputs}
 use Rattle.cost_table.specs.CostTables.{CostTable, HasRows}
-use Rattle.cost_table.specs.Costs.{HasBlock, IsBlock, cost_by, last_cost, told_cost, IsCostTable, cost_judging, MeansCosts, RefusesCosts}
+use Rattle.cost_table.specs.Costs.{cost_entry, cost_entries, cost_of, HasBlock, IsBlock, cost_by, last_cost, told_cost, IsCostTable, cost_judging, MeansCosts, RefusesCosts}
 use Rattle.sweet_cli.proofs.Ranks.{with_ranks}
 
 -- ---- entries that are judged by a weaker and a stronger rule
@@ -34,8 +34,8 @@ module _ (j l : Judging) (right : (before : List Data) (k : ℕ) (datum : Data) 
     place = h.place;
     datum = h.datum;
     stands = h.stands;
-    before = λ k datum low at. right _ k datum (h.before k datum low at);
-    wrong = wrong _ h.place h.datum fault h.wrong;
+    before = λ k datum low at. right (take k entries) k datum (h.before k datum low at);
+    wrong = wrong (take h.place entries) h.place h.datum fault h.wrong;
   }
 
   refuses_as : (bytes : List ℕ) (top : Members → Option (List Data)) (fault : TableFault) → Refuses bytes top j fault → Refuses bytes top l fault
@@ -54,17 +54,21 @@ has_cells p r s earlier entry h = record {
 
 module _ (p : NumberedProgram) (r s : List ℕ) where
   input_right : (before : List Data) (k : ℕ) (datum : Data) → (input_judging (with_ranks p r)).Right before k datum → (input_judging (with_ranks p s)).Right before k datum
-  input_right before k datum h = right_as _ _ _ _ (has_cells p r s _) (has_cells p s r _) datum h
+  input_right before k datum h =
+      right_as input_entry (λ entry. IsInRange entry.1) (HasCells (with_ranks p r) (rows_in p before)) (HasCells (with_ranks p s) (rows_in p before))
+      (has_cells p r s (rows_in p before)) (has_cells p s r (rows_in p before)) datum h
 
   input_wrong : (before : List Data) (k : ℕ) (datum : Data) (fault : TableFault) → (input_judging (with_ranks p r)).Wrong before k datum fault
       → (input_judging (with_ranks p s)).Wrong before k datum fault
-  input_wrong before k datum fault h = wrong_as _ _ _ _ (has_cells p r s _) (has_cells p s r _) k datum fault h
+  input_wrong before k datum fault h =
+      wrong_as input_entry (λ entry. IsInRange entry.1) (HasCells (with_ranks p r) (rows_in p before)) (HasCells (with_ranks p s) (rows_in p before))
+      (has_cells p r s (rows_in p before)) (has_cells p s r (rows_in p before)) k datum fault h
 
   pub means_inputs : (bytes : List ℕ) (rows : List InputRow) → MeansInputs bytes (with_ranks p r) rows → MeansInputs bytes (with_ranks p s) rows
-  means_inputs bytes rows h = record { entries = h.entries; told = h.told; right = λ k datum at. input_right _ k datum (h.right k datum at); all = h.all }
+  means_inputs bytes rows h = record { entries = h.entries; told = h.told; right = λ k datum at. input_right (take k h.entries) k datum (h.right k datum at); all = h.all }
 
   pub refuses_inputs : (bytes : List ℕ) (fault : TableFault) → RefusesInputs bytes (with_ranks p r) fault → RefusesInputs bytes (with_ranks p s) fault
-  refuses_inputs bytes fault h = refuses_as (input_judging (with_ranks p r)) (input_judging (with_ranks p s)) input_right input_wrong bytes _ fault h
+  refuses_inputs bytes fault h = refuses_as (input_judging (with_ranks p r)) (input_judging (with_ranks p s)) input_right input_wrong bytes input_entries fault h
 
 -- ---- costs
 
@@ -73,11 +77,13 @@ has_block p r s entry h = record { function = h.function; block = h.block; is = 
 
 module _ (p : NumberedProgram) (r s : List ℕ) where
   cost_right : (before : List Data) (k : ℕ) (datum : Data) → (cost_judging (with_ranks p r)).Right before k datum → (cost_judging (with_ranks p s)).Right before k datum
-  cost_right before k datum h = right_as _ _ _ _ (has_block p r s) (has_block p s r) datum h
+  cost_right before k datum h =
+      right_as cost_entry (λ entry. IsSome (cost_of entry.1.cost)) (HasBlock (with_ranks p r)) (HasBlock (with_ranks p s)) (has_block p r s) (has_block p s r) datum h
 
   cost_wrong : (before : List Data) (k : ℕ) (datum : Data) (fault : TableFault) → (cost_judging (with_ranks p r)).Wrong before k datum fault
       → (cost_judging (with_ranks p s)).Wrong before k datum fault
-  cost_wrong before k datum fault h = wrong_as _ _ _ _ (has_block p r s) (has_block p s r) k datum fault h
+  cost_wrong before k datum fault h =
+      wrong_as cost_entry (λ entry. IsSome (cost_of entry.1.cost)) (HasBlock (with_ranks p r)) (HasBlock (with_ranks p s)) (has_block p r s) (has_block p s r) k datum fault h
 
   last_same : (f b : ℕ) (entries : List Data) → last_cost (with_ranks p r) f b entries ≡ last_cost (with_ranks p s) f b entries
   last_same f b [] = refl
@@ -98,9 +104,9 @@ module _ (p : NumberedProgram) (r s : List ℕ) where
     default_is = h.default_is;
     entries = h.entries;
     told = h.told;
-    right = λ k datum at. cost_right _ k datum (h.right k datum at);
+    right = λ k datum at. cost_right (take k h.entries) k datum (h.right k datum at);
     costs = table_same h.default h.entries table h.costs;
   }
 
   pub refuses_costs : (bytes : List ℕ) (fault : TableFault) → RefusesCosts bytes (with_ranks p r) fault → RefusesCosts bytes (with_ranks p s) fault
-  refuses_costs bytes fault h = refuses_as (cost_judging (with_ranks p r)) (cost_judging (with_ranks p s)) cost_right cost_wrong bytes _ fault h
+  refuses_costs bytes fault h = refuses_as (cost_judging (with_ranks p r)) (cost_judging (with_ranks p s)) cost_right cost_wrong bytes cost_entries fault h

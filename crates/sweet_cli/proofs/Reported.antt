@@ -1,6 +1,6 @@
 -- The report of a run, and the text that tells it, have one meaning; and a report is sound.
 use Rattle.std.proofs.Common.{◌≡◌, ◌<◌, ◌≤◌, ◌+◌, ◌==◌, ℕ, zero, suc, List, [], ◌∷◌, ◌++◌, length, get_or, All, Contains, Result, Ok, Err, Option, None, Some, sum_by, refl, ap, sym, ◌∙◌, subst, arith, rules}
-use Rattle.std.proofs.lemmas.List.Elements.{All-append, Contains-append_right}
+use Rattle.std.proofs.lemmas.List.Elements.{All-append, All-cons, All-nil, Contains-append_right}
 use Rattle.lists.specs.Members.{first_member}
 use Rattle.lists.specs.Tests.{by_test}
 use Rattle.alf_check.specs.CheckedPrograms.{NumberedProgram}
@@ -134,27 +134,40 @@ reported expanded costs begin turns tally findings h facts bound = record {
   bound = bound ∙ h.cost;
 }
 
+-- what is told of a tally tells the run
+pub texted : (expanded : Expanded) (rows : List InputRow) (costs : CostTable) (turns : ℕ) (tally : Tally) (text : List ℕ) → CountsRun expanded costs (low_start expanded.program rows) turns tally
+    → text ≡ run_text expanded (Some tally.last) (outcome_of tally.end) tally.turns tally.cost → IsRunText expanded rows costs turns text
+texted expanded rows costs turns tally text h is = record {
+  trace = h.trace;
+  outcome = outcome_of tally.end;
+  runs = h.runs;
+  within = h.within;
+  shown = is ∙ ap (λ (o : Option ℕ). run_text expanded o (outcome_of tally.end) tally.turns tally.cost) (sym h.last)
+      ∙ ap (λ (n : ℕ). run_text expanded (last_of h.trace) (outcome_of tally.end) n tally.cost) h.turned
+      ∙ ap (run_text expanded (last_of h.trace) (outcome_of tally.end) (length h.trace)) h.cost;
+}
+
 -- ---- a report is sound
 
 dead_hold : (trace : List ℕ) (n more : ℕ) → All (Holds trace) (dead_facts n more trace)
-dead_hold trace n zero = tt
+dead_hold trace n zero = All-nil (Holds trace)
 dead_hold trace n (suc more) =
     by_test (places_of trace n == 0)
-    (λ e. let none : places_of trace n ≡ 0 = search rules in rw e (none, dead_hold trace (suc n) more))
+    (λ e. let none : places_of trace n ≡ 0 = search rules in rw e (All-cons (Holds trace) (Dead n) _ none (dead_hold trace (suc n) more)))
     (λ e. rw e (dead_hold trace (suc n) more))
 
 totals_hold : (trace : List ℕ) (n more : ℕ) → All (Holds trace) (total_facts n more trace)
-totals_hold trace n zero = tt
+totals_hold trace n zero = All-nil (Holds trace)
 totals_hold trace n (suc more) =
     by_test (places_of trace n == 0)
     (λ e. rw e (totals_hold trace (suc n) more))
-    (λ e. rw e ((omega arith, omega arith), totals_hold trace (suc n) more))
+    (λ e. rw e (All-cons (Holds trace) (Total n (places_of trace n) (places_of trace n)) _ (omega arith, omega arith) (totals_hold trace (suc n) more)))
 
 alarms_hold : (trace : List ℕ) (last : Option ℕ) (outcome : RunOutcome) → All (Holds trace) (alarm_facts last outcome)
-alarms_hold trace last (Ended outputs) = tt
-alarms_hold trace None (Faulted cause) = tt
-alarms_hold trace (Some n) (Faulted cause) = (tt, tt)
-alarms_hold trace last Lost = tt
+alarms_hold trace last (Ended outputs) = All-nil (Holds trace)
+alarms_hold trace None (Faulted cause) = All-nil (Holds trace)
+alarms_hold trace (Some n) (Faulted cause) = All-cons (Holds trace) (Alarm n cause) [] tt (All-nil (Holds trace))
+alarms_hold trace last Lost = All-nil (Holds trace)
 
 facts_hold : (count : ℕ) (trace : List ℕ) (outcome : RunOutcome) → All (Holds trace) (facts_of count trace outcome)
 facts_hold count trace outcome =

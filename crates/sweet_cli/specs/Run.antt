@@ -20,10 +20,10 @@ use Rattle.alf_runs.specs.Runs.{IsLonger, cost_of}
 use Rattle.run_counts.specs.Traces.{Runs, last_of}
 use Rattle.cost_table.specs.CostTables.{CostTable}
 use Rattle.work.specs.Outcome.{Outcome}
-use Rattle.work.specs.Work.{Work, judged, ◌>>=◌}
+use Rattle.work.specs.Work.{Work, judged, done, ◌>>=◌}
 use Rattle.sweet_cli.specs.Words.{RunWords}
 use Rattle.sweet_cli.specs.Programs.{Expanded, expanded_in, meant}
-use Rattle.sweet_cli.specs.Tables.{inputs_in, costs_in, AreInputs, AreCosts}
+use Rattle.sweet_cli.specs.Tables.{tables_in, AreInputs, AreCosts}
 use Rattle.sweet_cli.specs.Facts.{node_cost}
 use Rattle.sweet_cli.specs.RunText.{run_text}
 use Rattle.sweet_cli.specs.Analyse.{unbounded}
@@ -53,9 +53,9 @@ RunMeans expanded rows costs turns (Err outcome) = IsLonger expanded.program (lo
 unfoldable pub running : RunWords → Work (List ℕ)
 running given = do
   expanded ← expanded_in given.file given.root
-  rows ← inputs_in expanded.program given.inputs
-  costs ← costs_in expanded.program given.costs
-  judged (RunMeans expanded rows costs given.turns)
+  tables ← tables_in expanded.program given.inputs given.costs
+  text ← judged (RunMeans expanded tables.rows tables.costs given.turns)
+  done text
 
 -- the text tells this run of the program that the file spells, by the files that the words name
 pub record TellsRun (given : RunWords) (files : Files) (text : List ℕ) : Type 0 where

@@ -9,6 +9,7 @@ use Rattle.std.specs.List.{flat_map, zip}
 use Rattle.std.specs.Fmt.{signed_decimal}
 use Rattle.alf_ops.specs.declared.history.Value.{Value}
 use Rattle.alf_ops.specs.declared.history.Value.TheVariants.{Int, Ptr}
+use Rattle.alf_ops.specs.declared.history.RunFault.{RunFault}
 use Rattle.alf_ops.specs.TwosComplement.{signed}
 use Rattle.alf_check.specs.declared.rows.FrameRow.{FrameRow}
 use Rattle.alf_check.specs.CheckedPrograms.{NumberedProgram}
@@ -55,10 +56,14 @@ name_of graph n = slice_index_or graph.names n []
 abbrev pub unbounded_line : GraphParts → List ℕ
 unbounded_line graph = codes "unbounded 0 " ++ (name_of graph 0 ++ 10 ∷ [])
 
+-- the fault that ends a run, and the name of the node at which it does
+abbrev pub stopped_line : RunFault → List ℕ → List ℕ
+stopped_line cause name = codes "stopped " ++ (fault_word cause ++ (32 ∷ (name ++ 10 ∷ [])))
+
 -- how a run ends: with what it returned and what the exported frames hold, or with a fault at its last node
 abbrev pub outcome_lines : Expanded → Option ℕ → Outcome → List ℕ
 outcome_lines expanded last (Ended outputs) = returned_line expanded.program outputs.returned ++ global_lines expanded.program (zip expanded.program.exports outputs.globals)
-outcome_lines expanded last (Faulted cause) = codes "stopped " ++ (fault_word cause ++ (32 ∷ (option_map_or (name_of expanded.graph) last [] ++ 10 ∷ [])))
+outcome_lines expanded last (Faulted cause) = stopped_line cause (option_map_or (name_of expanded.graph) last [])
 outcome_lines expanded last Lost = []
 
 -- the count of the run's nodes and their cost come last

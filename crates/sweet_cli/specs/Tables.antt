@@ -4,6 +4,7 @@
 --   inputs_in program file            the file is read, and its rows; without a file there are none
 --   CostsMean bytes program meaning   the costs of a costs file, or the line of its fault
 --   costs_in program file             the file is read, and its costs; without a file every block costs 1
+--   tables_in program inputs costs    both
 --   AreInputs file files program rows, AreCosts file files program costs   the told files have these rows, these costs
 use Rattle.std.specs.Prelude.{◌≡◌, ℕ, List, [], ◌∷◌, ◌++◌, Result, Ok, Err, Option, None, Some, codes, decimal}
 use Rattle.flow_base.specs.Outside.{Files}
@@ -83,6 +84,20 @@ costs_told program file = do
 abbrev pub costs_in : NumberedProgram → Option (List ℕ) → Work CostTable
 costs_in program None = done one_each
 costs_in program (Some file) = costs_told program file
+
+-- ---- both
+
+-- the rows and the costs
+pub record Tables : Type 0 where
+  pub rows : List InputRow
+  pub costs : CostTable
+
+-- the files are read, the inputs first
+unfoldable pub tables_in : NumberedProgram → Option (List ℕ) → Option (List ℕ) → Work Tables
+tables_in program inputs costs = do
+  rows ← inputs_in program inputs
+  spent ← costs_in program costs
+  done (record { rows = rows; costs = spent })
 
 -- ---- told files
 

@@ -1,6 +1,6 @@
 //! `analyse FILE`: the report of the program's one run.
 
-ghost use Rattle.std.specs.Prelude.{option_map, IfOk, IfSome};
+ghost use Rattle.std.specs.Prelude.{IfOk, IfSome};
 ghost use Rattle.alf_check.specs.CheckedPrograms.{seen};
 ghost use Rattle.flow_graph.specs.Numbering.{IsGraph};
 ghost use Rattle.work.specs.Works.{Works, Judges};
@@ -55,6 +55,7 @@ fn run_report(
     requires { IsGraph (seen expanded.now.checked) expanded.now.graph }
     ensures { Judges (ReportMeans (expanded_of expanded.now) costs.now turns) (λ report. findings_of report) result }
 {
+    expanded.checked.keeps();
     a_run_has_one_end();
     graphs_are_expansions();
     match counted(alloc, expanded, &[], &[], costs, turns)? {

@@ -1,7 +1,7 @@
 //! `run FILE`: one run of the program, told.
 
-ghost use Rattle.std.specs.Prelude.{◌≡◌, ◌≤◌, option_map, IfOk, IfSome};
-ghost use Rattle.std.specs.List.{AllZip};
+ghost use Rattle.std.specs.Prelude.{◌≡◌, ◌≤◌, All, IfOk, IfSome};
+ghost use Rattle.alf_check.specs.declared.rows.InputRow.{InputRow};
 ghost use Rattle.alf_check.specs.CheckedPrograms.{seen};
 ghost use Rattle.alf_check.specs.Inputs.{KeepInputs};
 ghost use Rattle.flow_graph.specs.Numbering.{IsGraph};
@@ -13,12 +13,11 @@ ghost use Rattle.sweet_cli.specs.Run.{low_words, RunMeans, running, TellsRun};
 
 use crate::commands::counting::counted;
 use crate::commands::programs::{Expanded, expanded_in};
-use crate::commands::tables::{costs_in, inputs_in};
+use crate::commands::tables::{Tables, tables_in};
 use crate::lines::{run_text, unbounded_line};
 use crate::words::RunWords;
-use alf_check::{Checked, InputRow};
+use alf_check::InputRow;
 use alf_runs::{a_run_has_one_end, active_frames_follow_the_call_path};
-use cost_table::Costs;
 use flow_base::Shelf;
 use flow_graph::graphs_are_expansions;
 use run_counts::Counted;
@@ -41,28 +40,29 @@ fn running<F: Shelf>(alloc: Global, given: RunWords<'_>, shelf: &mut F) -> Resul
     ensures { Works (running (run_meant given.entry)) (λ text. text.items) (F.state shelf.old) result (F.state shelf.new) }
 {
     let expanded = expanded_in(alloc, given.file, given.root, shelf)?;
-    let rows = inputs_in(alloc, &expanded.checked, given.inputs, shelf)?;
-    let costs = costs_in(alloc, &expanded.checked, given.costs, shelf)?;
-    told(alloc, &expanded, &rows, &costs, given.turns)
+    let tables = tables_in(alloc, &expanded.checked, given.inputs, given.costs, shelf)?;
+    let text = told(alloc, &expanded, &tables, given.turns)?;
+    Ok(text)
 }
 
 // What is told of the run whose inputs are the low ends of their ranges.
 fn told(
     alloc: Global,
     expanded: &Expanded,
-    rows: &[InputRow],
-    costs: &Costs,
+    tables: &Tables,
     turns: u32,
 ) -> Result<Vec<u8>, Stop>
     requires graph { IsGraph (seen expanded.now.checked) expanded.now.graph }
-    requires rows { KeepInputs (seen expanded.now.checked) rows.now }
-    ensures { Judges (RunMeans (expanded_of expanded.now) rows.now costs.now turns) (λ text. text.items) result }
+    requires rows { KeepInputs (seen expanded.now.checked) tables.now.rows.items }
+    ensures { Judges (RunMeans (expanded_of expanded.now) tables.now.rows.items tables.now.costs turns) (λ text. text.items) result }
 {
+    expanded.checked.keeps();
     a_run_has_one_end();
     graphs_are_expansions();
     active_frames_follow_the_call_path();
+    let rows = tables.rows.as_slice();
     let words = low_words(alloc, rows)?;
-    match counted(alloc, expanded, rows, &words, costs, turns)? {
+    match counted(alloc, expanded, rows, &words, &tables.costs, turns)? {
         Counted::Over(tally) => {
             let text = run_text(alloc, &expanded.checked, &expanded.graph, &tally)?;
             Ok(text)

@@ -5,7 +5,8 @@ ghost use Rattle.alf_check.specs.CheckedPrograms.{seen};
 ghost use Rattle.alf_check.specs.Inputs.{KeepInputs};
 ghost use Rattle.work.specs.Works.{Works, Judges};
 ghost use Rattle.sweet_cli.specs.Programs.{unranked};
-ghost use Rattle.sweet_cli.specs.Tables.{InputsMean, inputs_told, inputs_in, CostsMean, costs_told, costs_in};
+ghost use Rattle.sweet_cli.specs.Tables.{InputsMean, inputs_told, inputs_in, CostsMean, costs_told, costs_in, tables_in};
+ghost use Rattle.sweet_cli.specs.Seen.{tables_of};
 
 use crate::commands::programs::{MOST_BYTES, TOO_LONG};
 use crate::lines::table_line;
@@ -15,8 +16,32 @@ use flow_base::Shelf;
 use std::alloc::Global;
 use work::{Role, Stop, Why, read_file};
 
-/// The rows of inputs. Without a file there are none.
-pub fn inputs_in<F: Shelf>(
+/// The rows of inputs, and the costs of blocks.
+#[derive(Drop)]
+pub struct Tables {
+    pub rows: Vec<InputRow>,
+    pub costs: Costs,
+}
+
+/// Both, the inputs first.
+#[tactic(auto, unfolding(crate::specs::Tables::tables_in))]
+pub fn tables_in<F: Shelf>(
+    alloc: Global,
+    checked: &Checked,
+    inputs: Option<&str>,
+    costs: Option<&str>,
+    shelf: &mut F,
+) -> Result<Tables, Stop>
+    ensures work { Works (tables_in (unranked (seen checked.now)) (option_map (λ name. name.now) inputs.entry) (option_map (λ name. name.now) costs.entry)) tables_of (F.state shelf.old) result (F.state shelf.new) }
+    ensures keep { IfOk result (λ tables. KeepInputs (seen checked.now) tables.rows.items) }
+{
+    let rows = inputs_in(alloc, checked, inputs, shelf)?;
+    let costs = costs_in(alloc, checked, costs, shelf)?;
+    Ok(Tables { rows, costs })
+}
+
+// The rows of inputs. Without a file there are none.
+fn inputs_in<F: Shelf>(
     alloc: Global,
     checked: &Checked,
     file: Option<&str>,

@@ -4,11 +4,9 @@ ghost use Rattle.std.specs.Prelude.{◌≡◌, ◌≤◌, ◌<◌, ◌-◌, ◌^
 ghost use Rattle.std.specs.List.{zip};
 ghost use Rattle.alf_ops.specs.TwosComplement.{signed};
 ghost use Rattle.alf_check.specs.CheckedPrograms.{seen};
-ghost use Rattle.alf_interp.specs.Telling.{outputs_of};
-ghost use Rattle.alf_runs.specs.Outcomes.{Ended, Faulted};
 ghost use Rattle.run_counts.specs.Counts.{outcome_of};
-ghost use Rattle.sweet_cli.specs.Programs.{Expanded, unranked};
-ghost use Rattle.sweet_cli.specs.RunText.{frame_text, value_text, loaded_text, returned_line, global_line, global_lines, unbounded_line, outcome_lines, run_text};
+ghost use Rattle.sweet_cli.specs.Programs.{unranked};
+ghost use Rattle.sweet_cli.specs.RunText.{frame_text, value_text, returned_line, global_line, global_lines, name_of, unbounded_line, stopped_line, run_text};
 
 use crate::lines::check_lines::push_quoted;
 use crate::lines::report_text::word_of;
@@ -52,10 +50,27 @@ fn push_outputs(
         ++ global_lines (unranked (seen checked.now)) (zip (seen checked.now).exports outputs.now.globals.items))) }
 {
     push_returned(text, alloc, checked, outputs.returned)?;
-    for (frame, value) in checked.exports().iter().zip(outputs.globals.iter()) {
-        push_global(text, alloc, checked, *frame, *value)?;
-    }
-    Ok(())
+    push_globals(text, alloc, checked, checked.exports(), &outputs.globals)
+}
+
+// Adds what these frames hold, each beside its value.
+fn push_globals(
+    text: &mut Vec<u8>,
+    alloc: Global,
+    checked: &Checked,
+    frames: &[u32],
+    values: &[Option<Value>],
+) -> Result<(), AllocError>
+    ensures { OnOk result (text.new.items ≡ text.old.items ++ global_lines (unranked (seen checked.now)) (zip frames.now values.now)) }
+{
+    let Some((frame, frames)) = frames.split_first() else {
+        return Ok(());
+    };
+    let Some((value, values)) = values.split_first() else {
+        return Ok(());
+    };
+    push_global(text, alloc, checked, *frame, *value)?;
+    push_globals(text, alloc, checked, frames, values)
 }
 
 // Adds what the root returned.
@@ -68,11 +83,13 @@ fn push_returned(
     ensures { OnOk result (text.new.items ≡ text.old.items ++ returned_line (unranked (seen checked.now)) value) }
 {
     let Some(value) = value else {
-        return text.extend_from_slice(b"returned\n");
+        text.extend_from_slice(b"returned\n")?;
+        return Ok(());
     };
     text.extend_from_slice(b"returned ")?;
     push_value(text, alloc, checked, value)?;
-    text.push(b'\n')
+    text.push(b'\n')?;
+    Ok(())
 }
 
 // Adds what an exported frame holds.
@@ -105,12 +122,12 @@ fn push_stop(
     node: u32,
 ) -> Result<(), AllocError>
     requires { node < length graph.now.nodes }
-    ensures { OnOk result ((expanded : Expanded) → expanded.graph ≡ graph.now → text.new.items ≡ text.old.items ++ outcome_lines expanded (Some node) (Faulted fault)) }
+    ensures { OnOk result (text.new.items ≡ text.old.items ++ stopped_line fault (name_of graph.now node)) }
 {
+    let word = word_of(fault);
+    let start = format!(in alloc; "stopped {word} ")?;
     let name = graph.name(alloc, node)?;
-    text.extend_from_slice(b"stopped ")?;
-    text.extend_from_slice(word_of(fault).as_bytes())?;
-    text.push(b' ')?;
+    text.extend_from_slice(start.as_bytes())?;
     text.extend_from_slice(&name)?;
     text.push(b'\n')?;
     Ok(())
@@ -151,6 +168,7 @@ fn frame_name(checked: &Checked, frame: u32) -> &[u8]
 }
 
 // The word in two's complement.
+#[tactic(auto, using(crate::proofs::Signed::signed_wide))]
 fn signed(size: u32, bits: u64) -> i128
     ensures { result ≡ signed size bits }
 {

@@ -1,3 +1,9 @@
 -- The files of this folder.
+pub mod Doing
+pub mod Edges
+pub mod Filling
 pub mod Machines
+pub mod Stepping
 pub mod Telling
+pub mod Turns
+pub mod Typed

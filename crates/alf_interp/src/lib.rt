@@ -9,7 +9,15 @@
 // What is told of a step.
 mod moved;
 
-// The machine.
+// What a step is made of.
+mod filling;
+mod outputs;
+mod statements;
+mod turn;
+mod values;
+
+// Where it leads, and the machine.
+mod edges;
 mod machine;
 
 pub use machine::Machine;

@@ -1,43 +1,55 @@
 ghost use Rattle.std.specs.Prelude.{◌≡◌, Some};
 ghost use Rattle.alf_tokens.specs.Ahead.{lexeme};
-ghost use Rattle.alf_text.specs.declared.fault.Departure.TheVariants.{Memory};
+ghost use Rattle.alf_text.specs.declared.fault.FaultAt.TheVariants.{Memory};
 ghost use Rattle.alf_text.specs.Grammar.{misfit, outside};
 ghost use Rattle.alf_text.specs.Reading.{fault_of};
 
 use alf_tokens::{Kind, Token};
-use flow_base::Which;
+use flow_base::{Name, Place, Which};
 use std::alloc::{AllocError, AllocFailed};
+use thiserror::Error;
 
 /// Where a text departs from the grammar first, or want of memory.
 ///
-/// A place is told by how many bytes of the text are left there.
-#[derive(Clone, Copy, Debug)]
-pub enum Departure<'a> {
-    /// The token that begins here does not fit.
-    Syntax(usize),
+/// A place is of type `P`, and a word of type `W`.
+#[derive(Debug, Drop, Error)]
+pub enum FaultAt<P, W> {
+    /// The token that begins here does not fit, or no token begins here.
+    #[error("a token that does not fit")]
+    Syntax(P),
     /// The number that begins here is outside its range.
-    Number(usize),
-    /// This word or number is none of those that the profile has at its place.
-    OutOfProfile(usize, &'a [u8]),
-    /// This quantity comes to this number, which is above its limit.
+    #[error("a number outside its range")]
+    Number(P),
+    /// This word or number, which begins here, is none of those that the profile has at its place.
+    #[error("a word or number outside the profile")]
+    OutOfProfile(P, W),
+    /// The quantity passes its limit; the number is the limit plus one.
+    #[error("a quantity past its limit")]
     Limit(Which, u64),
     /// Memory ran out.
+    #[error("out of memory")]
     Memory,
 }
 
-impl From<AllocError> for Departure<'_> {
+/// Where a text departs, as it is told.
+pub type TextFault = FaultAt<Place, Name>;
+
+/// Where a text departs, as the reader finds it: a place is how many bytes of the text are left there.
+pub type Departure<'a> = FaultAt<usize, &'a [u8]>;
+
+impl<P, W> From<AllocError> for FaultAt<P, W> {
     ghost from_gives = { λ _ e. e ≡ Memory };
 
     fn from(_e: AllocError) -> Self {
-        Departure::Memory
+        FaultAt::Memory
     }
 }
 
-impl<T: Drop> From<AllocFailed<T>> for Departure<'_> {
+impl<P, W, T: Drop> From<AllocFailed<T>> for FaultAt<P, W> {
     ghost from_gives = { λ _ e. e ≡ Memory };
 
     fn from(_e: AllocFailed<T>) -> Self {
-        Departure::Memory
+        FaultAt::Memory
     }
 }
 

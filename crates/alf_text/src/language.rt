@@ -7,9 +7,8 @@ ghost use Rattle.alf_program.specs.Writable.{IsWritable};
 ghost use Rattle.alf_text.specs.Reading.{fault_of};
 ghost use Rattle.alf_text.specs.Language.{Means, HasOneMeaning, departure_of, placed, place_of, place_after, is_line_feed};
 
-use crate::fault::Departure;
+use crate::fault::{Departure, TextFault};
 use crate::reader::{Counts, Reader};
-use crate::text_fault::TextFault;
 use crate::writable::writable_programs_are_spelled;
 use alf_program::Program;
 use flow_base::{Name, Place};

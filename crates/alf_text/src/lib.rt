@@ -3,7 +3,6 @@
 
 // Where a text departs from the grammar.
 mod fault;
-mod text_fault;
 
 // Single tokens, and what is counted.
 mod counts;
@@ -32,9 +31,9 @@ mod printing;
 mod first;
 
 pub use alf_program::{Alloc, Expr, Func, Init, Item, Num, Program, Stmt};
+pub use fault::{FaultAt, TextFault};
 pub use first::{FirstFault, first_texts, read_first};
 pub use language::{one_meaning, read};
 pub use laws::canonical_texts_are_read_back;
 pub use printing::print;
-pub use text_fault::TextFault;
 pub use writable::writable_programs_are_spelled;

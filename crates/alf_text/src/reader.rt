@@ -6,6 +6,7 @@ ghost use Rattle.flow_base.specs.Digits.{prefix_digits};
 ghost use Rattle.grammar.specs.Form.{first, after};
 ghost use Rattle.alf_tokens.specs.Tokens.{tokens_of};
 ghost use Rattle.alf_tokens.specs.Ahead.{lexeme};
+ghost use Rattle.alf_text.specs.declared.fault.FaultAt.TheVariants.{Syntax};
 ghost use Rattle.alf_text.specs.Grammar.{opens, opens_target, opening, closing, end, some_word, word, begin, between, fixed, size, at_most, name, number_within, number_between};
 ghost use Rattle.alf_text.specs.Reading.{position, Reads};
 
@@ -84,7 +85,7 @@ impl<'a> Reader<'a> {
     pub fn token(&mut self) -> Result<Token<'a>, Departure<'a>>
         ensures found { IfOk result (λ token. first (position self.old) ≡ Some (lexeme token)) }
         ensures rest { IfOk result (λ token. position self.new ≡ after (position self.old)) }
-        ensures end { IfErr result (λ departure. (departure ≡ Departure.Syntax 0) × (first (position self.old) ≡ None)) }
+        ensures end { IfErr result (λ departure. (departure ≡ Syntax 0) × (first (position self.old) ≡ None)) }
     {
         match self.next() {
             Some(token) => Ok(token),

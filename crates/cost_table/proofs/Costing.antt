@@ -3,12 +3,14 @@
 --   told_more    the cost that entries tell, with one more entry
 --   rows_with    a table keeps its rows
 --   cost_with    the costs of a table with one of a block
-use Rattle.std.proofs.Common.{◌≡◌, ◌≢◌, ◌<◌, ◌≤◌, ⊎_elim, ℕ, Bool, true, false, ◌&&◌, List, [], ◌∷◌, ◌++◌, length, get_or, set, Option, Some, None, slice_get, unwrap_or, refl, ap, sym, ◌∙◌, subst, nat_eq, arith}
+--   with_set     a cost is written in its vector
+use Rattle.std.proofs.Common.{◌≡◌, ◌≢◌, ◌<◌, ℕ, ◌&&◌, List, [], ◌∷◌, ◌++◌, length, get_or, map, set, Option, Vec, Global, Some, None, slice_get, unwrap_or, refl, ap, sym, ◌∙◌, subst, nat_eq, arith}
 use Rattle.std.specs.Prelude.{if◌then◌else◌}
-use Rattle.std.specs.Option.{option_or}
+use Rattle.std.specs.Option.{option_map, option_or}
+use Rattle.std.specs.Vec.{with_item}
 use Rattle.std.proofs.lemmas.Bool.Decides.{nat_tests}
-use Rattle.std.proofs.lemmas.List.{get_or-set_same, get_or-set_other, length-set}
-use Rattle.std.proofs.lemmas.Option.{get_or_from_slice_get, same_Some, slice_get-get_or, slice_get_within, unwrap_or-slice_get}
+use Rattle.std.proofs.lemmas.List.{get_or-set_same, get_or-set_other, length-set, map-set}
+use Rattle.std.proofs.lemmas.Option.{get_or_from_slice_get, slice_get-get_or, slice_get-map, slice_get_within, unwrap_or-slice_get}
 use Rattle.toml.specs.Data.{Data}
 use Rattle.lists.specs.Tests.{by_test}
 use Rattle.alf_check.specs.CheckedPrograms.{NumberedProgram, blocks_at}
@@ -61,15 +63,15 @@ pub rows_with : (program : NumberedProgram) (table : CostTable) (f b cost : ℕ)
 rows_with program table f b cost has low = record {
   functions = length-set table.rows f (set (row_at table f) b cost) ∙ has.functions;
   blocks = λ g row at. by_test (nat_eq g f)
-    (λ e.
-    let same : g ≡ f = grind (arith, e, nat_tests) in
-    let is : row ≡ set (row_at table f) b cost = sym (get_or_from_slice_get (set table.rows f (set (row_at table f) b cost)) g row [] at) ∙ ap (λ (k : ℕ). get_or (set table.rows f (set (row_at table f) b cost)) k []) same ∙ get_or-set_same table.rows f (set (row_at table f) b cost) [] low in
-    ap length is ∙ length-set (row_at table f) b cost ∙ row_long program table f has low ∙ ap (λ (k : ℕ). length (blocks_at program k)) (sym same))
-    (λ e.
-    let other : g ≢ f = grind (arith, e, nat_tests) in
-    let within : g < length table.rows = subst (λ (n : ℕ). g < n) (length-set table.rows f (set (row_at table f) b cost)) (slice_get_within (set table.rows f (set (row_at table f) b cost)) g row at) in
-    let is : get_or table.rows g [] ≡ row = sym (get_or-set_other table.rows f g (set (row_at table f) b cost) [] other) ∙ get_or_from_slice_get (set table.rows f (set (row_at table f) b cost)) g row [] at in
-    has.blocks g row (slice_get-get_or table.rows g [] within ∙ ap Some is));
+      (λ e.
+      let same : g ≡ f = grind (arith, e, nat_tests) in
+      let is : row ≡ set (row_at table f) b cost = sym (get_or_from_slice_get (set table.rows f (set (row_at table f) b cost)) g row [] at) ∙ ap (λ (k : ℕ). get_or (set table.rows f (set (row_at table f) b cost)) k []) same ∙ get_or-set_same table.rows f (set (row_at table f) b cost) [] low in
+      ap length is ∙ length-set (row_at table f) b cost ∙ row_long program table f has low ∙ ap (λ (k : ℕ). length (blocks_at program k)) (sym same))
+      (λ e.
+      let other : g ≢ f = grind (arith, e, nat_tests) in
+      let within : g < length table.rows = subst (λ (n : ℕ). g < n) (length-set table.rows f (set (row_at table f) b cost)) (slice_get_within (set table.rows f (set (row_at table f) b cost)) g row at) in
+      let is : get_or table.rows g [] ≡ row = sym (get_or-set_other table.rows f g (set (row_at table f) b cost) [] other) ∙ get_or_from_slice_get (set table.rows f (set (row_at table f) b cost)) g row [] at in
+      has.blocks g row (slice_get-get_or table.rows g [] within ∙ ap Some is));
 }
 
 -- the cost of the block itself
@@ -111,3 +113,13 @@ cost_with table f b cost g c low within = by_test (nat_eq g f)
     (λ e.
     let other : g ≢ f = grind (arith, e, nat_tests) in
     rw e (cost_elsewhere table f b cost g c other))
+
+-- the lists that vectors of costs stand for
+abbrev pub rows_of : List (Vec ℕ Global) → List (List ℕ)
+rows_of rows = map (λ (row : Vec ℕ Global). row.items) rows
+
+-- a cost is written in its vector
+pub with_set : (rows : List (Vec ℕ Global)) (others f b cost : ℕ) (row : Vec ℕ Global) → slice_get rows f ≡ Some row → ◌≡◌ {A = CostTable} (record { rows = rows_of (set rows f (with_item row b cost)); others = others }) (with_cost (record { rows = rows_of rows; others = others }) f b cost)
+with_set rows others f b cost row at =
+    let is : slice_get (rows_of rows) f ≡ Some row.items = slice_get-map (λ (r : Vec ℕ Global). r.items) rows f ∙ ap (option_map (λ (r : Vec ℕ Global). r.items)) at in
+    rw (map-set (λ (r : Vec ℕ Global). r.items) rows f (with_item row b cost), is) refl

@@ -8,7 +8,11 @@ pub mod FramesFound
 pub mod Placed
 pub mod Lying
 pub mod Steps
+pub mod Numbers
+pub mod Functions
 pub mod Costing
+pub mod Alike
+pub mod CostSteps
 pub mod CostEntries
 pub mod OneFault
 pub mod OneInputs

@@ -3,7 +3,7 @@
 use Rattle.std.proofs.Common.{◌≡◌, ◌<◌, ◌∙◌, ℕ, List, Some, Result, Ok, Err, IsSome, length, get_or, slice_get, refl, ap, sym, subst, arith}
 use Rattle.std.proofs.lemmas.List.{same_lists}
 use Rattle.std.proofs.lemmas.Option.{same_Some, slice_get-get_or}
-use Rattle.toml.specs.Data.{Data, Members}
+use Rattle.toml.specs.Data.{Data}
 use Rattle.alf_check.specs.CheckedPrograms.{NumberedProgram}
 use Rattle.cost_table.specs.declared.fault.TableFault.{TableFault}
 use Rattle.cost_table.specs.CostTables.{CostTable, cost_at}

@@ -5,7 +5,7 @@
 --   one_document     bytes are one document
 --   one_refusal      a file is refused for one fault
 --   right_or_refused a file whose entries are right is not refused
-use Rattle.std.proofs.Common.{◌≡◌, ◌<◌, ◌≤◌, ⊎_elim, ℕ, List, Option, Some, None, slice_get, take, refl, ap, sym, ◌∙◌, subst, arith}
+use Rattle.std.proofs.Common.{◌≡◌, ◌<◌, ◌≤◌, ⊎_elim, ℕ, List, Option, slice_get, take, refl, ap, sym, ◌∙◌, subst, arith}
 use Rattle.std.proofs.lemmas.Option.{same_Some, none-some}
 use Rattle.toml.specs.Data.{Data, Members}
 use Rattle.cost_table.specs.declared.fault.TableFault.{TableFault}
@@ -77,13 +77,13 @@ one_first : (judging : Judging) (entries : List Data) (f g : TableFault) → IsF
 one_first judging entries f g fair a b = ⊎_elim
     (λ (low : a.place < b.place). absurd (not_before judging entries f g fair a b low))
     (λ (high : b.place ≤ a.place). ⊎_elim
-      (λ (low : b.place < a.place). absurd (not_before judging entries g f fair b a low))
-      (λ (same : a.place ≤ b.place).
-      let place : b.place ≡ a.place = omega arith in
-      let datum : b.datum ≡ a.datum = same_Some b.datum a.datum (sym b.stands ∙ ap (slice_get entries) place ∙ a.stands) in
-      fair.one (take a.place entries) a.place a.datum f g a.wrong
-      (subst (λ d. judging.Wrong (take a.place entries) a.place d g) datum (subst (λ k. judging.Wrong (take k entries) k b.datum g) place b.wrong)))
-      (below_or_not b.place a.place))
+    (λ (low : b.place < a.place). absurd (not_before judging entries g f fair b a low))
+    (λ (same : a.place ≤ b.place).
+    let place : b.place ≡ a.place = omega arith in
+    let datum : b.datum ≡ a.datum = same_Some b.datum a.datum (sym b.stands ∙ ap (slice_get entries) place ∙ a.stands) in
+    fair.one (take a.place entries) a.place a.datum f g a.wrong
+    (subst (λ d. judging.Wrong (take a.place entries) a.place d g) datum (subst (λ k. judging.Wrong (take k entries) k b.datum g) place b.wrong)))
+    (below_or_not b.place a.place))
     (below_or_not a.place b.place)
 
 -- a file is refused for one fault

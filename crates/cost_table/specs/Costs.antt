@@ -1,9 +1,8 @@
 -- What a costs file means for a program.
---   natural number, cost_of number   the number without a sign, if it has none; the same where it is a cost
+--   below n number, cost_of number   the number, if it is from 0 to below n; if it is a cost
 --   default_cost members         the cost of a block of which no entry speaks
 --   cost_entry datum             the function's name, the block and the cost of an entry that has its keys
 --   function_named program name  the function of this name
---   block_in number count        the number as that of one of so many blocks
 --   IsBlock program entry f b    the entry is of block b of function f, which is there
 --   cost_by program f b datum    the cost that an entry gives the block
 --   last_cost program f b entries    that of the last entry that gives it one
@@ -13,7 +12,7 @@
 --   cost_entries members         the entries, if only `default` and `cost` stand at the top: a cost, an array of tables
 --   MeansCosts bytes program table     the file means these costs
 --   RefusesCosts bytes program fault   the file is refused for this fault
-use Rattle.std.specs.Prelude.{◌≡◌, ◌<◌, ◌+◌, ◌^◌, ℕ, ℤ, pos, Bool, true, false, ◌&&◌, ◌||◌, List, [], ◌∷◌, length, Option, Some, None, IsSome, is_some, codes, unwrap_or, if◌then◌else◌, nat_eq, ltb}
+use Rattle.std.specs.Prelude.{◌≡◌, ◌<◌, ◌+◌, ◌^◌, ℕ, ℤ, pos, Bool, false, ◌&&◌, ◌||◌, List, [], ◌∷◌, length, Option, Some, None, IsSome, is_some, codes, unwrap_or, if◌then◌else◌, nat_eq, ltb}
 use Rattle.std.specs.Option.{option_and_then, option_map_or, option_or}
 use Rattle.std.specs.Str.{bytes_eq}
 use lib.IntN.{negsuc}
@@ -28,18 +27,14 @@ use Rattle.cost_table.specs.CostTables.{CostTable, HasRows, cost_at}
 
 -- ---- costs
 
--- the number without a sign, if it has none
-abbrev pub natural : ℤ → Option ℕ
-natural (pos n) = Some n
-natural (negsuc n) = None
-
--- a cost is below 2 to the 32
-abbrev pub if_cost : ℕ → Option ℕ
-if_cost n = if ltb n (2 ^ 32) then Some n else None
+-- the number, if it is from 0 to below n
+abbrev pub below : ℕ → ℤ → Option ℕ
+below n (pos k) = if ltb k n then Some k else None
+below n (negsuc k) = None
 
 -- the number as a cost, if it is one
 abbrev pub cost_of : ℤ → Option ℕ
-cost_of number = option_and_then if_cost (natural number)
+cost_of number = below (2 ^ 32) number
 
 -- the cost of a block of which no entry speaks: 1 where the key is absent
 abbrev pub default_cost : Members → Option ℕ
@@ -80,10 +75,6 @@ function_from name f (function ∷ functions) = if bytes_eq function.name name t
 abbrev pub function_named : NumberedProgram → List ℕ → Option ℕ
 function_named program name = function_from name 0 program.funcs
 
--- the number as that of one of so many blocks
-abbrev pub block_in : ℤ → ℕ → Option ℕ
-block_in number count = option_and_then (λ b. if ltb b count then Some b else None) (natural number)
-
 -- the entry is of block b of function f, which is there
 pub record IsBlock (program : NumberedProgram) (entry : List ℕ × BlockCost) (f b : ℕ) : Type 0 where
   pub named : function_named program entry.0 ≡ Some f
@@ -98,9 +89,14 @@ pub record HasBlock (program : NumberedProgram) (entry : List ℕ × BlockCost) 
 
 -- ---- costs of blocks
 
+-- the number is n
+abbrev pub is_number : ℕ → ℤ → Bool
+is_number n (pos k) = nat_eq n k
+is_number n (negsuc k) = false
+
 -- the entry names function f and block b
 abbrev pub is_of : NumberedProgram → ℕ → ℕ → List ℕ × BlockCost → Bool
-is_of program f b entry = option_map_or (nat_eq f) (function_named program entry.0) false && option_map_or (nat_eq b) (natural entry.1.block) false
+is_of program f b entry = option_map_or (nat_eq f) (function_named program entry.0) false && is_number b entry.1.block
 
 -- the cost that an entry gives block b of function f
 abbrev pub cost_by : NumberedProgram → ℕ → ℕ → Data → Option ℕ

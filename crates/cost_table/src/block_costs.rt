@@ -1,9 +1,12 @@
 //! Costs of blocks.
 
-ghost use Rattle.std.specs.Prelude.{◌≡◌, ℕ, map};
-ghost use Rattle.cost_table.specs.CostTables.{CostTable, cost_at, one_each};
+ghost use Rattle.std.specs.Prelude.{◌≡◌, ◌<◌, ℕ, [], map, length, IfOk};
+ghost use Rattle.alf_check.specs.CheckedPrograms.{seen};
+ghost use Rattle.cost_table.specs.CostTables.{CostTable, cost_at, one_each, row_at, with_cost};
+ghost use Rattle.cost_table.specs.Costs.{IsCostTable};
 
-use std::alloc::Global;
+use alf_check::Checked;
+use std::alloc::{AllocError, Global};
 use std::marker::Model;
 
 /// A cost for each block of each function. Contracts see it as a `CostTable`.
@@ -49,5 +52,27 @@ impl Costs {
             Some(cost) => *cost,
             None => self.others,
         }
+    }
+
+    // Every block of the program has this cost.
+    pub(crate) fn alike(alloc: Global, checked: &Checked, others: u32) -> Result<Costs, AllocError>
+        ensures { IfOk result (λ costs. IsCostTable (seen checked.now) others [] costs) }
+    {
+        let mut rows = Vec::new(alloc);
+        for func in 0..checked.func_count() {
+            let row = vec![in alloc; others; checked.block_count(func) as usize]?;
+            rows.push(row)?;
+        }
+        Ok(Costs { rows, others })
+    }
+
+    // Gives the block this cost.
+    pub(crate) fn set(&mut self, func: u32, block: u32, cost: u32)
+        requires func { func < length self.old.rows }
+        requires block { block < length (row_at self.old func) }
+        ensures { self.new ≡ with_cost self.old func block cost }
+    {
+        let row = &mut self.rows[func as usize];
+        row[block as usize] = cost;
     }
 }

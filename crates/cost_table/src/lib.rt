@@ -1,4 +1,5 @@
-//! The meaning of the TOML files: today, which cells an inputs file gives a run, and their ranges.
+//! The meaning of the TOML files: which cells an inputs file gives a run, and their ranges; what each
+//! block costs by a costs file.
 //!
 //! The text is read by the kit's `toml`, and what its table means is a definition over the members of
 //! the document. Each refusal names the entry of the first fault.
@@ -18,6 +19,7 @@ mod taken;
 
 // Costs: entries, and the costs of all blocks.
 mod block_costs;
+mod blocks;
 mod cost_entry;
 mod cost_rows;
 

@@ -31,10 +31,20 @@ fn put(text: &mut String, word: &str) -> Result<(), AllocError> {
         return around(text, LABEL, name, "\" } { dec_unsigned 32 0 } } ");
     }
     if let Some(name) = word.strip_prefix("&") {
-        return around(text, "{ addr 32 { fref 32 \"", name, "\" } { dec_unsigned 32 0 } } ");
+        return around(
+            text,
+            "{ addr 32 { fref 32 \"",
+            name,
+            "\" } { dec_unsigned 32 0 } } ",
+        );
     }
     if let Some(name) = word.strip_prefix("*") {
-        return around(text, "{ load 32 { addr 32 { fref 32 \"", name, "\" } { dec_unsigned 32 0 } } } ");
+        return around(
+            text,
+            "{ load 32 { addr 32 { fref 32 \"",
+            name,
+            "\" } { dec_unsigned 32 0 } } } ",
+        );
     }
     if let Some(number) = word.strip_prefix("#") {
         return around(text, "{ dec_unsigned 32 ", number, " } ");
@@ -43,11 +53,21 @@ fn put(text: &mut String, word: &str) -> Result<(), AllocError> {
         return around(text, "{ dec_unsigned 1 ", number, " } ");
     }
     if let Some(name) = word.strip_prefix("/") {
-        around(text, "} } } { func { label 32 { lref 32 \"", name, "\" } { dec_unsigned 32 0 } } { arg_decls } ")?;
+        around(
+            text,
+            "} } } { func { label 32 { lref 32 \"",
+            name,
+            "\" } { dec_unsigned 32 0 } } { arg_decls } ",
+        )?;
         return text.push_str(OWN);
     }
     if let Some(name) = word.strip_prefix("%") {
-        around(text, "} } } { func { label 32 { lref 32 \"", name, "\" } { dec_unsigned 32 0 } } { arg_decls { alloc 32 \"a\" 32 } } ")?;
+        around(
+            text,
+            "} } } { func { label 32 { lref 32 \"",
+            name,
+            "\" } { dec_unsigned 32 0 } } { arg_decls { alloc 32 \"a\" 32 } } ",
+        )?;
         return text.push_str(OWN);
     }
     text.push_str(word)?;

@@ -143,7 +143,11 @@ fn bytes_that_are_no_text_are_no_document(rt: HostRuntime) -> Result<(), Fail> {
 fn a_block_that_is_not_there_costs_the_default(rt: HostRuntime) -> Result<(), Fail> {
     let alloc = rt.alloc();
     let checked = loop_program(alloc)?;
-    let Ok(costs) = costs(alloc, b"default=2\n[[cost]]\nfunction=\"main\"\nblock=0\ncost=5", &checked) else {
+    let Ok(costs) = costs(
+        alloc,
+        b"default=2\n[[cost]]\nfunction=\"main\"\nblock=0\ncost=5",
+        &checked,
+    ) else {
         return Err("the file is refused".into());
     };
     assert_eq!(rt; costs.of(0, 0), 5);
@@ -159,7 +163,10 @@ fn without_a_file_every_block_costs_1(rt: HostRuntime) -> Result<(), Fail> {
     let alloc = rt.alloc();
     let checked = loop_program(alloc)?;
     let costs = Costs::ones(alloc);
-    assert_eq!(rt; costs_text(alloc, &checked, &costs)?.as_str(), "costs 1 1 1 1 | 1");
+    assert_eq!(rt;
+        costs_text(alloc, &checked, &costs)?.as_str(),
+        "costs 1 1 1 1 | 1"
+    );
     assert_eq!(rt; costs.of(0, 4), 1);
     assert_eq!(rt; costs.of(4294967295, 4294967295), 1);
     Ok(())

@@ -1,0 +1,6 @@
+mod Leading
+mod Moving
+mod Returning
+mod Rooms
+mod Stores
+mod Typing

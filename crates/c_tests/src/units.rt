@@ -1,0 +1,68 @@
+//! Ranges of tokens, and what is asked of expressions.
+
+use c_unit::{Binary, Expr, Span, Unary, range, spans};
+use std::test::Fail;
+
+/// A text, and where its tokens begin and end.
+const TEXT: &str = "int x; // y\n\tx = 'c' /* z */ + 10;";
+
+static ENDS: [(usize, usize); 9] = [
+    (0, 3),
+    (4, 5),
+    (5, 6),
+    (13, 14),
+    (15, 16),
+    (17, 20),
+    (29, 30),
+    (31, 33),
+    (33, 34),
+];
+
+#[test]
+fn a_token_is_a_range_of_its_text(rt: HostRuntime) -> Result<(), Fail> {
+    let found = spans(rt.alloc(), TEXT.as_bytes())?;
+    assert_eq!(rt; found.len(), 9);
+    for (span, (start, end)) in found.iter().zip(ENDS.iter()) {
+        assert_eq!(rt; span.start, *start);
+        assert_eq!(rt; span.len, end.saturating_sub(*start), "at {start}");
+    }
+    Ok(())
+}
+
+#[test]
+fn a_range_ends_with_its_text(rt: HostRuntime) -> Result<(), Fail> {
+    let text = b"abc".as_slice();
+    assert_eq!(rt; range(text, Span { start: 1, len: 1 }), b"b".as_slice());
+    assert_eq!(rt; range(text, Span { start: 1, len: 9 }), b"bc".as_slice());
+    assert_eq!(rt; range(text, Span { start: 9, len: 1 }), b"".as_slice());
+    Ok(())
+}
+
+/// `(-a[b]) + c * d`, whose tokens are numbered from 0.
+#[test]
+fn parentheses_are_no_operators(rt: HostRuntime) -> Result<(), Fail> {
+    let alloc = rt.alloc();
+    let index = Expr::Index(
+        Box::new(alloc, Expr::Name(2))?,
+        3,
+        Box::new(alloc, Expr::Name(4))?,
+    );
+    let minus = Expr::Unary(Unary::Minus, 1, Box::new(alloc, index)?);
+    let left = Expr::Parentheses(0, Box::new(alloc, minus)?);
+    let right = Expr::Binary(
+        Binary::Multiply,
+        9,
+        Box::new(alloc, Expr::Name(8))?,
+        Box::new(alloc, Expr::Name(10))?,
+    );
+    let sum = Expr::Binary(
+        Binary::Add,
+        7,
+        Box::new(alloc, left)?,
+        Box::new(alloc, right)?,
+    );
+    assert_eq!(rt; sum.first(), 0);
+    assert!(rt; sum.is_within(3));
+    assert!(rt; !sum.is_within(2));
+    Ok(())
+}

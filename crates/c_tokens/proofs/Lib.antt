@@ -1,0 +1,8 @@
+pub mod Ending
+pub mod Fitting
+pub mod Longest
+pub mod Passing
+pub mod Pieces
+pub mod Prefixes
+pub mod Printing
+pub mod Spaced

@@ -1,0 +1,13 @@
+-- Places in a text.
+--   place_after prefix    the place after these bytes: lines and columns count from 1, and a line ends after each line feed
+--   place_of bytes left   the place in the text where so many bytes are left
+use Rattle.std.specs.Prelude.{ℕ, ◌+◌, ◌-◌, List, length, take, filter, reverse}
+use Rattle.std.specs.List.{prefix_len}
+use Rattle.flow_base.specs.declared.place.Place.{Place}
+use Rattle.c_tokens.specs.Bytes.{is_line_feed, in_line}
+
+abbrev pub place_after : List ℕ → Place
+place_after prefix = record { offset = length prefix; line = length (filter is_line_feed prefix) + 1; column = prefix_len in_line (reverse prefix) + 1 }
+
+abbrev pub place_of : List ℕ → ℕ → Place
+place_of bytes left = place_after (take (length bytes - left) bytes)

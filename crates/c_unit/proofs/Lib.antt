@@ -1,0 +1,2 @@
+-- Ranges.
+pub mod Ranges

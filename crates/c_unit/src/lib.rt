@@ -1,0 +1,23 @@
+//! What is read of a C text: the types of units, and the trees that they stand for.
+//!
+//! A unit has its tokens, as ranges of the text, and trees over them. Where a part of a tree is a
+//! token, it is the number of the token, from 0 on in the order of the text. What of this some text
+//! spells is the grammar's to say.
+#![tactic(auto)]
+
+// Trees.
+mod expression;
+mod external;
+mod statement;
+mod types;
+
+// Tokens, and units.
+mod tokens;
+mod unit;
+
+pub use expression::{Binary, Expr, Unary};
+pub use external::{Declarator, External, Parameter, Shape};
+pub use statement::{Call, Effect, Local, LocalShape, Stmt, Value};
+pub use tokens::{Span, range, spans};
+pub use types::{Constant, Integer, Outcome, Scalar};
+pub use unit::CUnit;

@@ -1,0 +1,6 @@
+//! Tests of the implementations of `Domain`. Without tests this library is empty.
+#![tactic(auto)]
+
+// Sets of one word, or of every word.
+#[cfg(test)]
+mod flat;

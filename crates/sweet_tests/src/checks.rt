@@ -103,7 +103,7 @@ fn blocks(alloc: Global, count: usize) -> Result<String, AllocError> {
 fn switches(alloc: Global, count: usize, targets: usize) -> Result<String, AllocError> {
     let mut items = String::new(alloc);
     for number in 0..count {
-        let label = format!(in alloc; "L:A{number} {{ switch K:0 ")?;
+        let label = format!(in alloc; "L:A{number} {{ switch K:99 ")?;
         items.push_str(label.as_str())?;
         for target in 0..targets {
             let arm = format!(in alloc; "{{ target K:{target} L:A{target} }} ")?;
@@ -129,12 +129,13 @@ fn a_graph_has_at_most_so_many_nodes_and_edges(rt: HostRuntime) -> Result<(), Fa
     assert_eq!(rt; status, Status::Source);
     assert_eq!(rt; text.as_slice(), b"fault 13 limit nodes 513\n".as_slice());
 
-    // One edge from the entry, 33 from each of 31 switches, and one from the return: 1,025.
+    // One edge from the entry, 32 from each switch, and one from the return: 994, and 1,026.
     let program = whole(alloc, "", "", switches(alloc, 31, 31)?.as_str(), "")?;
     let (status, _) = answer_of(alloc, "analyse a.alf", program.as_bytes())?;
     assert_eq!(rt; status, Status::Done);
-    let program = whole(alloc, "", "", switches(alloc, 33, 30)?.as_str(), "")?;
-    let (status, _) = answer_of(alloc, "analyse a.alf", program.as_bytes())?;
+    let program = whole(alloc, "", "", switches(alloc, 32, 31)?.as_str(), "")?;
+    let (status, text) = answer_of(alloc, "analyse a.alf", program.as_bytes())?;
     assert_eq!(rt; status, Status::Source);
+    assert_eq!(rt; text.as_slice(), b"fault 13 limit edges 1025\n".as_slice());
     Ok(())
 }

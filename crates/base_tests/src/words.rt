@@ -54,7 +54,10 @@ fn words_are_commands_in_any_order(rt: HostRuntime) -> Result<(), Fail> {
         ("analyse,--turns,24,a.alf", "analyse a.alf main - 24"),
         ("analyse,--turns=24,a.alf", "analyse a.alf main - 24"),
         ("analyse,a.alf,--turns,1", "analyse a.alf main - 1"),
-        ("analyse,a.alf,--turns,1000000", "analyse a.alf main - 1000000"),
+        (
+            "analyse,a.alf,--turns,1000000",
+            "analyse a.alf main - 1000000",
+        ),
         ("analyse,a.alf,--turns,000002", "analyse a.alf main - 2"),
         (
             "analyse,a.alf,--turns,00000000000000000002",

@@ -24,8 +24,20 @@ fn the_first_fault_is_told(rt: HostRuntime) -> Result<(), Fail> {
             "{ null } { null } { return { add 32 K:1 { dec_unsigned 16 1 } { dec_unsigned 1 0 } } }",
             "fault 22 size \"main\" 2\n",
         ),
-        ("a.alf", "x", "x:24", "{ return }", "fault 22 size \"x\" -\n"),
-        ("a.alf", "y", "x:32", "{ return }", "fault 20 unknown \"y\"\n"),
+        (
+            "a.alf",
+            "x",
+            "x:24",
+            "{ return }",
+            "fault 22 size \"x\" -\n",
+        ),
+        (
+            "a.alf",
+            "y",
+            "x:32",
+            "{ return }",
+            "fault 20 unknown \"y\"\n",
+        ),
         (
             "a.alf",
             "",
@@ -40,8 +52,20 @@ fn the_first_fault_is_told(rt: HostRuntime) -> Result<(), Fail> {
             "L:A { null } L:A { return }",
             "fault 21 duplicate \"A\"\n",
         ),
-        ("a.alf --root f", "", "", "{ return }", "fault 24 root \"f\"\n"),
-        ("a.alf --root=", "", "", "{ return }", "fault 24 root \"\"\n"),
+        (
+            "a.alf --root f",
+            "",
+            "",
+            "{ return }",
+            "fault 24 root \"f\"\n",
+        ),
+        (
+            "a.alf --root=",
+            "",
+            "",
+            "{ return }",
+            "fault 24 root \"\"\n",
+        ),
         (
             "a.alf",
             "",
@@ -81,10 +105,14 @@ fn the_first_fault_is_told(rt: HostRuntime) -> Result<(), Fail> {
 #[test]
 fn the_cycle_begins_with_the_first_function_on_one(rt: HostRuntime) -> Result<(), Fail> {
     let alloc = rt.alloc();
-    let functions = "{ func L:g { arg_decls } { scope { decls } { inits } { stmts { call L:f result } { return } } } } { func L:f { arg_decls } { scope { decls } { inits } { stmts { call L:g result } { return } } } }";
+    let functions =
+        "{ func L:g { arg_decls } { scope { decls } { inits } { stmts { call L:f result } { return } } } } { func L:f { arg_decls } { scope { decls } { inits } { stmts { call L:g result } { return } } } }";
     let program = whole(alloc, "", "", "{ call L:f result } { return }", functions)?;
     let (_, text) = answer_of(alloc, "run a.alf", program.as_bytes())?;
-    assert_eq!(rt; text.as_slice(), b"fault 23 recursion \"g\" \"f\" \"g\"\n".as_slice());
+    assert_eq!(rt;
+        text.as_slice(),
+        b"fault 23 recursion \"g\" \"f\" \"g\"\n".as_slice()
+    );
     Ok(())
 }
 
@@ -129,11 +157,11 @@ fn a_graph_has_at_most_so_many_nodes_and_edges(rt: HostRuntime) -> Result<(), Fa
     assert_eq!(rt; status, Status::Source);
     assert_eq!(rt; text.as_slice(), b"fault 13 limit nodes 513\n".as_slice());
 
-    // One edge from the entry, 32 from each switch, and one from the return: 994, and 1,026.
+    // One edge from the entry, 32 from each switch, and one from the return: 994; with 33 from each of 32, 1,058.
     let program = whole(alloc, "", "", switches(alloc, 31, 31)?.as_str(), "")?;
     let (status, _) = answer_of(alloc, "analyse a.alf", program.as_bytes())?;
     assert_eq!(rt; status, Status::Done);
-    let program = whole(alloc, "", "", switches(alloc, 32, 31)?.as_str(), "")?;
+    let program = whole(alloc, "", "", switches(alloc, 32, 32)?.as_str(), "")?;
     let (status, text) = answer_of(alloc, "analyse a.alf", program.as_bytes())?;
     assert_eq!(rt; status, Status::Source);
     assert_eq!(rt; text.as_slice(), b"fault 13 limit edges 1025\n".as_slice());

@@ -147,7 +147,10 @@ fn a_departure_is_told_by_each_command(rt: HostRuntime) -> Result<(), Fail> {
         assert!(rt; is_told_alike(alloc, &program)?, "{new}");
     }
     let (_, line) = answer_of(alloc, "analyse a.alf", b"{ elf }")?;
-    assert_eq!(rt; line.as_slice(), b"fault 12 profile 1 3 \"elf\"\n".as_slice());
+    assert_eq!(rt;
+        line.as_slice(),
+        b"fault 12 profile 1 3 \"elf\"\n".as_slice()
+    );
     Ok(())
 }
 

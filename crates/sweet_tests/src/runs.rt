@@ -8,19 +8,29 @@ use sweet_cli::Status;
 const UNBOUNDED: &str = "unbounded 0 \"main\":entry\n";
 
 // A function that adds 1 to its argument.
-const SUCCESSOR: &str = "{ func L:f { arg_decls { alloc 32 \"x\" 32 } } { scope { decls } { inits } { stmts { return { add 32 V:x K:1 { dec_unsigned 1 0 } } } } } }";
+const SUCCESSOR: &str =
+    "{ func L:f { arg_decls { alloc 32 \"x\" 32 } } { scope { decls } { inits } { stmts { return { add 32 V:x K:1 { dec_unsigned 1 0 } } } } } }";
 
 const CALLS_TWICE: &str = "{ call L:f K:4 result A:r } { call L:f V:r result A:r } { return V:r }";
 
-const COUNTS_TO_TEN: &str = "{ store A:i with K:0 } L:H { switch V:i { target K:10 L:E } { default L:B } } L:B { store A:i with { add 32 V:i K:1 { dec_unsigned 1 0 } } } { jump L:H leaving 0 } L:E { return }";
+const COUNTS_TO_TEN: &str =
+    "{ store A:i with K:0 } L:H { switch V:i { target K:10 L:E } { default L:B } } L:B { store A:i with { add 32 V:i K:1 { dec_unsigned 1 0 } } } { jump L:H leaving 0 } L:E { return }";
 
-const COUNTS_TO_N: &str = "{ store A:i with K:0 } L:H { switch { s_lt 32 V:i V:n } { target { dec_unsigned 1 1 } L:B } { default L:E } } L:B { store A:i with { add 32 V:i K:1 { dec_unsigned 1 0 } } } { jump L:H leaving 0 } L:E { return }";
+const COUNTS_TO_N: &str =
+    "{ store A:i with K:0 } L:H { switch { s_lt 32 V:i V:n } { target { dec_unsigned 1 1 } L:B } { default L:E } } L:B { store A:i with { add 32 V:i K:1 { dec_unsigned 1 0 } } } { jump L:H leaving 0 } L:E { return }";
 
 #[test]
 fn a_run_is_told(rt: HostRuntime) -> Result<(), Fail> {
     // The line, the exported and the global frames, the items, the other functions, and the answer.
     let cases = [
-        ("run a.alf", "", "", "{ return }", "", "returned\nturns 2\ncost 1\n"),
+        (
+            "run a.alf",
+            "",
+            "",
+            "{ return }",
+            "",
+            "returned\nturns 2\ncost 1\n",
+        ),
         (
             "run a.alf",
             "r",
@@ -53,7 +63,14 @@ fn a_run_is_told(rt: HostRuntime) -> Result<(), Fail> {
             "",
             "returned\nturns 24\ncost 23\n",
         ),
-        ("run a.alf --turns 23", "", "i:32", COUNTS_TO_TEN, "", UNBOUNDED),
+        (
+            "run a.alf --turns 23",
+            "",
+            "i:32",
+            COUNTS_TO_TEN,
+            "",
+            UNBOUNDED,
+        ),
         (
             "run a.alf",
             "",
@@ -112,7 +129,14 @@ fn a_run_is_told(rt: HostRuntime) -> Result<(), Fail> {
             "{ func L:f { arg_decls } { scope { decls } { inits } { stmts { return K:7 } } } }",
             "facts 1\ntotal 0 1 1\ntotal 1 1 1\ncount-bound 1\nend\n",
         ),
-        ("analyse a.alf", "", "x:32", "{ return { u_div 32 32 K:1 K:0 } }", "", "facts 1\ntotal 0 1 1\ntotal 1 1 1\nalarm 1 divide\ncount-bound 1\nend\n"),
+        (
+            "analyse a.alf",
+            "",
+            "x:32",
+            "{ return { u_div 32 32 K:1 K:0 } }",
+            "",
+            "facts 1\ntotal 0 1 1\ntotal 1 1 1\nalarm 1 divide\ncount-bound 1\nend\n",
+        ),
     ];
     let alloc = rt.alloc();
     for (line, exports, frames, items, functions, wanted) in cases {
@@ -129,11 +153,36 @@ fn values_are_told_by_their_kind(rt: HostRuntime) -> Result<(), Fail> {
     let cases = [
         ("", "", "{ return { dec_unsigned 1 1 } }", "returned -1\n"),
         ("", "", "{ return { dec_unsigned 1 0 } }", "returned 0\n"),
-        ("", "", "{ return { dec_unsigned 8 127 } }", "returned 127\n"),
-        ("", "", "{ return { dec_unsigned 8 128 } }", "returned -128\n"),
-        ("", "", "{ return { dec_signed 8 { minus 128 } } }", "returned -128\n"),
-        ("", "", "{ return { dec_unsigned 13 4095 } }", "returned 4095\n"),
-        ("", "", "{ return { dec_unsigned 13 4096 } }", "returned -4096\n"),
+        (
+            "",
+            "",
+            "{ return { dec_unsigned 8 127 } }",
+            "returned 127\n",
+        ),
+        (
+            "",
+            "",
+            "{ return { dec_unsigned 8 128 } }",
+            "returned -128\n",
+        ),
+        (
+            "",
+            "",
+            "{ return { dec_signed 8 { minus 128 } } }",
+            "returned -128\n",
+        ),
+        (
+            "",
+            "",
+            "{ return { dec_unsigned 13 4095 } }",
+            "returned 4095\n",
+        ),
+        (
+            "",
+            "",
+            "{ return { dec_unsigned 13 4096 } }",
+            "returned -4096\n",
+        ),
         ("", "", "{ return K:2147483648 }", "returned -2147483648\n"),
         (
             "",
@@ -181,7 +230,9 @@ fn values_are_told_by_their_kind(rt: HostRuntime) -> Result<(), Fail> {
 
 // Inputs of one entry of 32 bits, for the frame n.
 const FROM_0: &str = "[[input]]\nframe = \"n\"\noffset = 0\nsize = 32\nlow = 0\nhigh = 10\n";
+
 const TEN: &str = "[[input]]\nframe = \"n\"\noffset = 0\nsize = 32\nlow = 10\nhigh = 10\n";
+
 const BELOW: &str = "[[input]]\nframe = \"n\"\noffset = 0\nsize = 32\nlow = -5\nhigh = 10\n";
 
 const COSTS: &str = "default = 2\n[[cost]]\nfunction = \"main\"\nblock = 2\ncost = 5\n";
@@ -190,14 +241,24 @@ const COSTS: &str = "default = 2\n[[cost]]\nfunction = \"main\"\nblock = 2\ncost
 fn inputs_and_costs_count(rt: HostRuntime) -> Result<(), Fail> {
     // The line, the inputs, the costs, and the answer.
     let cases = [
-        ("run a.alf --inputs i.toml", FROM_0, "", "returned\nglobal \"n\" 0\nturns 4\ncost 3\n"),
+        (
+            "run a.alf --inputs i.toml",
+            FROM_0,
+            "",
+            "returned\nglobal \"n\" 0\nturns 4\ncost 3\n",
+        ),
         (
             "run a.alf --inputs i.toml --costs c.toml",
             TEN,
             COSTS,
             "returned\nglobal \"n\" 10\nturns 24\ncost 76\n",
         ),
-        ("run a.alf --inputs i.toml", BELOW, "", "returned\nglobal \"n\" -5\nturns 4\ncost 3\n"),
+        (
+            "run a.alf --inputs i.toml",
+            BELOW,
+            "",
+            "returned\nglobal \"n\" -5\nturns 4\ncost 3\n",
+        ),
         (
             "run --costs=c.toml --turns 24 --inputs=i.toml a.alf",
             TEN,

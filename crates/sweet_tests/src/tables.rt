@@ -7,7 +7,8 @@ use std::alloc::{AllocError, Global};
 use std::test::Fail;
 use sweet_cli::{Status, run};
 
-const COUNTS_TO_N: &str = "{ store A:i with K:0 } L:H { switch { s_lt 32 V:i V:n } { target { dec_unsigned 1 1 } L:B } { default L:E } } L:B { store A:i with { add 32 V:i K:1 { dec_unsigned 1 0 } } } { jump L:H leaving 0 } L:E { return }";
+const COUNTS_TO_N: &str =
+    "{ store A:i with K:0 } L:H { switch { s_lt 32 V:i V:n } { target { dec_unsigned 1 1 } L:B } { default L:E } } L:B { store A:i with { add 32 V:i K:1 { dec_unsigned 1 0 } } } { jump L:H leaving 0 } L:E { return }";
 
 const INPUTS: &str = "[[input]]\nframe = \"n\"\noffset = 0\nsize = 32\nlow = 0\nhigh = 10\n";
 
@@ -22,15 +23,39 @@ fn program(alloc: Global) -> Result<String, AllocError> {
 fn the_first_file_that_is_refused_is_told(rt: HostRuntime) -> Result<(), Fail> {
     // The inputs, the costs, and the line.
     let cases = [
-        ("[[input]]\nframe = \"n\"\noffset = 0\nsize = 32\nlow = 11\nhigh = 10\n", "", "fault 72 range inputs 0\n"),
-        ("[[input]]\nframe = \"m\"\noffset = 0\nsize = 32\nlow = 0\nhigh = 10\n", "", "fault 73 cell inputs 0\n"),
-        ("[[input]]\nframe = \"n\"\noffset = 0\nsize = 32\nlo = 0\nhigh = 10\n", "", "fault 71 key inputs 0\n"),
+        (
+            "[[input]]\nframe = \"n\"\noffset = 0\nsize = 32\nlow = 11\nhigh = 10\n",
+            "",
+            "fault 72 range inputs 0\n",
+        ),
+        (
+            "[[input]]\nframe = \"m\"\noffset = 0\nsize = 32\nlow = 0\nhigh = 10\n",
+            "",
+            "fault 73 cell inputs 0\n",
+        ),
+        (
+            "[[input]]\nframe = \"n\"\noffset = 0\nsize = 32\nlo = 0\nhigh = 10\n",
+            "",
+            "fault 71 key inputs 0\n",
+        ),
         ("[[", "", "fault 70 toml inputs\n"),
         ("x = 1\n", "", "fault 71 key inputs -\n"),
-        (INPUTS, "[[cost]]\nfunction = \"main\"\nblock = 4\ncost = 5\n", "fault 73 cell costs 0\n"),
-        (INPUTS, "[[cost]]\nfunction = \"main\"\nblock = 3\ncost = 5\n[[cost]]\nfunction = \"main\"\nblock = 3\ncost = -1\n", "fault 72 range costs 1\n"),
+        (
+            INPUTS,
+            "[[cost]]\nfunction = \"main\"\nblock = 4\ncost = 5\n",
+            "fault 73 cell costs 0\n",
+        ),
+        (
+            INPUTS,
+            "[[cost]]\nfunction = \"main\"\nblock = 3\ncost = 5\n[[cost]]\nfunction = \"main\"\nblock = 3\ncost = -1\n",
+            "fault 72 range costs 1\n",
+        ),
         (INPUTS, "default = -1\n", "fault 71 key costs -\n"),
-        (INPUTS, "[[cost]]\nfunction = \"main\"\n", "fault 71 key costs 0\n"),
+        (
+            INPUTS,
+            "[[cost]]\nfunction = \"main\"\n",
+            "fault 71 key costs 0\n",
+        ),
         (INPUTS, "[[", "fault 70 toml costs\n"),
         // The inputs come before the costs.
         ("[[", "[[", "fault 70 toml inputs\n"),
@@ -43,7 +68,13 @@ fn the_first_file_that_is_refused_is_told(rt: HostRuntime) -> Result<(), Fail> {
         assert_eq!(rt; status, Status::Source, "{wanted}");
         assert_eq!(rt; text.as_slice(), wanted.as_bytes(), "{wanted}");
     }
-    let (_, text) = answer_over(alloc, "analyse a.alf --costs c.toml", program.as_str(), "", "[[")?;
+    let (_, text) = answer_over(
+        alloc,
+        "analyse a.alf --costs c.toml",
+        program.as_str(),
+        "",
+        "[[",
+    )?;
     assert_eq!(rt; text.as_slice(), b"fault 70 toml costs\n".as_slice());
     Ok(())
 }
@@ -55,7 +86,10 @@ fn the_checks_come_before_the_files(rt: HostRuntime) -> Result<(), Fail> {
     let (_, text) = answer_over(alloc, line, program(alloc)?.as_str(), "[[", "[[")?;
     assert_eq!(rt; text.as_slice(), b"fault 24 root \"f\"\n".as_slice());
     let (_, text) = answer_over(alloc, line, "{ elf }", "[[", "[[")?;
-    assert_eq!(rt; text.as_slice(), b"fault 12 profile 1 3 \"elf\"\n".as_slice());
+    assert_eq!(rt;
+        text.as_slice(),
+        b"fault 12 profile 1 3 \"elf\"\n".as_slice()
+    );
     Ok(())
 }
 
@@ -85,14 +119,54 @@ fn each_read_that_fails_is_told_by_its_role(rt: HostRuntime) -> Result<(), Fail>
     let alloc = rt.alloc();
     // The line, the number of the read that is to fail, the answer, and the name that is kept.
     let cases = [
-        ("run a.alf --inputs i.toml --costs c.toml", 0, "fault read program\n", "a.alf"),
-        ("run a.alf --inputs i.toml --costs c.toml", 1, "fault read inputs\n", "i.toml"),
-        ("run a.alf --inputs i.toml --costs c.toml", 2, "fault read costs\n", "c.toml"),
-        ("run a.alf --costs c.toml", 1, "fault read costs\n", "c.toml"),
-        ("run a.alf --inputs x.toml --costs c.toml", 9, "fault read inputs\n", "x.toml"),
-        ("run a.alf --inputs i.toml --costs x.toml", 9, "fault read costs\n", "x.toml"),
-        ("analyse a.alf --costs c.toml", 1, "fault read costs\n", "c.toml"),
-        ("analyse a.alf --costs x.toml", 9, "fault read costs\n", "x.toml"),
+        (
+            "run a.alf --inputs i.toml --costs c.toml",
+            0,
+            "fault read program\n",
+            "a.alf",
+        ),
+        (
+            "run a.alf --inputs i.toml --costs c.toml",
+            1,
+            "fault read inputs\n",
+            "i.toml",
+        ),
+        (
+            "run a.alf --inputs i.toml --costs c.toml",
+            2,
+            "fault read costs\n",
+            "c.toml",
+        ),
+        (
+            "run a.alf --costs c.toml",
+            1,
+            "fault read costs\n",
+            "c.toml",
+        ),
+        (
+            "run a.alf --inputs x.toml --costs c.toml",
+            9,
+            "fault read inputs\n",
+            "x.toml",
+        ),
+        (
+            "run a.alf --inputs i.toml --costs x.toml",
+            9,
+            "fault read costs\n",
+            "x.toml",
+        ),
+        (
+            "analyse a.alf --costs c.toml",
+            1,
+            "fault read costs\n",
+            "c.toml",
+        ),
+        (
+            "analyse a.alf --costs x.toml",
+            9,
+            "fault read costs\n",
+            "x.toml",
+        ),
     ];
     for (line, failing, wanted, name) in cases {
         let words = words_of(alloc, line)?;

@@ -14,8 +14,10 @@ pub fn whole(
     items: &str,
     functions: &str,
 ) -> Result<String, AllocError> {
-    let mut text =
-        String::from_str(alloc, "{ alf { macro_defs } { least_addr_unit 8 } little_endian { exports { frefs ")?;
+    let mut text = String::from_str(
+        alloc,
+        "{ alf { macro_defs } { least_addr_unit 8 } little_endian { exports { frefs ",
+    )?;
     for name in exports.split(' ').filter(|name| !name.is_empty()) {
         push_all(&mut text, &["{ fref 32 \"", name, "\" } "])?;
     }
@@ -23,7 +25,9 @@ pub fn whole(
     for frame in frames.split(' ').filter(|frame| !frame.is_empty()) {
         push_frame(&mut text, frame)?;
     }
-    text.push_str("} { inits } { funcs { func L:main { arg_decls } { scope { decls } { inits } { stmts ")?;
+    text.push_str(
+        "} { inits } { funcs { func L:main { arg_decls } { scope { decls } { inits } { stmts ",
+    )?;
     push_all(&mut text, &[items, " } } } ", functions, " } }"])?;
     spelled(alloc, text.as_str())
 }
@@ -57,7 +61,11 @@ fn push_word(text: &mut String, word: &str) -> Result<(), AllocError> {
     if let Some(label) = word.strip_prefix("L:") {
         return push_all(
             text,
-            &["{ label 32 { lref 32 \"", label, "\" } { dec_unsigned 32 0 } }"],
+            &[
+                "{ label 32 { lref 32 \"",
+                label,
+                "\" } { dec_unsigned 32 0 } }",
+            ],
         );
     }
     if let Some(frame) = word.strip_prefix("A:") {
@@ -77,6 +85,10 @@ fn push_word(text: &mut String, word: &str) -> Result<(), AllocError> {
 fn push_address(text: &mut String, frame: &str) -> Result<(), AllocError> {
     push_all(
         text,
-        &["{ addr 32 { fref 32 \"", frame, "\" } { dec_unsigned 32 0 } }"],
+        &[
+            "{ addr 32 { fref 32 \"",
+            frame,
+            "\" } { dec_unsigned 32 0 } }",
+        ],
     )
 }

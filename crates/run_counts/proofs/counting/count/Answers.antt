@@ -1,7 +1,5 @@
-use Rattle.std.proofs.Common.{arith, rules, ◌≡◌, ◌≤◌, Fits, w32, get_or, refl, sym}
+use Rattle.std.proofs.Common.{arith, rules, ◌≡◌, ◌≤◌, refl}
 use Rattle.std.proofs.lemmas.Grind.{common_steps, get_or_default_zero}
-use Rattle.alf_check.specs.CheckedPrograms.{seen}
-use Rattle.alf_runs.specs.Starts.{start}
 use Rattle.run_counts.proofs.Turning.{low, counted_low, goes_on, is_over, is_past}
 use Rattle.run_counts.proofs.counting.count.Goals as goal
 

@@ -1,24 +1,37 @@
--- What is judged has one meaning.
-use Rattle.std.proofs.Common.{◌≡◌, ℕ, List, [], Result, Ok, Err, Option, None, Some, IfSome, IsSomeAnd, ap, sym, ◌∙◌, subst}
-use Rattle.std.specs.Prelude.{IfOk}
-use Rattle.alf_program.specs.declared.program.Program.{Program}
-use Rattle.alf_program.specs.Tree.{BodyItem, WholeProgram, program_of}
-use Rattle.alf_text.specs.First.{main_alone, IsFirst}
-use Rattle.alf_text.specs.FirstText.{FirstText}
+-- What is judged has one meaning, but for a line that gives one example of several.
+use Rattle.std.proofs.Common.{◌≡◌, ℕ, List, [], Result, Ok, Err, Option, None, Some, IfSome, IsSomeAnd, IsSome, codes, ap, sym, ◌∙◌, subst}
+use Rattle.alf_program.specs.Tree.{WholeProgram}
 use Rattle.alf_text.specs.Language.{Departure, Means, HasOneMeaning}
-use Rattle.alf_check.specs.Blocks.{blocks_of}
-use Rattle.work.specs.Outcome.{Outcome, refused}
-use Rattle.work.specs.declared.stop.Stop.{Stop}
-use Rattle.work.specs.Work.{IsOnly}
-use Rattle.work.specs.Works.{Judges}
+use Rattle.alf_names.specs.Places.{function_place}
+use Rattle.alf_faults.specs.Fault.{Fault, Unknown, Duplicate, Size, earliest}
+use Rattle.alf_faults.specs.Faults.{faults_in}
+use Rattle.alf_check.specs.CheckedPrograms.{NumberedProgram}
+use Rattle.alf_check.specs.Checking.{Passes, IsTold, calls_in}
+use Rattle.alf_check.specs.declared.fault.CheckFault.{CheckFault}
+use Rattle.alf_check.specs.declared.fault.CheckFault.TheVariants as told
+use Rattle.call_cycles.specs.Calls.{OnCycle}
+use Rattle.work.specs.Outcome.{Outcome, Cause, Source, Example, LinesAgree, AreAlike, AreAlikeResults, unread_of, refused}
+use Rattle.work.specs.Work.{IsOnly, alike}
 use Rattle.sweet_cli.specs.FaultLines.{fault_line}
-use Rattle.sweet_cli.specs.Nodes.{entry}
-use Rattle.sweet_cli.specs.Runs.{RunsPast}
-use Rattle.sweet_cli.specs.Facts.{Findings, IsReportOf, IsReportWithin}
-use Rattle.sweet_cli.specs.Programs.{ProgramMeans, FirstMeans}
-use Rattle.sweet_cli.specs.Analyse.{RunMeans}
-use Rattle.sweet_cli.proofs.Named.{main_items}
-use Rattle.sweet_cli.proofs.OneRun.{report_one, past_apart}
+use Rattle.sweet_cli.specs.CheckLines.{name_line, size_line, check_line, check_cause}
+use Rattle.sweet_cli.specs.Programs.{ProgramMeans, CheckMeans, meant}
+
+-- ---- results that are the same
+
+-- what is the same is alike
+pub same_alike : {A : Type 0} (x y : Result A Outcome) → x ≡ y → AreAlikeResults x y
+same_alike (Ok a) (Ok b) e = cc
+same_alike {A = A} (Ok a) (Err y) e = cc
+same_alike {A = A} (Err x) (Ok b) e = cc
+same_alike {A = A} (Err x) (Err y) e = alike x y cc
+
+-- an outcome by its parts
+pub outcome_is : (x : Outcome) (cause : Cause) (text : List ℕ) → x.cause ≡ cause → x.text ≡ text → x ≡ record { cause = cause; text = text }
+outcome_is x cause text e f = λ i. record { cause = e i; text = f i }
+
+-- two refusals with one line
+pub refused_alike : (x : Outcome) (text : List ℕ) → x.cause ≡ Source → text ≡ x.text → AreAlike (refused text) x
+refused_alike x text e f = alike (refused text) x (sym (outcome_is x Source text e (sym f)))
 
 -- ---- the program that bytes spell
 
@@ -30,66 +43,107 @@ module _ (bytes : List ℕ) (one : HasOneMeaning bytes) where
   departures_one : (d e : Departure) → Means bytes (Err d) → Means bytes (Err e) → d ≡ e
   departures_one d e h k = let same : ◌≡◌ {A = Result WholeProgram Departure} (Err d) (Err e) = means_one (Err d) (Err e) h k in cc
 
+  programs_one : (a b : WholeProgram) → Means bytes (Ok a) → Means bytes (Ok b) → a ≡ b
+  programs_one a b h k = let same : ◌≡◌ {A = Result WholeProgram Departure} (Ok a) (Ok b) = means_one (Ok a) (Ok b) h k in cc
+
   departs_not : (d : Departure) (whole : WholeProgram) → Means bytes (Err d) → Means bytes (Ok whole) → ⊥
   departs_not d whole h k = let same : Err d ≡ Ok whole = means_one (Err d) (Ok whole) h k in cc
 
-  spelled_one : (x y : Result WholeProgram Outcome) → ProgramMeans bytes x → ProgramMeans bytes y → x ≡ y
-  spelled_one (Ok a) (Ok b) h k = let same : ◌≡◌ {A = Result WholeProgram Departure} (Ok a) (Ok b) = means_one (Ok a) (Ok b) h k in let e : a ≡ b = cc in ap Ok e
-  spelled_one (Ok a) (Err o) h (d, k, e) = absurd (departs_not d a k h)
-  spelled_one (Err o) (Ok a) (d, h, e) k = absurd (departs_not d a h k)
-  spelled_one (Err o) (Err p) (d, h, e) (f, k, g) = ap Err (e ∙ ap (λ (x : Departure). refused (fault_line x)) (departures_one d f h k) ∙ sym g)
-
   -- the program that was read is the only meaning
   pub spelled_only : (whole : WholeProgram) → Means bytes (Ok whole) → IsOnly (ProgramMeans bytes) (Ok whole)
-  spelled_only whole h = record { means = h; only = λ y k. spelled_one (Ok whole) y h k }
+  spelled_only whole h = record { means = h; only = only }
+    where
+      only : (y : Result WholeProgram Outcome) → ProgramMeans bytes y → AreAlikeResults (Ok whole) y
+      only (Ok b) k = programs_one whole b h k
+      only (Err o) (d, k, e) = departs_not d whole k h
 
   -- the line of the departure that was met is the only meaning
   pub departed_only : (o : Option Departure) (text : List ℕ) → IsSomeAnd o (λ departure. text ≡ fault_line departure) → IfSome o (λ departure. Means bytes (Err departure))
       → IsOnly (ProgramMeans bytes) (Err (refused text))
   departed_only None text line h = absurd line
-  departed_only (Some d) text line h =
-      let meant : ProgramMeans bytes (Err (refused text)) = (d, h, ap refused line) in
-      record { means = meant; only = λ y k. spelled_one (Err (refused text)) y meant k }
+  departed_only (Some d) text line h = record { means = (d, h, ap refused line); only = only }
+    where
+      only : (y : Result WholeProgram Outcome) → ProgramMeans bytes y → AreAlikeResults (Err (refused text)) y
+      only (Ok b) k = departs_not d b h k
+      only (Err o) (f, k, e) = alike (refused text) o (ap refused (line ∙ ap fault_line (departures_one d f h k)) ∙ sym e)
 
--- ---- the program of a first text
+-- ---- the program that passes the checks
 
-module _ (bytes : List ℕ) (one : (a b : WholeProgram) → FirstText bytes a → FirstText bytes b → a ≡ b) where
-  first_one : (x y : Result WholeProgram Outcome) → FirstMeans bytes x → FirstMeans bytes y → x ≡ y
-  first_one (Ok a) (Ok b) h k = ap Ok (one a b h k)
-  first_one (Ok a) (Err o) h k = absurd (k.0 a h)
-  first_one (Err o) (Ok a) h k = absurd (h.0 a k)
-  first_one (Err o) (Err p) h k = ap Err (h.1 ∙ sym k.1)
+some_is : {A : Type 0} (x y : A) → Some x ≡ Some y → x ≡ y
+some_is x y e = cc
 
-  -- what is meant is the only meaning
-  pub first_only : (x : Result WholeProgram Outcome) → FirstMeans bytes x → IsOnly (FirstMeans bytes) x
-  first_only x h = record { means = h; only = λ y k. first_one x y h k }
+-- the line of a fault of names and sizes, and that of a root that is not there
+abbrev item_line : Fault → List ℕ
+item_line (Unknown name) = name_line (codes "fault 20 unknown ") name
+item_line (Duplicate name) = name_line (codes "fault 21 duplicate ") name
+item_line (Size name number) = size_line name number
 
--- the program of a first text is main alone
-pub judged_first : ((bytes : List ℕ) (whole : WholeProgram) → FirstText bytes whole → IsFirst whole) → (bytes : List ℕ) (result : Result Program Stop) → Judges (FirstMeans bytes) program_of result
-    → IfOk result (λ program. IsFirst (program_of program))
-judged_first firsts bytes (Ok program) j = firsts bytes (program_of program) j.means
-judged_first firsts bytes (Err stop) j = tt
+abbrev root_line : List ℕ → List ℕ
+root_line root = name_line (codes "fault 24 root ") root
 
--- ---- the run of a program
+-- what a line of the checks says
+data Says (whole : WholeProgram) (root : List ℕ) (outcome : Outcome) : Type 0 where
+  item : (fault : Fault) → earliest (faults_in whole) ≡ Some fault → outcome ≡ refused (item_line fault) → Says whole root outcome
+  cycle : (f : ℕ) → faults_in whole ≡ [] → OnCycle (calls_in whole) f → outcome.cause ≡ Example → Says whole root outcome
+  rootless : faults_in whole ≡ [] → ((f : ℕ) → OnCycle (calls_in whole) f → ⊥) → function_place whole.funcs root ≡ None → outcome ≡ refused (root_line root) → Says whole root outcome
 
-module _ (frames : List (List ℕ)) (items : List BodyItem) (turns : ℕ) (first : IsFirst (main_alone frames items)) where
-  -- the items of one program are the same
-  same_items : (f : List (List ℕ)) (a : List BodyItem) → main_alone frames items ≡ main_alone f a → a ≡ items
-  same_items f a e = main_items f frames a items (sym e)
+module _ (whole : WholeProgram) (root : List ℕ) where
+  says : (outcome : Outcome) (fault : CheckFault) → IsTold whole root fault → check_line fault ≡ Some outcome.text → outcome.cause ≡ check_cause fault → Says whole root outcome
+  says outcome (told.UnknownName name) h line cause = item (Unknown name) h (outcome_is outcome Source _ cause (sym (some_is _ _ line)))
+  says outcome (told.DuplicateName name) h line cause = item (Duplicate name) h (outcome_is outcome Source _ cause (sym (some_is _ _ line)))
+  says outcome (told.Size name number) h line cause = item (Size name number) h (outcome_is outcome Source _ cause (sym (some_is _ _ line)))
+  says outcome (told.Recursion names) h line cause = cycle h.first.first h.sound h.first.on_cycle cause
+  says outcome (told.Root name) h line cause =
+      rootless h.sound h.falls h.none (outcome_is outcome Source (root_line root) cause (sym (some_is _ _ line) ∙ ap root_line h.named))
+  says outcome told.Memory h line cause = absurd (cc)
 
-  run_one : (x y : Result Findings Outcome) → RunMeans (main_alone frames items) turns x → RunMeans (main_alone frames items) turns y → x ≡ y
-  run_one (Ok p) (Ok q) (f, a, e, h) (g, b, e', k) =
-      let x : IsReportOf items p = subst (λ (z : List BodyItem). IsReportOf z p) (same_items f a e) h.exact in
-      let y : IsReportOf items q = subst (λ (z : List BodyItem). IsReportOf z q) (same_items g b e') k.exact in
-      ap Ok (report_one frames items p q first x y)
-  run_one (Ok p) (Err o) (f, a, e, h) (g, b, e', past, told) =
-      absurd (past_apart frames items turns p first (subst (λ (z : List BodyItem). RunsPast (blocks_of z) entry [] turns) (same_items g b e') past)
-      (subst (λ (z : List BodyItem). IsReportWithin z turns p) (same_items f a e) h))
-  run_one (Err o) (Ok p) (g, b, e', past, told) (f, a, e, h) =
-      absurd (past_apart frames items turns p first (subst (λ (z : List BodyItem). RunsPast (blocks_of z) entry [] turns) (same_items g b e') past)
-      (subst (λ (z : List BodyItem). IsReportWithin z turns p) (same_items f a e) h))
-  run_one (Err o) (Err p) (f, a, e, past, told) (g, b, e', past', told') = ap Err (told ∙ sym told')
+  -- a program has a fault of names and sizes or none
+  not_both : (fault : Fault) → earliest (faults_in whole) ≡ Some fault → faults_in whole ≡ [] → ⊥
+  not_both fault e none = let same : None ≡ Some fault = sym (ap earliest none) ∙ e in cc
 
-  -- what is meant is the only meaning
-  pub run_only : (x : Result Findings Outcome) → RunMeans (main_alone frames items) turns x → IsOnly (RunMeans (main_alone frames items) turns) x
-  run_only x h = record { means = h; only = λ y k. run_one x y h k }
+  pass_not : (outcome : Outcome) → Says whole root outcome → Passes whole root → ⊥
+  pass_not outcome (item fault e is) passes = not_both fault e passes.sound
+  pass_not outcome (cycle f none on is) passes = passes.falls f on
+  pass_not outcome (rootless none falls gone is) passes = let some : IsSome {T = ℕ} None = subst (λ (o : Option ℕ). IsSome o) gone passes.starts in cc
+
+  -- two lines of one program are alike
+  says_one : (x y : Outcome) → Says whole root x → Says whole root y → AreAlike x y
+  says_one x y (item fault e is) (item other f at) = alike x y (is ∙ ap (λ (a : Fault). refused (item_line a)) (some_is fault other (sym e ∙ f)) ∙ sym at)
+  says_one x y (item fault e is) (cycle g none on at) = absurd (not_both fault e none)
+  says_one x y (item fault e is) (rootless none falls gone at) = absurd (not_both fault e none)
+  says_one x y (cycle g none on is) (item fault e at) = absurd (not_both fault e none)
+  says_one x y (cycle g none on is) (cycle f empty other at) =
+      record { same_cause = is ∙ sym at; lines = subst (λ (c : Cause). LinesAgree c x.text y.text) (sym is) tt }
+  says_one x y (cycle g none on is) (rootless empty falls without at) = absurd (falls g on)
+  says_one x y (rootless none falls gone is) (item fault e at) = absurd (not_both fault e none)
+  says_one x y (rootless none falls gone is) (cycle g other on at) = absurd (falls g on)
+  says_one x y (rootless none falls gone is) (rootless other without nothing at) = alike x y (is ∙ sym at)
+
+  -- the program that passes is the only meaning
+  pub passes_only : (program : NumberedProgram) → Passes whole root → program ≡ meant whole root → IsOnly (CheckMeans whole root) (Ok program)
+  passes_only program passes is = record { means = (passes, is); only = only }
+    where
+      only : (y : Result NumberedProgram Outcome) → CheckMeans whole root y → AreAlikeResults (Ok program) y
+      only (Ok other) k = is ∙ sym k.1
+      only (Err o) k = pass_not o (says o k.fault k.told k.line k.cause) passes
+
+  -- the line of the fault that was met is the only meaning
+  pub told_only : (fault : CheckFault) (cause : Cause) (text : List ℕ) → IsTold whole root fault → check_line fault ≡ Some text → cause ≡ check_cause fault
+      → IsOnly (CheckMeans whole root) (Err (record { cause = cause; text = text }))
+  told_only fault cause text h line is = record { means = record { fault = fault; told = h; line = line; cause = is }; only = only }
+    where
+      o : Outcome
+      o = record { cause = cause; text = text }
+
+      only : (y : Result NumberedProgram Outcome) → CheckMeans whole root y → AreAlikeResults (Err o) y
+      only (Ok other) k = pass_not o (says o fault h line is) k.0
+      only (Err x) k = says_one o x (says o fault h line is) (says x k.fault k.told k.line k.cause)
+
+-- no line of the checks tells a failed read
+pub check_read : (fault : CheckFault) (cause : Cause) → cause ≡ check_cause fault → unread_of cause ≡ None
+check_read (told.UnknownName name) cause is = ap unread_of is
+check_read (told.DuplicateName name) cause is = ap unread_of is
+check_read (told.Size name number) cause is = ap unread_of is
+check_read (told.Recursion names) cause is = ap unread_of is
+check_read (told.Root name) cause is = ap unread_of is
+check_read told.Memory cause is = ap unread_of is

@@ -1,44 +1,123 @@
 -- The promises of the commands, and of a run.
-use Rattle.std.proofs.Common.{◌≡◌, ℕ, List, Option, None, Some, IfSome, refl, subst}
+use Rattle.std.proofs.Common.{◌≡◌, ℕ, List, [], Option, None, Some, IfSome, refl, ap, sym, ◌∙◌, subst}
 use Rattle.flow_base.specs.Outside.{Files, Rose}
 use Rattle.flow_base.specs.Shelves.{ShelfState}
 use Rattle.flow_base.specs.Sinks.{SinkState}
 use Rattle.alf_program.specs.Tree.{WholeProgram}
-use Rattle.alf_text.specs.First.{main_alone, IsFirst}
-use Rattle.alf_text.specs.FirstText.{FirstText}
+use Rattle.alf_text.specs.Language.{SpellsProgram}
+use Rattle.alf_check.specs.CheckedPrograms.{NumberedProgram}
+use Rattle.alf_check.specs.Checking.{Passes}
+use Rattle.alf_check.specs.declared.rows.InputRow.{InputRow}
+use Rattle.flow_graph.specs.Numbering.{IsGraph}
+use Rattle.cost_table.specs.CostTables.{CostTable}
 use Rattle.alf_text.specs.CanonicalLaws.{CanonicalTextsSpell}
 use Rattle.work.specs.declared.status.Status.{Status}
 use Rattle.work.specs.declared.status.Status.TheVariants as statuses
-use Rattle.work.specs.Outcome.{Cause, Usage, Source, Unbounded, No, Unread, Ending, Finished, Stopped, status_of, ending_status, ending_text, ending_unread}
+use Rattle.work.specs.Outcome.{Cause, Usage, Source, Example, Unbounded, No, Unread, Ending, Finished, Stopped, status_of, ending_status, ending_text, ending_unread}
 use Rattle.work.specs.Log.{Log}
 use Rattle.work.specs.Work.{Work, EndsSo}
 use Rattle.work.specs.Works.{Tells}
 use Rattle.work.specs.Run.{Wrote, IsAnswerOf}
 use Rattle.sweet_cli.specs.Task.{Task, KeepsPromise, Promised}
-use Rattle.sweet_cli.specs.Programs.{program_in, first_program_in}
-use Rattle.sweet_cli.specs.Analyse.{report_in, analysing, IsSoundReport}
+use Rattle.sweet_cli.specs.Words.{AnalyseWords, RunWords}
+use Rattle.sweet_cli.specs.Facts.{IsSound}
+use Rattle.sweet_cli.specs.Programs.{program_in, checked_in, expanded_in, Expanded, meant}
+use Rattle.sweet_cli.specs.Tables.{inputs_in, inputs_told, costs_in, costs_told, Tables, tables_in, AreInputs, AreCosts}
+use Rattle.sweet_cli.specs.Analyse.{analysing, IsSoundReport}
 use Rattle.sweet_cli.specs.Print.{printing, IsSameProgram}
-use Rattle.sweet_cli.proofs.OneRun.{sound_of_exact}
+use Rattle.sweet_cli.specs.Run.{running, IsRunText, TellsRun}
+use Rattle.sweet_cli.proofs.Reported.{report_is_sound}
+
+-- ---- told files
+
+-- a program that was read is told
+pub record ToldProgram (file root : List ℕ) (files : Files) (expanded : Expanded) : Type 0 where
+  pub bytes : List ℕ
+  pub whole : WholeProgram
+  pub told : files file ≡ Some bytes
+  pub spelled : SpellsProgram bytes whole
+  pub passes : Passes whole root
+  pub program_is : expanded.program ≡ meant whole root
+  pub graph_is : IsGraph expanded.program expanded.graph
+
+told_program : (file root : List ℕ) (files : Files) (before : Log) (expanded : Expanded) (after : Log) → (expanded_in file root).steps.Gives (Some files) before expanded after
+    → ToldProgram file root files expanded
+unfolding expanded_in checked_in program_in
+told_program file root files before expanded after (program, mid, (whole, log, (bytes, first, read, (spelled, still)), (checked, same)), (graph, end, (drawn, stays), (is, over))) = record {
+  bytes = bytes;
+  whole = whole;
+  told = read.2;
+  spelled = spelled.means;
+  passes = checked.means.0;
+  program_is = ap (λ (e : Expanded). e.program) is ∙ checked.means.1;
+  graph_is = subst (λ (e : Expanded). IsGraph e.program e.graph) (sym is) drawn.means;
+}
+
+told_costs : (program : NumberedProgram) (file : Option (List ℕ)) (files : Files) (before : Log) (costs : CostTable) (after : Log)
+    → (costs_in program file).steps.Gives (Some files) before costs after → AreCosts file files program costs
+unfolding costs_told
+told_costs program None files before costs after (is, same) = is
+told_costs program (Some file) files before costs after (bytes, log, read, (meant, same)) = (bytes, read.2, meant.means)
+
+told_rows : (program : NumberedProgram) (file : Option (List ℕ)) (files : Files) (before : Log) (rows : List InputRow) (after : Log)
+    → (inputs_in program file).steps.Gives (Some files) before rows after → AreInputs file files program rows
+unfolding inputs_told
+told_rows program None files before rows after (is, same) = is
+told_rows program (Some file) files before rows after (bytes, log, read, (meant, same)) = (bytes, read.2, meant.means)
+
+told_tables : (program : NumberedProgram) (inputs costs : Option (List ℕ)) (files : Files) (before : Log) (tables : Tables) (after : Log)
+    → (tables_in program inputs costs).steps.Gives (Some files) before tables after → AreInputs inputs files program tables.rows × AreCosts costs files program tables.costs
+unfolding tables_in
+told_tables program inputs costs files before tables after (rows, a, first, (spent, b, second, (is, over))) = (
+  subst (λ (t : Tables). AreInputs inputs files program t.rows) (sym is) (told_rows program inputs files before rows a first),
+  subst (λ (t : Tables). AreCosts costs files program t.costs) (sym is) (told_costs program costs files a spent b second),
+)
+
+-- ---- promises
 
 -- a report that was made is sound
-pub prints_sound : ((bytes : List ℕ) (whole : WholeProgram) → FirstText bytes whole → IsFirst whole) → (file : List ℕ) (turns : ℕ) (told : Option Files) (before : Log) (text : List ℕ) (after : Log)
-    → (analysing file turns).steps.Gives told before text after → IfSome told (λ files. IsSoundReport file files text)
-unfolding analysing report_in first_program_in
-prints_sound firsts file turns None before text after g = tt
-prints_sound firsts file turns (Some files) before text after (findings, mid, (whole, end, (bytes, log, read, (spelled, same)), (meant, still)), (shown, over)) =
-    let found = meant.means in
-    let frames = found.0 in
-    let items = found.1 in
-    let text_of_main : FirstText bytes (main_alone frames items) = subst (λ (w : WholeProgram). FirstText bytes w) found.2 spelled.means in
+pub prints_sound : (given : AnalyseWords) (told : Option Files) (before : Log) (text : List ℕ) (after : Log) → (analysing given).steps.Gives told before text after
+    → IfSome told (λ files. IsSoundReport given files text)
+unfolding analysing
+prints_sound given None before text after g = tt
+prints_sound given (Some files) before text after (expanded, a, first, (costs, b, second, (findings, c, (report, still), (shown, over)))) =
+    let program = told_program given.file given.root files before expanded a first in
+    let spent = told_costs expanded.program given.costs files a costs b second in
+    let sound = report_is_sound expanded.program expanded.graph.nodes costs given.turns findings program.graph_is.numbered report.means in
     record {
-      bytes = bytes;
-      frames = frames;
-      items = items;
+      bytes = program.bytes;
+      whole = program.whole;
+      costs = costs;
       findings = findings;
-      told = read.2;
-      spelled = text_of_main;
-      sound = sound_of_exact frames items findings (firsts bytes (main_alone frames items) text_of_main) found.3.exact;
+      told = program.told;
+      spelled = program.spelled;
+      passes = program.passes;
+      costs_told = subst (λ (p : NumberedProgram). AreCosts given.costs files p costs) program.program_is spent;
+      sound = subst (λ (p : NumberedProgram). IsSound p [] costs findings) program.program_is sound;
       shown = shown;
+    }
+
+-- a run that was told is that of the program
+pub tells_run : (given : RunWords) (told : Option Files) (before : Log) (text : List ℕ) (after : Log) → (running given).steps.Gives told before text after
+    → IfSome told (λ files. TellsRun given files text)
+unfolding running
+tells_run given None before text after g = tt
+tells_run given (Some files) before text after (expanded, a, first, (tables, b, second, (told, c, (run, still), (is, over)))) =
+    let program = told_program given.file given.root files before expanded a first in
+    let both = told_tables expanded.program given.inputs given.costs files a tables b second in
+    record {
+      bytes = program.bytes;
+      whole = program.whole;
+      graph = expanded.graph;
+      rows = tables.rows;
+      costs = tables.costs;
+      told = program.told;
+      spelled = program.spelled;
+      passes = program.passes;
+      graph_is = subst (λ (p : NumberedProgram). IsGraph p expanded.graph) program.program_is program.graph_is;
+      rows_told = subst (λ (p : NumberedProgram). AreInputs given.inputs files p tables.rows) program.program_is both.0;
+      costs_told = subst (λ (p : NumberedProgram). AreCosts given.costs files p tables.costs) program.program_is both.1;
+      shown = subst (λ (p : NumberedProgram). IsRunText (record { program = p; graph = expanded.graph }) tables.rows tables.costs given.turns text) program.program_is (subst (λ (l : List ℕ). IsRunText expanded tables.rows tables.costs given.turns l) (sym is) run.means);
     }
 
 -- a text that was printed spells the same program
@@ -53,6 +132,7 @@ prints_same back file (Some files) before text after (whole, mid, (bytes, log, r
 not_done : (c : Cause) → status_of c ≡ statuses.Done → ⊥
 not_done Usage e = cc
 not_done Source e = cc
+not_done Example e = cc
 not_done Unbounded e = cc
 not_done No e = cc
 not_done (Unread name) e = cc

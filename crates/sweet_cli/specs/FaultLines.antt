@@ -1,5 +1,6 @@
 -- Lines that tell where a text departs from the grammar.
 --   which_word which        the word of a quantity that has a limit
+--   limit_line which count  the line of a quantity that passes its limit
 --   fault_line departure    the line of a departure
 use Rattle.std.specs.Prelude.{ℕ, List, [], ◌∷◌, ◌++◌, codes, decimal}
 use Rattle.flow_base.specs.declared.place.Place.{Place}
@@ -25,8 +26,12 @@ which_word Elements = codes "elements"
 abbrev pub place_text : Place → List ℕ
 place_text place = decimal place.line ++ (codes " " ++ decimal place.column)
 
+-- the line of a quantity that passes its limit
+abbrev pub limit_line : Which → ℕ → List ℕ
+limit_line which count = codes "fault 13 limit " ++ (which_word which ++ (codes " " ++ (decimal count ++ 10 ∷ [])))
+
 abbrev pub fault_line : Departure → List ℕ
 fault_line (Syntax place) = codes "fault 10 syntax " ++ (place_text place ++ 10 ∷ [])
 fault_line (Number place) = codes "fault 11 number " ++ (place_text place ++ 10 ∷ [])
 fault_line (OutOfProfile place word) = codes "fault 12 profile " ++ (place_text place ++ (codes " \"" ++ (word ++ codes "\"\n")))
-fault_line (Limit which count) = codes "fault 13 limit " ++ (which_word which ++ (codes " " ++ (decimal count ++ 10 ∷ [])))
+fault_line (Limit which count) = limit_line which count

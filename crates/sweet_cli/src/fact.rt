@@ -2,7 +2,7 @@
 
 use alf_ops::RunFault;
 
-/// What is said of each run. Nodes are named by their numbers.
+/// What is said of each run. Nodes are told by their numbers.
 #[derive(Clone, Copy, Debug, PartialEq, Eq)]
 pub enum Fact {
     /// The node has no place in a run.

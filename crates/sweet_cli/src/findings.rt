@@ -1,43 +1,37 @@
 //! The facts of a tally, and the bound.
 
-ghost use Rattle.std.specs.Prelude.{◌≡◌, ◌<◌, ◌≤◌, ◌^◌, ◌++◌, sum, drop, length, slice_index, EachIndex, IfOk, OnOk};
-ghost use Rattle.sweet_cli.specs.Listed.{dead_from, totals_from, alarm_of, listed};
+ghost use Rattle.std.specs.Prelude.{◌≡◌, ◌≤◌, ◌++◌, length, IfOk, OnOk, Some};
+ghost use Rattle.run_counts.specs.Counts.{outcome_of};
+ghost use Rattle.sweet_cli.specs.Facts.{alarm_facts};
+ghost use Rattle.sweet_cli.specs.Listed.{dead_from, totals_from, listed};
 
-use crate::tally::Tally;
 use crate::{Fact, Report};
-use alf_ops::RunFault;
+use run_counts::{RunEnd, Tally};
 use std::alloc::{AllocError, Global};
 
-// Nodes have numbers of 32 bits.
-const MOST_NODES: usize = 4_294_967_296;
-
-/// The report of the run of which this was counted, where these are the ranks of the nodes that are
-/// kept. Where there are more of them than numbers of 32 bits, the error is that of memory.
-pub fn report(alloc: Global, kept: &[usize], tally: &Tally) -> Result<Report, AllocError>
-    requires within { EachIndex kept.now (λ k. slice_index kept.now k < length tally.now.counts.items) }
-    requires fits { sum tally.now.counts.items < 2 ^ 32 }
-    ensures facts { IfOk result (λ report. report.facts.items ≡ listed kept.now tally.now.counts.items tally.now.fault) }
-    ensures bound { IfOk result (λ report. report.count_bound ≡ sum (drop 1 tally.now.counts.items)) }
+/// The report of the run of which this was counted.
+pub fn report(alloc: Global, tally: &Tally) -> Result<Report, AllocError>
+    requires few { length tally.now.counts.items ≤ 512 }
+    ensures facts { IfOk result (λ report. report.facts.items ≡ listed tally.now) }
+    ensures bound { IfOk result (λ report. report.count_bound ≡ tally.now.cost) }
 {
-    if kept.len() > MOST_NODES {
-        return Err(AllocError);
-    }
     let mut facts = Vec::new(alloc);
-    push_dead(&mut facts, kept, &tally.counts)?;
-    push_totals(&mut facts, kept, &tally.counts)?;
-    push_alarm(&mut facts, kept, tally.fault)?;
-    let count_bound = cost(&tally.counts);
-    Ok(Report { facts, count_bound })
+    push_dead(&mut facts, &tally.counts)?;
+    push_totals(&mut facts, &tally.counts)?;
+    push_alarm(&mut facts, tally)?;
+    Ok(Report {
+        facts,
+        count_bound: tally.cost,
+    })
 }
 
 // The nodes that have no place in the run.
-fn push_dead(facts: &mut Vec<Fact>, kept: &[usize], counts: &[u32]) -> Result<(), AllocError>
-    requires within { EachIndex kept.now (λ k. slice_index kept.now k < length counts.now) }
-    requires few { length kept.now ≤ 2 ^ 32 }
-    ensures { OnOk result (facts.new.items ≡ facts.old.items ++ dead_from 0 kept.now counts.now) }
+fn push_dead(facts: &mut Vec<Fact>, counts: &[u32]) -> Result<(), AllocError>
+    requires few { length counts.now ≤ 512 }
+    ensures { OnOk result (facts.new.items ≡ facts.old.items ++ dead_from 0 counts.now) }
 {
-    for (n, rank) in kept.iter().enumerate() {
-        if counts[*rank] != 0 {
+    for (n, count) in counts.iter().enumerate() {
+        if *count != 0 {
             continue;
         }
         facts.push(Fact::Dead(n as u32))?;
@@ -46,13 +40,12 @@ fn push_dead(facts: &mut Vec<Fact>, kept: &[usize], counts: &[u32]) -> Result<()
 }
 
 // The totals of the nodes that have a place.
-fn push_totals(facts: &mut Vec<Fact>, kept: &[usize], counts: &[u32]) -> Result<(), AllocError>
-    requires within { EachIndex kept.now (λ k. slice_index kept.now k < length counts.now) }
-    requires few { length kept.now ≤ 2 ^ 32 }
-    ensures { OnOk result (facts.new.items ≡ facts.old.items ++ totals_from 0 kept.now counts.now) }
+fn push_totals(facts: &mut Vec<Fact>, counts: &[u32]) -> Result<(), AllocError>
+    requires few { length counts.now ≤ 512 }
+    ensures { OnOk result (facts.new.items ≡ facts.old.items ++ totals_from 0 counts.now) }
 {
-    for (n, rank) in kept.iter().enumerate() {
-        let count = counts[*rank];
+    for (n, count) in counts.iter().enumerate() {
+        let count = *count;
         if count == 0 {
             continue;
         }
@@ -62,29 +55,11 @@ fn push_totals(facts: &mut Vec<Fact>, kept: &[usize], counts: &[u32]) -> Result<
 }
 
 // The alarm at the node at which the run faults, if it does.
-fn push_alarm(facts: &mut Vec<Fact>, kept: &[usize], fault: Option<usize>) -> Result<(), AllocError>
-    requires { length kept.now ≤ 2 ^ 32 }
-    ensures { OnOk result (facts.new.items ≡ facts.old.items ++ alarm_of kept.now fault) }
+fn push_alarm(facts: &mut Vec<Fact>, tally: &Tally) -> Result<(), AllocError>
+    ensures { OnOk result (facts.new.items ≡ facts.old.items ++ alarm_facts (Some tally.now.last) (outcome_of tally.now.end)) }
 {
-    let Some(fault) = fault else {
-        return Ok(());
-    };
-    for (n, rank) in kept.iter().enumerate() {
-        if *rank == fault {
-            facts.push(Fact::Alarm(n as u32, RunFault::Uninit))?;
-            return Ok(());
-        }
-    }
-    Ok(())
-}
-
-// The places of all nodes but the entry, which costs nothing.
-fn cost(counts: &[u32]) -> u64
-    requires { sum counts.now < 2 ^ 32 }
-    ensures { result ≡ sum (drop 1 counts.now) }
-{
-    match counts.split_first() {
-        None => 0,
-        Some((_, others)) => others.iter().map(|count| u64::from(*count)).sum(),
+    match &tally.end {
+        RunEnd::Returned(_) => Ok(()),
+        RunEnd::Faulted(fault) => Ok(facts.push(Fact::Alarm(tally.last, *fault))?),
     }
 }

@@ -28,6 +28,40 @@ pub fn files_of(alloc: Global, bytes: &[u8]) -> Result<Vec<(String, Vec<u8>)>, A
     Ok(files)
 }
 
+/// The files `a.alf`, `i.toml` and `c.toml` with these texts, and no other.
+pub fn three_files(
+    alloc: Global,
+    program: &str,
+    inputs: &str,
+    costs: &str,
+) -> Result<Vec<(String, Vec<u8>)>, AllocError> {
+    let mut files = files_of(alloc, program.as_bytes())?;
+    files.push((
+        String::from_str(alloc, "i.toml")?,
+        inputs.as_bytes().to_vec(alloc)?,
+    ))?;
+    files.push((
+        String::from_str(alloc, "c.toml")?,
+        costs.as_bytes().to_vec(alloc)?,
+    ))?;
+    Ok(files)
+}
+
+/// The status and the text that answer the line, over these three files.
+pub fn answer_over(
+    alloc: Global,
+    line: &str,
+    program: &str,
+    inputs: &str,
+    costs: &str,
+) -> Result<(Status, Vec<u8>), AllocError> {
+    let words = words_of(alloc, line)?;
+    let mut shelf = SureShelf::new(three_files(alloc, program, inputs, costs)?);
+    let mut out = SureSink::new(alloc);
+    let status = run(alloc, &words, &mut shelf, &mut out);
+    Ok((status, out.bytes().to_vec(alloc)?))
+}
+
 /// The status and the text that answer the line, where `a.alf` has these bytes.
 pub fn answer_of(alloc: Global, line: &str, bytes: &[u8]) -> Result<(Status, Vec<u8>), AllocError> {
     let words = words_of(alloc, line)?;

@@ -6,8 +6,13 @@
 mod answers;
 #[cfg(test)]
 mod notation;
+#[cfg(test)]
+mod whole;
 
-// Words, programs, programs with memory, files and sinks that fail, and the codes of all answers.
+// Words, texts, checks, runs, files of inputs and costs, files and sinks that fail, and the codes of
+// all answers.
+#[cfg(test)]
+mod checks;
 #[cfg(test)]
 mod codes;
 #[cfg(test)]
@@ -16,6 +21,10 @@ mod memory;
 mod outside;
 #[cfg(test)]
 mod programs;
+#[cfg(test)]
+mod runs;
+#[cfg(test)]
+mod tables;
 #[cfg(test)]
 mod texts;
 #[cfg(test)]

@@ -7,8 +7,9 @@ use sweet_cli::{Status, run, run_in_memory};
 fn a_file_has_at_most_so_many_bytes(rt: HostRuntime) -> Result<(), Fail> {
     let alloc = rt.alloc();
     let cases = [
-        ("analyse a.alf", 1_048_576, "fault 10 syntax 1 1\n"),
+        ("analyse a.alf", 1_048_576, "fault 10 syntax 1 1048577\n"),
         ("analyse a.alf", 1_048_577, "fault 13 limit bytes 1048577\n"),
+        ("run a.alf", 1_048_577, "fault 13 limit bytes 1048577\n"),
         ("print a.alf", 1_048_577, "fault 13 limit bytes 1048577\n"),
     ];
     for (line, count, wanted) in cases {

@@ -1,38 +1,75 @@
 -- What the words of a command line mean.
+--   AnalyseWords, RunWords   what `analyse` and `run` are given
 --   Command      a command, with what it was given
 --   file_of      the file that a command names
 --   command_of   the command of the words, where they are one
-use Rattle.std.specs.Prelude.{ℕ, List, [], ◌∷◌, Option, None, if◌then◌else◌, codes, option_map, option_and_then}
+use Rattle.std.specs.Prelude.{ℕ, List, [], ◌∷◌, Option, None, if◌then◌else◌, codes, option_map, option_and_then, unwrap_or}
 use Rattle.std.specs.Str.{bytes_eq}
 use Rattle.sweet_words.specs.Forms.{Text, Form, forms, form_named}
 use Rattle.sweet_words.specs.Given.{uses_of, value_in}
 use Rattle.sweet_words.specs.Numbers.{number_or, program_file}
 
+-- what `analyse` is given: the file of the program, the function that it starts with, the file of costs, and the most turns
+pub record AnalyseWords : Type 0 where
+  pub file : Text
+  pub root : Text
+  pub costs : Option Text
+  pub turns : ℕ
+
+-- what `run` is given: the same, and the file of inputs
+pub record RunWords : Type 0 where
+  pub file : Text
+  pub root : Text
+  pub inputs : Option Text
+  pub costs : Option Text
+  pub turns : ℕ
+
 -- a command
 pub data Command : Type 0 where
-  -- `analyse`: the file of the program, and the most turns
-  Analyse : List ℕ → ℕ → Command
-  -- `print`: the file of the program
-  Print : List ℕ → Command
+  Analyse : AnalyseWords → Command
+  -- the file of the program
+  Print : Text → Command
+  Run : RunWords → Command
 
 -- the file that a command names
-abbrev pub file_of : Command → List ℕ
-file_of (Analyse file turns) = file
+abbrev pub file_of : Command → Text
+file_of (Analyse given) = given.file
 file_of (Print file) = file
+file_of (Run given) = given.file
 
--- `analyse FILE --turns N`, where N is 1 to 1,000,000, and 100,000 where it is left out
+-- the name of the root function, which is `main` where it is left out
+abbrev pub root_in : (Text → Option Text) → Text
+root_in value = unwrap_or (value (codes "root")) (codes "main")
+
+-- the turns are 1 to 1,000,000, and 100,000 where they are left out
+abbrev pub turns_in : (Text → Option Text) → Option ℕ
+turns_in value = number_or 100000 1 1000000 (value (codes "turns"))
+
+-- `analyse FILE --root NAME --costs FILE --turns N`
+abbrev pub analyse_words : (Text → Option Text) → Text → ℕ → AnalyseWords
+analyse_words value file turns = record { file = file; root = root_in value; costs = value (codes "costs"); turns = turns }
+
 abbrev pub analyse_of : (Text → Option Text) → Option Command
-analyse_of value = option_and_then (λ file. option_map (λ turns. Analyse file turns) (number_or 100000 1 1000000 (value (codes "turns")))) (program_file (value (codes "file")))
+analyse_of value = option_and_then (λ file. option_map (λ turns. Analyse (analyse_words value file turns)) (turns_in value)) (program_file (value (codes "file")))
 
 -- `print FILE`
 abbrev pub print_of : (Text → Option Text) → Option Command
 print_of value = option_map (λ file. Print file) (program_file (value (codes "file")))
+
+-- `run FILE --root NAME --inputs FILE --costs FILE --turns N`
+abbrev pub run_words : (Text → Option Text) → Text → ℕ → RunWords
+run_words value file turns =
+    record { file = file; root = root_in value; inputs = value (codes "inputs"); costs = value (codes "costs"); turns = turns }
+
+abbrev pub run_of : (Text → Option Text) → Option Command
+run_of value = option_and_then (λ file. option_map (λ turns. Run (run_words value file turns)) (turns_in value)) (program_file (value (codes "file")))
 
 -- the command of this name, by the value of each name
 abbrev pub command_named : Text → (Text → Option Text) → Option Command
 command_named name value =
     if bytes_eq name (codes "analyse") then analyse_of value
     else if bytes_eq name (codes "print") then print_of value
+    else if bytes_eq name (codes "run") then run_of value
     else None
 
 -- the command that the words after its name make

@@ -22,14 +22,22 @@ abbrev pub named : Text → List Text → Option Text
 named text names = find (λ name. bytes_eq name text) names
 
 abbrev pub analyse_form : Form
-analyse_form = record { name = codes "analyse"; positionals = codes "file" ∷ []; values = codes "turns" ∷ []; flags = [] }
+analyse_form = record { name = codes "analyse"; positionals = codes "file" ∷ []; values = codes "root" ∷ codes "costs" ∷ codes "turns" ∷ []; flags = [] }
 
 abbrev pub print_form : Form
 print_form = record { name = codes "print"; positionals = codes "file" ∷ []; values = []; flags = [] }
 
+abbrev pub run_form : Form
+run_form = record {
+  name = codes "run";
+  positionals = codes "file" ∷ [];
+  values = codes "root" ∷ codes "inputs" ∷ codes "costs" ∷ codes "turns" ∷ [];
+  flags = [];
+}
+
 -- the commands that are built
 abbrev pub forms : List Form
-forms = analyse_form ∷ print_form ∷ []
+forms = analyse_form ∷ print_form ∷ run_form ∷ []
 
 -- the form of the command that the word names
 abbrev pub form_named : Text → List Form → Option Form

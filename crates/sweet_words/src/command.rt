@@ -1,20 +1,40 @@
 //! The commands, each with what it was given.
 ghost use Rattle.std.specs.Prelude.{◌≡◌, option_map};
 ghost use Rattle.clap.specs.Words.{first_value, found_of};
-ghost use Rattle.sweet_words.specs.Commands.{analyse_of, command_named, print_of};
+ghost use Rattle.sweet_words.specs.Commands.{analyse_of, command_named, print_of, root_in, run_of, turns_in};
 ghost use Rattle.sweet_words.specs.Meant.{command_meant};
 
 use crate::values::{number, program_file};
 use clap::ArgMatches;
 
+/// What `analyse` is given: the name of the program's file, that of the function that it starts with,
+/// which is `main` where the words do not say, the name of the costs file, and the most nodes that a
+/// run may have, 1 to 1,000,000, and 100,000 where the words do not say.
+#[derive(Clone, Copy)]
+pub struct AnalyseWords<'a> {
+    pub file: &'a str,
+    pub root: &'a str,
+    pub costs: Option<&'a str>,
+    pub turns: u32,
+}
+
+/// What `run` is given: the same, and the name of the inputs file.
+#[derive(Clone, Copy)]
+pub struct RunWords<'a> {
+    pub file: &'a str,
+    pub root: &'a str,
+    pub inputs: Option<&'a str>,
+    pub costs: Option<&'a str>,
+    pub turns: u32,
+}
+
 /// A command.
 #[derive(Clone, Copy)]
 pub enum Command<'a> {
-    /// `analyse`: the name of the program's file, and the most nodes that a run may have, which is 1
-    /// to 1,000,000, and 100,000 where the words do not say.
-    Analyse { file: &'a str, turns: u32 },
-    /// `print`: the name of the program's file.
-    Print { file: &'a str },
+    Analyse(AnalyseWords<'a>),
+    /// The name of the program's file.
+    Print(&'a str),
+    Run(RunWords<'a>),
 }
 
 // The command of this name, with the values that it was given.
@@ -24,21 +44,58 @@ pub fn named<'a>(name: &str, given: &ArgMatches<'a>) -> Option<Command<'a>>
     match name {
         "analyse" => analyse(given),
         "print" => print(given),
+        "run" => run(given),
         _ => None,
     }
+}
+
+// The name of the root function.
+fn root<'a>(given: &ArgMatches<'a>) -> &'a str
+    ensures { result.now ≡ root_in (first_value (found_of given.now)) }
+{
+    match given.get_str("root") {
+        Some(name) => name,
+        None => "main",
+    }
+}
+
+// The most turns.
+fn turns(given: &ArgMatches<'_>) -> Option<u32>
+    ensures { result ≡ turns_in (first_value (found_of given.now)) }
+{
+    number(given.get_str("turns"), 100_000, 1, 1_000_000)
 }
 
 fn analyse<'a>(given: &ArgMatches<'a>) -> Option<Command<'a>>
     ensures { option_map command_meant result ≡ analyse_of (first_value (found_of given.now)) }
 {
     let file = program_file(given.get_str("file"))?;
-    let turns = number(given.get_str("turns"), 100_000, 1, 1_000_000)?;
-    Some(Command::Analyse { file, turns })
+    let turns = turns(given)?;
+    Some(Command::Analyse(AnalyseWords {
+        file,
+        root: root(given),
+        costs: given.get_str("costs"),
+        turns,
+    }))
 }
 
 fn print<'a>(given: &ArgMatches<'a>) -> Option<Command<'a>>
     ensures { option_map command_meant result ≡ print_of (first_value (found_of given.now)) }
 {
     let file = program_file(given.get_str("file"))?;
-    Some(Command::Print { file })
+    Some(Command::Print(file))
+}
+
+fn run<'a>(given: &ArgMatches<'a>) -> Option<Command<'a>>
+    ensures { option_map command_meant result ≡ run_of (first_value (found_of given.now)) }
+{
+    let file = program_file(given.get_str("file"))?;
+    let turns = turns(given)?;
+    Some(Command::Run(RunWords {
+        file,
+        root: root(given),
+        inputs: given.get_str("inputs"),
+        costs: given.get_str("costs"),
+        turns,
+    }))
 }

@@ -10,17 +10,23 @@ pub struct Form {
 }
 
 /// The commands that are built: a further command is a further row.
-pub static FORMS: [Form; 2] = [
+pub static FORMS: [Form; 3] = [
     Form {
         name: "analyse",
         positionals: &["file"],
-        values: &["turns"],
+        values: &["root", "costs", "turns"],
         flags: &[],
     },
     Form {
         name: "print",
         positionals: &["file"],
         values: &[],
+        flags: &[],
+    },
+    Form {
+        name: "run",
+        positionals: &["file"],
+        values: &["root", "inputs", "costs", "turns"],
         flags: &[],
     },
 ];

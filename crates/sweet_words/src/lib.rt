@@ -17,6 +17,6 @@ mod values;
 // Laws of words.
 mod laws;
 
-pub use command::Command;
+pub use command::{AnalyseWords, Command, RunWords};
 pub use laws::options_stand_freely;
 pub use reading::{WordsFault, read};

@@ -1,6 +1,6 @@
 -- Work over files, in its order.
 --   Steps A    gives a value or stops with an outcome, and reads files on the way
---   IsOne w    told files have one value or one outcome, and one list of names read, but for failed reads
+--   IsOne w    told files have one value, or outcomes that are alike, and one list of names read, but for failed reads
 --   Work A     steps with the proof that they are so: a command that is written in these has one answer by its type
 --   reads, judged, done, stop, ◌>>=◌    how work is put together
 --   EndsSo w told before ending after   how work ends
@@ -8,7 +8,7 @@ use Rattle.std.proofs.Common.{◌≡◌, ◌≤◌, ◌<◌, ℕ, List, [], ◌�
 use Rattle.std.specs.Prelude.{IfSome, IsSomeAnd}
 use Rattle.flow_base.specs.Outside.{Files}
 use Rattle.work.specs.declared.reading.Role.{Role}
-use Rattle.work.specs.Outcome.{Outcome, IsOfFiles, Ending, Finished, Stopped, unread_of, ending_unread, refused}
+use Rattle.work.specs.Outcome.{Cause, Usage, Source, Example, Unbounded, No, Unread, Outcome, LinesAgree, AreAlike, AreAlikeResults, AreAlikeEndings, IsOfFiles, Ending, Finished, Stopped, unread_of, ending_unread, refused}
 use Rattle.work.specs.Log.{Log, log_with, log_after, GrewAlike}
 use Rattle.work.specs.Roles.{unread}
 
@@ -18,11 +18,11 @@ pub record Steps (A : Type 0) : Type 1 where
   pub Gives : Option Files → Log → A → Log → Type 0
   pub Stops : Option Files → Log → Outcome → Log → Type 0
 
--- whatever was read before, told files have one value or one outcome, and the same names are read, but for failed reads
+-- whatever was read before, told files have one value, or outcomes that are alike, and the same names are read, but for failed reads
 pub record IsOne {A : Type 0} (w : Steps A) : Type 0 where
   pub gives : (files : Files) (p q : Log) (a b : A) (m n : Log) → w.Gives (Some files) p a m → w.Gives (Some files) q b n → (a ≡ b) × GrewAlike p m q n
   pub stops : (files : Files) (p q : Log) (x y : Outcome) (m n : Log) → IsOfFiles x → IsOfFiles y
-      → w.Stops (Some files) p x m → w.Stops (Some files) q y n → (x ≡ y) × GrewAlike p m q n
+      → w.Stops (Some files) p x m → w.Stops (Some files) q y n → AreAlike x y × GrewAlike p m q n
   pub apart : (files : Files) (p q : Log) (a : A) (x : Outcome) (m n : Log) → IsOfFiles x → w.Gives (Some files) p a m → w.Stops (Some files) q x n → ⊥
 
 pub record Work (A : Type 0) : Type 1 where
@@ -39,10 +39,10 @@ read_steps role file limit line = record {
       ⊎ ((outcome ≡ refused line) × IfSome told (λ files. IsSomeAnd (files file) (λ bytes. limit < length bytes))));
 }
 
--- this is meant, and nothing else is
+-- this is meant, and all that is meant is alike
 pub record IsOnly {A : Type 0} (Means : Result A Outcome → Type 0) (x : Result A Outcome) : Type 0 where
   pub means : Means x
-  pub only : (y : Result A Outcome) → Means y → x ≡ y
+  pub only : (y : Result A Outcome) → Means y → AreAlikeResults x y
 
 -- the value or the outcome that something means
 abbrev pub judged_steps : {A : Type 0} → (Result A Outcome → Type 0) → Steps A
@@ -86,7 +86,21 @@ grown p m l q n o g h = record {
   second = h.second ∙ ap (λ (x : Log). log_after x h.names) g.second ∙ sym (log_through q g.names h.names);
 }
 
--- ---- each has one value or one outcome
+-- ---- outcomes that are alike
+
+agree : (cause : Cause) (a b : List ℕ) → a ≡ b → LinesAgree cause a b
+agree Usage a b e = e
+agree Source a b e = e
+agree Example a b e = tt
+agree Unbounded a b e = e
+agree No a b e = e
+agree (Unread name) a b e = e
+
+-- an outcome is like itself
+pub alike : (x y : Outcome) → x ≡ y → AreAlike x y
+alike x y e = record { same_cause = ap (λ (o : Outcome). o.cause) e; lines = agree x.cause x.text y.text (ap (λ (o : Outcome). o.text) e) }
+
+-- ---- each has one value, or outcomes that are alike
 
 some_is : {A : Type 0} {x y : A} → Some x ≡ Some y → x ≡ y
 some_is e = cc
@@ -104,7 +118,7 @@ module _ (role : Role) (file : List ℕ) (limit : ℕ) (line : List ℕ) where
   pub read_one : IsOne (read_steps role file limit line)
   read_one = record {
     gives = λ files p q a b m n g h. (some_is (sym g.2 ∙ h.2), one_more file p m q n g.0 h.0);
-    stops = λ files p q x y m n r s g h. (both x y r s g.1 h.1, one_more file p m q n g.0 h.0);
+    stops = λ files p q x y m n r s g h. (alike x y (both x y r s g.1 h.1), one_more file p m q n g.0 h.0);
     apart = λ files p q a x m n r g h. not_both files a x r g.1 g.2 h.1;
   }
     where
@@ -119,20 +133,11 @@ module _ (role : Role) (file : List ℕ) (limit : ℕ) (line : List ℕ) where
       not_both files a x r le e (inl f) = failed_not x r f
       not_both files a x r le e (inr h) = long_not (files file) a e le h.1
 
-ok_is : {A : Type 0} (a b : A) → ◌≡◌ {A = Result A Outcome} (Ok a) (Ok b) → a ≡ b
-ok_is a b e = cc
-
-err_is : {A : Type 0} (x y : Outcome) → ◌≡◌ {A = Result A Outcome} (Err x) (Err y) → x ≡ y
-err_is x y e = cc
-
-ok_no_err : {A : Type 0} (a : A) (x : Outcome) → ◌≡◌ {A = Result A Outcome} (Ok a) (Err x) → ⊥
-ok_no_err a x e = cc
-
 pub judged_one : {A : Type 0} (Means : Result A Outcome → Type 0) → IsOne (judged_steps Means)
-judged_one {A = A} Means = record {
-  gives = λ files p q a b m n g h. (ok_is a b (g.0.only (Ok b) h.0.means), still p m q n g.1 h.1);
-  stops = λ files p q x y m n r s g h. (err_is {A = A} x y (g.0.only (Err y) h.0.means), still p m q n g.1 h.1);
-  apart = λ files p q a x m n r g h. ok_no_err a x (g.0.only (Err x) h.0.means);
+judged_one Means = record {
+  gives = λ files p q a b m n g h. (g.0.only (Ok b) h.0.means, still p m q n g.1 h.1);
+  stops = λ files p q x y m n r s g h. (g.0.only (Err y) h.0.means, still p m q n g.1 h.1);
+  apart = λ files p q a x m n r g h. g.0.only (Err x) h.0.means;
 }
 
 pub done_one : {A : Type 0} (a : A) → IsOne (done_steps a)
@@ -145,7 +150,7 @@ done_one a = record {
 pub stop_one : {A : Type 0} (o : Outcome) → IsOne (stop_steps {A = A} o)
 stop_one o = record {
   gives = λ files p q x y m n g h. absurd g;
-  stops = λ files p q x y m n r s g h. (g.0 ∙ sym h.0, still p m q n g.1 h.1);
+  stops = λ files p q x y m n r s g h. (alike x y (g.0 ∙ sym h.0), still p m q n g.1 h.1);
   apart = λ files p q b x m n r g h. g;
 }
 
@@ -158,7 +163,7 @@ module _ {A B : Type 0} {w : Steps A} {k : A → Steps B} (hw : IsOne w) (hk : (
       (next.0, grown p l m q o n first.1 next.1)
 
   then_stops : (files : Files) (p q : Log) (x y : Outcome) (m n : Log) → IsOfFiles x → IsOfFiles y
-      → (then_steps w k).Stops (Some files) p x m → (then_steps w k).Stops (Some files) q y n → (x ≡ y) × GrewAlike p m q n
+      → (then_steps w k).Stops (Some files) p x m → (then_steps w k).Stops (Some files) q y n → AreAlike x y × GrewAlike p m q n
   then_stops files p q x y m n r s (inl g) (inl h) = hw.stops files p q x y m n r s g h
   then_stops files p q x y m n r s (inl g) (inr h) = absurd (hw.apart files q p h.0 x h.1 m r h.2 g)
   then_stops files p q x y m n r s (inr g) (inl h) = absurd (hw.apart files p q g.0 y g.1 n s g.2 h)
@@ -204,13 +209,13 @@ abbrev pub EndsSo : Work (List ℕ) → Option Files → Log → Ending → Log 
 EndsSo w told before (Finished text) after = w.steps.Gives told before text after
 EndsSo w told before (Stopped outcome) after = w.steps.Stops told before outcome after
 
--- whatever was read before, told files have one ending, and the same names are read, but for failed reads
+-- whatever was read before, told files have endings that are alike, and the same names are read, but for failed reads
 abbrev pub HasOneEnding : Work (List ℕ) → Files → Type 0
 HasOneEnding w files = (p q : Log) (x y : Ending) (m n : Log) → ending_unread x ≡ None → ending_unread y ≡ None
-    → EndsSo w (Some files) p x m → EndsSo w (Some files) q y n → (x ≡ y) × GrewAlike p m q n
+    → EndsSo w (Some files) p x m → EndsSo w (Some files) q y n → AreAlikeEndings x y × GrewAlike p m q n
 
 pub ends_one : (w : Work (List ℕ)) (files : Files) → HasOneEnding w files
-ends_one w files p q (Finished a) (Finished b) m n r s g h = let e = w.one.gives files p q a b m n g h in (ap Finished e.0, e.1)
+ends_one w files p q (Finished a) (Finished b) m n r s g h = w.one.gives files p q a b m n g h
 ends_one w files p q (Finished a) (Stopped y) m n r s g h = absurd (w.one.apart files p q a y m n s g h)
 ends_one w files p q (Stopped x) (Finished b) m n r s g h = absurd (w.one.apart files q p b x n m r h g)
-ends_one w files p q (Stopped x) (Stopped y) m n r s g h = let e = w.one.stops files p q x y m n r s g h in (ap Stopped e.0, e.1)
+ends_one w files p q (Stopped x) (Stopped y) m n r s g h = w.one.stops files p q x y m n r s g h

@@ -14,6 +14,8 @@ pub enum Why {
     Usage,
     /// What was read is refused.
     Source,
+    /// What was read is refused, and the line gives one example of several.
+    Example,
     /// A run has more turns than are given.
     Unbounded,
     /// What was asked does not hold.
@@ -30,6 +32,7 @@ impl Why {
         match self {
             Why::Usage => Status::Usage,
             Why::Source => Status::Source,
+            Why::Example => Status::Source,
             Why::Unbounded => Status::Unbounded,
             Why::No => Status::No,
             Why::Unread(_) => Status::ReadFailed,

@@ -7,9 +7,15 @@ ghost use Rattle.sweet_cli.specs.Words.{command_meant};
 ghost use Rattle.sweet_cli.specs.Table.{task_for, task_of};
 ghost use Rattle.sweet_cli.specs.Task.{KeepsPromise};
 
+// What commands have in common.
+mod counting;
+mod programs;
+mod tables;
+
+// The commands.
 mod analyse;
 mod print;
-mod programs;
+mod run;
 
 use crate::words::{Command, WordsFault, read};
 use flow_base::Shelf;
@@ -51,7 +57,8 @@ fn command_text<F: Shelf>(
     ensures promise { IfOk result (λ text. IfSome (F.state shelf.old).files (λ files. (task_for (command_meant command.entry)).Promise files text.items)) }
 {
     match command {
-        Command::Analyse { file, turns } => analyse::analyse(alloc, file, turns, shelf),
-        Command::Print { file } => print::print(alloc, file, shelf),
+        Command::Analyse(given) => analyse::analyse(alloc, given, shelf),
+        Command::Print(file) => print::print(alloc, file, shelf),
+        Command::Run(given) => run::run(alloc, given, shelf),
     }
 }

@@ -2,7 +2,7 @@
 
 ghost use Rattle.std.specs.Prelude.{◌≡◌, ◌++◌, string_bytes, codes, IfOk, IsSomeAnd};
 ghost use Rattle.alf_text.specs.Language.{departure_of};
-ghost use Rattle.sweet_cli.specs.FaultLines.{which_word, place_text, fault_line};
+ghost use Rattle.sweet_cli.specs.FaultLines.{which_word, place_text, limit_line, fault_line};
 
 use alf_text::TextFault;
 use flow_base::{Name, Place, Which};
@@ -24,13 +24,18 @@ pub fn fault_line(alloc: Global, fault: &TextFault) -> Result<Vec<u8>, AllocErro
             Ok(line.into_bytes())
         }
         TextFault::OutOfProfile(place, word) => profile_line(alloc, *place, word),
-        TextFault::Limit(which, count) => {
-            let word = which_word(*which);
-            let line = format!(in alloc; "fault 13 limit {word} {count}\n")?;
-            Ok(line.into_bytes())
-        }
+        TextFault::Limit(which, count) => limit_line(alloc, *which, *count),
         TextFault::Memory => Err(AllocError),
     }
+}
+
+/// The line of a quantity that passes its limit.
+pub fn limit_line(alloc: Global, which: Which, count: u64) -> Result<Vec<u8>, AllocError>
+    ensures { IfOk result (λ line. line.items ≡ limit_line which count) }
+{
+    let word = which_word(which);
+    let line = format!(in alloc; "fault 13 limit {word} {count}\n")?;
+    Ok(line.into_bytes())
 }
 
 fn profile_line(alloc: Global, place: Place, word: &Name) -> Result<Vec<u8>, AllocError>

@@ -1,7 +1,13 @@
 //! The lines of answers.
 
+mod check_lines;
 mod fault_lines;
 mod report_text;
+mod run_lines;
+mod table_lines;
 
+pub use check_lines::{check_line, check_why, graph_line};
 pub use fault_lines::fault_line;
 pub use report_text::text_of;
+pub use run_lines::{run_text, unbounded_line};
+pub use table_lines::table_line;

@@ -52,8 +52,8 @@ fn line_of(alloc: Global, fact: Fact) -> Result<String, AllocError>
     }
 }
 
-// The word of a fault.
-fn word_of(cause: RunFault) -> &'static str
+/// The word of a fault.
+pub fn word_of(cause: RunFault) -> &'static str
     ensures { result.now ≡ fault_word cause }
 {
     match cause {

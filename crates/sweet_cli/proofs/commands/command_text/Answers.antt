@@ -6,3 +6,6 @@ returns-in-Analyse-clause-promise g c = rw c.in-Analyse.is c.analyse.ensures.pro
 
 pub returns-in-Print-clause-promise : goal.returns-in-Print-clause-promise
 returns-in-Print-clause-promise g c = rw c.in-Print.is c.print.ensures.promise
+
+pub returns-in-Run-clause-promise : goal.returns-in-Run-clause-promise
+returns-in-Run-clause-promise g c = rw c.in-Run.is c.run.ensures.promise

@@ -1,29 +1,26 @@
 -- The report of the one run, or that it has more nodes than the turns, is the only meaning.
-use Rattle.std.proofs.Common.{map, Ok, Err, refl, sym, subst}
-use Rattle.alf_program.specs.Tree.{WholeProgram, item_of, names_of, program_of}
-use Rattle.alf_text.specs.First.{main_alone, IsFirst}
-use Rattle.work.specs.Work.{IsOnly}
-use Rattle.work.specs.Works.{stop_judges}
+use Rattle.std.proofs.Common.{refl}
+use Rattle.alf_check.specs.CheckedPrograms.{seen}
 use Rattle.sweet_cli.specs.Facts.{findings_of}
-use Rattle.sweet_cli.specs.Analyse.{RunMeans, unbounded}
-use Rattle.sweet_cli.proofs.Judged.{run_only}
+use Rattle.sweet_cli.specs.Seen.{expanded_of}
+use Rattle.sweet_cli.specs.Analyse.{sole_start}
+use Rattle.sweet_cli.proofs.Numbers.{differ}
+use Rattle.sweet_cli.proofs.Reported.{report_only, left_only, reported}
 use Rattle.sweet_cli.proofs.commands.analyse.run_report.Goals as goal
 
-pub returns-in-Some : goal.returns-in-Some
-returns-in-Some c =
-    let frames = names_of c.args.program.now.decls.items in
-    let items = map item_of c.items_of_main.result.now in
-    let first : IsFirst (main_alone frames items) = subst (λ (w : WholeProgram). IsFirst w) c.items_of_main.ensures c.requires in
-    let within = rw c.in-Some.is at c.in_ok-report.ensures.done in
-    subst (λ (w : WholeProgram). IsOnly (RunMeans w c.args.turns) (Ok (findings_of c.in-Some.report))) (sym c.items_of_main.ensures)
-    (run_only frames items c.args.turns first (Ok (findings_of c.in-Some.report)) (frames, items, refl, within))
+pub returns-in_ok-report-in-Over : goal.returns-in_ok-report-in-Over
+returns-in_ok-report-in-Over c =
+    let expanded = expanded_of c.args.expanded.now in
+    let apart = differ (seen c.args.expanded.now.checked) c.args.expanded.now.graph (c.graphs_are_expansions.ensures _ _ c.keeps.ensures c.requires) in
+    let counts = rw c.in-Over.is at c.in_ok-tally.ensures in
+    report_only c.a_run_has_one_end.ensures.one c.a_run_has_one_end.ensures.length expanded apart c.args.costs.now c.args.turns (findings_of c.in_ok-report-in-Over.report)
+    (reported expanded c.args.costs.now (sole_start expanded.program) c.args.turns c.in-Over.tally (findings_of c.in_ok-report-in-Over.report) counts
+    c.in_ok-report-in-Over.ensures.facts c.in_ok-report-in-Over.ensures.bound)
 
-pub returns-in-None : goal.returns-in-None
-returns-in-None c =
-    let frames = names_of c.args.program.now.decls.items in
-    let items = map item_of c.items_of_main.result.now in
-    let first : IsFirst (main_alone frames items) = subst (λ (w : WholeProgram). IsFirst w) c.items_of_main.ensures c.requires in
-    let past = rw c.in-None.is at c.in_ok-report.ensures.left in
-    stop_judges (RunMeans (program_of c.args.program.now) c.args.turns) findings_of c.stopped.result unbounded c.stopped.ensures refl
-    (subst (λ (w : WholeProgram). IsOnly (RunMeans w c.args.turns) (Err unbounded)) (sym c.items_of_main.ensures)
-    (run_only frames items c.args.turns first (Err unbounded) (frames, items, refl, past, refl)))
+pub returns-in_ok-line-in-Left : goal.returns-in_ok-line-in-Left
+returns-in_ok-line-in-Left c =
+    let expanded = expanded_of c.args.expanded.now in
+    let apart = differ (seen c.args.expanded.now.checked) c.args.expanded.now.graph (c.graphs_are_expansions.ensures _ _ c.keeps.ensures c.requires) in
+    let longer = rw c.in-Left.is at c.in_ok-tally.ensures in
+    let only = left_only c.a_run_has_one_end.ensures.one c.a_run_has_one_end.ensures.length expanded apart c.args.costs.now c.args.turns longer in
+    (refl, rw c.in_ok-line-in-Left.ensures only)

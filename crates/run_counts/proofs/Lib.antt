@@ -1,0 +1,3 @@
+-- Shared lemmas.
+pub mod Placing
+pub mod Turning

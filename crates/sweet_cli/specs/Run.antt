@@ -1,0 +1,76 @@
+-- `run FILE`: one run of the program, told.
+--   low_start program rows       the start whose inputs are the low ends of their ranges
+--   IsRunText expanded rows costs turns text   the text tells the run from there, which has no more nodes than the turns
+--   RunMeans expanded rows costs turns meaning     this text, or that the run has more nodes than the turns
+--   running given                the order of work
+--   TellsRun given files text    the promise: the text tells this run of the program that the file spells
+--   run given                    the task
+use Rattle.std.specs.Prelude.{◌≡◌, ◌≤◌, ℕ, List, length, map, Some, Result, Ok, Err}
+use Rattle.flow_base.specs.Outside.{Files}
+use Rattle.alf_program.specs.Tree.{WholeProgram}
+use Rattle.alf_text.specs.Language.{SpellsProgram}
+use Rattle.alf_check.specs.declared.rows.InputRow.{InputRow}
+use Rattle.alf_check.specs.CheckedPrograms.{NumberedProgram}
+use Rattle.alf_check.specs.Checking.{Passes}
+use Rattle.flow_graph.specs.Numbering.{GraphParts, IsGraph}
+use Rattle.alf_runs.specs.Outcomes.{Outcome as RunOutcome}
+use Rattle.alf_runs.specs.Steps.{Moment}
+use Rattle.alf_runs.specs.Starts.{start, words_of}
+use Rattle.alf_runs.specs.Runs.{IsLonger, cost_of}
+use Rattle.run_counts.specs.Traces.{Runs, last_of}
+use Rattle.cost_table.specs.CostTables.{CostTable}
+use Rattle.work.specs.Outcome.{Outcome}
+use Rattle.work.specs.Work.{Work, judged, done, ◌>>=◌}
+use Rattle.sweet_cli.specs.Words.{RunWords}
+use Rattle.sweet_cli.specs.Programs.{Expanded, expanded_in, meant}
+use Rattle.sweet_cli.specs.Tables.{tables_in, AreInputs, AreCosts}
+use Rattle.sweet_cli.specs.Facts.{node_cost}
+use Rattle.sweet_cli.specs.RunText.{run_text}
+use Rattle.sweet_cli.specs.Analyse.{unbounded}
+use Rattle.sweet_cli.specs.Task.{Task}
+
+-- the words of the low ends of the ranges
+abbrev pub low_words : List InputRow → List ℕ
+low_words rows = words_of rows (map (λ (row : InputRow). row.low) rows)
+
+-- the start whose inputs are the low ends of their ranges
+abbrev pub low_start : NumberedProgram → List InputRow → Moment
+low_start program rows = start program rows (low_words rows)
+
+-- the text tells the run from there, which has no more nodes than the turns
+pub record IsRunText (expanded : Expanded) (rows : List InputRow) (costs : CostTable) (turns : ℕ) (text : List ℕ) : Type 0 where
+  pub trace : List ℕ
+  pub outcome : RunOutcome
+  pub runs : Runs expanded.program expanded.graph.nodes (low_start expanded.program rows) trace outcome
+  pub within : length trace ≤ turns
+  pub shown : text ≡ run_text expanded (last_of trace) outcome (length trace) (cost_of (node_cost expanded.program costs) runs.run)
+
+-- this text, or that the run has more nodes than the turns
+abbrev pub RunMeans : Expanded → List InputRow → CostTable → ℕ → Result (List ℕ) Outcome → Type 0
+RunMeans expanded rows costs turns (Ok text) = IsRunText expanded rows costs turns text
+RunMeans expanded rows costs turns (Err outcome) = IsLonger expanded.program (low_start expanded.program rows) turns × (outcome ≡ unbounded expanded.graph)
+
+unfoldable pub running : RunWords → Work (List ℕ)
+running given = do
+  expanded ← expanded_in given.file given.root
+  tables ← tables_in expanded.program given.inputs given.costs
+  text ← judged (RunMeans expanded tables.rows tables.costs given.turns)
+  done text
+
+-- the text tells this run of the program that the file spells, by the files that the words name
+pub record TellsRun (given : RunWords) (files : Files) (text : List ℕ) : Type 0 where
+  pub bytes : List ℕ
+  pub whole : WholeProgram
+  pub graph : GraphParts
+  pub rows : List InputRow
+  pub costs : CostTable
+  pub told : files given.file ≡ Some bytes
+  pub spelled : SpellsProgram bytes whole
+  pub passes : Passes whole given.root
+  pub graph_is : IsGraph (meant whole given.root) graph
+  pub rows_told : AreInputs given.inputs files (meant whole given.root) rows
+  pub costs_told : AreCosts given.costs files (meant whole given.root) costs
+  pub shown : IsRunText (record { program = meant whole given.root; graph = graph }) rows costs given.turns text
+
+abbrev pub run : RunWords → Task
+run given = record { work = running given; Promise = TellsRun given }

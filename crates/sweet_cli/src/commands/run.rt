@@ -1,0 +1,92 @@
+//! `run FILE`: one run of the program, told.
+
+ghost use Rattle.std.specs.Prelude.{◌≡◌, ◌≤◌, All, IfOk, IfSome};
+ghost use Rattle.alf_check.specs.declared.rows.InputRow.{InputRow};
+ghost use Rattle.alf_check.specs.CheckedPrograms.{seen};
+ghost use Rattle.alf_check.specs.Inputs.{KeepInputs};
+ghost use Rattle.flow_graph.specs.Numbering.{IsGraph};
+ghost use Rattle.work.specs.Works.{Works, Judges};
+ghost use Rattle.alf_ops.specs.TwosComplement.{word};
+ghost use Rattle.sweet_cli.specs.Words.{run_meant};
+ghost use Rattle.sweet_cli.specs.Seen.{expanded_of};
+ghost use Rattle.sweet_cli.specs.Run.{low_words, RunMeans, running, TellsRun};
+
+use crate::commands::counting::counted;
+use crate::commands::programs::{Expanded, expanded_in};
+use crate::commands::tables::{Tables, tables_in};
+use crate::lines::{run_text, unbounded_line};
+use crate::words::RunWords;
+use alf_check::InputRow;
+use alf_runs::{a_run_has_one_end, active_frames_follow_the_call_path};
+use flow_base::Shelf;
+use flow_graph::graphs_are_expansions;
+use run_counts::Counted;
+use std::alloc::{AllocError, Global};
+use whole_numbers::Whole;
+use work::{Stop, Why};
+
+/// The text that tells the run.
+pub fn run<F: Shelf>(alloc: Global, given: RunWords<'_>, shelf: &mut F) -> Result<Vec<u8>, Stop>
+    ensures work { Works (running (run_meant given.entry)) (λ text. text.items) (F.state shelf.old) result (F.state shelf.new) }
+    ensures promise { IfOk result (λ text. IfSome (F.state shelf.old).files (λ files. TellsRun (run_meant given.entry) files text.items)) }
+{
+    let text = running(alloc, given, shelf)?;
+    Ok(text)
+}
+
+// The order of work.
+#[tactic(auto, unfolding(crate::specs::Run::running))]
+fn running<F: Shelf>(alloc: Global, given: RunWords<'_>, shelf: &mut F) -> Result<Vec<u8>, Stop>
+    ensures { Works (running (run_meant given.entry)) (λ text. text.items) (F.state shelf.old) result (F.state shelf.new) }
+{
+    let expanded = expanded_in(alloc, given.file, given.root, shelf)?;
+    let tables = tables_in(alloc, &expanded.checked, given.inputs, given.costs, shelf)?;
+    let text = told(alloc, &expanded, &tables, given.turns)?;
+    Ok(text)
+}
+
+// What is told of the run whose inputs are the low ends of their ranges.
+fn told(alloc: Global, expanded: &Expanded, tables: &Tables, turns: u32) -> Result<Vec<u8>, Stop>
+    requires graph { IsGraph (seen expanded.now.checked) expanded.now.graph }
+    requires rows { KeepInputs (seen expanded.now.checked) tables.now.rows.items }
+    ensures { Judges (RunMeans (expanded_of expanded.now) tables.now.rows.items tables.now.costs turns) (λ text. text.items) result }
+{
+    expanded.checked.keeps();
+    a_run_has_one_end();
+    graphs_are_expansions();
+    active_frames_follow_the_call_path();
+    let rows = tables.rows.as_slice();
+    let words = low_words(alloc, rows)?;
+    match counted(alloc, expanded, rows, &words, &tables.costs, turns)? {
+        Counted::Over(tally) => {
+            let text = run_text(alloc, &expanded.checked, &expanded.graph, &tally)?;
+            Ok(text)
+        }
+        Counted::Left(_) => {
+            let line = unbounded_line(alloc, &expanded.graph)?;
+            Err(Stop::Told(Why::Unbounded, line))
+        }
+    }
+}
+
+// The words of the low ends of the ranges.
+fn low_words(alloc: Global, rows: &[InputRow]) -> Result<Vec<u64>, AllocError>
+    requires { All (λ (row : InputRow). row.size ≤ 64) rows.now }
+    ensures { IfOk result (λ words. words.items ≡ low_words rows.now) }
+{
+    let mut words = Vec::new(alloc);
+    for row in rows {
+        words.push(low_word(row))?;
+    }
+    Ok(words)
+}
+
+// The word of the low end of a range.
+fn low_word(row: &InputRow) -> u64
+    requires { row.now.size ≤ 64 }
+    ensures { result ≡ word row.now.size row.now.low }
+{
+    Whole::of(row.low)
+        .rest(Whole::power_of_two(row.size))
+        .word()
+}

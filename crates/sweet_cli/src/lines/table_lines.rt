@@ -1,0 +1,36 @@
+//! Lines that tell why a file of inputs or of costs is refused.
+
+ghost use Rattle.std.specs.Prelude.{◌≡◌, string_bytes, IfOk, Some};
+ghost use Rattle.sweet_cli.specs.Tables.{table_line};
+
+use crate::lines::check_lines::number_or_dash;
+use cost_table::TableFault;
+use std::alloc::{AllocError, Global};
+
+/// The line of a file that is refused; the role is its word. Want of memory has none.
+pub fn table_line(alloc: Global, role: &str, fault: &TableFault) -> Result<Vec<u8>, AllocError>
+    ensures { IfOk result (λ line. table_line role.now fault.now ≡ Some line.items) }
+{
+    match fault {
+        TableFault::Toml => {
+            let line = format!(in alloc; "fault 70 toml {role}\n")?;
+            Ok(line.into_bytes())
+        }
+        TableFault::Key(place) => {
+            let place = number_or_dash(alloc, *place)?;
+            let line = format!(in alloc; "fault 71 key {role} {place}\n")?;
+            Ok(line.into_bytes())
+        }
+        TableFault::Range(place) => {
+            let place = *place;
+            let line = format!(in alloc; "fault 72 range {role} {place}\n")?;
+            Ok(line.into_bytes())
+        }
+        TableFault::NoSuchCell(place) => {
+            let place = *place;
+            let line = format!(in alloc; "fault 73 cell {role} {place}\n")?;
+            Ok(line.into_bytes())
+        }
+        TableFault::Memory => Err(AllocError),
+    }
+}

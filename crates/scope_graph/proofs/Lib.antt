@@ -11,3 +11,4 @@ pub mod Forward
 pub mod FoundScopes
 pub mod Assembling
 pub mod Parts
+pub mod OneOutline

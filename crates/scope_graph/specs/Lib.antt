@@ -9,3 +9,4 @@ pub mod Members
 pub mod Inner
 pub mod Found
 pub mod Assembled
+pub mod Laws

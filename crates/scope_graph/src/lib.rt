@@ -25,5 +25,9 @@ mod members;
 mod ranks;
 mod rows;
 
+// What every outline of a graph keeps.
+mod laws;
+
+pub use laws::a_graph_has_one_outline;
 pub use made::outline;
 pub use reduce::OutlineFault;

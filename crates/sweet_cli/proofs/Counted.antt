@@ -14,7 +14,7 @@ use Rattle.sweet_cli.specs.Facts.{node_cost}
 use Rattle.sweet_cli.specs.Programs.{unranked}
 use Rattle.sweet_cli.specs.Counting.{CountedAs}
 use Rattle.sweet_cli.proofs.Numbers.{last_low, costs_same}
-use Rattle.sweet_cli.proofs.RanksRuns.{runs, longer}
+use Rattle.sweet_cli.proofs.RanksRuns.{runs, past}
 
 module _ (program : NumberedProgram) (graph : GraphParts) (rows : List InputRow) (words : List ℕ) (table : CostTable) (turns : ℕ) where
   pub counted_for : (costs : List ℕ) → costs ≡ map (node_cost (unranked program) table) graph.nodes → (counted : Counted)
@@ -36,7 +36,7 @@ module _ (program : NumberedProgram) (graph : GraphParts) (rows : List InputRow)
         cost = h.tallies.cost ∙ ap (λ (l : List ℕ). cost_of l h.trace) same ∙ costs_same nodes (node_cost (unranked program) table) h.trace run.run run.numbers;
       }
   counted_for costs same (told.Left n) h =
-      longer program program.ranks [] (start program rows words) turns (record { node = h.node; history = h.history; stands = h.stands })
+      past program program.ranks [] graph.nodes (start program rows words) turns n h
 
   -- and so it is of an answer
   pub all_counted : (costs : List ℕ) → costs ≡ map (node_cost (unranked program) table) graph.nodes → (result : Result Counted AllocError)

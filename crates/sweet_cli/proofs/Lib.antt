@@ -7,6 +7,8 @@ pub mod RanksTables
 pub mod Judged
 pub mod JudgedGraph
 pub mod JudgedTables
+pub mod JudgedScopes
+pub mod Uptos
 pub mod Numbers
 pub mod Counted
 pub mod Reported

@@ -23,7 +23,9 @@ use Rattle.sweet_cli.specs.Words.{AnalyseWords, RunWords}
 use Rattle.sweet_cli.specs.Facts.{IsSound}
 use Rattle.sweet_cli.specs.Programs.{program_in, checked_in, expanded_in, Expanded, meant}
 use Rattle.sweet_cli.specs.Tables.{inputs_in, inputs_told, costs_in, costs_told, Tables, tables_in, AreInputs, AreCosts}
-use Rattle.sweet_cli.specs.Analyse.{analysing, IsSoundReport}
+use Rattle.sweet_cli.specs.Scopes.{IsScoped, ScopedProgram, scoped_in}
+use Rattle.sweet_cli.specs.ReportText.{report_text}
+use Rattle.sweet_cli.specs.Analyse.{analysing, costs_of, expanded_program, scoped_program, IsSoundReport}
 use Rattle.sweet_cli.specs.Print.{printing, IsSameProgram}
 use Rattle.sweet_cli.specs.Run.{running, IsRunText, TellsRun}
 use Rattle.sweet_cli.proofs.Reported.{report_is_sound}
@@ -53,6 +55,19 @@ told_program file root files before expanded after (program, mid, (whole, log, (
   graph_is = subst (λ (e : Expanded). IsGraph e.program e.graph) (sym is) drawn.means;
 }
 
+-- and so are its scopes
+pub record ToldScoped (file root : List ℕ) (files : Files) (program : ScopedProgram) : Type 0 where
+  pub program_told : ToldProgram file root files program.expanded
+  pub scoped_is : IsScoped program.expanded.graph program.scoped
+
+told_scoped : (file root : List ℕ) (files : Files) (before : Log) (program : ScopedProgram) (after : Log) → (scoped_in file root).steps.Gives (Some files) before program after
+    → ToldScoped file root files program
+unfolding scoped_in
+told_scoped file root files before program after (expanded, mid, first, (scoped, end, (means, stays), (is, over))) = record {
+  program_told = subst (λ (p : ScopedProgram). ToldProgram file root files p.expanded) (sym is) (told_program file root files before expanded mid first);
+  scoped_is = subst (λ (p : ScopedProgram). IsScoped p.expanded.graph p.scoped) (sym is) means.means;
+}
+
 told_costs : (program : NumberedProgram) (file : Option (List ℕ)) (files : Files) (before : Log) (costs : CostTable) (after : Log)
     → (costs_in program file).steps.Gives (Some files) before costs after → AreCosts file files program costs
 unfolding costs_told
@@ -80,21 +95,27 @@ pub prints_sound : (given : AnalyseWords) (told : Option Files) (before : Log) (
     → IfSome told (λ files. IsSoundReport given files text)
 unfolding analysing
 prints_sound given None before text after g = tt
-prints_sound given (Some files) before text after (expanded, a, first, (costs, b, second, (findings, c, (report, still), (shown, over)))) =
-    let program = told_program given.file given.root files before expanded a first in
+prints_sound given (Some files) before text after (scopes, a, first, (costs, b, second, (findings, c, (report, still), (shown, over)))) =
+    let told = told_scoped given.file given.root files before scopes a first in
+    let program = told.program_told in
+    let expanded = scopes.expanded in
     let spent = told_costs expanded.program given.costs files a costs b second in
     let sound = report_is_sound expanded.program expanded.graph.nodes costs given.turns findings program.graph_is.numbered report.means in
     record {
       bytes = program.bytes;
       whole = program.whole;
+      graph = expanded.graph;
+      scoped = scopes.scoped;
       costs = costs;
       findings = findings;
       told = program.told;
       spelled = program.spelled;
       passes = program.passes;
+      graph_is = subst (λ (p : NumberedProgram). IsGraph p expanded.graph) program.program_is program.graph_is;
+      scoped_is = told.scoped_is;
       costs_told = subst (λ (p : NumberedProgram). AreCosts given.costs files p costs) program.program_is spent;
       sound = subst (λ (p : NumberedProgram). IsSound p [] costs findings) program.program_is sound;
-      shown = shown;
+      shown = shown ∙ ap (λ (p : NumberedProgram). report_text (scoped_program p expanded.graph scopes.scoped) (costs_of (expanded_program p expanded.graph) costs) findings) program.program_is;
     }
 
 -- a run that was told is that of the program
@@ -102,8 +123,9 @@ pub tells_run : (given : RunWords) (told : Option Files) (before : Log) (text : 
     → IfSome told (λ files. TellsRun given files text)
 unfolding running
 tells_run given None before text after g = tt
-tells_run given (Some files) before text after (expanded, a, first, (tables, b, second, (told, c, (run, still), (is, over)))) =
-    let program = told_program given.file given.root files before expanded a first in
+tells_run given (Some files) before text after (scopes, a, first, (tables, b, second, (told, c, (run, still), (is, over)))) =
+    let program = (told_scoped given.file given.root files before scopes a first).program_told in
+    let expanded = scopes.expanded in
     let both = told_tables expanded.program given.inputs given.costs files a tables b second in
     record {
       bytes = program.bytes;

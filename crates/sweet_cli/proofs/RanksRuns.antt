@@ -11,8 +11,8 @@ use Rattle.alf_runs.specs.Expressions.{value_of}
 use Rattle.alf_runs.specs.Statements.{after_statements}
 use Rattle.alf_runs.specs.Outcomes.{Outcome}
 use Rattle.alf_runs.specs.Steps.{Moment, At, Over, frames_of, result_step, go_back, leave, return_step, call_step, ending_step, then_ending, block_step, node_step, step}
-use Rattle.alf_runs.specs.Runs.{after, trace, Ends, IsLonger}
-use Rattle.run_counts.specs.Traces.{Runs}
+use Rattle.alf_runs.specs.Runs.{after, trace, Ends}
+use Rattle.run_counts.specs.Traces.{Runs, IsPast}
 use Rattle.sweet_cli.proofs.Ranks.{with_ranks, function_same}
 
 module _ (p : NumberedProgram) (r s : List ℕ) where
@@ -94,5 +94,5 @@ module _ (p : NumberedProgram) (r s : List ℕ) where
   pub runs : (nodes : List Node) (start : Moment) (numbers : List ℕ) (outcome : Outcome) → Runs (with_ranks p r) nodes start numbers outcome → Runs (with_ranks p s) nodes start numbers outcome
   runs nodes start numbers outcome h = record { run = h.run; ends = ends start h.run outcome h.ends; numbers = h.numbers }
 
-  pub longer : (start : Moment) (n : ℕ) → IsLonger (with_ranks p r) start n → IsLonger (with_ranks p s) start n
-  longer start n h = record { node = h.node; history = h.history; stands = after_same n start ∙ h.stands }
+  pub past : (nodes : List Node) (start : Moment) (turns n : ℕ) → IsPast (with_ranks p r) nodes start turns n → IsPast (with_ranks p s) nodes start turns n
+  past nodes start turns n h = record { node = h.node; history = h.history; stands = after_same turns start ∙ h.stands; number = h.number }

@@ -1,5 +1,5 @@
 -- The report of a run, and the text that tells it, have one meaning; and a report is sound.
-use Rattle.std.proofs.Common.{◌≡◌, ◌<◌, ◌+◌, ◌==◌, ℕ, zero, suc, List, [], ◌∷◌, ◌++◌, length, get_or, All, Result, Ok, Err, Option, None, Some, refl, ap, sym, ◌∙◌, subst, arith, rules}
+use Rattle.std.proofs.Common.{◌≡◌, ◌<◌, ◌≤◌, ◌+◌, ◌==◌, ℕ, zero, suc, List, [], ◌∷◌, ◌++◌, length, get_or, All, Result, Ok, Err, Option, None, Some, refl, ap, sym, ◌∙◌, subst, arith, rules}
 use Rattle.std.proofs.lemmas.List.Elements.{All-append, All-cons, All-nil, Contains-append_right}
 use Rattle.lists.specs.Members.{first_member}
 use Rattle.lists.specs.Tests.{by_test}
@@ -9,15 +9,15 @@ use Rattle.flow_graph.specs.Nodes.{Node}
 use Rattle.flow_graph.specs.Numbering.{IsNumbering}
 use Rattle.alf_runs.specs.Outcomes.{Outcome as RunOutcome, Ended, Faulted, Lost}
 use Rattle.alf_runs.specs.Steps.{Moment}
-use Rattle.alf_runs.specs.Runs.{IsLonger, cost_of}
+use Rattle.alf_runs.specs.Runs.{cost_of}
 use Rattle.alf_runs.specs.RunLaws.{HasOneEnd, EndsAtItsLength}
-use Rattle.run_counts.specs.Traces.{places_of, last_of}
+use Rattle.run_counts.specs.Traces.{Runs, IsPast, places_of, last_of}
 use Rattle.run_counts.specs.Counts.{AreCounts, outcome_of}
 use Rattle.run_counts.specs.declared.tally.Tally.{Tally}
 use Rattle.run_counts.specs.declared.tally.RunEnd.{RunEnd}
 use Rattle.run_counts.specs.declared.tally.RunEnd.TheVariants as run_ends
 use Rattle.cost_table.specs.CostTables.{CostTable}
-use Rattle.work.specs.Outcome.{Outcome, AreAlikeResults}
+use Rattle.work.specs.Outcome.{Outcome, Unbounded, AreAlike, AreAlikeResults}
 use Rattle.work.specs.Work.{IsOnly, alike}
 use Rattle.sweet_cli.specs.declared.fact.Fact.{Fact}
 use Rattle.sweet_cli.specs.declared.fact.Fact.TheVariants.{Dead, Total, Alarm}
@@ -25,64 +25,83 @@ use Rattle.sweet_cli.specs.Facts.{Holds, HasAlarm, node_cost, Findings, IsSound,
 use Rattle.sweet_cli.specs.Listed.{dead_from, totals_from, listed}
 use Rattle.sweet_cli.specs.Programs.{Expanded}
 use Rattle.sweet_cli.specs.RunText.{run_text}
-use Rattle.sweet_cli.specs.Analyse.{ReportMeans, sole_start, unbounded}
+use Rattle.sweet_cli.specs.Scopes.{ScopedProgram}
+use Rattle.sweet_cli.specs.ReportText.{unbounded_line}
+use Rattle.sweet_cli.specs.Analyse.{IsLeft, ReportMeans, sole_start}
 use Rattle.sweet_cli.specs.Run.{RunMeans, IsRunText, low_start}
 use Rattle.sweet_cli.specs.Counting.{CountsRun}
-use Rattle.sweet_cli.proofs.Numbers.{Differ, runs_one, longer_not}
+use Rattle.sweet_cli.proofs.Numbers.{Differ, runs_one, past_not, past_one}
 
 -- ---- one meaning
 
-module _ (one : HasOneEnd) (law : EndsAtItsLength) (expanded : Expanded) (apart : Differ expanded.graph.nodes) (costs : CostTable) (turns : ℕ) where
-  reports_one : (a b : Findings) → IsReportOf expanded.program expanded.graph.nodes costs (sole_start expanded.program) turns a
-      → IsReportOf expanded.program expanded.graph.nodes costs (sole_start expanded.program) turns b → a ≡ b
+-- the line of the node that comes after so many
+pub left_of : (program : ScopedProgram) (begin : Moment) (turns n : ℕ) (text : List ℕ) → IsPast program.expanded.program program.expanded.graph.nodes begin turns n
+    → text ≡ unbounded_line program n → IsLeft program begin turns (record { cause = Unbounded; text = text })
+left_of program begin turns n text past is = record { node = n; past = past; line = λ i. record { cause = Unbounded; text = is i } }
+
+module _ (one : HasOneEnd) (law : EndsAtItsLength) (program : ScopedProgram) (apart : Differ program.expanded.graph.nodes) (costs : CostTable) (turns : ℕ) where
+  -- the line of a run with more nodes than the turns
+  abbrev left_at : ℕ → Outcome
+  left_at n = record { cause = Unbounded; text = unbounded_line program n }
+
+  -- a run has one such line
+  lefts_one : (begin : Moment) (x y : Outcome) → IsLeft program begin turns x → IsLeft program begin turns y → AreAlike x y
+  lefts_one begin x y h k =
+      let same = past_one program.expanded.program program.expanded.graph.nodes apart begin turns h.node k.node h.past k.past in
+      alike x y (h.line ∙ ap left_at same ∙ sym k.line)
+
+  left_not : (begin : Moment) (trace : List ℕ) (outcome : RunOutcome) (o : Outcome) → Runs program.expanded.program program.expanded.graph.nodes begin trace outcome → length trace ≤ turns → IsLeft program begin turns o → ⊥
+  left_not begin trace outcome o runs within left = past_not law program.expanded.program program.expanded.graph.nodes begin turns trace outcome runs within left.node left.past
+
+  reports_one : (a b : Findings) → IsReportOf program.expanded.program program.expanded.graph.nodes costs (sole_start program.expanded.program) turns a → IsReportOf program.expanded.program program.expanded.graph.nodes costs (sole_start program.expanded.program) turns b → a ≡ b
   reports_one a b h k =
-      let same = runs_one one expanded.program expanded.graph.nodes apart (sole_start expanded.program) h.trace k.trace h.outcome k.outcome h.runs k.runs in
+      let same = runs_one one program.expanded.program program.expanded.graph.nodes apart (sole_start program.expanded.program) h.trace k.trace h.outcome k.outcome h.runs k.runs in
       let facts : a.facts ≡ b.facts =
-      h.facts ∙ ap (λ (trace : List ℕ). facts_of (length expanded.graph.nodes) trace h.outcome) same.trace_is
-      ∙ ap (facts_of (length expanded.graph.nodes) k.trace) same.outcome_is ∙ sym k.facts in
-      let bound : a.bound ≡ b.bound = h.bound ∙ ap (cost_of (node_cost expanded.program costs)) same.run_is ∙ sym k.bound in
+      h.facts ∙ ap (λ (trace : List ℕ). facts_of (length program.expanded.graph.nodes) trace h.outcome) same.trace_is
+      ∙ ap (facts_of (length program.expanded.graph.nodes) k.trace) same.outcome_is ∙ sym k.facts in
+      let bound : a.bound ≡ b.bound = h.bound ∙ ap (cost_of (node_cost program.expanded.program costs)) same.run_is ∙ sym k.bound in
       λ i. record { facts = facts i; bound = bound i }
 
   -- a report is the only meaning
-  pub report_only : (findings : Findings) → IsReportOf expanded.program expanded.graph.nodes costs (sole_start expanded.program) turns findings → IsOnly (ReportMeans expanded costs turns) (Ok findings)
+  pub report_only : (findings : Findings) → IsReportOf program.expanded.program program.expanded.graph.nodes costs (sole_start program.expanded.program) turns findings → IsOnly (ReportMeans program costs turns) (Ok findings)
   report_only findings h = record { means = h; only = only }
     where
-      only : (y : Result Findings Outcome) → ReportMeans expanded costs turns y → AreAlikeResults (Ok findings) y
+      only : (y : Result Findings Outcome) → ReportMeans program costs turns y → AreAlikeResults (Ok findings) y
       only (Ok other) k = reports_one findings other h k
-      only (Err o) k = longer_not law expanded.program expanded.graph.nodes (sole_start expanded.program) turns h.trace h.outcome h.runs h.within k.0
+      only (Err o) k = left_not (sole_start program.expanded.program) h.trace h.outcome o h.runs h.within k
 
   -- and so is that the run has more nodes than the turns
-  pub left_only : IsLonger expanded.program (sole_start expanded.program) turns → IsOnly (ReportMeans expanded costs turns) (Err (unbounded expanded.graph))
-  left_only longer = record { means = (longer, refl); only = only }
+  pub left_only : (o : Outcome) → IsLeft program (sole_start program.expanded.program) turns o → IsOnly (ReportMeans program costs turns) (Err o)
+  left_only o h = record { means = h; only = only }
     where
-      only : (y : Result Findings Outcome) → ReportMeans expanded costs turns y → AreAlikeResults (Err (unbounded expanded.graph)) y
-      only (Ok k) h = longer_not law expanded.program expanded.graph.nodes (sole_start expanded.program) turns h.trace h.outcome h.runs h.within longer
-      only (Err o) k = alike (unbounded expanded.graph) o (sym k.1)
+      only : (y : Result Findings Outcome) → ReportMeans program costs turns y → AreAlikeResults (Err o) y
+      only (Ok k) is = left_not (sole_start program.expanded.program) is.trace is.outcome o is.runs is.within h
+      only (Err p) k = lefts_one (sole_start program.expanded.program) o p h k
 
   module _ (rows : List InputRow) where
-    texts_one : (a b : List ℕ) → IsRunText expanded rows costs turns a → IsRunText expanded rows costs turns b → a ≡ b
+    texts_one : (a b : List ℕ) → IsRunText program.expanded rows costs turns a → IsRunText program.expanded rows costs turns b → a ≡ b
     texts_one a b h k =
-        let same = runs_one one expanded.program expanded.graph.nodes apart (low_start expanded.program rows) h.trace k.trace h.outcome k.outcome h.runs k.runs in
-        let cost = ap (cost_of (node_cost expanded.program costs)) same.run_is in
+        let same = runs_one one program.expanded.program program.expanded.graph.nodes apart (low_start program.expanded.program rows) h.trace k.trace h.outcome k.outcome h.runs k.runs in
+        let cost = ap (cost_of (node_cost program.expanded.program costs)) same.run_is in
         h.shown
-        ∙ ap (λ (trace : List ℕ). run_text expanded (last_of trace) h.outcome (length trace) (cost_of (node_cost expanded.program costs) h.runs.run)) same.trace_is
-        ∙ ap (λ (outcome : RunOutcome). run_text expanded (last_of k.trace) outcome (length k.trace) (cost_of (node_cost expanded.program costs) h.runs.run)) same.outcome_is
-        ∙ ap (run_text expanded (last_of k.trace) k.outcome (length k.trace)) cost ∙ sym k.shown
+        ∙ ap (λ (trace : List ℕ). run_text program.expanded (last_of trace) h.outcome (length trace) (cost_of (node_cost program.expanded.program costs) h.runs.run)) same.trace_is
+        ∙ ap (λ (outcome : RunOutcome). run_text program.expanded (last_of k.trace) outcome (length k.trace) (cost_of (node_cost program.expanded.program costs) h.runs.run)) same.outcome_is
+        ∙ ap (run_text program.expanded (last_of k.trace) k.outcome (length k.trace)) cost ∙ sym k.shown
 
     -- the text of a run is the only meaning
-    pub text_only : (text : List ℕ) → IsRunText expanded rows costs turns text → IsOnly (RunMeans expanded rows costs turns) (Ok text)
+    pub text_only : (text : List ℕ) → IsRunText program.expanded rows costs turns text → IsOnly (RunMeans program rows costs turns) (Ok text)
     text_only text h = record { means = h; only = only }
       where
-        only : (y : Result (List ℕ) Outcome) → RunMeans expanded rows costs turns y → AreAlikeResults (Ok text) y
+        only : (y : Result (List ℕ) Outcome) → RunMeans program rows costs turns y → AreAlikeResults (Ok text) y
         only (Ok other) k = texts_one text other h k
-        only (Err o) k = longer_not law expanded.program expanded.graph.nodes (low_start expanded.program rows) turns h.trace h.outcome h.runs h.within k.0
+        only (Err o) k = left_not (low_start program.expanded.program rows) h.trace h.outcome o h.runs h.within k
 
-    pub past_only : IsLonger expanded.program (low_start expanded.program rows) turns → IsOnly (RunMeans expanded rows costs turns) (Err (unbounded expanded.graph))
-    past_only longer = record { means = (longer, refl); only = only }
+    pub past_only : (o : Outcome) → IsLeft program (low_start program.expanded.program rows) turns o → IsOnly (RunMeans program rows costs turns) (Err o)
+    past_only o h = record { means = h; only = only }
       where
-        only : (y : Result (List ℕ) Outcome) → RunMeans expanded rows costs turns y → AreAlikeResults (Err (unbounded expanded.graph)) y
-        only (Ok k) h = longer_not law expanded.program expanded.graph.nodes (low_start expanded.program rows) turns h.trace h.outcome h.runs h.within longer
-        only (Err o) k = alike (unbounded expanded.graph) o (sym k.1)
+        only : (y : Result (List ℕ) Outcome) → RunMeans program rows costs turns y → AreAlikeResults (Err o) y
+        only (Ok k) is = left_not (low_start program.expanded.program rows) is.trace is.outcome o is.runs is.within h
+        only (Err p) k = lefts_one (low_start program.expanded.program rows) o p h k
 
 -- ---- the report of a tally
 

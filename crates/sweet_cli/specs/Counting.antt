@@ -5,8 +5,8 @@ use Rattle.std.specs.Prelude.{◌≡◌, ◌<◌, ◌≤◌, ℕ, List, length, 
 use Rattle.alf_check.specs.declared.rows.InputRow.{InputRow}
 use Rattle.alf_runs.specs.Steps.{Moment}
 use Rattle.alf_runs.specs.Starts.{start}
-use Rattle.alf_runs.specs.Runs.{IsLonger, cost_of}
-use Rattle.run_counts.specs.Traces.{Runs, last_of}
+use Rattle.alf_runs.specs.Runs.{cost_of}
+use Rattle.run_counts.specs.Traces.{Runs, IsPast, last_of}
 use Rattle.run_counts.specs.Counts.{AreCounts, outcome_of}
 use Rattle.run_counts.specs.declared.tally.Tally.{Tally}
 use Rattle.run_counts.specs.declared.tally.Counted.{Counted}
@@ -29,4 +29,4 @@ pub record CountsRun (expanded : Expanded) (costs : CostTable) (start : Moment) 
 -- so it is of the run whose inputs have these words, or that has more nodes than the turns
 abbrev pub CountedAs : Expanded → List InputRow → List ℕ → CostTable → ℕ → Counted → Type 0
 CountedAs expanded rows words costs turns (told.Over tally) = CountsRun expanded costs (start expanded.program rows words) turns tally
-CountedAs expanded rows words costs turns (told.Left n) = IsLonger expanded.program (start expanded.program rows words) turns
+CountedAs expanded rows words costs turns (told.Left n) = IsPast expanded.program expanded.graph.nodes (start expanded.program rows words) turns n

@@ -5,6 +5,7 @@ pub mod Words
 -- lines
 pub mod FaultLines
 pub mod CheckLines
+pub mod FaultWords
 -- facts, reports and what is told of a run
 pub mod Facts
 pub mod Listed
@@ -14,6 +15,7 @@ pub mod RunText
 pub mod Task
 pub mod Programs
 pub mod Seen
+pub mod Scopes
 pub mod Counting
 pub mod Tables
 pub mod Analyse

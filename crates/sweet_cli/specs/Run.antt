@@ -1,7 +1,7 @@
 -- `run FILE`: one run of the program, told.
 --   low_start program rows       the start whose inputs are the low ends of their ranges
 --   IsRunText expanded rows costs turns text   the text tells the run from there, which has no more nodes than the turns
---   RunMeans expanded rows costs turns meaning     this text, or that the run has more nodes than the turns
+--   RunMeans program rows costs turns meaning     this text, or that the run has more nodes than the turns
 --   running given                the order of work
 --   TellsRun given files text    the promise: the text tells this run of the program that the file spells
 --   run given                    the task
@@ -16,17 +16,18 @@ use Rattle.flow_graph.specs.Numbering.{GraphParts, IsGraph}
 use Rattle.alf_runs.specs.Outcomes.{Outcome as RunOutcome}
 use Rattle.alf_runs.specs.Steps.{Moment}
 use Rattle.alf_runs.specs.Starts.{start, words_of}
-use Rattle.alf_runs.specs.Runs.{IsLonger, cost_of}
+use Rattle.alf_runs.specs.Runs.{cost_of}
 use Rattle.run_counts.specs.Traces.{Runs, last_of}
 use Rattle.cost_table.specs.CostTables.{CostTable}
 use Rattle.work.specs.Outcome.{Outcome}
 use Rattle.work.specs.Work.{Work, judged, done, ◌>>=◌}
 use Rattle.sweet_cli.specs.Words.{RunWords}
-use Rattle.sweet_cli.specs.Programs.{Expanded, expanded_in, meant}
+use Rattle.sweet_cli.specs.Programs.{Expanded, meant}
+use Rattle.sweet_cli.specs.Scopes.{ScopedProgram, scoped_in}
 use Rattle.sweet_cli.specs.Tables.{tables_in, AreInputs, AreCosts}
 use Rattle.sweet_cli.specs.Facts.{node_cost}
 use Rattle.sweet_cli.specs.RunText.{run_text}
-use Rattle.sweet_cli.specs.Analyse.{unbounded}
+use Rattle.sweet_cli.specs.Analyse.{IsLeft}
 use Rattle.sweet_cli.specs.Task.{Task}
 
 -- the words of the low ends of the ranges
@@ -46,15 +47,15 @@ pub record IsRunText (expanded : Expanded) (rows : List InputRow) (costs : CostT
   pub shown : text ≡ run_text expanded (last_of trace) outcome (length trace) (cost_of (node_cost expanded.program costs) runs.run)
 
 -- this text, or that the run has more nodes than the turns
-abbrev pub RunMeans : Expanded → List InputRow → CostTable → ℕ → Result (List ℕ) Outcome → Type 0
-RunMeans expanded rows costs turns (Ok text) = IsRunText expanded rows costs turns text
-RunMeans expanded rows costs turns (Err outcome) = IsLonger expanded.program (low_start expanded.program rows) turns × (outcome ≡ unbounded expanded.graph)
+abbrev pub RunMeans : ScopedProgram → List InputRow → CostTable → ℕ → Result (List ℕ) Outcome → Type 0
+RunMeans program rows costs turns (Ok text) = IsRunText program.expanded rows costs turns text
+RunMeans program rows costs turns (Err outcome) = IsLeft program (low_start program.expanded.program rows) turns outcome
 
 unfoldable pub running : RunWords → Work (List ℕ)
 running given = do
-  expanded ← expanded_in given.file given.root
-  tables ← tables_in expanded.program given.inputs given.costs
-  text ← judged (RunMeans expanded tables.rows tables.costs given.turns)
+  program ← scoped_in given.file given.root
+  tables ← tables_in program.expanded.program given.inputs given.costs
+  text ← judged (RunMeans program tables.rows tables.costs given.turns)
   done text
 
 -- the text tells this run of the program that the file spells, by the files that the words name

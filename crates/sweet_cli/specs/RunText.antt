@@ -1,6 +1,5 @@
 -- What `run` tells of a run.
 --   value_text program value       a word as a signed decimal, a pointer as its frame's name and its offset
---   unbounded_line graph           the line of a run with more nodes than the turns
 --   outcome_lines expanded last outcome   the lines of how a run ends, with the number of its last node
 --   run_text expanded last outcome turns cost   the whole text, with the count of its nodes and what they cost
 use Rattle.std.specs.Prelude.{ℕ, List, [], ◌∷◌, ◌++◌, Option, None, Some, codes, decimal, slice_get, slice_index_or}
@@ -16,7 +15,7 @@ use Rattle.alf_check.specs.CheckedPrograms.{NumberedProgram}
 use Rattle.flow_graph.specs.Names.{quoted}
 use Rattle.flow_graph.specs.Numbering.{GraphParts}
 use Rattle.alf_runs.specs.Outcomes.{Outcome, Ended, Faulted, Lost}
-use Rattle.sweet_cli.specs.ReportText.{fault_word}
+use Rattle.sweet_cli.specs.FaultWords.{fault_word}
 use Rattle.sweet_cli.specs.Programs.{Expanded}
 
 -- ---- values
@@ -51,10 +50,6 @@ global_lines program globals = flat_map (λ (global : ℕ × Option Value). glob
 -- the name of a node, by its number
 abbrev pub name_of : GraphParts → ℕ → List ℕ
 name_of graph n = slice_index_or graph.names n []
-
--- the line of a run with more nodes than the turns, which names node 0, the entry of the root
-abbrev pub unbounded_line : GraphParts → List ℕ
-unbounded_line graph = codes "unbounded 0 " ++ (name_of graph 0 ++ 10 ∷ [])
 
 -- the fault that ends a run, and the name of the node at which it does
 abbrev pub stopped_line : RunFault → List ℕ → List ℕ

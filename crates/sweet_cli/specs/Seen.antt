@@ -1,10 +1,15 @@
 -- What the code's values stand for.
 --   expanded_of value     the program, without its ranks, and its graph
+--   scoped_of value       a program with its scopes
 --   tables_of value       rows and costs
+use Rattle.std.specs.Prelude.{map}
 use Rattle.alf_check.specs.CheckedPrograms.{seen}
+use Rattle.domain_core.specs.Outlines.{Outlined}
 use Rattle.sweet_cli.specs.declared.commands.programs.Expanded.{Expanded as Value}
 use Rattle.sweet_cli.specs.declared.commands.tables.Tables.{Tables as TablesValue}
+use Rattle.sweet_cli.specs.declared.commands.scopes.ScopedProgram.{ScopedProgram as ScopedValue}
 use Rattle.sweet_cli.specs.Programs.{Expanded, unranked}
+use Rattle.sweet_cli.specs.Scopes.{Scoped, ScopedProgram}
 use Rattle.sweet_cli.specs.Tables.{Tables}
 
 -- the program, without its ranks, and its graph
@@ -14,3 +19,11 @@ expanded_of value = record { program = unranked (seen value.checked); graph = va
 -- rows and costs
 abbrev pub tables_of : TablesValue → Tables
 tables_of value = record { rows = value.rows.items; costs = value.costs }
+
+-- the scopes of an outline
+abbrev pub scopes_seen : Outlined → Scoped
+scopes_seen outline = record { own = map (λ row. row.scope) outline.nodes; scopes = outline.scopes }
+
+-- a program with its scopes
+abbrev pub scoped_of : ScopedValue → ScopedProgram
+scoped_of value = record { expanded = expanded_of value.expanded; scoped = scopes_seen value.outline }

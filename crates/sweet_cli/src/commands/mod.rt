@@ -10,6 +10,7 @@ ghost use Rattle.sweet_cli.specs.Task.{KeepsPromise};
 // What commands have in common.
 mod counting;
 mod programs;
+pub mod scopes;
 mod tables;
 
 // The commands.

@@ -8,11 +8,11 @@ ghost use Rattle.flow_graph.specs.Numbering.{IsGraph};
 ghost use Rattle.work.specs.Works.{Works, Judges};
 ghost use Rattle.alf_ops.specs.TwosComplement.{word};
 ghost use Rattle.sweet_cli.specs.Words.{run_meant};
-ghost use Rattle.sweet_cli.specs.Seen.{expanded_of};
+ghost use Rattle.sweet_cli.specs.Seen.{scoped_of};
 ghost use Rattle.sweet_cli.specs.Run.{low_words, RunMeans, running, TellsRun};
 
 use crate::commands::counting::counted;
-use crate::commands::programs::{Expanded, expanded_in};
+use crate::commands::scopes::{ScopedProgram, scoped_in};
 use crate::commands::tables::{Tables, tables_in};
 use crate::lines::{run_text, unbounded_line};
 use crate::words::RunWords;
@@ -39,18 +39,30 @@ pub fn run<F: Shelf>(alloc: Global, given: RunWords<'_>, shelf: &mut F) -> Resul
 fn running<F: Shelf>(alloc: Global, given: RunWords<'_>, shelf: &mut F) -> Result<Vec<u8>, Stop>
     ensures { Works (running (run_meant given.entry)) (λ text. text.items) (F.state shelf.old) result (F.state shelf.new) }
 {
-    let expanded = expanded_in(alloc, given.file, given.root, shelf)?;
-    let tables = tables_in(alloc, &expanded.checked, given.inputs, given.costs, shelf)?;
-    let text = told(alloc, &expanded, &tables, given.turns)?;
+    let program = scoped_in(alloc, given.file, given.root, shelf)?;
+    let tables = tables_in(
+        alloc,
+        &program.expanded.checked,
+        given.inputs,
+        given.costs,
+        shelf,
+    )?;
+    let text = told(alloc, &program, &tables, given.turns)?;
     Ok(text)
 }
 
 // What is told of the run whose inputs are the low ends of their ranges.
-fn told(alloc: Global, expanded: &Expanded, tables: &Tables, turns: u32) -> Result<Vec<u8>, Stop>
-    requires graph { IsGraph (seen expanded.now.checked) expanded.now.graph }
-    requires rows { KeepInputs (seen expanded.now.checked) tables.now.rows.items }
-    ensures { Judges (RunMeans (expanded_of expanded.now) tables.now.rows.items tables.now.costs turns) (λ text. text.items) result }
+fn told(
+    alloc: Global,
+    program: &ScopedProgram,
+    tables: &Tables,
+    turns: u32,
+) -> Result<Vec<u8>, Stop>
+    requires graph { IsGraph (seen program.now.expanded.checked) program.now.expanded.graph }
+    requires rows { KeepInputs (seen program.now.expanded.checked) tables.now.rows.items }
+    ensures { Judges (RunMeans (scoped_of program.now) tables.now.rows.items tables.now.costs turns) (λ text. text.items) result }
 {
+    let expanded = &program.expanded;
     expanded.checked.keeps();
     a_run_has_one_end();
     graphs_are_expansions();
@@ -62,8 +74,8 @@ fn told(alloc: Global, expanded: &Expanded, tables: &Tables, turns: u32) -> Resu
             let text = run_text(alloc, &expanded.checked, &expanded.graph, &tally)?;
             Ok(text)
         }
-        Counted::Left(_) => {
-            let line = unbounded_line(alloc, &expanded.graph)?;
+        Counted::Left(n) => {
+            let line = unbounded_line(alloc, program, n)?;
             Err(Stop::Told(Why::Unbounded, line))
         }
     }

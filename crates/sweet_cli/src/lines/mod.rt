@@ -4,10 +4,12 @@ mod check_lines;
 mod fault_lines;
 mod report_text;
 mod run_lines;
+mod scope_lines;
 mod table_lines;
 
 pub use check_lines::{check_line, check_why, graph_line};
 pub use fault_lines::fault_line;
 pub use report_text::text_of;
-pub use run_lines::{run_text, unbounded_line};
+pub use run_lines::run_text;
+pub use scope_lines::{irreducible_line, unbounded_line};
 pub use table_lines::table_line;

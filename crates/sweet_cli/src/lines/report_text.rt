@@ -1,22 +1,43 @@
 //! The text of a report.
 
-ghost use Rattle.std.specs.Prelude.{◌≡◌, string_bytes, IfOk};
+ghost use Rattle.std.specs.Prelude.{◌≡◌, ◌++◌, string_bytes, IfOk, OnOk};
 ghost use Rattle.std.specs.List.{flat_map};
 ghost use Rattle.sweet_cli.specs.Facts.{findings_of};
-ghost use Rattle.sweet_cli.specs.ReportText.{fault_word, fact_line, report_text};
+ghost use Rattle.sweet_cli.specs.FaultWords.{fault_word};
+ghost use Rattle.sweet_cli.specs.ReportText.{fact_line, findings_text, report_text};
+ghost use Rattle.sweet_cli.specs.Seen.{scoped_of};
 
+use crate::commands::scopes::ScopedProgram;
+use crate::lines::scope_lines::{push_nodes, push_scopes};
 use crate::{Fact, Report};
 use alf_ops::RunFault;
 use std::alloc::{AllocError, Global};
 
-/// The text of a report.
-pub fn text_of(alloc: Global, report: &Report) -> Result<String, AllocError>
-    ensures { IfOk result (λ text. string_bytes text ≡ report_text (findings_of report.now)) }
+/// The text of a report, with these costs of nodes.
+pub fn text_of(
+    alloc: Global,
+    program: &ScopedProgram,
+    costs: &[u32],
+    report: &Report,
+) -> Result<Vec<u8>, AllocError>
+    ensures { IfOk result (λ text. text.items ≡ report_text (scoped_of program.now) costs.now (findings_of report.now)) }
+{
+    let mut text = Vec::from_slice(alloc, b"facts 1\n")?;
+    push_nodes(&mut text, alloc, program, costs)?;
+    push_scopes(&mut text, alloc, &program.outline)?;
+    push_findings(&mut text, alloc, report)?;
+    Ok(text)
+}
+
+// Adds the lines of the facts and of the bound, and the last one.
+fn push_findings(text: &mut Vec<u8>, alloc: Global, report: &Report) -> Result<(), AllocError>
+    ensures { OnOk result (text.new.items ≡ text.old.items ++ findings_text (findings_of report.now)) }
 {
     let lines = fact_lines(alloc, &report.facts)?;
     let bound = report.count_bound;
-    let text = format!(in alloc; "facts 1\n{lines}count-bound {bound}\nend\n")?;
-    Ok(text)
+    let rest = format!(in alloc; "{lines}count-bound {bound}\nend\n")?;
+    text.extend_from_slice(rest.as_bytes())?;
+    Ok(())
 }
 
 // The lines of the facts, in their order.

@@ -6,7 +6,7 @@ ghost use Rattle.alf_ops.specs.TwosComplement.{signed};
 ghost use Rattle.alf_check.specs.CheckedPrograms.{seen};
 ghost use Rattle.run_counts.specs.Counts.{outcome_of};
 ghost use Rattle.sweet_cli.specs.Programs.{unranked};
-ghost use Rattle.sweet_cli.specs.RunText.{frame_text, value_text, returned_line, global_line, global_lines, name_of, unbounded_line, stopped_line, run_text};
+ghost use Rattle.sweet_cli.specs.RunText.{frame_text, value_text, returned_line, global_line, global_lines, name_of, stopped_line, run_text};
 
 use crate::lines::check_lines::push_quoted;
 use crate::lines::report_text::word_of;
@@ -196,17 +196,4 @@ fn power(size: u32) -> i128
     ensures { result ≡ pos (2 ^ size) }
 {
     1 << size
-}
-
-/// The line of a run with more nodes than the turns, which names the entry of the root: the node of
-/// the number 0.
-pub fn unbounded_line(alloc: Global, graph: &Graph) -> Result<Vec<u8>, AllocError>
-    requires { 0 < length graph.now.nodes }
-    ensures { IfOk result (λ line. line.items ≡ unbounded_line graph.now) }
-{
-    let name = graph.name(alloc, 0)?;
-    let mut line = Vec::from_slice(alloc, b"unbounded 0 ")?;
-    line.extend_from_slice(&name)?;
-    line.push(b'\n')?;
-    Ok(line)
 }

@@ -1,0 +1,63 @@
+//! The program that a command reads, with the scopes of its graph.
+
+ghost use Rattle.std.specs.Prelude.{IfOk};
+ghost use Rattle.alf_check.specs.CheckedPrograms.{seen};
+ghost use Rattle.flow_graph.specs.Numbering.{IsGraph};
+ghost use Rattle.work.specs.Works.{Works, Judges};
+ghost use Rattle.sweet_cli.specs.Scopes.{ScopesMean, scoped_in};
+ghost use Rattle.sweet_cli.specs.Seen.{scopes_seen, scoped_of};
+
+use crate::commands::programs::{Expanded, expanded_in};
+use crate::lines::irreducible_line;
+use domain_core::{Outline, crossing_is_irreducible};
+use flow_base::Shelf;
+use flow_graph::Graph;
+use scope_graph::{OutlineFault, a_graph_has_one_outline, outline};
+use std::alloc::Global;
+use work::{Stop, Why};
+
+/// A program and its graph, and the scopes of the graph.
+#[derive(Drop)]
+pub struct ScopedProgram {
+    pub expanded: Expanded,
+    pub outline: Outline,
+}
+
+/// The program in the file, checked, expanded and given scopes.
+#[tactic(auto, unfolding(crate::specs::Scopes::scoped_in))]
+pub fn scoped_in<F: Shelf>(
+    alloc: Global,
+    file: &str,
+    root: &str,
+    shelf: &mut F,
+) -> Result<ScopedProgram, Stop>
+    ensures work { Works (scoped_in file.now root.now) scoped_of (F.state shelf.old) result (F.state shelf.new) }
+    ensures graph { IfOk result (λ program. IsGraph (seen program.expanded.checked) program.expanded.graph) }
+{
+    let expanded = expanded_in(alloc, file, root, shelf)?;
+    let outline = scopes_of(alloc, &expanded.graph)?;
+    Ok(ScopedProgram { expanded, outline })
+}
+
+// The scopes of the graph.
+fn scopes_of(alloc: Global, graph: &Graph) -> Result<Outline, Stop>
+    ensures { Judges (ScopesMean graph.now) (λ outline. scopes_seen outline) result }
+{
+    graph.keeps();
+    a_graph_has_one_outline();
+    crossing_is_irreducible();
+    match outline(alloc, graph) {
+        Ok(outline) => Ok(outline),
+        Err(
+            OutlineFault::Irreducible {
+                to_header,
+                to_tail,
+                around,
+            },
+        ) => match irreducible_line(alloc, graph, &to_header, &to_tail, &around) {
+            Ok(line) => Err(Stop::Told(Why::Example, line)),
+            Err(_) => Err(Stop::Memory),
+        },
+        Err(OutlineFault::Memory) => Err(Stop::Memory),
+    }
+}

@@ -187,7 +187,10 @@ fn a_run_may_have_a_million_nodes(rt: HostRuntime) -> Result<(), Fail> {
     let alloc = rt.alloc();
     let program = program_of(alloc, "i", COUNTS_FOR_LONG)?;
     let (_, text) = answer_of(alloc, "run a.alf --turns 1000000", program.as_bytes())?;
-    assert_eq!(rt; text.as_slice(), b"returned\nturns 1000000\ncost 999999\n".as_slice());
+    assert_eq!(rt;
+        text.as_slice(),
+        b"returned\nturns 1000000\ncost 999999\n".as_slice()
+    );
     let (_, text) = answer_of(alloc, "run a.alf --turns 999999", program.as_bytes())?;
     assert_eq!(rt; text.as_slice(), UNBOUNDED.as_bytes());
     Ok(())

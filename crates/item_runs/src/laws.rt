@@ -1,0 +1,16 @@
+//! What is true of runs of items, as clauses of functions that do nothing.
+
+ghost use Rattle.item_runs.specs.Following.{RunsFollowItems};
+
+use alf_items::stretches_go_to_named_labels;
+use alf_runs::a_run_has_one_continuation;
+
+/// Where blocks do what items do and labels that are named stand, a run by nodes that is over has the
+/// outcome of the run of items, after at least as many steps as that has stretches; and where the run of
+/// items is over, so is that by nodes.
+pub fn runs_follow_items()
+    ensures { RunsFollowItems }
+{
+    stretches_go_to_named_labels();
+    a_run_has_one_continuation();
+}

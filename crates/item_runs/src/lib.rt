@@ -8,4 +8,4 @@
 // What the definitions promise.
 mod laws;
 
-pub use laws::runs_follow_items;
+pub use laws::{checked_programs_follow_their_items, runs_follow_items};

@@ -7,15 +7,18 @@ mod answers;
 #[cfg(test)]
 mod notation;
 
-// Words, programs, programs with memory, files and sinks that fail, and the codes of all answers.
+// Words, texts, faults of what is read, reports, runs, files and sinks that fail, and the codes of all
+// answers.
 #[cfg(test)]
 mod codes;
 #[cfg(test)]
-mod memory;
+mod faults;
 #[cfg(test)]
 mod outside;
 #[cfg(test)]
-mod programs;
+mod reports;
+#[cfg(test)]
+mod runs;
 #[cfg(test)]
 mod texts;
 #[cfg(test)]

@@ -1,0 +1,139 @@
+//! Runs of small programs, as `run` tells them.
+
+use crate::answers::{field, three_files, told};
+use crate::notation::program_of;
+use std::alloc::{AllocError, Global};
+use std::test::Fail;
+
+// What is told of a program's run: its exports, its global frames and its functions, with ` | ` between
+// two of them. Words, an inputs file and a costs file may follow, in the same way; without words they
+// are `run a.alf`.
+fn told_of(alloc: Global, program: &str) -> Result<String, AllocError> {
+    let text = program_of(
+        alloc,
+        field(program, 0),
+        field(program, 1),
+        field(program, 2),
+    )?;
+    let files = three_files(alloc, text.as_str(), field(program, 4), field(program, 5))?;
+    let words = field(program, 3);
+    told(
+        alloc,
+        if words.is_empty() { "run a.alf" } else { words },
+        files,
+    )
+}
+
+// Programs, each before ` => ` and the code and the text that answer it, where a semicolon stands for
+// the end of a line.
+const ENDINGS: &str = r#"- | - | . => 0 returned;turns 2;cost 1;
+- | - | . | run a.alf --turns 2 => 0 returned;turns 2;cost 1;
+- | - | . | run a.alf --turns 1 => 3 unbounded 0 "main":entry;
+r | r | { call @f #4 result &r } { call @f *r result &r } { return *r } /f:x { return { add 32 *x #1 '0 } } => 0 returned 6;global "r" 6;turns 8;cost 5;
+- | i | i=0 @H ?i:10>E:B @B i=i+1 ^H @E . | run a.alf --turns 24 => 0 returned;turns 24;cost 23;
+- | i | i=0 @H ?i:10>E:B @B i=i+1 ^H @E . | run a.alf --turns 23 => 3 unbounded 0 "main":entry;
+- | - | /main::i i=0 @H { switch { s_lt 32 *i #10 } { target '1 @B } { default @E } } @B i=i+1 ^H @E { return *i } => 0 returned 10;turns 24;cost 23;
+- | - | @A ^A | run a.alf --turns 1 => 3 unbounded 0 "main":entry;
+- | - | { call @f result } . /f @A ^A => 3 unbounded 0 "main":entry;
+- | - | . /f @A ^A | run a.alf --root f => 3 unbounded 0 "f":entry;
+- | - | { return #1 } /f { return #2 } => 0 returned 1;turns 2;cost 1;
+- | - | { return #1 } /f { return #2 } | run a.alf --root f => 0 returned 2;turns 2;cost 1;
+- | - | { return #1 } /f { return #2 } | run a.alf --root=main => 0 returned 1;turns 2;cost 1;
+- | - | { call @f result } . /f { call @g result } . /g . => 0 returned;turns 8;cost 5;
+- | r | { call @f result } . . /f r=1 @B { call @g result } ^E @D { null } @E . /g . => 0 returned;turns 10;cost 7;
+"#;
+
+const FAULTS: &str =
+    r#"- | i | { switch *i { default @E } } @E . => 0 stopped uninit "main":0;turns 2;cost 1;
+- | i | { switch *i { default @E } } @E . | run a.alf --turns 1 => 3 unbounded 0 "main":entry;
+- | w | { store &w with { dec_unsigned 8 5 } } { return *w } => 0 stopped uninit "main":0;turns 2;cost 1;
+- | p | { store &p with &p } { return { load 8 &p } } => 0 stopped mixed "main":0;turns 2;cost 1;
+- | r | { null } @B { return *r } => 0 stopped uninit "main":1;turns 3;cost 2;
+- | r | { return { u_div 32 32 #1 #0 } } => 0 stopped divide "main":0;turns 2;cost 1;
+- | r | { store { add 32 &r #1 '0 } with #1 } . => 0 stopped bounds "main":0;turns 2;cost 1;
+- | r | { return { load 64 &r } } => 0 stopped bounds "main":0;turns 2;cost 1;
+- | r | { call @f result &r } { store *r with #1 } . /f::own { return &own } => 0 stopped dead "main":1;turns 5;cost 3;
+- | r | { store #5 with #1 } . => 0 stopped kind "main":0;turns 2;cost 1;
+- | r | { switch &r { default @E } } @E . => 0 stopped kind "main":0;turns 2;cost 1;
+- | r x | { return { u_lt 32 &r &x } } => 0 stopped pointers "main":0;turns 2;cost 1;
+- | r | { call @f result } . /f { return { u_div 32 32 #1 #0 } } => 2 fault 22 size "f" 0;
+- | r | { call @f result &r } . /f { return { u_div 32 32 #1 #0 } } => 0 stopped divide "main".0"f":0;turns 4;cost 2;
+- | r | { call @f result &r } . /f { null } @B { call @g result &r } { return *r } /g { null } @B { return *r } => 0 stopped uninit "main".0"f".1"g":1;turns 8;cost 5;
+- | r%16 | { call @f result &r } . /f { return #1 } => 0 stopped bounds "main".0"f":0;turns 4;cost 2;
+- | r | { call @f *r result } . /f:x . => 0 stopped uninit "main":0;turns 2;cost 1;
+r | r=1 | { return { u_mod 32 32 *r #0 } } => 0 stopped divide "main":0;turns 2;cost 1;
+"#;
+
+const VALUES: &str = r#"- | - | { return '0 } => 0 returned 0;turns 2;cost 1;
+- | - | { return '1 } => 0 returned -1;turns 2;cost 1;
+- | - | { return { eq 32 #7 #7 } } => 0 returned -1;turns 2;cost 1;
+- | - | { return { dec_unsigned 8 127 } } => 0 returned 127;turns 2;cost 1;
+- | - | { return { dec_unsigned 8 128 } } => 0 returned -128;turns 2;cost 1;
+- | - | { return { dec_signed 7 { minus 64 } } } => 0 returned -64;turns 2;cost 1;
+- | - | { return { dec_unsigned 16 32768 } } => 0 returned -32768;turns 2;cost 1;
+- | - | { return #2147483647 } => 0 returned 2147483647;turns 2;cost 1;
+- | - | { return #2147483648 } => 0 returned -2147483648;turns 2;cost 1;
+- | - | { return #4294967295 } => 0 returned -1;turns 2;cost 1;
+- | - | { return { dec_unsigned 63 4611686018427387904 } } => 0 returned -4611686018427387904;turns 2;cost 1;
+- | - | { return { dec_unsigned 64 9223372036854775807 } } => 0 returned 9223372036854775807;turns 2;cost 1;
+- | - | { return { dec_unsigned 64 9223372036854775808 } } => 0 returned -9223372036854775808;turns 2;cost 1;
+- | - | { return { dec_unsigned 64 18446744073709551615 } } => 0 returned -1;turns 2;cost 1;
+- | x | { return &x } => 0 returned "x"+0;turns 2;cost 1;
+- | x | { return { add 32 &x #4294967295 '0 } } => 0 returned "x"+4294967295;turns 2;cost 1;
+- | x | { return { sub 32 &x #1 '1 } } => 0 returned "x"+4294967295;turns 2;cost 1;
+- | - | /main::own { return &own } => 0 returned "own"+0;turns 2;cost 1;
+r | r | . => 0 returned;global "r" -;turns 2;cost 1;
+r | r | { store &r with { dec_unsigned 8 5 } } . => 0 returned;global "r" -;turns 2;cost 1;
+r | r=258 | { store &r with { dec_unsigned 8 7 } } . => 0 returned;global "r" 263;turns 2;cost 1;
+r | r x | { store &r with { add 32 &x #2 '0 } } . => 0 returned;global "r" "x"+2;turns 2;cost 1;
+r | r | { store &r with &r } { store &r with { dec_unsigned 8 5 } } . => 0 returned;global "r" -;turns 2;cost 1;
+d | d%64 | { store &d with &d } { store { add 32 &d #4 '0 } with &d } . => 0 returned;global "d" -;turns 2;cost 1;
+r | r | { call @f result &r } . /f::own { return &own } => 0 returned;global "r" "own"+0;turns 5;cost 3;
+b h w d | b%8=255 h%16=32768 w=4294967295 d%64=9223372036854775807 | . => 0 returned;global "b" -1;global "h" -32768;global "w" -1;global "d" 9223372036854775807;turns 2;cost 1;
+w b w | b%8=1 w=2 | . => 0 returned;global "w" 2;global "b" 1;global "w" 2;turns 2;cost 1;
+w @main | w=2 | w=3 { return *w } => 0 returned 3;global "w" 3;turns 2;cost 1;
+"#;
+
+const TABLES: &str =
+    r#"- | i n | i=0 @H { switch { s_lt 32 *i *n } { target '1 @B } { default @E } } @B i=i+1 ^H @E . | run a.alf --inputs i.toml | [[input]];frame="n";offset=0;size=32;low=0;high=10 => 0 returned;turns 4;cost 3;
+- | i n | i=0 @H { switch { s_lt 32 *i *n } { target '1 @B } { default @E } } @B i=i+1 ^H @E . | run a.alf --inputs i.toml --costs c.toml | [[input]];frame="n";offset=0;size=32;low=10;high=10 | default=2;[[cost]];function="main";block=2;cost=5 => 0 returned;turns 24;cost 76;
+n | n=7 | . | run a.alf --inputs i.toml | [[input]];frame="n";offset=0;size=32;low=-5;high=5 => 0 returned;global "n" -5;turns 2;cost 1;
+n | n | . | run a.alf --inputs i.toml | [[input]];frame="n";offset=0;size=32;low=4294967295;high=4294967295 => 0 returned;global "n" -1;turns 2;cost 1;
+n | n | . | run a.alf --inputs i.toml | [[input]];frame="n";offset=0;size=8;low=200;high=201;count=4 => 0 returned;global "n" -926365496;turns 2;cost 1;
+n | n=7 | . | run a.alf --inputs i.toml | [[input]];frame="n";offset=1;size=8;low=1;high=2 => 0 returned;global "n" 263;turns 2;cost 1;
+n | n%64 | . | run a.alf --inputs i.toml | [[input]];frame="n";offset=0;size=64;low=-9223372036854775808;high=0 => 0 returned;global "n" -9223372036854775808;turns 2;cost 1;
+n m | n m | . | run a.alf --inputs i.toml | [[input]];frame="m";offset=0;size=32;low=1;high=2;[[input]];frame="n";offset=0;size=32;low=3;high=4 => 0 returned;global "n" 3;global "m" 1;turns 2;cost 1;
+n | n=7 | . | run a.alf --inputs i.toml => 0 returned;global "n" 7;turns 2;cost 1;
+- | - | /main:p { return *p } => 0 stopped uninit "main":0;turns 2;cost 1;
+- | - | /main:p { return *p } | run a.alf --inputs i.toml | [[input]];frame="p";offset=0;size=32;low=-2147483648;high=0 => 0 returned -2147483648;turns 2;cost 1;
+- | - | /main:p { return *p } /f:q { return *q } | run a.alf --inputs i.toml --root f | [[input]];frame="q";offset=0;size=32;low=9;high=9 => 0 returned 9;turns 2;cost 1;
+d | d=0 | /main::x { store &x with { s_div 32 32 #100 *d } } { return *x } | run a.alf --inputs i.toml | [[input]];frame="d";offset=0;size=32;low=0;high=0 => 0 stopped divide "main":0;turns 2;cost 1;
+d | d=0 | /main::x { store &x with { s_div 32 32 #100 *d } } { return *x } | run a.alf --inputs i.toml | [[input]];frame="d";offset=0;size=32;low=-2;high=2 => 0 returned -50;global "d" -2;turns 2;cost 1;
+x | x=0 | ?x:3>A:B @A { return #1 } @B { return #2 } | run a.alf --inputs i.toml | [[input]];frame="x";offset=0;size=32;low=3;high=3 => 0 returned 1;global "x" 3;turns 3;cost 2;
+- | r | { call @f #4 result &r } { call @f *r result &r } { return *r } /f:x { return { add 32 *x #1 '0 } } | run a.alf --costs c.toml | - | [[cost]];function="f";block=0;cost=10 => 0 returned 6;turns 8;cost 23;
+- | r | { call @f #4 result &r } { call @f *r result &r } { return *r } /f:x { return { add 32 *x #1 '0 } } | run a.alf --costs c.toml | - | default=0 => 0 returned 6;turns 8;cost 0;
+- | r | { call @f #4 result &r } { call @f *r result &r } { return *r } /f:x { return { add 32 *x #1 '0 } } | run a.alf --costs c.toml => 0 returned 6;turns 8;cost 5;
+- | i | i=0 @H ?i:10>E:B @B i=i+1 ^H @E . | run a.alf --costs c.toml | - | default=4294967295 => 0 returned;turns 24;cost 98784247785;
+- | i | { null } @B i=i+1 . | run a.alf --costs c.toml | - | [[cost]];function="main";block=1;cost=7;[[cost]];function="main";block=0;cost=3 => 0 stopped uninit "main":1;turns 3;cost 10;
+"#;
+
+// Runs of so many nodes as there may be, and of one more.
+const LONG: &str =
+    r#"- | i | i=0 @H ?i:49998>E:B @B i=i+1 ^H @E . => 0 returned;turns 100000;cost 99999;
+- | i | i=0 { null } @G i=0 @H ?i:49998>E:B @B i=i+1 ^H @E . => 3 unbounded 0 "main":entry;
+- | i | i=0 @H ?i:249999>E:B @B i=i+1 ^C @C { null } ^D @D ^H @E . | run a.alf --turns 1000000 => 0 returned;turns 1000000;cost 999999;
+- | i | i=0 @H ?i:249999>E:B @B i=i+1 ^C @C { null } ^D @D ^H @E . | run a.alf --turns 999999 => 3 unbounded 0 "main":entry;
+- | - | @A ^A | run a.alf --turns 1000000 => 3 unbounded 0 "main":entry;
+"#;
+
+#[test]
+fn each_run_is_told(rt: HostRuntime) -> Result<(), Fail> {
+    for table in [ENDINGS, FAULTS, VALUES, TABLES, LONG] {
+        for line in table.lines() {
+            let wanted = line.split(" => ").nth(1).unwrap_or("");
+            let found = told_of(rt.alloc(), line.split(" => ").nth(0).unwrap_or(""))?;
+            assert_eq!(rt; found.as_str(), wanted, "{line}");
+        }
+    }
+    Ok(())
+}

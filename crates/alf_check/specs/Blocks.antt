@@ -20,7 +20,7 @@ abbrev pub is_label : BodyItem → Bool
 is_label (Label name) = true
 is_label (Do act) = false
 
--- a block begins behind the end of one, and at a label that follows a statement
+-- a block begins after the end of one, and at a label that follows a statement
 abbrev pub begins_between : BodyItem → BodyItem → Bool
 begins_between item next = ends_block item || (is_label next && not (is_label item))
 

@@ -7,7 +7,8 @@
 --   IsTold whole root fault   what the fault says is true, and nothing that is looked for before it is wrong
 use Rattle.std.specs.Prelude.{◌≡◌, ℕ, List, [], ◌∷◌, ⊤, map, None, Some, IsSome, slice_index_or}
 use Rattle.std.specs.List.{flat_map}
-use Rattle.alf_program.specs.Tree.{Null, Store, Jump, Switch, Call, Return, BodyItem, Label, Do, Function, WholeProgram}
+use Rattle.std.specs.Option.{option_map_or}
+use Rattle.alf_program.specs.Tree.{BodyItem, Function, WholeProgram, call_of}
 use Rattle.alf_names.specs.Places.{function_place}
 use Rattle.alf_faults.specs.Fault.{Unknown, Duplicate, Size, earliest}
 use Rattle.alf_faults.specs.Faults.{faults_in}
@@ -18,13 +19,7 @@ use Rattle.alf_check.specs.Numbers.{func_number}
 
 -- the function that the item calls
 abbrev pub called_by : List Function → BodyItem → List ℕ
-called_by funcs (Label label) = []
-called_by funcs (Do Null) = []
-called_by funcs (Do (Store at value)) = []
-called_by funcs (Do (Jump label)) = []
-called_by funcs (Do (Switch value targets others)) = []
-called_by funcs (Do (Call label args result)) = func_number funcs label ∷ []
-called_by funcs (Do (Return value)) = []
+called_by funcs item = option_map_or (λ call. func_number funcs call.func ∷ []) (call_of item) []
 
 -- for each function those that it calls
 abbrev pub calls_among : List Function → List Function → List (List ℕ)

@@ -1,7 +1,6 @@
 -- Numbers of names, by where they stand. A name that stands for nothing has number 0.
 --   frame_rows whole           the frames: the global ones first, then function by function its arguments and its declarations
---   frames_among funcs         how many frames the functions have
---   frames_before funcs k      how many those before function k have
+--   frames_before funcs k      how many frames the functions before function k have
 --   first_frame whole k        the number of the first frame of function k
 --   placed start frames name   the number of the first of the frames that has the name, where the first of all has number start
 --   frame_number globals args decls first_arg first_decl name   the number of a frame that is global, or an argument or a declaration of a function
@@ -30,11 +29,6 @@ rows_from k (func ∷ funcs) = rows_of (Some k) func.args ++ (rows_of (Some k) f
 
 abbrev pub frame_rows : WholeProgram → List FrameRow
 frame_rows whole = rows_of None whole.decls ++ rows_from 0 whole.funcs
-
--- how many frames the functions have
-abbrev pub frames_among : List Function → ℕ
-frames_among [] = 0
-frames_among (func ∷ funcs) = (length func.args + length func.decls) + frames_among funcs
 
 -- how many frames the functions before function k have
 abbrev pub frames_before : List Function → ℕ → ℕ

@@ -7,7 +7,7 @@ ghost use Rattle.alf_check.specs.CheckedPrograms.{block_of};
 ghost use Rattle.alf_check.specs.Numbered.{numbered_block, numbered_blocks};
 ghost use Rattle.alf_check.specs.Names.{numbers_of};
 
-use crate::count::next_number;
+use crate::count::{few, next_number};
 use crate::cut::split_block;
 use crate::endings::end;
 use crate::lookup::Names;
@@ -31,6 +31,7 @@ pub fn blocks(alloc: Global, names: &Names<'_>, items: &[Item]) -> Result<Vec<Bl
         blocks.push(block)?;
         rest = others;
     }
+    few(&blocks)?;
     Ok(blocks)
 }
 

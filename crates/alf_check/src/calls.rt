@@ -6,15 +6,17 @@ ghost use Rattle.alf_program.specs.Tree.{function_of, item_of};
 ghost use Rattle.call_cycles.specs.Calls.{calls_of};
 ghost use Rattle.alf_check.specs.Checking.{called_by, calls_among};
 
+use crate::count::few;
 use crate::lookup::func_number;
 use alf_program::{Func, Item, Stmt};
 use std::alloc::{AllocError, Global};
 
 /// For each function those that it calls, in the order of the text.
 pub fn calls_among(alloc: Global, funcs: &[Func]) -> Result<Vec<Vec<u32>>, AllocError>
-    requires { length funcs.now < 2 ^ 32 }
-    ensures { IfOk result (λ calls. calls_of calls.items ≡ calls_among (map function_of funcs.now) (map function_of funcs.now)) }
+    ensures calls { IfOk result (λ calls. calls_of calls.items ≡ calls_among (map function_of funcs.now) (map function_of funcs.now)) }
+    ensures few { IfOk result (λ calls. length calls.items < 4294967295) }
 {
+    few(funcs)?;
     let mut calls = Vec::new(alloc);
     for func in funcs {
         let called = called_in(alloc, funcs, &func.items)?;

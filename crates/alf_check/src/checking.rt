@@ -13,7 +13,6 @@ ghost use Rattle.alf_check.specs.Numbered.{numbered};
 ghost use Rattle.alf_check.specs.Checking.{Passes, IsTold, calls_among, calls_in, name_at};
 
 use crate::calls::calls_among;
-use crate::count::few;
 use crate::fault::CheckFault;
 use crate::program::{Checked, numbered};
 use alf_faults::{ItemFault, first_fault};
@@ -74,7 +73,7 @@ fn check_calls(alloc: Global, program: &Program) -> Result<Vec<u32>, CheckFault>
     ensures told { IfErr result (λ fault. (root : List ℕ) → IsTold (program_of program.now) root fault) }
 {
     let funcs = program.funcs.as_slice();
-    let Ok(calls) = all_calls(alloc, funcs) else {
+    let Ok(calls) = calls_among(alloc, funcs) else {
         return Err(CheckFault::Memory);
     };
     let calls = calls.as_slice();
@@ -86,17 +85,6 @@ fn check_calls(alloc: Global, program: &Program) -> Result<Vec<u32>, CheckFault>
         },
         Err(CallFault::Memory) => Err(CheckFault::Memory),
     }
-}
-
-// For each function those that it calls.
-fn all_calls(alloc: Global, funcs: &[Func]) -> Result<Vec<Vec<u32>>, AllocError>
-    ensures calls { IfOk result (λ calls. calls_of calls.items ≡ calls_among (map function_of funcs.now) (map function_of funcs.now)) }
-    ensures few { IfOk result (λ calls. length calls.items < 4294967295) }
-    ensures within { IfOk result (λ calls. CallsWithin (calls_of calls.items)) }
-{
-    few(funcs)?;
-    let calls = calls_among(alloc, funcs)?;
-    Ok(calls)
 }
 
 // The names of the functions of these numbers.
@@ -124,7 +112,7 @@ fn name_at(funcs: &[Func], number: u32) -> &[u8]
 fn check_root(alloc: Global, program: &Program, root: &[u8]) -> Result<(), CheckFault>
     requires sound { faults_in (program_of program.now) ≡ [] }
     requires acyclic { (f : ℕ) → OnCycle (calls_in (program_of program.now)) f → ⊥ }
-    ensures starts { OnOk result (IsSome (function_place (program_of program.now).funcs root.now)) }
+    ensures passes { OnOk result (Passes (program_of program.now) root.now) }
     ensures told { IfErr result (λ fault. IsTold (program_of program.now) root.now fault) }
 {
     match function_named(&program.funcs, root) {

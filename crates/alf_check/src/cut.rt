@@ -3,14 +3,14 @@
 ghost use Rattle.std.specs.Prelude.{◌≡◌, ◌<◌, ◌∷◌, map, length, IfOk};
 ghost use Rattle.alf_program.specs.Tree.{item_of};
 ghost use Rattle.alf_check.specs.Blocks.{begins_between, blocks_of, ends_block, is_label};
-ghost use Rattle.alf_check.specs.Cut.{first_length, number_behind, numbers_along};
+ghost use Rattle.alf_check.specs.Cut.{begins_after, first_length, number_after, numbers_along};
 
 use crate::count::next_number;
 use alf_program::{Item, Stmt};
 use std::alloc::{AllocError, Global};
 
-/// The items of the first block, and those behind it.
-#[tactic(auto, using(crate::proofs::Cutting::split_within))]
+/// The items of the first block, and those after it.
+#[tactic(auto, using(crate::proofs::Blocks::split_within))]
 pub fn split_block(items: &[Item]) -> (&[Item], &[Item])
     requires { 0 < length items.now }
     ensures cut { blocks_of (map item_of items.now) ≡ map item_of result.0.now ∷ blocks_of (map item_of result.1.now) }
@@ -23,9 +23,9 @@ pub fn split_block(items: &[Item]) -> (&[Item], &[Item])
 fn first_length(items: &[Item]) -> usize
     ensures { result ≡ first_length (map item_of items.now) }
 {
-    for at in 1..items.len() {
-        if begins_between(&items[at - 1], &items[at]) {
-            return at;
+    for at in 0..items.len() {
+        if begins_after(&items[at], &items[at + 1..]) {
+            return at + 1;
         }
     }
     items.len()
@@ -40,20 +40,29 @@ pub fn numbers_along(alloc: Global, items: &[Item]) -> Result<Vec<u32>, AllocErr
     let mut rest = items;
     while let Some((item, others)) = rest.split_first() {
         numbers.push(number)?;
-        number = number_behind(number, item, others)?;
+        number = number_after(number, item, others)?;
         rest = others;
     }
     Ok(numbers)
 }
 
 // The number of the block of the next item.
-fn number_behind(number: u32, item: &Item, others: &[Item]) -> Result<u32, AllocError>
-    ensures { IfOk result (λ behind. behind ≡ number_behind number (item_of item.now) (map item_of others.now)) }
+fn number_after(number: u32, item: &Item, others: &[Item]) -> Result<u32, AllocError>
+    ensures { IfOk result (λ after. after ≡ number_after number (item_of item.now) (map item_of others.now)) }
+{
+    if begins_after(item, others) {
+        return next_number(number);
+    }
+    Ok(number)
+}
+
+// Whether a block begins after the item, where these follow it.
+fn begins_after(item: &Item, others: &[Item]) -> bool
+    ensures { result ≡ begins_after (item_of item.now) (map item_of others.now) }
 {
     match others.first() {
-        Some(next) if begins_between(item, next) => next_number(number),
-        Some(_) => Ok(number),
-        None => Ok(number),
+        Some(next) => begins_between(item, next),
+        None => false,
     }
 }
 

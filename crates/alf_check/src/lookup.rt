@@ -61,7 +61,7 @@ impl<'a> Names<'a> {
 }
 
 // The number of the block in which a label stands, by the number of each item's block.
-#[tactic(auto, using(crate::proofs::Labelled::along_low))]
+#[tactic(auto, using(crate::proofs::Blocks::along_low, crate::proofs::Blocks::block_at, crate::proofs::Blocks::block_none))]
 fn block_number(labels: &Labels<'_>, blocks: &[u32], label: &[u8]) -> u32
     requires { blocks.now ≡ numbers_along 0 (map item_of labels.now) }
     ensures { result ≡ block_number (map item_of labels.now) label.now }

@@ -2,11 +2,11 @@
 
 ghost use Rattle.std.specs.Prelude.{◌≡◌, ◌<◌, ◌+◌, ◌^◌, map, length, All, IfOk};
 ghost use Rattle.alf_program.specs.Tree.{program_of, function_of};
+ghost use Rattle.alf_program.specs.Writable.{frames_of};
 ghost use Rattle.alf_check.specs.Blocks.{blocks_of};
-ghost use Rattle.alf_check.specs.Numbers.{frames_among, numbers_in};
+ghost use Rattle.alf_check.specs.Numbers.{numbers_in};
 ghost use Rattle.alf_check.specs.Numbered.{numbered_blocks, numbered_function, functions_from};
-ghost use Rattle.alf_check.specs.CheckedPrograms.{block_of, function_in};
-ghost use Rattle.alf_check.specs.declared.rows.FuncParts.{FuncParts};
+ghost use Rattle.alf_check.specs.CheckedPrograms.{NumberedFunction, block_of, function_in};
 ghost use Rattle.alf_check.specs.Rows.{IsRow};
 
 use crate::body::blocks;
@@ -21,11 +21,11 @@ use std::alloc::{AllocError, Global};
 
 /// The functions in their order.
 pub fn all_functions(alloc: Global, program: &Program) -> Result<Vec<FuncParts>, AllocError>
-    requires frames { length (program_of program.now).decls + frames_among (program_of program.now).funcs < 4294967295 }
+    requires frames { length (frames_of (program_of program.now)) < 4294967295 }
     requires funcs { length program.now.funcs.items < 4294967295 }
     ensures are { IfOk result (λ functions. map function_in functions.items
         ≡ functions_from (program_of program.now) (length (program_of program.now).decls) (program_of program.now).funcs) }
-    ensures few { IfOk result (λ functions. All (λ (parts : FuncParts). length parts.blocks.items < 4294967295) functions.items) }
+    ensures few { IfOk result (λ functions. All (λ (function : NumberedFunction). length function.blocks < 4294967295) (map function_in functions.items)) }
 {
     let mut functions = Vec::new(alloc);
     let mut first = program.decls.len() as u32;
@@ -49,7 +49,7 @@ fn function(
     requires funcs { length program.now.funcs.items < 4294967295 }
     requires frames { first + (length func.now.args.items + length func.now.decls.items) < 4294967295 }
     ensures is { IfOk result (λ parts. function_in parts ≡ numbered_function (program_of program.now) first (function_of func.now)) }
-    ensures few { IfOk result (λ parts. length parts.blocks.items < 4294967295) }
+    ensures few { IfOk result (λ parts. length (function_in parts).blocks < 4294967295) }
 {
     let row = row(alloc, first, func)?;
     let blocks = func_blocks(alloc, program, first, func)?;

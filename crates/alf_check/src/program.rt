@@ -7,7 +7,7 @@ ghost use Rattle.alf_program.specs.Writable.{IsWritable};
 ghost use Rattle.alf_check.specs.Checking.{calls_in, Passes};
 ghost use Rattle.call_cycles.specs.Calls.{IsRanked};
 ghost use Rattle.alf_check.specs.Kept.{KeepsBlock, KeepsExport, KeepsFrames, InitFits, IsKept};
-ghost use Rattle.alf_check.specs.Lookups.{IsFunction};
+ghost use Rattle.alf_check.specs.Lookups.{AreParts, IsFunction};
 ghost use Rattle.alf_check.specs.Numbered.{numbered};
 ghost use Rattle.alf_check.specs.CheckedPrograms.{CheckedParts, blocks_at, rank_of, seen, block_of};
 ghost use Rattle.alf_check.specs.contracts.rows.Term as e;
@@ -88,7 +88,7 @@ impl Checked {
         requires { func < length (seen self.now).funcs }
         ensures { IsFunction (seen self.now) func result.now }
     {
-        &nth(&self.funcs, func).row
+        &self.parts(func).row
     }
 
     /// How many blocks a function has.
@@ -96,7 +96,7 @@ impl Checked {
         requires { func < length (seen self.now).funcs }
         ensures { result ≡ length (blocks_at (seen self.now) func) }
     {
-        nth(&self.funcs, func).blocks.len() as u32
+        self.parts(func).blocks.len() as u32
     }
 
     /// The block of this number in a function.
@@ -106,7 +106,15 @@ impl Checked {
         ensures at { slice_get (blocks_at (seen self.now) func) block ≡ Some (block_of result.now) }
         ensures keeps { KeepsBlock (seen self.now) func block (block_of result.now) }
     {
-        nth(&nth(&self.funcs, func).blocks, block)
+        nth(&self.parts(func).blocks, block)
+    }
+
+    // The parts of the function of this number.
+    fn parts(&self, func: u32) -> &FuncParts
+        requires { func < length (seen self.now).funcs }
+        ensures { AreParts (seen self.now) func result.now }
+    {
+        nth(&self.funcs, func)
     }
 
     /// What the global frames hold at first.

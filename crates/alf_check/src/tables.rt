@@ -62,11 +62,7 @@ pub fn numbers_from(alloc: Global, start: u32, count: u32) -> Result<Vec<u32>, A
     requires { start + count < 2 ^ 32 }
     ensures { IfOk result (λ numbers. numbers.items ≡ range_with_len start count) }
 {
-    let mut numbers = Vec::new(alloc);
-    for number in start..start + count {
-        numbers.push(number)?;
-    }
-    Ok(numbers)
+    (start..start + count).collect(alloc)
 }
 
 /// What the frames hold at first, of which the first has this number.

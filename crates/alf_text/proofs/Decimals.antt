@@ -1,12 +1,13 @@
 -- The digits of a number are read as that number.
-use Rattle.std.proofs.Common.{◌≡◌, ℕ, ◌+◌, ◌-◌, ◌*◌, ◌/◌, ◌%◌, ◌^◌, ◌≤◌, ◌<◌, Bool, true, false, cond, ◌&&◌, ltb, leb, List, [], ◌∷◌, ◌++◌, length, Some, refl, ap, ◌∙◌, arith, length-append}
+use Rattle.std.proofs.Common.{◌≡◌, ℕ, ◌+◌, ◌-◌, ◌*◌, ◌/◌, ◌%◌, ◌^◌, ◌≤◌, ◌<◌, true, false, ltb, leb, List, [], ◌∷◌, ◌++◌, length, Some, refl, ap, ◌∙◌, arith, length-append}
 use Rattle.std.specs.Prelude.{decimal}
 use Rattle.std.specs.List.{list_all}
 use Rattle.std.specs.Char.{is_ascii_digit}
 use Rattle.std.proofs.lemmas.Bool.{le-leb}
 use Rattle.std.proofs.lemmas.Fmt.{decimal_by_steps, length-decimal-le}
 use Rattle.std.proofs.lemmas.List.Folds.{list_all-append}
-use Rattle.flow_base.specs.Digits.{prefix_while, prefix_digits, number_after, number_of}
+use Rattle.lists.specs.Tests.{by_test}
+use Rattle.flow_base.specs.Digits.{prefix_digits, number_after, number_of}
 use Rattle.alf_tokens.specs.Printed.{is_number_text}
 use Rattle.alf_text.specs.Grammar.{number_within}
 
@@ -45,11 +46,9 @@ decimal_text n lt =
 
 front_all : (ds : List ℕ) → list_all is_ascii_digit ds ≡ true → prefix_digits ds ≡ ds
 front_all [] h = refl
-front_all (d ∷ ds) h = by_test (is_ascii_digit d) (front_all ds) h
-  where
-    by_test : (t : Bool) → (list_all is_ascii_digit ds ≡ true → prefix_digits ds ≡ ds) → t && list_all is_ascii_digit ds ≡ true → cond t (d ∷ prefix_while is_ascii_digit ds) [] ≡ d ∷ ds
-    by_test true more h = ap (λ (xs : List ℕ). d ∷ xs) (more h)
-    by_test false more h = absurd cc
+front_all (d ∷ ds) h = by_test (is_ascii_digit d)
+    (λ t. let more : list_all is_ascii_digit ds ≡ true = rw t at h in rw t (ap (λ (xs : List ℕ). d ∷ xs) (front_all ds more)))
+    (λ t. absurd (let k : false ≡ true = rw t at h in cc))
 
 within_some : (most n : ℕ) (ds : List ℕ) → number_of ds ≡ n → 0 < length ds → n ≤ most → number_within most ds ≡ Some n
 within_some most n [] e some le = absurd (omega arith)

@@ -1,6 +1,5 @@
 -- Shared lemmas: the reader's, first texts, and which programs some text spells.
 pub mod Depths
-pub mod Operators
 pub mod Meaning
 pub mod FirstMeaning
 pub mod FirstPrograms
@@ -8,6 +7,5 @@ pub mod Decimals
 pub mod Named
 pub mod Signed
 pub mod Written
-pub mod Marked
 pub mod Needs
 pub mod Kept

@@ -1,16 +1,13 @@
 -- The names of writable programs are the names of printed tokens.
-use Rattle.std.proofs.Common.{◌≡◌, ℕ, Bool, true, false, ◌&&◌, leb, ltb, List, [], ◌∷◌, length, All, refl, arith}
+use Rattle.std.proofs.Common.{◌≡◌, ℕ, true, false, ltb, List, [], ◌∷◌, length, All, refl, arith}
 use Rattle.std.specs.List.{list_all}
-use Rattle.std.proofs.lemmas.Bool.{le-leb, leb-true, ne_eqb}
+use Rattle.std.proofs.lemmas.Bool.{le-leb, ne_eqb}
 use Rattle.std.proofs.lemmas.Bool.Decides.{nat_tests}
 use Rattle.std.proofs.lemmas.List.Elements.{All-head, All-tail, All-nil, All-cons}
+use Rattle.lists.specs.Tests.{by_test}
 use Rattle.alf_tokens.specs.Bytes.{is_name_byte}
 use Rattle.alf_tokens.specs.Printed.{is_name_text}
 use Rattle.alf_program.specs.Writable.{IsNameByte, IsName}
-
-both : (a b : Bool) → a && b ≡ true → (a ≡ true) × (b ≡ true)
-both true b h = (refl, h)
-both false b h = absurd cc
 
 byte_passes : (b : ℕ) → IsNameByte b → is_name_byte b ≡ true
 byte_passes b w = rw (le-leb 32 b w.from_space, le-leb b 126 w.to_tilde, ne_eqb b 34 w.no_quote, ne_eqb b 92 w.no_backslash) refl
@@ -24,7 +21,7 @@ bytes_pass (b ∷ bs) w = rw (byte_passes b (All-head IsNameByte b bs w), bytes_
 
 bytes_are : (bs : List ℕ) → list_all is_name_byte bs ≡ true → All IsNameByte bs
 bytes_are [] h = All-nil IsNameByte
-bytes_are (b ∷ bs) h = let k = both (is_name_byte b) (list_all is_name_byte bs) h in All-cons IsNameByte b bs (byte_is b k.0) (bytes_are bs k.1)
+bytes_are (b ∷ bs) h = by_test (is_name_byte b) (λ t. All-cons IsNameByte b bs (byte_is b t) (bytes_are bs (rw t at h))) (λ t. absurd (let k : false ≡ true = rw t at h in cc))
 
 pub name_text : (n : List ℕ) → IsName n → is_name_text n ≡ true
 name_text n w =
@@ -32,7 +29,4 @@ name_text n w =
     rw (some, le-leb (length n) 64 w.short, bytes_pass n w.bytes) refl
 
 pub text_name : (n : List ℕ) → is_name_text n ≡ true → IsName n
-text_name n h =
-    let k = both (ltb 0 (length n) && leb (length n) 64) (list_all is_name_byte n) h in
-    let l = both (ltb 0 (length n)) (leb (length n) 64) k.0 in
-    record { some = grind (arith, l.0); short = leb-true _ _ l.1; bytes = bytes_are n k.1 }
+text_name n h = record { some = grind (arith, nat_tests); short = grind (arith, nat_tests); bytes = bytes_are n (grind (arith, nat_tests)) }

@@ -1,19 +1,18 @@
 -- The room that programs need: as many functions, frames and bytes of frames as they have.
-use Rattle.std.proofs.Common.{◌≡◌, ◌+◌, ◌-◌, ℕ, List, [], ◌∷◌, ◌++◌, length, Ok, refl, ap, sym, subst, ◌∙◌, arith, length-append}
+use Rattle.std.proofs.Common.{◌≡◌, ◌+◌, ◌-◌, ℕ, List, [], ◌∷◌, ◌++◌, length, Ok, refl, ap, sym, ◌∙◌, arith, length-append}
 use Rattle.std.specs.List.{flat_map, sum_by}
 use Rattle.std.proofs.lemmas.List.Sums.{sum_by-append, sum_by-cons}
 use Rattle.grammar.specs.Exact.{ok_is}
-use Rattle.grammar.specs.Writing.{place, reads_spells}
+use Rattle.grammar.specs.Writing.{place, tokens, reads_spells}
 use Rattle.alf_tokens.specs.Tokens.{Lexeme}
-use Rattle.alf_tokens.specs.Printed.{tokens_before}
+use Rattle.alf_tokens.specs.Printed.{Mark, token_before, tokens_before}
 use Rattle.alf_tokens.specs.Laws.{EachPrintedTextIsCut}
 use Rattle.alf_program.specs.Tree.{Allocation, Function, WholeProgram}
 use Rattle.alf_program.specs.Writable.{most_functions, most_frames, most_bytes, own_frames, frames_of, frame_bytes, IsWritable}
 use Rattle.alf_printer.specs.Canonical.{program_marks, canonical_text}
 use Rattle.alf_text.specs.Grammar.{Fault, Room, Place, program}
 use Rattle.alf_text.specs.Language.{start, SpellsProgram}
-use Rattle.alf_text.proofs.Written.{needs, all_need, program_reads}
-use Rattle.alf_text.proofs.Marked.{program_marked}
+use Rattle.alf_text.proofs.Written.{printing, needs, all_need, program_writes}
 
 -- ---- counts
 
@@ -64,7 +63,7 @@ whole_counted whole room =
 abbrev pub full : Room
 full = record { functions = most_functions; frames = most_frames; bytes = most_bytes }
 
-pub same_room : (a b : Room) → a.functions ≡ b.functions → a.frames ≡ b.frames → a.bytes ≡ b.bytes → a ≡ b
+same_room : (a b : Room) → a.functions ≡ b.functions → a.frames ≡ b.frames → a.bytes ≡ b.bytes → a ≡ b
 same_room a b e f g = rw (← e, ← f, ← g) refl
 
 -- where nothing is read yet, a writable program has its room
@@ -79,12 +78,15 @@ all_room whole w =
 
 -- ---- the canonical text
 
+printed_tokens : (marks : List Mark) → tokens_before [] marks ≡ tokens printing [] marks
+printed_tokens [] = refl
+printed_tokens (m ∷ ms) = ap (λ (ts : List Lexeme). token_before ts m ∷ ts) (printed_tokens ms)
+
 module _ (cut : EachPrintedTextIsCut) (whole : WholeProgram) (w : IsWritable whole) where
   canonical_read : program.form.reading (start (canonical_text whole)) ≡ Ok (whole, place [] (room_left whole))
   canonical_read =
-      let marks = program_marks whole in
-      let read = subst (λ (room : Room). program.form.reading (place (tokens_before [] marks) room) ≡ Ok (whole, place [] (room_left whole))) (all_room whole w) (program_reads whole w (room_left whole)) in
-      subst (λ (ts : List Lexeme). program.form.reading (place ts full) ≡ Ok (whole, place [] (room_left whole))) (sym (cut marks (program_marked whole w))) read
+      let writes = program_writes whole w (room_left whole) in
+      rw (cut (program_marks whole) writes.prints, printed_tokens (program_marks whole), ← all_room whole w) (writes.reads [] refl)
 
   -- it spells the program
   pub writable_spelled : SpellsProgram (canonical_text whole) whole

@@ -3,7 +3,7 @@
 --   Place            where a text is read from: the tokens ahead, and what there may still be of what is counted
 --   Rule some A      a part of the grammar that spells values of type A, and takes some of the text where some is true
 --   fits, fits_word, fits_number, fits_name   one token, which fits its place or is the departure
-use Rattle.std.specs.Prelude.{ℕ, pos, neg_ℤ, zero, suc, ◌+◌, ◌-◌, ◌/◌, ◌%◌, ◌^◌, ◌&&◌, ◌==◌, List, [], ◌∷◌, Bool, true, false, Result, Ok, Err, Option, Some, None, nat_le, if◌then◌else◌, codes}
+use Rattle.std.specs.Prelude.{ℕ, pos, neg_ℤ, zero, suc, ◌+◌, ◌-◌, ◌/◌, ◌%◌, ◌^◌, ◌&&◌, ◌==◌, List, [], ◌∷◌, Bool, true, false, Result, Ok, Err, Option, Some, None, nat_le, if◌then◌else◌, codes, find}
 use Rattle.std.specs.Str.{bytes_eq}
 use Rattle.flow_base.specs.Digits.{prefix_digits, number_of}
 use Rattle.flow_base.specs.declared.place.Which.{Which}
@@ -81,13 +81,13 @@ fits_some_word t = if is_kind kinds.Word t.kind then Ok t else Err (misfit t)
 abbrev pub fits_word : List ℕ → Lexeme → Result (Unit {0}) Fault
 fits_word w t = if is_kind kinds.Word t.kind then (if bytes_eq t.text w then Ok tt else Err (outside t)) else Err (misfit t)
 
-abbrev pub or_outside : {A : Type 0} → Lexeme → Option A → Result A Fault
-or_outside t (Some x) = Ok x
-or_outside t None = Err (outside t)
+abbrev pub or_fault : {A : Type 0} → Fault → Option A → Result A Fault
+or_fault fault (Some x) = Ok x
+or_fault fault None = Err fault
 
--- a number of a table
-abbrev pub fits_number : {A : Type 0} → (List ℕ → Option A) → Lexeme → Result A Fault
-fits_number table t = if is_kind kinds.Number t.kind then or_outside t (table t.text) else Err (misfit t)
+-- a number of a table, and what any other number is
+abbrev pub fits_number : {A : Type 0} → (Lexeme → Fault) → (List ℕ → Option A) → Lexeme → Result A Fault
+fits_number other table t = if is_kind kinds.Number t.kind then or_fault (other t) (table t.text) else Err (misfit t)
 
 abbrev pub fits_name : Lexeme → Result (List ℕ) Fault
 fits_name t = if is_kind kinds.Quoted t.kind then Ok t.text else Err (misfit t)
@@ -98,12 +98,8 @@ number_within most [] = None
 number_within most (d ∷ ds) = if nat_le (number_of (d ∷ ds)) most then Some (number_of (d ∷ ds)) else None
 
 -- a number of at most so much, or it is outside its range
-abbrev pub or_number : ℕ → Option ℕ → Result ℕ Fault
-or_number left (Some n) = Ok n
-or_number left None = Err (Number left)
-
 abbrev pub fits_below : ℕ → Lexeme → Result ℕ Fault
-fits_below most t = if is_kind kinds.Number t.kind then or_number t.left (number_within most (prefix_digits t.text)) else Err (misfit t)
+fits_below most t = fits_number (λ t. Number t.left) (λ text. number_within most (prefix_digits text)) t
 
 -- nothing is left
 abbrev pub is_over : Option Lexeme → Result (Unit {0}) Fault
@@ -140,7 +136,7 @@ number_between least most step text = from_least least step (number_within most 
 
 -- a number from the least to the most, a multiple of the step, however it is written
 unfoldable pub between : ℕ → ℕ → ℕ → Rule true ℕ
-between least most step = one (fits_number (number_between least most step))
+between least most step = one (fits_number outside (number_between least most step))
 
 -- the number n
 unfoldable pub fixed : ℕ → Rule true (Unit {0})
@@ -381,12 +377,8 @@ inits = do
 -- ---- expressions
 
 -- the operator that a word spells
-abbrev pub operator_among : List Op → List ℕ → Option Op
-operator_among [] w = None
-operator_among (op ∷ ops) w = if bytes_eq (spelling op) w then Some op else operator_among ops w
-
 unfoldable pub operator_named : List ℕ → Option Op
-operator_named w = operator_among operators w
+operator_named w = find (λ op. bytes_eq (spelling op) w) operators
 
 unfoldable pub unsigned_term : Rule true NamedExpression
 unsigned_term = do

@@ -1,26 +1,20 @@
 //! The words of operators.
 
-ghost use Rattle.std.specs.Prelude.{◌≡◌, All, map, IfSome};
+ghost use Rattle.std.specs.Prelude.{◌≡◌, All, map, find, IfSome};
 ghost use Rattle.std.specs.Option.{option_map};
+ghost use Rattle.std.specs.Str.{bytes_eq};
 ghost use Rattle.alf_ops.specs.Names.{TellsOperator};
-ghost use Rattle.alf_text.specs.Grammar.{operator_among, operator_named};
+ghost use Rattle.alf_text.specs.Grammar.{operator_named};
 
 use alf_ops::{OpRow, rows};
 
-// The row of the operator that a word spells, among these rows.
+// The first row of this name.
 fn row_among<'r>(rows: &'r [OpRow], text: &[u8]) -> Option<&'r OpRow>
     requires { All TellsOperator rows.now }
-    ensures op { option_map (λ row. row.now.op) result ≡ operator_among (map (λ row. row.op) rows.now) text.now }
+    ensures first { option_map (λ row. row.now) result ≡ find (λ row. bytes_eq row.name.now text.now) rows.now }
     ensures told { IfSome result (λ row. TellsOperator row.now) }
 {
-    let mut rest = rows;
-    while let Some((first, others)) = rest.split_first() {
-        if first.name.as_bytes() == text {
-            return Some(first);
-        }
-        rest = others;
-    }
-    None
+    rows.iter().find(|row| row.name.as_bytes() == text)
 }
 
 /// The row of the operator that a word spells.

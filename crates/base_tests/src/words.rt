@@ -12,19 +12,27 @@ fn words_of(alloc: Global, line: &str) -> Result<Vec<String>, AllocError> {
     Ok(words)
 }
 
-/// The file and the turns of the words, where they are `analyse`.
-fn analysed<'a>(alloc: Global, words: &'a [String]) -> Option<(&'a str, u32)> {
+/// What the words are, where they are a command: its name, and what it was given. A file that is
+/// left out is a dash.
+fn told(alloc: Global, words: &[String]) -> Result<String, AllocError> {
     match read(alloc, words) {
-        Ok(Command::Analyse { file, turns }) => Some((file, turns)),
-        _ => None,
-    }
-}
-
-/// The file of the words, where they are `print`.
-fn printed<'a>(alloc: Global, words: &'a [String]) -> Option<&'a str> {
-    match read(alloc, words) {
-        Ok(Command::Print { file }) => Some(file),
-        _ => None,
+        Ok(Command::Analyse(given)) => {
+            let file = given.file;
+            let root = given.root;
+            let costs = given.costs.unwrap_or("-");
+            let turns = given.turns;
+            Ok(format!(in alloc; "analyse {file} {root} {costs} {turns}")?)
+        }
+        Ok(Command::Print(file)) => Ok(format!(in alloc; "print {file}")?),
+        Ok(Command::Run(given)) => {
+            let file = given.file;
+            let root = given.root;
+            let inputs = given.inputs.unwrap_or("-");
+            let costs = given.costs.unwrap_or("-");
+            let turns = given.turns;
+            Ok(format!(in alloc; "run {file} {root} {inputs} {costs} {turns}")?)
+        }
+        Err(_) => String::from_str(alloc, "no command"),
     }
 }
 
@@ -37,57 +45,71 @@ fn are_usage(alloc: Global, words: &[String]) -> bool {
 }
 
 #[test]
-fn analyse_takes_its_options_in_any_order(rt: HostRuntime) -> Result<(), Fail> {
+fn words_are_commands_in_any_order(rt: HostRuntime) -> Result<(), Fail> {
+    // The words, and what they are.
     let cases = [
-        ("analyse,a.alf", "a.alf", 100_000),
-        ("analyse,a.alf,--turns,24", "a.alf", 24),
-        ("analyse,a.alf,--turns=24", "a.alf", 24),
-        ("analyse,--turns,24,a.alf", "a.alf", 24),
-        ("analyse,--turns=24,a.alf", "a.alf", 24),
-        ("analyse,a.alf,--turns,1", "a.alf", 1),
-        ("analyse,a.alf,--turns,1000000", "a.alf", 1_000_000),
-        ("analyse,a.alf,--turns,000002", "a.alf", 2),
-        ("analyse,a.alf,--turns,00000000000000000002", "a.alf", 2),
-        ("analyse,--,a.alf", "a.alf", 100_000),
-        ("analyse,a.alf,--", "a.alf", 100_000),
-        ("analyse,--turns,24,--,-a.alf", "-a.alf", 24),
-        ("analyse,--,--turns", "--turns", 100_000),
-        ("analyse,--,--", "--", 100_000),
-        ("analyse,-", "-", 100_000),
-        ("analyse,", "", 100_000),
-        ("analyse,analyse", "analyse", 100_000),
-        ("analyse,a.C", "a.C", 100_000),
+        ("analyse,a.alf", "analyse a.alf main - 100000"),
+        ("analyse,a.alf,--turns,24", "analyse a.alf main - 24"),
+        ("analyse,a.alf,--turns=24", "analyse a.alf main - 24"),
+        ("analyse,--turns,24,a.alf", "analyse a.alf main - 24"),
+        ("analyse,--turns=24,a.alf", "analyse a.alf main - 24"),
+        ("analyse,a.alf,--turns,1", "analyse a.alf main - 1"),
+        (
+            "analyse,a.alf,--turns,1000000",
+            "analyse a.alf main - 1000000",
+        ),
+        ("analyse,a.alf,--turns,000002", "analyse a.alf main - 2"),
+        (
+            "analyse,a.alf,--turns,00000000000000000002",
+            "analyse a.alf main - 2",
+        ),
+        ("analyse,--,a.alf", "analyse a.alf main - 100000"),
+        ("analyse,a.alf,--", "analyse a.alf main - 100000"),
+        ("analyse,--turns,24,--,-a.alf", "analyse -a.alf main - 24"),
+        ("analyse,--,--turns", "analyse --turns main - 100000"),
+        ("analyse,--,--", "analyse -- main - 100000"),
+        ("analyse,-", "analyse - main - 100000"),
+        ("analyse,", "analyse  main - 100000"),
+        ("analyse,analyse", "analyse analyse main - 100000"),
+        ("analyse,a.C", "analyse a.C main - 100000"),
+        ("analyse,a.alf,--root,f", "analyse a.alf f - 100000"),
+        ("analyse,a.alf,--root=", "analyse a.alf  - 100000"),
+        ("analyse,a.alf,--root=-f", "analyse a.alf -f - 100000"),
+        (
+            "analyse,a.alf,--costs,c.toml",
+            "analyse a.alf main c.toml 100000",
+        ),
+        (
+            "analyse,--costs,c.toml,--turns=7,a.alf,--root,g",
+            "analyse a.alf g c.toml 7",
+        ),
+        ("run,a.alf", "run a.alf main - - 100000"),
+        (
+            "run,a.alf,--inputs,i.toml",
+            "run a.alf main i.toml - 100000",
+        ),
+        ("run,a.alf,--inputs=a.c", "run a.alf main a.c - 100000"),
+        (
+            "run,--turns,3,--costs,c,--root,f,--inputs,i,a.alf",
+            "run a.alf f i c 3",
+        ),
+        (
+            "run,a.alf,--inputs=i,--root=f,--costs=c,--turns=3",
+            "run a.alf f i c 3",
+        ),
+        ("run,--inputs,a.alf,a.alf", "run a.alf main a.alf - 100000"),
+        ("print,a.alf", "print a.alf"),
+        ("print,--,a.alf", "print a.alf"),
+        ("print,--,-a.alf", "print -a.alf"),
+        ("print,-", "print -"),
+        ("print,", "print "),
+        ("print,a b.alf", "print a b.alf"),
+        ("print,c", "print c"),
     ];
-    for (line, file, turns) in cases {
+    for (line, wanted) in cases {
         let words = words_of(rt.alloc(), line)?;
-        let Some((found, number)) = analysed(rt.alloc(), &words) else {
-            assert!(rt; false, "{line}");
-            return Ok(());
-        };
-        assert!(rt; found == file, "{line}");
-        assert_eq!(rt; number, turns, "{line}");
-    }
-    Ok(())
-}
-
-#[test]
-fn print_takes_a_file(rt: HostRuntime) -> Result<(), Fail> {
-    let cases = [
-        ("print,a.alf", "a.alf"),
-        ("print,--,a.alf", "a.alf"),
-        ("print,--,-a.alf", "-a.alf"),
-        ("print,-", "-"),
-        ("print,", ""),
-        ("print,a b.alf", "a b.alf"),
-        ("print,c", "c"),
-    ];
-    for (line, file) in cases {
-        let words = words_of(rt.alloc(), line)?;
-        let Some(found) = printed(rt.alloc(), &words) else {
-            assert!(rt; false, "{line}");
-            return Ok(());
-        };
-        assert!(rt; found == file, "{line}");
+        let found = told(rt.alloc(), &words)?;
+        assert!(rt; found.as_str() == wanted, "{line}");
     }
     Ok(())
 }
@@ -144,9 +166,24 @@ fn other_words_are_no_command(rt: HostRuntime) -> Result<(), Fail> {
         "analyse,a.c",
         "analyse,.c",
         "analyse,--,a.c",
-        "analyse,a.alf,--root,main",
+        "analyse,a.alf,--root",
+        "analyse,a.alf,--root,-f",
+        "analyse,a.alf,--root,f,--root,f",
         "analyse,a.alf,--inputs,i.toml",
-        "analyse,a.alf,--costs,c.toml",
+        "analyse,a.alf,--costs",
+        "analyse,a.alf,--costs,c.toml,--costs,c.toml",
+        "run",
+        "run,a.c",
+        "run,-a.alf",
+        "run,a.alf,b.alf",
+        "run,a.alf,--turns,0",
+        "run,a.alf,--inputs",
+        "run,a.alf,--inputs,--costs,c",
+        "run,a.alf,--inputs,i,--inputs,i",
+        "run,a.alf,--merge,joins",
+        "run,a.alf,--input,i",
+        "print,a.alf,--root,f",
+        "print,a.alf,--inputs,i",
         "analyse,a.alf,--merge,joins",
         "analyse,a.alf,--merge,all",
         "analyse,a.alf,--pivots,5",
@@ -159,7 +196,6 @@ fn other_words_are_no_command(rt: HostRuntime) -> Result<(), Fail> {
         "replay,a.alf,r.txt",
         "lower,a.alf",
         "lower,a.c",
-        "run,a.alf",
         "generate,5",
         "cache,a.alf",
         "worst,a.alf",

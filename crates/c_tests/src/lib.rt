@@ -1,9 +1,13 @@
-//! Tests of `c_tokens` and `c_unit`. Without tests this library is empty.
+//! Tests of `c_tokens`, `c_constants` and `c_unit`. Without tests this library is empty.
 #![tactic(auto)]
 
 // Tokens and their places.
 #[cfg(test)]
 mod tokens;
+
+// What constants are worth.
+#[cfg(test)]
+mod constants;
 
 // Ranges and trees.
 #[cfg(test)]

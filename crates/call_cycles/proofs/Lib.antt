@@ -1,3 +1,0 @@
--- The files here.
-pub mod Cycling
-pub mod Ranking

@@ -1,10 +1,11 @@
-// Expands the program in a file by its calls, for bench/graphs, which takes the time.
+// Expands the program in a file by its calls and finds its scopes, for bench/graphs, which takes the time.
 #![tactic(auto)]
 
 use alf_check::{Checked, check};
 use alf_text::read;
 use flow_base::{FolderShelf, Shelf, Sink, StdSink, Which};
 use flow_graph::{Graph, GraphFault};
+use scope_graph::{OutlineFault, outline};
 use std::alloc::Global;
 use std::env;
 use std::process::ExitCode;
@@ -18,7 +19,7 @@ fn main(rt: HostRuntime) -> ExitCode {
     let Ok(mut args) = env::args(&rt) else {
         return ExitCode::from(1);
     };
-    let (Some(file), Some(count)) = (args.nth(1), args.next()) else {
+    let (Some(file), Some(kind), Some(count)) = (args.nth(1), args.next(), args.next()) else {
         return ExitCode::from(1);
     };
     let Ok(bytes) = shelf.read(rt.alloc(), &file, MOST) else {
@@ -27,14 +28,15 @@ fn main(rt: HostRuntime) -> ExitCode {
     let Ok(count) = count.parse::<u32>() else {
         return ExitCode::from(1);
     };
-    match out.write_all(outcome(rt.alloc(), &bytes, count).as_bytes()) {
+    match out.write_all(outcome(rt.alloc(), &bytes, kind.as_str() == "scopes", count).as_bytes()) {
         Ok(()) => ExitCode::from(0),
         Err(_) => ExitCode::from(1),
     }
 }
 
-// What comes of expanding the program that the bytes spell, so many times.
-fn outcome(alloc: Global, bytes: &[u8], count: u32) -> &'static str {
+// What comes of the program that the bytes spell, so many times: of its graph, and where scopes are
+// asked for, of its outline.
+fn outcome(alloc: Global, bytes: &[u8], scopes: bool, count: u32) -> &'static str {
     let Ok(program) = read(alloc, bytes) else {
         return "no program of the profile\n";
     };
@@ -43,17 +45,29 @@ fn outcome(alloc: Global, bytes: &[u8], count: u32) -> &'static str {
     };
     let mut told = "nothing\n";
     for _ in 0..count {
-        told = expanded(alloc, &checked);
+        told = expanded(alloc, &checked, scopes);
     }
     told
 }
 
-// What comes of expanding a program.
-fn expanded(alloc: Global, checked: &Checked) -> &'static str {
+// What comes of expanding a program, and of its outline.
+fn expanded(alloc: Global, checked: &Checked, scopes: bool) -> &'static str {
     match Graph::expand(alloc, checked) {
-        Ok(_) => "a graph\n",
+        Ok(graph) => outlined(alloc, &graph, scopes),
         Err(GraphFault::Limit(Which::Nodes, _)) => "too many nodes\n",
         Err(GraphFault::Limit(_, _)) => "too many edges\n",
         Err(GraphFault::Memory) => "memory ran out\n",
+    }
+}
+
+// What comes of the outline of a graph, where it is asked for.
+fn outlined(alloc: Global, graph: &Graph, scopes: bool) -> &'static str {
+    if !scopes {
+        return "a graph\n";
+    }
+    match outline(alloc, graph) {
+        Ok(_) => "an outline\n",
+        Err(OutlineFault::Irreducible { .. }) => "two ways into a loop\n",
+        Err(OutlineFault::Memory) => "memory ran out\n",
     }
 }

@@ -1,6 +1,5 @@
 -- One more node of a trace.
 use Rattle.std.proofs.Common.{◌≡◌, ◌≢◌, ◌<◌, ◌+◌, ℕ, get_or, cond, ◌==◌, List, [], ◌∷◌, ◌++◌, length, set, Some, refl, ap, sym, ◌∙◌, length-set, get_or-set_other, arith, rules}
-use Rattle.std.specs.List.{AllZip}
 use Rattle.std.proofs.lemmas.List.Sums.{sum_by_push}
 use Rattle.std.proofs.lemmas.Grind.{get_or_default_zero, get_or-set_at}
 use Rattle.lists.specs.Tests.{by_test}

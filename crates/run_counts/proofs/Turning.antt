@@ -1,19 +1,17 @@
 -- What holds from turn to turn of a run.
-use Rattle.std.proofs.Common.{◌≡◌, ◌<◌, ◌≤◌, ◌+◌, ◌*◌, ◌==◌, ℕ, replicate, get_or, List, [], ◌∷◌, ◌++◌, length, set, Some, slice_get, refl, ap, sym, ◌∙◌, subst, length-append, arith, rules}
-use Rattle.std.proofs.lemmas.List.{get_or-replicate, length-replicate}
+use Rattle.std.proofs.Common.{◌≡◌, ◌<◌, ◌≤◌, ◌+◌, ◌*◌, ◌==◌, ℕ, get_or, List, [], ◌∷◌, ◌++◌, length, set, Some, refl, ap, sym, ◌∙◌, subst, length-append, arith}
 use Rattle.std.proofs.lemmas.Option.{slice_get_within}
 use Rattle.std.proofs.lemmas.List.Sums.{count_by-le-length}
 use Rattle.alf_ops.specs.declared.history.RunEvent.{RunEvent}
-use Rattle.alf_check.specs.CheckedPrograms.{NumberedProgram, CheckedParts, seen}
+use Rattle.alf_check.specs.CheckedPrograms.{NumberedProgram, seen}
 use Rattle.flow_graph.specs.Nodes.{Node}
 use Rattle.flow_graph.specs.Numbering.{GraphParts}
-use Rattle.alf_runs.specs.Outcomes.{Outcome}
 use Rattle.alf_runs.specs.Steps.{Moment, At, Over, step}
-use Rattle.alf_runs.specs.Runs.{after, trace as passed, Ends}
+use Rattle.alf_runs.specs.Runs.{after, trace as passed}
 use Rattle.alf_runs.specs.RunLaws.{AfterMore}
 use Rattle.alf_interp.specs.Machines.{RunMachine, StandsAt, StandsWith}
-use Rattle.run_counts.specs.Traces.{AreNumbersOf, IsNodeAt, Runs, IsPast, places_of, last_of, cost_of}
-use Rattle.run_counts.specs.Counts.{AreCounts, IsTally, IsCounted, outcome_of}
+use Rattle.run_counts.specs.Traces.{AreNumbersOf, IsNodeAt, IsPast, cost_of}
+use Rattle.run_counts.specs.Counts.{AreCounts, IsCounted, outcome_of}
 use Rattle.run_counts.specs.declared.tally.Tally.{Tally}
 use Rattle.run_counts.proofs.Placing.{numbers_push, counts_push, cost_push, last_push}
 

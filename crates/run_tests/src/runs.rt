@@ -24,7 +24,7 @@ const OWN: &str =
 const LABEL: &str = "{ label 32 { lref 32 \"";
 
 // `@A` is a label or a function, `&x` an address, `*x` a load of 32 bits, `#5` a number of 32 bits and
-// `'0` a bit. Behind `/f` stand the items of a further function, and behind `%f` those of one with the
+// `'0` a bit. After `/f` stand the items of a further function, and after `%f` those of one with the
 // argument `a`.
 fn put(text: &mut String, word: &str) -> Result<(), AllocError> {
     if let Some(name) = word.strip_prefix("@") {

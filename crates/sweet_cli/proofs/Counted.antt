@@ -1,7 +1,7 @@
 -- What the crate below counts, in terms of the program without its ranks and of its nodes' costs.
 use Rattle.std.proofs.Common.{◌≡◌, ℕ, List, [], map, Result, Ok, Err, IfOk, ap, ◌∙◌, subst}
 use Rattle.std.specs.declared.alloc.AllocError.{AllocError}
-use Rattle.alf_check.specs.CheckedPrograms.{NumberedProgram, seen}
+use Rattle.alf_check.specs.CheckedPrograms.{NumberedProgram}
 use Rattle.alf_check.specs.declared.rows.InputRow.{InputRow}
 use Rattle.flow_graph.specs.Numbering.{GraphParts}
 use Rattle.alf_runs.specs.Starts.{start}

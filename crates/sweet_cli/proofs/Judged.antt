@@ -1,5 +1,5 @@
 -- What is judged has one meaning, but for a line that gives one example of several.
-use Rattle.std.proofs.Common.{◌≡◌, ℕ, List, [], ◌∷◌, Result, Ok, Err, Option, None, Some, IfSome, IsSomeAnd, IsSome, codes, refl, ap, sym, ◌∙◌, subst}
+use Rattle.std.proofs.Common.{◌≡◌, ℕ, List, [], Result, Ok, Err, Option, None, Some, IfSome, IsSomeAnd, IsSome, codes, ap, sym, ◌∙◌, subst}
 use Rattle.alf_program.specs.Tree.{WholeProgram}
 use Rattle.alf_text.specs.Language.{Departure, Means, HasOneMeaning}
 use Rattle.alf_names.specs.Places.{function_place}
@@ -14,7 +14,7 @@ use Rattle.work.specs.Outcome.{Outcome, Cause, Source, Example, LinesAgree, AreA
 use Rattle.work.specs.Work.{IsOnly, alike}
 use Rattle.sweet_cli.specs.FaultLines.{fault_line}
 use Rattle.sweet_cli.specs.CheckLines.{name_line, size_line, check_line, check_cause}
-use Rattle.sweet_cli.specs.Programs.{ProgramMeans, CheckMeans, IsCheckLine, meant}
+use Rattle.sweet_cli.specs.Programs.{ProgramMeans, CheckMeans, meant}
 
 -- ---- results that are the same
 

@@ -7,11 +7,11 @@ use Rattle.flow_graph.specs.Numbering.{GraphParts, IsGraph, HasMoreNodes, HasMor
 use Rattle.flow_graph.specs.Faults.{FaultTells, LimitTells}
 use Rattle.flow_graph.specs.declared.fault.GraphFault.{GraphFault}
 use Rattle.flow_graph.specs.declared.fault.GraphFault.TheVariants as faults
-use Rattle.work.specs.Outcome.{Outcome, Source, AreAlike, AreAlikeResults, refused}
+use Rattle.work.specs.Outcome.{Outcome, Source, AreAlikeResults, refused}
 use Rattle.work.specs.Work.{IsOnly, alike}
 use Rattle.sweet_cli.specs.FaultLines.{limit_line}
 use Rattle.sweet_cli.specs.CheckLines.{graph_line}
-use Rattle.sweet_cli.specs.Programs.{GraphMeans, IsGraphLine, unranked}
+use Rattle.sweet_cli.specs.Programs.{GraphMeans, unranked}
 use Rattle.sweet_cli.proofs.Ranks as ranks
 use Rattle.sweet_cli.proofs.Judged.{outcome_is}
 

@@ -1,6 +1,5 @@
 -- The low ends of ranges, and their words.
-use Rattle.std.proofs.Common.{◌≡◌, ◌≤◌, ◌==◌, ◌||◌, ℕ, ℤ, Bool, true, false, List, [], ◌∷◌, map, All, Contains, refl, ap, arith, rules}
-use Rattle.std.specs.List.{AllZip}
+use Rattle.std.proofs.Common.{◌≡◌, ◌≤◌, ◌==◌, ℕ, true, List, [], ◌∷◌, map, All, Contains, refl, ap, arith, rules}
 use Rattle.std.specs.Int.Signed.{≤ℤ_refl}
 use Rattle.std.proofs.lemmas.List.Elements.{All-contains}
 use Rattle.lists.specs.Members.{all_members, first_member, further_member}
@@ -10,7 +9,7 @@ use Rattle.alf_faults.specs.Sizes.{is_export_size}
 use Rattle.alf_check.specs.declared.rows.InputRow.{InputRow}
 use Rattle.alf_check.specs.CheckedPrograms.{NumberedProgram}
 use Rattle.alf_check.specs.Inputs.{KeepsInput}
-use Rattle.alf_runs.specs.Starts.{IsWithin, AreWithin, words_of}
+use Rattle.alf_runs.specs.Starts.{AreWithin}
 use Rattle.sweet_cli.specs.Run.{low_words}
 
 -- the low word of a row

@@ -1,5 +1,5 @@
 -- Ranks have no part in runs.
-use Rattle.std.proofs.Common.{◌≡◌, ℕ, zero, suc, List, [], ◌∷◌, map, Option, None, Some, Result, Ok, Err, slice_get, sum_by, refl, ap, sym, ◌∙◌}
+use Rattle.std.proofs.Common.{◌≡◌, ℕ, zero, suc, List, [], ◌∷◌, map, Option, None, Some, Result, Ok, Err, slice_get, refl, ap, ◌∙◌}
 use Rattle.alf_ops.specs.declared.history.Value.{Value}
 use Rattle.alf_ops.specs.declared.history.RunFault.{RunFault}
 use Rattle.alf_ops.specs.declared.history.RunEvent.{RunEvent}
@@ -11,10 +11,8 @@ use Rattle.alf_runs.specs.Expressions.{value_of}
 use Rattle.alf_runs.specs.Statements.{after_statements}
 use Rattle.alf_runs.specs.Outcomes.{Outcome}
 use Rattle.alf_runs.specs.Steps.{Moment, At, Over, frames_of, result_step, go_back, leave, return_step, call_step, ending_step, then_ending, block_step, node_step, step}
-use Rattle.alf_runs.specs.Runs.{after, trace, Ends, IsLonger, cost_of}
+use Rattle.alf_runs.specs.Runs.{after, trace, Ends, IsLonger}
 use Rattle.run_counts.specs.Traces.{Runs}
-use Rattle.cost_table.specs.CostTables.{CostTable}
-use Rattle.sweet_cli.specs.Facts.{place_cost, node_cost}
 use Rattle.sweet_cli.proofs.Ranks.{with_ranks, function_same}
 
 module _ (p : NumberedProgram) (r s : List ℕ) where

@@ -1,16 +1,16 @@
 -- Ranks have no part in what a file of inputs or of costs means for a program.
-use Rattle.std.proofs.Common.{◌≡◌, ℕ, List, [], ◌∷◌, Option, None, Some, IsSome, unwrap_or, take, refl, ap, sym, ◌∙◌}
+use Rattle.std.proofs.Common.{◌≡◌, ℕ, List, [], ◌∷◌, Option, IsSome, unwrap_or, take, refl, ap, ◌∙◌}
 use Rattle.std.specs.Option.{option_or}
 use Rattle.toml.specs.Data.{Data, Members}
 use Rattle.alf_check.specs.CheckedPrograms.{NumberedProgram}
 use Rattle.alf_check.specs.declared.rows.InputRow.{InputRow}
 use Rattle.cost_table.specs.declared.fault.TableFault.{TableFault}
 use Rattle.cost_table.specs.declared.fault.TableFault.TheVariants as faults
-use Rattle.cost_table.specs.Entries.{Judging, AllRight, RightBelow, IsFirstFault, IsRightEntry, IsWrongEntry}
+use Rattle.cost_table.specs.Entries.{Judging, IsFirstFault, IsRightEntry, IsWrongEntry}
 use Rattle.cost_table.specs.Files.{Refuses, NoDocument, WrongTop, WrongEntry}
-use Rattle.cost_table.specs.Inputs.{input_entry, input_entries, IsInRange, rows_in, HasCells, LiesIn, input_judging, MeansInputs, RefusesInputs}
-use Rattle.cost_table.specs.CostTables.{CostTable, HasRows}
-use Rattle.cost_table.specs.Costs.{cost_entry, cost_entries, cost_of, HasBlock, IsBlock, cost_by, last_cost, told_cost, IsCostTable, cost_judging, MeansCosts, RefusesCosts}
+use Rattle.cost_table.specs.Inputs.{input_entry, input_entries, IsInRange, rows_in, HasCells, input_judging, MeansInputs, RefusesInputs}
+use Rattle.cost_table.specs.CostTables.{CostTable}
+use Rattle.cost_table.specs.Costs.{cost_entry, cost_entries, cost_of, HasBlock, cost_by, last_cost, IsCostTable, cost_judging, MeansCosts, RefusesCosts}
 use Rattle.sweet_cli.proofs.Ranks.{with_ranks}
 
 -- ---- entries that are judged by a weaker and a stronger rule

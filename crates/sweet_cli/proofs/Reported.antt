@@ -1,5 +1,5 @@
 -- The report of a run, and the text that tells it, have one meaning; and a report is sound.
-use Rattle.std.proofs.Common.{◌≡◌, ◌<◌, ◌≤◌, ◌+◌, ◌==◌, ℕ, zero, suc, List, [], ◌∷◌, ◌++◌, length, get_or, All, Contains, Result, Ok, Err, Option, None, Some, sum_by, refl, ap, sym, ◌∙◌, subst, arith, rules}
+use Rattle.std.proofs.Common.{◌≡◌, ◌<◌, ◌+◌, ◌==◌, ℕ, zero, suc, List, [], ◌∷◌, ◌++◌, length, get_or, All, Result, Ok, Err, Option, None, Some, refl, ap, sym, ◌∙◌, subst, arith, rules}
 use Rattle.std.proofs.lemmas.List.Elements.{All-append, All-cons, All-nil, Contains-append_right}
 use Rattle.lists.specs.Members.{first_member}
 use Rattle.lists.specs.Tests.{by_test}
@@ -9,10 +9,9 @@ use Rattle.flow_graph.specs.Nodes.{Node}
 use Rattle.flow_graph.specs.Numbering.{IsNumbering}
 use Rattle.alf_runs.specs.Outcomes.{Outcome as RunOutcome, Ended, Faulted, Lost}
 use Rattle.alf_runs.specs.Steps.{Moment}
-use Rattle.alf_runs.specs.Starts.{start, IsStart}
 use Rattle.alf_runs.specs.Runs.{IsLonger, cost_of}
 use Rattle.alf_runs.specs.RunLaws.{HasOneEnd, EndsAtItsLength}
-use Rattle.run_counts.specs.Traces.{Runs, places_of, last_of}
+use Rattle.run_counts.specs.Traces.{places_of, last_of}
 use Rattle.run_counts.specs.Counts.{AreCounts, outcome_of}
 use Rattle.run_counts.specs.declared.tally.Tally.{Tally}
 use Rattle.run_counts.specs.declared.tally.RunEnd.{RunEnd}

@@ -6,7 +6,6 @@
 --   graph_line fault         the line of a program whose graph passes a limit
 use Rattle.std.specs.Prelude.{ℕ, List, [], ◌∷◌, ◌++◌, Option, None, Some, codes, decimal}
 use Rattle.std.specs.List.{flat_map}
-use Rattle.flow_base.specs.declared.place.Which.{Which}
 use Rattle.alf_check.specs.declared.fault.CheckFault.{CheckFault}
 use Rattle.alf_check.specs.declared.fault.CheckFault.TheVariants as checks
 use Rattle.flow_graph.specs.declared.fault.GraphFault.{GraphFault}

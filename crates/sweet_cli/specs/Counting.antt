@@ -3,7 +3,6 @@
 --   CountedAs expanded rows words costs turns counted   this, of the run whose inputs have these words, or it has more nodes than the turns
 use Rattle.std.specs.Prelude.{◌≡◌, ◌<◌, ◌≤◌, ℕ, List, length, Some}
 use Rattle.alf_check.specs.declared.rows.InputRow.{InputRow}
-use Rattle.alf_runs.specs.Outcomes.{Outcome}
 use Rattle.alf_runs.specs.Steps.{Moment}
 use Rattle.alf_runs.specs.Starts.{start}
 use Rattle.alf_runs.specs.Runs.{IsLonger, cost_of}

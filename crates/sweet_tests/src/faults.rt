@@ -70,6 +70,7 @@ const FIRST: &str = r#"- | i i | i=j { call @main result } . => fault 21 duplica
 q | i i | . => fault 20 unknown "q"
 - | - | { store { dec_unsigned 8 0 } with #1 } ^Z . => fault 22 size "main" 0
 - | - | ^Z { store { dec_unsigned 8 0 } with #1 } . => fault 20 unknown "Z"
+- | - | { null } { null } { return { add 32 #1 { dec_unsigned 16 1 } '0 } } => fault 22 size "main" 2
 - | - | { call @main result } . /f ^Z . => fault 20 unknown "Z"
 "#;
 
@@ -109,6 +110,15 @@ analyse a.alf --root f => fault 24 root "f"
 analyse --root= a.alf => fault 24 root ""
 "#;
 
+// Recursion is told before the root, and the root before files.
+const BEFORE: &str =
+    r#"run a.alf --root f | { call @main result } . => fault 23 recursion "main" "main"
+run a.alf --root f | { call @main result } ^A => fault 20 unknown "A"
+run a.alf --root f --inputs i.toml --costs c.toml | . => fault 24 root "f"
+analyse a.alf --root f --costs c.toml | . => fault 24 root "f"
+analyse a.alf --costs c.toml | . => fault 70 toml costs
+"#;
+
 #[test]
 fn no_function_has_the_name_of_the_root(rt: HostRuntime) -> Result<(), Fail> {
     let alloc = rt.alloc();
@@ -116,6 +126,17 @@ fn no_function_has_the_name_of_the_root(rt: HostRuntime) -> Result<(), Fail> {
     for line in ROOTS.lines() {
         let files = three_files(alloc, program.as_str(), "", "")?;
         let found = told(alloc, side(line, 0), files)?;
+        let wanted = format!(in alloc; "2 {};", side(line, 1))?;
+        assert_eq!(rt; found.as_str(), wanted.as_str(), "{line}");
+    }
+    for line in BEFORE.lines() {
+        let words = field(side(line, 0), 0);
+        let program = program_of(alloc, "-", "-", field(side(line, 0), 1))?;
+        let found = told(
+            alloc,
+            words,
+            three_files(alloc, program.as_str(), "[[", "[[")?,
+        )?;
         let wanted = format!(in alloc; "2 {};", side(line, 1))?;
         assert_eq!(rt; found.as_str(), wanted.as_str(), "{line}");
     }

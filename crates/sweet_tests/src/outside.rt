@@ -64,6 +64,16 @@ fn a_file_of_inputs_or_costs_has_at_most_so_many_bytes(rt: HostRuntime) -> Resul
             "fault 13 limit bytes 1048577\n",
         ),
         (
+            "run a.alf --inputs t.toml --costs no.toml",
+            1_048_577,
+            "fault 13 limit bytes 1048577\n",
+        ),
+        (
+            "run a.alf --inputs a.alf --costs t.toml",
+            1_048_577,
+            "fault 70 toml inputs\n",
+        ),
+        (
             "analyse a.alf --costs t.toml",
             1_048_577,
             "fault 13 limit bytes 1048577\n",

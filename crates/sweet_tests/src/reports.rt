@@ -89,6 +89,8 @@ const SWITCHES: &str =
 const FUNCTIONS: &str =
     r#"r | r | { call @f #4 result &r } { call @f *r result &r } { return *r } /f:x { return { add 32 *x #1 '0 } } => 0 facts 1;total 0 1 1;total 1 1 1;total 2 1 1;total 3 1 1;total 4 1 1;total 5 1 1;total 6 1 1;total 7 1 1;count-bound 5;end;
 - | r | { call @f #4 result &r } { call @f *r result &r } { return *r } /f:x { return { add 32 *x #1 '0 } } | --turns 7 => 3 unbounded 0 "main":entry;
+r | r | { call @f result &r } { return *r } /f::x { return *x } => 0 facts 1;dead 2;total 0 1 1;total 1 1 1;total 3 1 1;total 4 1 1;alarm 4 uninit;count-bound 2;end;
+- | - | ^A @A . /f { return #7 } | --root f => 0 facts 1;total 0 1 1;total 1 1 1;count-bound 1;end;
 - | - | . /f @A ^A | --root f --turns 9 => 3 unbounded 0 "f":entry;
 - | - | @A ^A /f . | --root f => 0 facts 1;total 0 1 1;total 1 1 1;count-bound 1;end;
 - | i | i=0 @H ?i:3>E:B @B { call @f *i result &i } ^H @E . /f:x { return { add 32 *x #1 '0 } } => 0 facts 1;total 0 1 1;total 1 1 1;total 2 4 4;total 3 3 3;total 4 3 3;total 5 1 1;total 6 3 3;total 7 3 3;count-bound 15;end;

@@ -36,6 +36,7 @@ r | r | { call @f #4 result &r } { call @f *r result &r } { return *r } /f:x { r
 - | - | @A ^A | run a.alf --turns 1 => 3 unbounded 0 "main":entry;
 - | - | { call @f result } . /f @A ^A => 3 unbounded 0 "main":entry;
 - | - | . /f @A ^A | run a.alf --root f => 3 unbounded 0 "f":entry;
+- | - | . /f { return #7 } | run a.alf --root f --turns 1 => 3 unbounded 0 "f":entry;
 - | - | { return #1 } /f { return #2 } => 0 returned 1;turns 2;cost 1;
 - | - | { return #1 } /f { return #2 } | run a.alf --root f => 0 returned 2;turns 2;cost 1;
 - | - | { return #1 } /f { return #2 } | run a.alf --root=main => 0 returned 1;turns 2;cost 1;
@@ -69,6 +70,9 @@ const VALUES: &str = r#"- | - | { return '0 } => 0 returned 0;turns 2;cost 1;
 - | - | { return { eq 32 #7 #7 } } => 0 returned -1;turns 2;cost 1;
 - | - | { return { dec_unsigned 8 127 } } => 0 returned 127;turns 2;cost 1;
 - | - | { return { dec_unsigned 8 128 } } => 0 returned -128;turns 2;cost 1;
+- | - | { return { dec_signed 8 { minus 128 } } } => 0 returned -128;turns 2;cost 1;
+- | - | { return { dec_unsigned 13 4095 } } => 0 returned 4095;turns 2;cost 1;
+- | - | { return { dec_unsigned 13 4096 } } => 0 returned -4096;turns 2;cost 1;
 - | - | { return { dec_signed 7 { minus 64 } } } => 0 returned -64;turns 2;cost 1;
 - | - | { return { dec_unsigned 16 32768 } } => 0 returned -32768;turns 2;cost 1;
 - | - | { return #2147483647 } => 0 returned 2147483647;turns 2;cost 1;
@@ -80,6 +84,7 @@ const VALUES: &str = r#"- | - | { return '0 } => 0 returned 0;turns 2;cost 1;
 - | - | { return { dec_unsigned 64 18446744073709551615 } } => 0 returned -1;turns 2;cost 1;
 - | x | { return &x } => 0 returned "x"+0;turns 2;cost 1;
 - | x | { return { add 32 &x #4294967295 '0 } } => 0 returned "x"+4294967295;turns 2;cost 1;
+- | x | { return { addr 32 { fref 32 "x" } { dec_unsigned 32 4294967295 } } } => 0 returned "x"+4294967295;turns 2;cost 1;
 - | x | { return { sub 32 &x #1 '1 } } => 0 returned "x"+4294967295;turns 2;cost 1;
 - | - | /main::own { return &own } => 0 returned "own"+0;turns 2;cost 1;
 r | r | . => 0 returned;global "r" -;turns 2;cost 1;
@@ -91,12 +96,16 @@ d | d%64 | { store &d with &d } { store { add 32 &d #4 '0 } with &d } . => 0 ret
 r | r | { call @f result &r } . /f::own { return &own } => 0 returned;global "r" "own"+0;turns 5;cost 3;
 b h w d | b%8=255 h%16=32768 w=4294967295 d%64=9223372036854775807 | . => 0 returned;global "b" -1;global "h" -32768;global "w" -1;global "d" 9223372036854775807;turns 2;cost 1;
 w b w | b%8=1 w=2 | . => 0 returned;global "w" 2;global "b" 1;global "w" 2;turns 2;cost 1;
+y x y | x y%16 | { store &y with { dec_unsigned 16 65535 } } { store &x with &y } . => 0 returned;global "y" -1;global "x" "y"+0;global "y" -1;turns 2;cost 1;
 w @main | w=2 | w=3 { return *w } => 0 returned 3;global "w" 3;turns 2;cost 1;
 "#;
 
 const TABLES: &str =
     r#"- | i n | i=0 @H { switch { s_lt 32 *i *n } { target '1 @B } { default @E } } @B i=i+1 ^H @E . | run a.alf --inputs i.toml | [[input]];frame="n";offset=0;size=32;low=0;high=10 => 0 returned;turns 4;cost 3;
 - | i n | i=0 @H { switch { s_lt 32 *i *n } { target '1 @B } { default @E } } @B i=i+1 ^H @E . | run a.alf --inputs i.toml --costs c.toml | [[input]];frame="n";offset=0;size=32;low=10;high=10 | default=2;[[cost]];function="main";block=2;cost=5 => 0 returned;turns 24;cost 76;
+n | i n | i=0 @H { switch { s_lt 32 *i *n } { target '1 @B } { default @E } } @B i=i+1 ^H @E . | run a.alf --inputs i.toml --turns 23 | [[input]];frame="n";offset=0;size=32;low=10;high=10 => 3 unbounded 0 "main":entry;
+n | i n | i=0 @H { switch { s_lt 32 *i *n } { target '1 @B } { default @E } } @B i=i+1 ^H @E . | run a.alf --inputs i.toml | [[input]];frame="n";offset=0;size=32;low=-5;high=10 => 0 returned;global "n" -5;turns 4;cost 3;
+n | i n | i=0 @H { switch { s_lt 32 *i *n } { target '1 @B } { default @E } } @B i=i+1 ^H @E . => 0 stopped uninit "main":1;turns 3;cost 2;
 n | n=7 | . | run a.alf --inputs i.toml | [[input]];frame="n";offset=0;size=32;low=-5;high=5 => 0 returned;global "n" -5;turns 2;cost 1;
 n | n | . | run a.alf --inputs i.toml | [[input]];frame="n";offset=0;size=32;low=4294967295;high=4294967295 => 0 returned;global "n" -1;turns 2;cost 1;
 n | n | . | run a.alf --inputs i.toml | [[input]];frame="n";offset=0;size=8;low=200;high=201;count=4 => 0 returned;global "n" -926365496;turns 2;cost 1;

@@ -719,6 +719,9 @@ fn whole_texts_are_printed_or_depart(rt: HostRuntime) -> Result<(), Fail> {
     for (text, wanted) in cases {
         let (_, answer) = answer_of(rt.alloc(), "print a.alf", text.as_bytes())?;
         assert_eq!(rt; answer.as_slice(), wanted.as_bytes(), "{text}");
+        if wanted.starts_with("fault") {
+            assert!(rt; all_tell(rt.alloc(), text, wanted)?, "{text}");
+        }
     }
     Ok(())
 }

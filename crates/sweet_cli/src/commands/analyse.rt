@@ -25,7 +25,11 @@ use std::alloc::Global;
 use work::{Stop, Why};
 
 /// The text of the report.
-pub fn analyse<F: Shelf>(alloc: Global, given: AnalyseWords<'_>, shelf: &mut F) -> Result<Vec<u8>, Stop>
+pub fn analyse<F: Shelf>(
+    alloc: Global,
+    given: AnalyseWords<'_>,
+    shelf: &mut F,
+) -> Result<Vec<u8>, Stop>
     ensures work { Works (analysing (analyse_meant given.entry)) (λ text. text.items) (F.state shelf.old) result (F.state shelf.new) }
     ensures promise { IfOk result (λ text. IfSome (F.state shelf.old).files (λ files. IsSoundReport (analyse_meant given.entry) files text.items)) }
 {
@@ -35,7 +39,11 @@ pub fn analyse<F: Shelf>(alloc: Global, given: AnalyseWords<'_>, shelf: &mut F) 
 
 // The order of work.
 #[tactic(auto, unfolding(crate::specs::Analyse::analysing))]
-fn analysing<F: Shelf>(alloc: Global, given: AnalyseWords<'_>, shelf: &mut F) -> Result<Vec<u8>, Stop>
+fn analysing<F: Shelf>(
+    alloc: Global,
+    given: AnalyseWords<'_>,
+    shelf: &mut F,
+) -> Result<Vec<u8>, Stop>
     ensures { Works (analysing (analyse_meant given.entry)) (λ text. text.items) (F.state shelf.old) result (F.state shelf.new) }
 {
     let expanded = expanded_in(alloc, given.file, given.root, shelf)?;
@@ -46,12 +54,7 @@ fn analysing<F: Shelf>(alloc: Global, given: AnalyseWords<'_>, shelf: &mut F) ->
 }
 
 // The report of the program's one run.
-fn run_report(
-    alloc: Global,
-    expanded: &Expanded,
-    costs: &Costs,
-    turns: u32,
-) -> Result<Report, Stop>
+fn run_report(alloc: Global, expanded: &Expanded, costs: &Costs, turns: u32) -> Result<Report, Stop>
     requires { IsGraph (seen expanded.now.checked) expanded.now.graph }
     ensures { Judges (ReportMeans (expanded_of expanded.now) costs.now turns) (λ report. findings_of report) result }
 {

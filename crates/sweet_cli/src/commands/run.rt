@@ -46,12 +46,7 @@ fn running<F: Shelf>(alloc: Global, given: RunWords<'_>, shelf: &mut F) -> Resul
 }
 
 // What is told of the run whose inputs are the low ends of their ranges.
-fn told(
-    alloc: Global,
-    expanded: &Expanded,
-    tables: &Tables,
-    turns: u32,
-) -> Result<Vec<u8>, Stop>
+fn told(alloc: Global, expanded: &Expanded, tables: &Tables, turns: u32) -> Result<Vec<u8>, Stop>
     requires graph { IsGraph (seen expanded.now.checked) expanded.now.graph }
     requires rows { KeepInputs (seen expanded.now.checked) tables.now.rows.items }
     ensures { Judges (RunMeans (expanded_of expanded.now) tables.now.rows.items tables.now.costs turns) (λ text. text.items) result }

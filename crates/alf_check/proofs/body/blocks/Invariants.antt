@@ -1,4 +1,4 @@
-use Rattle.std.proofs.Common.{◌≡◌, ◌<◌, ◌++◌, map, length}
+use Rattle.std.proofs.Common.{◌≡◌, ◌++◌, map, length}
 use Rattle.alf_program.specs.Tree.{item_of}
 use Rattle.alf_check.specs.Blocks.{blocks_of}
 use Rattle.alf_check.specs.CheckedPrograms.{block_of}
@@ -8,11 +8,7 @@ use Rattle.alf_check.proofs.body.blocks.Given as goal
 
 abbrev pub invariant-loop-rest : goal.invariant-loop-rest
 invariant-loop-rest l =
-    record {
-      done : map block_of l.blocks.items ++ numbered_blocks (numbers_of l.names) l.number (blocks_of (map item_of l.rest)) ≡ numbered_blocks (numbers_of l.names) 0 (blocks_of (map item_of l.items));
-      counted : length l.blocks.items ≡ l.number;
-      few : l.number < 4294967295;
-    }
+    map block_of l.blocks.items ++ numbered_blocks (numbers_of l.names) l.number (blocks_of (map item_of l.rest)) ≡ numbered_blocks (numbers_of l.names) 0 (blocks_of (map item_of l.items))
 
 abbrev pub decreases-loop-rest : goal.decreases-loop-rest
 decreases-loop-rest l = length l.rest

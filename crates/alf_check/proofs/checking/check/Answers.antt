@@ -1,4 +1,3 @@
-use Rattle.std.proofs.Common.{rules}
 use Rattle.alf_program.specs.Tree.{program_of}
 use Rattle.alf_check.specs.Checking.{calls_in}
 use Rattle.alf_check.proofs.checking.check.Goals as goal
@@ -11,9 +10,3 @@ returns-in-Err-clause-told c = c.in-Err.ensures.told c.args.root.now
 
 pub returns-in-Err-check_calls-clause-told : goal.returns-in-Err-check_calls-clause-told
 returns-in-Err-check_calls-clause-told c = c.in-Err-check_calls.ensures.told c.args.root.now
-
-pub numbered-requires-clause-passes : goal.numbered-requires-clause-passes
-numbered-requires-clause-passes c = record { sound = c.in_default.ensures.sound; falls = c.ranked_calls_have_no_cycle.ensures (calls_in (program_of c.args.program)) c.in-Ok.ranks.items c.in-Ok.ensures.ranked; starts = search rules }
-
-pub returns-in-Ok-numbered-clause-passes : goal.returns-in-Ok-numbered-clause-passes
-returns-in-Ok-numbered-clause-passes c = record { sound = c.in_default.ensures.sound; falls = c.ranked_calls_have_no_cycle.ensures (calls_in (program_of c.args.program)) c.in-Ok.ranks.items c.in-Ok.ensures.ranked; starts = search rules }

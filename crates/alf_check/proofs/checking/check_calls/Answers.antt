@@ -1,13 +1,14 @@
-use Rattle.std.proofs.Common.{◌≡◌, ℕ, List, Vec, subst, sym, rules}
-use Rattle.std.specs.declared.alloc.Global.{Global}
+use Rattle.std.proofs.Common.{◌≡◌, ℕ, List, subst, sym, rules}
 use Rattle.alf_program.specs.Tree.{program_of}
 use Rattle.call_cycles.specs.Calls.{CallsWithin, IsRanked, calls_of}
 use Rattle.alf_check.specs.Checking.{calls_in}
+use Rattle.alf_check.proofs.Kept.{calls_within}
 use Rattle.alf_check.proofs.checking.check_calls.Goals as goal
 
 pub call_ranks-requires-clause-within : goal.call_ranks-requires-clause-within
 call_ranks-requires-clause-within c =
-    subst (λ (rows : List (Vec ℕ Global)). CallsWithin (calls_of rows)) (sym c.as_slice-calls.ensures.value) c.in-Ok.ensures.within
+    let are : calls_of c.as_slice-calls.result.now ≡ calls_in (program_of c.args.program.now) = search rules in
+    subst (λ (calls : List (List ℕ)). CallsWithin calls) (sym are) (calls_within (program_of c.args.program.now).funcs)
 
 pub returns-in-Ok-call_ranks-clause-ranked : goal.returns-in-Ok-call_ranks-clause-ranked
 returns-in-Ok-call_ranks-clause-ranked c =

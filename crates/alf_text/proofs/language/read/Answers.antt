@@ -8,18 +8,14 @@ use Rattle.alf_text.specs.Language.{start, Departure, departure_of, placed, Mean
 use Rattle.alf_text.proofs.Meaning.{read_means}
 use Rattle.alf_text.proofs.language.read.Goals as goal
 
-pub returns-in-Ok-clause-spelled : goal.returns-in-Ok-clause-spelled
-returns-in-Ok-clause-spelled c =
-    let e : program.form.reading (start c.args.bytes.now) ≡ Ok (program_of c.in-Ok.program, position c.program.new.self)
-    = subst (λ (p : Place). program.form.reading p ≡ Ok (program_of c.in-Ok.program, position c.program.new.self)) c.new-reader.ensures c.in-Ok.ensures in
-    read_means c.args.bytes.now (Ok (program_of c.in-Ok.program, position c.program.new.self)) e
-
-pub returns-in-Ok-clause-writable : goal.returns-in-Ok-clause-writable
-returns-in-Ok-clause-writable c =
-    let e : program.form.reading (start c.args.bytes.now) ≡ Ok (program_of c.in-Ok.program, position c.program.new.self)
-    = subst (λ (p : Place). program.form.reading p ≡ Ok (program_of c.in-Ok.program, position c.program.new.self)) c.new-reader.ensures c.in-Ok.ensures in
-    (c.writable_programs_are_spelled.ensures.exactly (program_of c.in-Ok.program)).0
-    (c.args.bytes.now, read_means c.args.bytes.now (Ok (program_of c.in-Ok.program, position c.program.new.self)) e)
+pub returns-in-Ok : goal.returns-in-Ok
+returns-in-Ok c =
+    let bytes = c.args.bytes.now in
+    let whole = program_of c.in-Ok.program in
+    let e : program.form.reading (start bytes) ≡ Ok (whole, position c.program.new.self)
+    = subst (λ (p : Place). program.form.reading p ≡ Ok (whole, position c.program.new.self)) c.new-reader.ensures c.in-Ok.ensures in
+    let meant = read_means bytes (Ok (whole, position c.program.new.self)) e in
+    record { spelled = meant; departs = tt; writable = (c.writable_programs_are_spelled.ensures.exactly whole).0 (bytes, meant) }
 
 pub returns-in-Err-clause-departs : goal.returns-in-Err-clause-departs
 returns-in-Err-clause-departs c =

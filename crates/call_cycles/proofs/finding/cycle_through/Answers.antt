@@ -1,17 +1,30 @@
--- What is left to show of `cycle_through`.
-use Rattle.std.proofs.Common.{◌≡◌, false, replicate, length, arith}
+-- A cycle from a walk that a call closes.
+use Rattle.std.proofs.Common.{◌≡◌, Bool, false, List, ℕ, [], ◌∷◌, ◌++◌, replicate, length, ap, subst, sym, ◌∙◌, arith}
 use Rattle.std.proofs.lemmas.Grind.{common_steps}
-use Rattle.call_cycles.specs.Calls.{calls_of}
-use Rattle.call_cycles.proofs.Cycling.{none_barred, cycle_on}
+use Rattle.walks.specs.Walks.{Walk, goes_on, IsDistinct}
+use Rattle.walks.specs.WalkLaws.{walk_starts}
+use Rattle.walks.specs.Marks.{IsMarked, IsBarred, IsPathPast}
+use Rattle.walks.specs.MarkLaws.{none_marked}
+use Rattle.call_cycles.specs.Calls.{Calls, calls_of}
 use Rattle.call_cycles.proofs.finding.cycle_through.Goals as goal
 
+-- where nothing is marked, what is reached is not barred
 pub unreachable-requires : goal.unreachable-requires
 unreachable-requires c =
     let clear : c.deref.result.now ≡ replicate (length c.args.calls.now) false = grind (arith, common_steps) in
-    none_barred (calls_of c.args.calls.now) c.args.function c.args.last (length c.args.calls.now) c.deref.result.now clear c.requires.reached
-    (let h = rw c.in_default.is at c.in_ok-path.ensures.none in h)
+    let bars : IsBarred (Calls (calls_of c.args.calls.now)) c.deref.result.now c.args.function c.args.last = (let h = rw c.in_default.is at c.in_ok-path.ensures.none in h) in
+    let met = bars c.requires.reached.0 c.requires.reached.1 in
+    none_marked (length c.args.calls.now) met.0 (subst (λ (xs : List Bool). IsMarked xs met.0) clear met.2)
 
+-- a walk without repeats, and a call back from its end
 pub returns : goal.returns
 returns c =
-    let way = rw c.in-Some.is at c.in_ok-path.ensures.walk in
-    cycle_on (calls_of c.args.calls.now) c.args.function c.args.last c.deref.result.now c.in-Some.path.items c.push.new.self.items way c.requires.call c.in_ok-push.ensures.items
+    let way : IsPathPast (Calls (calls_of c.args.calls.now)) c.deref.result.now c.args.function c.args.last c.in-Some.path.items = (let h = rw c.in-Some.is at c.in_ok-path.ensures.walk in h) in
+    let start = walk_starts (Calls (calls_of c.args.calls.now)) c.args.function c.args.last c.in-Some.path.items way.walk in
+    let is = c.in_ok-push.ensures.items in
+    record {
+      between = start.0;
+      closed = is ∙ ap (λ (xs : List ℕ). xs ++ c.args.function ∷ []) start.1;
+      walks = subst (λ (xs : List ℕ). Walk (Calls (calls_of c.args.calls.now)) c.args.function c.args.function xs) (sym is) (goes_on way.walk c.requires.call);
+      once = subst (λ (xs : List ℕ). IsDistinct xs) start.1 way.once;
+    }

@@ -1,9 +1,12 @@
-use Rattle.std.proofs.Common.{arith, rules, ◌≡◌, ◌≤◌, Fits, w32, get_or, refl, sym}
-use Rattle.std.proofs.lemmas.Grind.{get_or_default_zero}
-use Rattle.alf_check.specs.CheckedPrograms.{seen}
-use Rattle.alf_runs.specs.Starts.{start}
+use Rattle.std.proofs.Common.{arith, rules, ◌≡◌, ◌≤◌, refl}
+use Rattle.std.proofs.lemmas.Grind.{common_steps, get_or_default_zero}
 use Rattle.run_counts.proofs.Turning.{low, counted_low, goes_on, is_over, is_past}
 use Rattle.run_counts.proofs.counting.count.Goals as goal
+
+pub index_mut-requires : goal.index_mut-requires
+index_mut-requires c =
+    let less = low _ _ _ _ _ _ _ _ _ c.loop-turn.invariant c.a_run_has_one_continuation.ensures.more in
+    grind (arith, common_steps)
 
 pub overflow_add-index_mut : goal.overflow_add-index_mut
 overflow_add-index_mut c =

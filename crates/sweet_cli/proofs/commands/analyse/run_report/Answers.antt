@@ -1,11 +1,9 @@
 -- The report of the one run, or that it has more nodes than the turns, is the only meaning.
-use Rattle.std.proofs.Common.{refl, ap, subst, Err}
+use Rattle.std.proofs.Common.{refl}
 use Rattle.alf_check.specs.CheckedPrograms.{seen}
-use Rattle.work.specs.Outcome.{Outcome, Unbounded}
-use Rattle.work.specs.Work.{IsOnly}
 use Rattle.sweet_cli.specs.Facts.{findings_of}
 use Rattle.sweet_cli.specs.Seen.{expanded_of}
-use Rattle.sweet_cli.specs.Analyse.{sole_start, ReportMeans}
+use Rattle.sweet_cli.specs.Analyse.{sole_start}
 use Rattle.sweet_cli.proofs.Numbers.{differ}
 use Rattle.sweet_cli.proofs.Reported.{report_only, left_only, reported}
 use Rattle.sweet_cli.proofs.commands.analyse.run_report.Goals as goal

@@ -17,6 +17,8 @@ pub returns-in-Ok-graph_line-clause-means : goal.returns-in-Ok-graph_line-clause
 returns-in-Ok-graph_line-clause-means c =
     let program = seen c.args.checked.now in
     let one = c.a_program_has_one_graph.ensures in
-    let limits = c.limits_exclude_each_other.ensures in
-    (refl, limit_only (unranked program) (one.graph _) (limits.nodes _) (limits.edges _) (limits.either _) c.in-Err.fault c.in-Ok-graph_line.line.items
-    (tells_unranked program c.in-Err.fault c.in-Err.ensures.fault) c.in-Ok-graph_line.ensures)
+    let limits = c.limits_exclude_each_other.ensures in (
+      refl,
+      limit_only (unranked program) (one.graph _) (limits.nodes _) (limits.edges _) (limits.either _) c.in-Err.fault c.in-Ok-graph_line.line.items
+          (tells_unranked program c.in-Err.fault c.in-Err.ensures.fault) c.in-Ok-graph_line.ensures,
+    )

@@ -14,6 +14,8 @@ returns-in-Ok-clause-means c =
 pub returns-in-Ok-table_line-clause-means : goal.returns-in-Ok-table_line-clause-means
 returns-in-Ok-table_line-clause-means c =
     let program = seen c.args.checked.now in
-    let refuses = c.in-Err.ensures.refused (not_memory (codes "inputs") c.in-Err.fault c.in-Ok-table_line.line.items c.in-Ok-table_line.ensures) in
-    (refl, inputs_refused_only c.args.bytes.now (unranked program) (c.a_file_has_one_answer.ensures.inputs _ _) c.in-Err.fault c.in-Ok-table_line.line.items
-    (refuses_inputs program program.ranks [] c.args.bytes.now c.in-Err.fault refuses) c.in-Ok-table_line.ensures)
+    let refuses = c.in-Err.ensures.refused (not_memory (codes "inputs") c.in-Err.fault c.in-Ok-table_line.line.items c.in-Ok-table_line.ensures) in (
+      refl,
+      inputs_refused_only c.args.bytes.now (unranked program) (c.a_file_has_one_answer.ensures.inputs _ _) c.in-Err.fault c.in-Ok-table_line.line.items
+          (refuses_inputs program program.ranks [] c.args.bytes.now c.in-Err.fault refuses) c.in-Ok-table_line.ensures,
+    )

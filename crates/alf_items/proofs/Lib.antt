@@ -1,0 +1,5 @@
+mod Cutting
+mod Doing
+mod Examples
+mod Functions
+mod Naming

@@ -1,0 +1,2 @@
+-- Large numbers.
+pub mod Large

@@ -1,0 +1,2 @@
+-- What constants are worth.
+pub mod Worth

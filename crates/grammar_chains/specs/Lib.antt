@@ -1,0 +1,3 @@
+-- Chains, and how they are read.
+pub mod Chain
+pub mod Turns

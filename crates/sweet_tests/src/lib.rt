@@ -6,25 +6,19 @@
 mod answers;
 #[cfg(test)]
 mod notation;
-#[cfg(test)]
-mod whole;
 
-// Words, texts, checks, runs, files of inputs and costs, files and sinks that fail, and the codes of
-// all answers.
-#[cfg(test)]
-mod checks;
+// Words, texts, faults of what is read, reports, runs, files and sinks that fail, and the codes of all
+// answers.
 #[cfg(test)]
 mod codes;
 #[cfg(test)]
-mod memory;
+mod faults;
 #[cfg(test)]
 mod outside;
 #[cfg(test)]
-mod programs;
+mod reports;
 #[cfg(test)]
 mod runs;
-#[cfg(test)]
-mod tables;
 #[cfg(test)]
 mod texts;
 #[cfg(test)]

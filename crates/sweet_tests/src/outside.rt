@@ -1,5 +1,8 @@
-use crate::answers::{REPORT, RETURNS, answer_of, files_of, words_of};
+//! Files that are too long, reads that fail, each in its turn, and writes that fail.
+
+use crate::answers::{REPORT, RETURNS, answer_of, field, files_of, three_files, words_of};
 use flow_base::{MemoryShelf, MemorySink, Shelf, Sink, SureShelf, SureSink};
+use std::alloc::{AllocError, Global};
 use std::test::Fail;
 use sweet_cli::{Status, run, run_in_memory};
 
@@ -9,8 +12,9 @@ fn a_file_has_at_most_so_many_bytes(rt: HostRuntime) -> Result<(), Fail> {
     let cases = [
         ("analyse a.alf", 1_048_576, "fault 10 syntax 1 1048577\n"),
         ("analyse a.alf", 1_048_577, "fault 13 limit bytes 1048577\n"),
-        ("run a.alf", 1_048_577, "fault 13 limit bytes 1048577\n"),
         ("print a.alf", 1_048_577, "fault 13 limit bytes 1048577\n"),
+        ("run a.alf", 1_048_576, "fault 10 syntax 1 1048577\n"),
+        ("run a.alf", 1_048_577, "fault 13 limit bytes 1048577\n"),
     ];
     for (line, count, wanted) in cases {
         let spaces = vec![in alloc; b' '; count]?;
@@ -21,24 +25,147 @@ fn a_file_has_at_most_so_many_bytes(rt: HostRuntime) -> Result<(), Fail> {
     Ok(())
 }
 
+// What answers the line, where a program that returns at once lies beside a file `t.toml` of so many
+// line feeds.
+fn told_of_lines(alloc: Global, line: &str, count: usize) -> Result<Vec<u8>, AllocError> {
+    let mut files = files_of(alloc, RETURNS.as_bytes())?;
+    files.push((
+        String::from_str(alloc, "t.toml")?,
+        vec![in alloc; b'\n'; count]?,
+    ))?;
+    let words = words_of(alloc, line)?;
+    let mut out = SureSink::new(alloc);
+    run(alloc, &words, &mut SureShelf::new(files), &mut out);
+    out.bytes().to_vec(alloc)
+}
+
 #[test]
-fn a_read_that_fails_is_told(rt: HostRuntime) -> Result<(), Fail> {
+fn a_file_of_inputs_or_costs_has_at_most_so_many_bytes(rt: HostRuntime) -> Result<(), Fail> {
     let alloc = rt.alloc();
-    // The line, the number of the read that is to fail, and the name that is kept.
     let cases = [
-        ("analyse b.alf", 9, "b.alf"),
-        ("analyse b.alf --turns 5", 9, "b.alf"),
-        ("analyse a.alf", 0, "a.alf"),
+        (
+            "run a.alf --inputs t.toml",
+            1_048_576,
+            "returned\nturns 2\ncost 1\n",
+        ),
+        (
+            "run a.alf --inputs t.toml",
+            1_048_577,
+            "fault 13 limit bytes 1048577\n",
+        ),
+        (
+            "run a.alf --costs t.toml",
+            1_048_576,
+            "returned\nturns 2\ncost 1\n",
+        ),
+        (
+            "run a.alf --costs t.toml",
+            1_048_577,
+            "fault 13 limit bytes 1048577\n",
+        ),
+        (
+            "run a.alf --inputs t.toml --costs no.toml",
+            1_048_577,
+            "fault 13 limit bytes 1048577\n",
+        ),
+        (
+            "run a.alf --inputs a.alf --costs t.toml",
+            1_048_577,
+            "fault 70 toml inputs\n",
+        ),
+        (
+            "analyse a.alf --costs t.toml",
+            1_048_577,
+            "fault 13 limit bytes 1048577\n",
+        ),
     ];
-    for (line, failing, name) in cases {
-        let words = words_of(alloc, line)?;
-        let failing = vec![in alloc; failing]?;
-        let mut shelf = MemoryShelf::new(files_of(alloc, RETURNS.as_bytes())?, failing);
+    for (line, count, wanted) in cases {
+        let text = told_of_lines(alloc, line, count)?;
+        assert_eq!(rt; text.as_slice(), wanted.as_bytes(), "{line} {count}");
+    }
+    Ok(())
+}
+
+// The words, the number of the read that is to fail, what is told, and the name that is kept. The files
+// are `a.alf`, `i.toml` and `c.toml`.
+const READS: &str = r#"analyse b.alf | 9 | program | b.alf
+analyse b.alf --turns 5 | 9 | program | b.alf
+analyse a.alf | 0 | program | a.alf
+analyse a.alf --costs c.toml | 0 | program | a.alf
+analyse a.alf --costs c.toml | 1 | costs | c.toml
+analyse a.alf --costs no.toml | 9 | costs | no.toml
+print a.alf | 0 | program | a.alf
+print b.alf | 9 | program | b.alf
+run a.alf | 0 | program | a.alf
+run - | 9 | program | -
+run a.C | 9 | program | a.C
+run -- -a.alf | 9 | program | -a.alf
+run a.alf --inputs i.toml --costs c.toml | 0 | program | a.alf
+run a.alf --inputs i.toml --costs c.toml | 1 | inputs | i.toml
+run a.alf --inputs i.toml --costs c.toml | 2 | costs | c.toml
+run a.alf --costs c.toml --inputs i.toml | 1 | inputs | i.toml
+run a.alf --costs c.toml --inputs i.toml | 2 | costs | c.toml
+run a.alf --costs c.toml | 1 | costs | c.toml
+run a.alf --inputs a.c --costs no.toml | 9 | inputs | a.c
+run a.alf --inputs i.toml --costs no.toml | 9 | costs | no.toml
+run a.alf --turns 1 --costs no.toml | 9 | costs | no.toml
+run b.alf --inputs no.toml --costs no.toml | 9 | program | b.alf"#;
+
+// The shelf of the program that returns at once, of inputs and of costs, where one read is to fail.
+fn failing_shelf(alloc: Global, failing: &str) -> Result<MemoryShelf, AllocError> {
+    let mut numbers = Vec::new(alloc);
+    if let Ok(number) = failing.parse::<u64>() {
+        numbers.push(number)?;
+    }
+    let files = three_files(alloc, RETURNS, "input=[]", "default=1")?;
+    Ok(MemoryShelf::new(files, numbers))
+}
+
+#[test]
+fn a_read_that_fails_is_told_in_its_turn(rt: HostRuntime) -> Result<(), Fail> {
+    let alloc = rt.alloc();
+    for line in READS.lines() {
+        let words = words_of(alloc, field(line, 0))?;
+        let mut shelf = failing_shelf(alloc, field(line, 1))?;
         let mut out = MemorySink::new(alloc, Vec::new(alloc));
         let status = run(alloc, &words, &mut shelf, &mut out);
+        let wanted = format!(in alloc; "fault read {}\n", field(line, 2))?;
         assert_eq!(rt; status, Status::ReadFailed, "{line}");
-        assert_eq!(rt; out.bytes(), b"fault read program\n".as_slice(), "{line}");
-        assert_eq!(rt; shelf.failed(), Some(name), "{line}");
+        assert_eq!(rt; out.bytes(), wanted.as_bytes(), "{line}");
+        assert!(rt; shelf.failed() == Some(field(line, 3)), "{line}");
+    }
+    Ok(())
+}
+
+// The words, the number of a read that would fail and is not made, and the code.
+const UNREAD: &str = r#"run a.alf --turns 0 | 0 | 1
+analyse a.alf --inputs i.toml | 0 | 1
+print a.alf --root main | 0 | 1
+run a.alf --inputs i.toml --root f | 1 | 2
+run a.alf --costs c.toml --root f | 1 | 2
+run a.alf --inputs a.alf --costs c.toml | 2 | 2
+analyse a.alf --costs a.alf | 2 | 2
+run a.alf | 1 | 0
+analyse a.alf | 1 | 0
+print a.alf | 1 | 0
+run a.alf --inputs i.toml | 2 | 0
+run a.alf --costs c.toml | 2 | 0
+run a.alf --inputs i.toml --costs c.toml | 3 | 0
+run a.alf --inputs i.toml --costs i.toml | 3 | 2
+analyse a.alf --costs c.toml | 2 | 0
+run a.alf --turns 1 | 1 | 3"#;
+
+#[test]
+fn no_file_is_read_but_in_its_turn(rt: HostRuntime) -> Result<(), Fail> {
+    let alloc = rt.alloc();
+    for line in UNREAD.lines() {
+        let words = words_of(alloc, field(line, 0))?;
+        let mut shelf = failing_shelf(alloc, field(line, 1))?;
+        let mut out = SureSink::new(alloc);
+        let status = run(alloc, &words, &mut shelf, &mut out);
+        let code = format!(in alloc; "{}", status.code())?;
+        assert_eq!(rt; code.as_str(), field(line, 2), "{line}");
+        assert_eq!(rt; shelf.faults(), 0, "{line}");
     }
     Ok(())
 }
@@ -46,12 +173,17 @@ fn a_read_that_fails_is_told(rt: HostRuntime) -> Result<(), Fail> {
 #[test]
 fn words_are_answered_in_memory(rt: HostRuntime) -> Result<(), Fail> {
     let alloc = rt.alloc();
-    let words = words_of(alloc, "analyse a.alf")?;
-    let mut shelf = SureShelf::new(files_of(alloc, RETURNS.as_bytes())?);
-    let mut out = SureSink::new(alloc);
-    let status = run_in_memory(alloc, &words, &mut shelf, &mut out);
-    assert_eq!(rt; status, Status::Done);
-    assert_eq!(rt; out.bytes(), REPORT.as_bytes());
+    for (line, wanted) in [
+        ("analyse a.alf", REPORT),
+        ("run a.alf", "returned\nturns 2\ncost 1\n"),
+    ] {
+        let words = words_of(alloc, line)?;
+        let mut shelf = SureShelf::new(files_of(alloc, RETURNS.as_bytes())?);
+        let mut out = SureSink::new(alloc);
+        let status = run_in_memory(alloc, &words, &mut shelf, &mut out);
+        assert_eq!(rt; status, Status::Done);
+        assert_eq!(rt; out.bytes(), wanted.as_bytes());
+    }
     Ok(())
 }
 
@@ -77,16 +209,25 @@ fn one_read_and_one_write_are_made(rt: HostRuntime) -> Result<(), Fail> {
 #[test]
 fn a_write_that_fails_leaves_a_prefix(rt: HostRuntime) -> Result<(), Fail> {
     let alloc = rt.alloc();
-    let words = words_of(alloc, "analyse a.alf")?;
-    let report = REPORT.as_bytes();
-    for count in 0..report.len() + 1 {
-        let mut shelf = MemoryShelf::new(files_of(alloc, RETURNS.as_bytes())?, Vec::new(alloc));
-        let failing = vec![in alloc; (0, count as u64)]?;
-        let mut out = MemorySink::new(alloc, failing);
-        let status = run(alloc, &words, &mut shelf, &mut out);
-        let (prefix, _) = report.split_at(count);
-        assert_eq!(rt; status, Status::WriteFailed, "{count}");
-        assert_eq!(rt; out.bytes(), prefix, "{count}");
+    // Words and the text that answers them.
+    let cases = [
+        ("analyse a.alf", REPORT),
+        ("run a.alf", "returned\nturns 2\ncost 1\n"),
+        ("run a.alf --turns 1", "unbounded 0 \"main\":entry\n"),
+        ("run a.alf --root f", "fault 24 root \"f\"\n"),
+        ("run", "fault usage\n"),
+    ];
+    for (line, text) in cases {
+        let words = words_of(alloc, line)?;
+        for count in 0..text.len() + 1 {
+            let mut shelf = MemoryShelf::new(files_of(alloc, RETURNS.as_bytes())?, Vec::new(alloc));
+            let failing = vec![in alloc; (0, count as u64)]?;
+            let mut out = MemorySink::new(alloc, failing);
+            let status = run(alloc, &words, &mut shelf, &mut out);
+            let (prefix, _) = text.as_bytes().split_at(count);
+            assert_eq!(rt; status, Status::WriteFailed, "{line} {count}");
+            assert_eq!(rt; out.bytes(), prefix, "{line} {count}");
+        }
     }
     Ok(())
 }

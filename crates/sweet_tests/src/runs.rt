@@ -1,290 +1,154 @@
-//! Runs of programs, told by `run` and counted by `analyse`.
+//! Runs of small programs, as `run` tells them.
 
-use crate::answers::{answer_of, answer_over};
-use crate::whole::whole;
+use crate::answers::{field, three_files, told};
+use crate::notation::program_of;
+use std::alloc::{AllocError, Global};
 use std::test::Fail;
-use sweet_cli::Status;
 
-const UNBOUNDED: &str = "unbounded 0 \"main\":entry\n";
-
-// A function that adds 1 to its argument.
-const SUCCESSOR: &str =
-    "{ func L:f { arg_decls { alloc 32 \"x\" 32 } } { scope { decls } { inits } { stmts { return { add 32 V:x K:1 { dec_unsigned 1 0 } } } } } }";
-
-const CALLS_TWICE: &str = "{ call L:f K:4 result A:r } { call L:f V:r result A:r } { return V:r }";
-
-const COUNTS_TO_TEN: &str =
-    "{ store A:i with K:0 } L:H { switch V:i { target K:10 L:E } { default L:B } } L:B { store A:i with { add 32 V:i K:1 { dec_unsigned 1 0 } } } { jump L:H leaving 0 } L:E { return }";
-
-const COUNTS_TO_N: &str =
-    "{ store A:i with K:0 } L:H { switch { s_lt 32 V:i V:n } { target { dec_unsigned 1 1 } L:B } { default L:E } } L:B { store A:i with { add 32 V:i K:1 { dec_unsigned 1 0 } } } { jump L:H leaving 0 } L:E { return }";
-
-#[test]
-fn a_run_is_told(rt: HostRuntime) -> Result<(), Fail> {
-    // The line, the exported and the global frames, the items, the other functions, and the answer.
-    let cases = [
-        (
-            "run a.alf",
-            "",
-            "",
-            "{ return }",
-            "",
-            "returned\nturns 2\ncost 1\n",
-        ),
-        (
-            "run a.alf",
-            "r",
-            "r:32",
-            CALLS_TWICE,
-            SUCCESSOR,
-            "returned 6\nglobal \"r\" 6\nturns 8\ncost 5\n",
-        ),
-        (
-            "analyse a.alf",
-            "r",
-            "r:32",
-            CALLS_TWICE,
-            SUCCESSOR,
-            "facts 1\ntotal 0 1 1\ntotal 1 1 1\ntotal 2 1 1\ntotal 3 1 1\ntotal 4 1 1\ntotal 5 1 1\ntotal 6 1 1\ntotal 7 1 1\ncount-bound 5\nend\n",
-        ),
-        (
-            "run a.alf",
-            "",
-            "i:32",
-            "{ switch V:i { default L:E } } L:E { return }",
-            "",
-            "stopped uninit \"main\":0\nturns 2\ncost 1\n",
-        ),
-        (
-            "run a.alf --turns 24",
-            "",
-            "i:32",
-            COUNTS_TO_TEN,
-            "",
-            "returned\nturns 24\ncost 23\n",
-        ),
-        (
-            "run a.alf --turns 23",
-            "",
-            "i:32",
-            COUNTS_TO_TEN,
-            "",
-            UNBOUNDED,
-        ),
-        (
-            "run a.alf",
-            "",
-            "w:32",
-            "{ store A:w with { dec_unsigned 8 5 } } { return V:w }",
-            "",
-            "stopped uninit \"main\":0\nturns 2\ncost 1\n",
-        ),
-        (
-            "run a.alf",
-            "",
-            "p:32",
-            "{ store A:p with A:p } { return { load 8 A:p } }",
-            "",
-            "stopped mixed \"main\":0\nturns 2\ncost 1\n",
-        ),
-        // A fault in a function that is called is told at its node there.
-        (
-            "run a.alf",
-            "r",
-            "r:32",
-            "{ call L:f result A:r } { return V:r }",
-            "{ func L:f { arg_decls } { scope { decls { alloc 32 \"x\" 32 } } { inits } { stmts { return V:x } } } }",
-            "stopped uninit \"main\".0\"f\":0\nturns 4\ncost 2\n",
-        ),
-        (
-            "analyse a.alf",
-            "r",
-            "r:32",
-            "{ call L:f result A:r } { return V:r }",
-            "{ func L:f { arg_decls } { scope { decls { alloc 32 \"x\" 32 } } { inits } { stmts { return V:x } } } }",
-            "facts 1\ndead 2\ntotal 0 1 1\ntotal 1 1 1\ntotal 3 1 1\ntotal 4 1 1\nalarm 4 uninit\ncount-bound 2\nend\n",
-        ),
-        // The root may be another function, and then its name begins the names of nodes.
-        (
-            "run a.alf --root f --turns 1",
-            "",
-            "",
-            "{ return }",
-            "{ func L:f { arg_decls } { scope { decls } { inits } { stmts { return K:7 } } } }",
-            "unbounded 0 \"f\":entry\n",
-        ),
-        (
-            "run a.alf --root f",
-            "",
-            "",
-            "{ return }",
-            "{ func L:f { arg_decls } { scope { decls } { inits } { stmts { return K:7 } } } }",
-            "returned 7\nturns 2\ncost 1\n",
-        ),
-        (
-            "analyse a.alf --root f",
-            "",
-            "",
-            "{ jump L:A leaving 0 } L:A { return }",
-            "{ func L:f { arg_decls } { scope { decls } { inits } { stmts { return K:7 } } } }",
-            "facts 1\ntotal 0 1 1\ntotal 1 1 1\ncount-bound 1\nend\n",
-        ),
-        (
-            "analyse a.alf",
-            "",
-            "x:32",
-            "{ return { u_div 32 32 K:1 K:0 } }",
-            "",
-            "facts 1\ntotal 0 1 1\ntotal 1 1 1\nalarm 1 divide\ncount-bound 1\nend\n",
-        ),
-    ];
-    let alloc = rt.alloc();
-    for (line, exports, frames, items, functions, wanted) in cases {
-        let program = whole(alloc, exports, frames, items, functions)?;
-        let (_, text) = answer_of(alloc, line, program.as_bytes())?;
-        assert_eq!(rt; text.as_slice(), wanted.as_bytes(), "{line} {items}");
-    }
-    Ok(())
+// What is told of a program's run: its exports, its global frames and its functions, with ` | ` between
+// two of them. Words, an inputs file and a costs file may follow, in the same way; without words they
+// are `run a.alf`.
+fn told_of(alloc: Global, program: &str) -> Result<String, AllocError> {
+    let text = program_of(
+        alloc,
+        field(program, 0),
+        field(program, 1),
+        field(program, 2),
+    )?;
+    let files = three_files(alloc, text.as_str(), field(program, 4), field(program, 5))?;
+    let words = field(program, 3);
+    told(
+        alloc,
+        if words.is_empty() { "run a.alf" } else { words },
+        files,
+    )
 }
 
+// Programs, each before ` => ` and the code and the text that answer it, where a semicolon stands for
+// the end of a line.
+const ENDINGS: &str = r#"- | - | . => 0 returned;turns 2;cost 1;
+- | - | . | run a.alf --turns 2 => 0 returned;turns 2;cost 1;
+- | - | . | run a.alf --turns 1 => 3 unbounded 0 "main":entry;
+r | r | { call @f #4 result &r } { call @f *r result &r } { return *r } /f:x { return { add 32 *x #1 '0 } } => 0 returned 6;global "r" 6;turns 8;cost 5;
+- | i | i=0 @H ?i:10>E:B @B i=i+1 ^H @E . | run a.alf --turns 24 => 0 returned;turns 24;cost 23;
+- | i | i=0 @H ?i:10>E:B @B i=i+1 ^H @E . | run a.alf --turns 23 => 3 unbounded 0 "main":entry;
+- | - | /main::i i=0 @H { switch { s_lt 32 *i #10 } { target '1 @B } { default @E } } @B i=i+1 ^H @E { return *i } => 0 returned 10;turns 24;cost 23;
+- | - | @A ^A | run a.alf --turns 1 => 3 unbounded 0 "main":entry;
+- | - | { call @f result } . /f @A ^A => 3 unbounded 0 "main":entry;
+- | - | . /f @A ^A | run a.alf --root f => 3 unbounded 0 "f":entry;
+- | - | . /f { return #7 } | run a.alf --root f --turns 1 => 3 unbounded 0 "f":entry;
+- | - | { return #1 } /f { return #2 } => 0 returned 1;turns 2;cost 1;
+- | - | { return #1 } /f { return #2 } | run a.alf --root f => 0 returned 2;turns 2;cost 1;
+- | - | { return #1 } /f { return #2 } | run a.alf --root=main => 0 returned 1;turns 2;cost 1;
+- | - | { call @f result } . /f { call @g result } . /g . => 0 returned;turns 8;cost 5;
+- | r | { call @f result } . . /f r=1 @B { call @g result } ^E @D { null } @E . /g . => 0 returned;turns 10;cost 7;
+"#;
+
+const FAULTS: &str =
+    r#"- | i | { switch *i { default @E } } @E . => 0 stopped uninit "main":0;turns 2;cost 1;
+- | i | { switch *i { default @E } } @E . | run a.alf --turns 1 => 3 unbounded 0 "main":entry;
+- | w | { store &w with { dec_unsigned 8 5 } } { return *w } => 0 stopped uninit "main":0;turns 2;cost 1;
+- | p | { store &p with &p } { return { load 8 &p } } => 0 stopped mixed "main":0;turns 2;cost 1;
+- | r | { null } @B { return *r } => 0 stopped uninit "main":1;turns 3;cost 2;
+- | r | { return { u_div 32 32 #1 #0 } } => 0 stopped divide "main":0;turns 2;cost 1;
+- | r | { store { add 32 &r #1 '0 } with #1 } . => 0 stopped bounds "main":0;turns 2;cost 1;
+- | r | { return { load 64 &r } } => 0 stopped bounds "main":0;turns 2;cost 1;
+- | r | { call @f result &r } { store *r with #1 } . /f::own { return &own } => 0 stopped dead "main":1;turns 5;cost 3;
+- | r | { store #5 with #1 } . => 0 stopped kind "main":0;turns 2;cost 1;
+- | r | { switch &r { default @E } } @E . => 0 stopped kind "main":0;turns 2;cost 1;
+- | r x | { return { u_lt 32 &r &x } } => 0 stopped pointers "main":0;turns 2;cost 1;
+- | r | { call @f result } . /f { return { u_div 32 32 #1 #0 } } => 2 fault 22 size "f" 0;
+- | r | { call @f result &r } . /f { return { u_div 32 32 #1 #0 } } => 0 stopped divide "main".0"f":0;turns 4;cost 2;
+- | r | { call @f result &r } . /f { null } @B { call @g result &r } { return *r } /g { null } @B { return *r } => 0 stopped uninit "main".0"f".1"g":1;turns 8;cost 5;
+- | r%16 | { call @f result &r } . /f { return #1 } => 0 stopped bounds "main".0"f":0;turns 4;cost 2;
+- | r | { call @f *r result } . /f:x . => 0 stopped uninit "main":0;turns 2;cost 1;
+r | r=1 | { return { u_mod 32 32 *r #0 } } => 0 stopped divide "main":0;turns 2;cost 1;
+"#;
+
+const VALUES: &str = r#"- | - | { return '0 } => 0 returned 0;turns 2;cost 1;
+- | - | { return '1 } => 0 returned -1;turns 2;cost 1;
+- | - | { return { eq 32 #7 #7 } } => 0 returned -1;turns 2;cost 1;
+- | - | { return { dec_unsigned 8 127 } } => 0 returned 127;turns 2;cost 1;
+- | - | { return { dec_unsigned 8 128 } } => 0 returned -128;turns 2;cost 1;
+- | - | { return { dec_signed 8 { minus 128 } } } => 0 returned -128;turns 2;cost 1;
+- | - | { return { dec_unsigned 13 4095 } } => 0 returned 4095;turns 2;cost 1;
+- | - | { return { dec_unsigned 13 4096 } } => 0 returned -4096;turns 2;cost 1;
+- | - | { return { dec_signed 7 { minus 64 } } } => 0 returned -64;turns 2;cost 1;
+- | - | { return { dec_unsigned 16 32768 } } => 0 returned -32768;turns 2;cost 1;
+- | - | { return #2147483647 } => 0 returned 2147483647;turns 2;cost 1;
+- | - | { return #2147483648 } => 0 returned -2147483648;turns 2;cost 1;
+- | - | { return #4294967295 } => 0 returned -1;turns 2;cost 1;
+- | - | { return { dec_unsigned 63 4611686018427387904 } } => 0 returned -4611686018427387904;turns 2;cost 1;
+- | - | { return { dec_unsigned 64 9223372036854775807 } } => 0 returned 9223372036854775807;turns 2;cost 1;
+- | - | { return { dec_unsigned 64 9223372036854775808 } } => 0 returned -9223372036854775808;turns 2;cost 1;
+- | - | { return { dec_unsigned 64 18446744073709551615 } } => 0 returned -1;turns 2;cost 1;
+- | x | { return &x } => 0 returned "x"+0;turns 2;cost 1;
+- | x | { return { add 32 &x #4294967295 '0 } } => 0 returned "x"+4294967295;turns 2;cost 1;
+- | x | { return { addr 32 { fref 32 "x" } { dec_unsigned 32 4294967295 } } } => 0 returned "x"+4294967295;turns 2;cost 1;
+- | x | { return { sub 32 &x #1 '1 } } => 0 returned "x"+4294967295;turns 2;cost 1;
+- | - | /main::own { return &own } => 0 returned "own"+0;turns 2;cost 1;
+r | r | . => 0 returned;global "r" -;turns 2;cost 1;
+r | r | { store &r with { dec_unsigned 8 5 } } . => 0 returned;global "r" -;turns 2;cost 1;
+r | r=258 | { store &r with { dec_unsigned 8 7 } } . => 0 returned;global "r" 263;turns 2;cost 1;
+r | r x | { store &r with { add 32 &x #2 '0 } } . => 0 returned;global "r" "x"+2;turns 2;cost 1;
+r | r | { store &r with &r } { store &r with { dec_unsigned 8 5 } } . => 0 returned;global "r" -;turns 2;cost 1;
+d | d%64 | { store &d with &d } { store { add 32 &d #4 '0 } with &d } . => 0 returned;global "d" -;turns 2;cost 1;
+r | r | { call @f result &r } . /f::own { return &own } => 0 returned;global "r" "own"+0;turns 5;cost 3;
+b h w d | b%8=255 h%16=32768 w=4294967295 d%64=9223372036854775807 | . => 0 returned;global "b" -1;global "h" -32768;global "w" -1;global "d" 9223372036854775807;turns 2;cost 1;
+w b w | b%8=1 w=2 | . => 0 returned;global "w" 2;global "b" 1;global "w" 2;turns 2;cost 1;
+y x y | x y%16 | { store &y with { dec_unsigned 16 65535 } } { store &x with &y } . => 0 returned;global "y" -1;global "x" "y"+0;global "y" -1;turns 2;cost 1;
+w @main | w=2 | w=3 { return *w } => 0 returned 3;global "w" 3;turns 2;cost 1;
+"#;
+
+const TABLES: &str =
+    r#"- | i n | i=0 @H { switch { s_lt 32 *i *n } { target '1 @B } { default @E } } @B i=i+1 ^H @E . | run a.alf --inputs i.toml | [[input]];frame="n";offset=0;size=32;low=0;high=10 => 0 returned;turns 4;cost 3;
+- | i n | i=0 @H { switch { s_lt 32 *i *n } { target '1 @B } { default @E } } @B i=i+1 ^H @E . | run a.alf --inputs i.toml --costs c.toml | [[input]];frame="n";offset=0;size=32;low=10;high=10 | default=2;[[cost]];function="main";block=2;cost=5 => 0 returned;turns 24;cost 76;
+n | i n | i=0 @H { switch { s_lt 32 *i *n } { target '1 @B } { default @E } } @B i=i+1 ^H @E . | run a.alf --inputs i.toml --turns 23 | [[input]];frame="n";offset=0;size=32;low=10;high=10 => 3 unbounded 0 "main":entry;
+n | i n | i=0 @H { switch { s_lt 32 *i *n } { target '1 @B } { default @E } } @B i=i+1 ^H @E . | run a.alf --inputs i.toml | [[input]];frame="n";offset=0;size=32;low=-5;high=10 => 0 returned;global "n" -5;turns 4;cost 3;
+n | i n | i=0 @H { switch { s_lt 32 *i *n } { target '1 @B } { default @E } } @B i=i+1 ^H @E . => 0 stopped uninit "main":1;turns 3;cost 2;
+n | n=7 | . | run a.alf --inputs i.toml | [[input]];frame="n";offset=0;size=32;low=-5;high=5 => 0 returned;global "n" -5;turns 2;cost 1;
+n | n | . | run a.alf --inputs i.toml | [[input]];frame="n";offset=0;size=32;low=4294967295;high=4294967295 => 0 returned;global "n" -1;turns 2;cost 1;
+n | n | . | run a.alf --inputs i.toml | [[input]];frame="n";offset=0;size=8;low=200;high=201;count=4 => 0 returned;global "n" -926365496;turns 2;cost 1;
+n | n=7 | . | run a.alf --inputs i.toml | [[input]];frame="n";offset=1;size=8;low=1;high=2 => 0 returned;global "n" 263;turns 2;cost 1;
+n | n%64 | . | run a.alf --inputs i.toml | [[input]];frame="n";offset=0;size=64;low=-9223372036854775808;high=0 => 0 returned;global "n" -9223372036854775808;turns 2;cost 1;
+n m | n m | . | run a.alf --inputs i.toml | [[input]];frame="m";offset=0;size=32;low=1;high=2;[[input]];frame="n";offset=0;size=32;low=3;high=4 => 0 returned;global "n" 3;global "m" 1;turns 2;cost 1;
+n | n=7 | . | run a.alf --inputs i.toml => 0 returned;global "n" 7;turns 2;cost 1;
+- | - | /main:p { return *p } => 0 stopped uninit "main":0;turns 2;cost 1;
+- | - | /main:p { return *p } | run a.alf --inputs i.toml | [[input]];frame="p";offset=0;size=32;low=-2147483648;high=0 => 0 returned -2147483648;turns 2;cost 1;
+- | - | /main:p { return *p } /f:q { return *q } | run a.alf --inputs i.toml --root f | [[input]];frame="q";offset=0;size=32;low=9;high=9 => 0 returned 9;turns 2;cost 1;
+d | d=0 | /main::x { store &x with { s_div 32 32 #100 *d } } { return *x } | run a.alf --inputs i.toml | [[input]];frame="d";offset=0;size=32;low=0;high=0 => 0 stopped divide "main":0;turns 2;cost 1;
+d | d=0 | /main::x { store &x with { s_div 32 32 #100 *d } } { return *x } | run a.alf --inputs i.toml | [[input]];frame="d";offset=0;size=32;low=-2;high=2 => 0 returned -50;global "d" -2;turns 2;cost 1;
+- | a%320 | /main::i,j,key i=1 @L0 { switch { s_lt 32 *i #10 } { target '1 @L1 } { default @L3 } } @L1 { store &key with { load 32 { add 32 &a { trunc 64 32 { s_mul 32 32 *i #4 } } '0 } } } { store &j with { sub 32 *i #1 '1 } } @L4 { switch { s_ge 32 *j #0 } { target '1 @L7 } { default @L6 } } @L7 { switch { s_gt 32 { load 32 { add 32 &a { trunc 64 32 { s_mul 32 32 *j #4 } } '0 } } *key } { target '1 @L5 } { default @L6 } } @L5 { store { add 32 &a { trunc 64 32 { s_mul 32 32 { add 32 *j #1 '0 } #4 } } '0 } with { load 32 { add 32 &a { trunc 64 32 { s_mul 32 32 *j #4 } } '0 } } } { store &j with { sub 32 *j #1 '1 } } ^L4 @L6 { store { add 32 &a { trunc 64 32 { s_mul 32 32 { add 32 *j #1 '0 } #4 } } '0 } with *key } @L2 i=i+1 ^L0 @L3 { return { load 32 &a } } | run a.alf --inputs i.toml | [[input]];frame="a";offset=0;size=32;low=10;high=10;[[input]];frame="a";offset=4;size=32;low=9;high=9;[[input]];frame="a";offset=8;size=32;low=8;high=8;[[input]];frame="a";offset=12;size=32;low=7;high=7;[[input]];frame="a";offset=16;size=32;low=6;high=6;[[input]];frame="a";offset=20;size=32;low=5;high=5;[[input]];frame="a";offset=24;size=32;low=4;high=4;[[input]];frame="a";offset=28;size=32;low=3;high=3;[[input]];frame="a";offset=32;size=32;low=2;high=2;[[input]];frame="a";offset=36;size=32;low=1;high=1 => 0 returned 1;turns 184;cost 183;
+- | a%320 | /main::i,j,key i=1 @L0 { switch { s_lt 32 *i #10 } { target '1 @L1 } { default @L3 } } @L1 { store &key with { load 32 { add 32 &a { trunc 64 32 { s_mul 32 32 *i #4 } } '0 } } } { store &j with { sub 32 *i #1 '1 } } @L4 { switch { s_ge 32 *j #0 } { target '1 @L7 } { default @L6 } } @L7 { switch { s_gt 32 { load 32 { add 32 &a { trunc 64 32 { s_mul 32 32 *j #4 } } '0 } } *key } { target '1 @L5 } { default @L6 } } @L5 { store { add 32 &a { trunc 64 32 { s_mul 32 32 { add 32 *j #1 '0 } #4 } } '0 } with { load 32 { add 32 &a { trunc 64 32 { s_mul 32 32 *j #4 } } '0 } } } { store &j with { sub 32 *j #1 '1 } } ^L4 @L6 { store { add 32 &a { trunc 64 32 { s_mul 32 32 { add 32 *j #1 '0 } #4 } } '0 } with *key } @L2 i=i+1 ^L0 @L3 { return { load 32 &a } } | run a.alf --inputs i.toml | [[input]];frame="a";offset=0;size=32;count=10;low=-100;high=100 => 0 returned -100;turns 58;cost 57;
+k | a%128 k=0 | { store { add 32 &a { trunc 64 32 { s_mul 32 32 *k #4 } } '0 } with #7 } { switch { s_gt 32 { load 32 { add 32 &a #8 '0 } } #5 } { target '1 @A } { default @B } } @A { return #1 } ^B @B { return #0 } | run a.alf --inputs i.toml | [[input]];frame="a";offset=0;size=32;low=0;high=0;count=4;[[input]];frame="k";offset=0;size=32;low=0;high=3 => 0 returned 0;global "k" 0;turns 3;cost 2;
+k | a%128 k=0 | { store { add 32 &a { trunc 64 32 { s_mul 32 32 *k #4 } } '0 } with #7 } { switch { s_gt 32 { load 32 { add 32 &a #8 '0 } } #5 } { target '1 @A } { default @B } } @A { return #1 } ^B @B { return #0 } | run a.alf --inputs i.toml | [[input]];frame="a";offset=0;size=32;low=0;high=0;count=4;[[input]];frame="k";offset=0;size=32;low=2;high=3 => 0 returned 1;global "k" 2;turns 3;cost 2;
+c | c=0 a%64 b%128 | /main::p { switch { neq 32 *c #0 } { target '1 @A } { default @B } } @A { store &p with &a } ^C @B { store &p with &b } @C { store { add 32 *p #8 '0 } with #1 } { return { load 32 { add 32 &b #8 '0 } } } | run a.alf --inputs i.toml | [[input]];frame="c";offset=0;size=32;low=0;high=1 => 0 returned 1;global "c" 0;turns 4;cost 3;
+c | c=0 a%64 b%128 | /main::p { switch { neq 32 *c #0 } { target '1 @A } { default @B } } @A { store &p with &a } ^C @B { store &p with &b } @C { store { add 32 *p #8 '0 } with #1 } { return { load 32 { add 32 &b #8 '0 } } } | run a.alf --inputs i.toml | [[input]];frame="c";offset=0;size=32;low=1;high=1 => 0 stopped bounds "main":3;turns 4;cost 3;
+x | x=0 | ?x:3>A:B @A { return #1 } @B { return #2 } | run a.alf --inputs i.toml | [[input]];frame="x";offset=0;size=32;low=3;high=3 => 0 returned 1;global "x" 3;turns 3;cost 2;
+- | r | { call @f #4 result &r } { call @f *r result &r } { return *r } /f:x { return { add 32 *x #1 '0 } } | run a.alf --costs c.toml | - | [[cost]];function="f";block=0;cost=10 => 0 returned 6;turns 8;cost 23;
+- | r | { call @f #4 result &r } { call @f *r result &r } { return *r } /f:x { return { add 32 *x #1 '0 } } | run a.alf --costs c.toml | - | default=0 => 0 returned 6;turns 8;cost 0;
+- | r | { call @f #4 result &r } { call @f *r result &r } { return *r } /f:x { return { add 32 *x #1 '0 } } | run a.alf --costs c.toml => 0 returned 6;turns 8;cost 5;
+- | i | i=0 @H ?i:10>E:B @B i=i+1 ^H @E . | run a.alf --costs c.toml | - | default=4294967295 => 0 returned;turns 24;cost 98784247785;
+- | i | { null } @B i=i+1 . | run a.alf --costs c.toml | - | [[cost]];function="main";block=1;cost=7;[[cost]];function="main";block=0;cost=3 => 0 stopped uninit "main":1;turns 3;cost 10;
+"#;
+
+// Runs of so many nodes as there may be, and of one more.
+const LONG: &str =
+    r#"- | i | i=0 @H ?i:49998>E:B @B i=i+1 ^H @E . => 0 returned;turns 100000;cost 99999;
+- | i | i=0 { null } @G i=0 @H ?i:49998>E:B @B i=i+1 ^H @E . => 3 unbounded 0 "main":entry;
+- | i | i=0 @H ?i:249999>E:B @B i=i+1 ^C @C { null } ^D @D ^H @E . | run a.alf --turns 1000000 => 0 returned;turns 1000000;cost 999999;
+- | i | i=0 @H ?i:249999>E:B @B i=i+1 ^C @C { null } ^D @D ^H @E . | run a.alf --turns 999999 => 3 unbounded 0 "main":entry;
+- | - | @A ^A | run a.alf --turns 1000000 => 3 unbounded 0 "main":entry;
+"#;
+
 #[test]
-fn values_are_told_by_their_kind(rt: HostRuntime) -> Result<(), Fail> {
-    // The exported and the global frames, the items, and the lines before the turns.
-    let cases = [
-        ("", "", "{ return { dec_unsigned 1 1 } }", "returned -1\n"),
-        ("", "", "{ return { dec_unsigned 1 0 } }", "returned 0\n"),
-        (
-            "",
-            "",
-            "{ return { dec_unsigned 8 127 } }",
-            "returned 127\n",
-        ),
-        (
-            "",
-            "",
-            "{ return { dec_unsigned 8 128 } }",
-            "returned -128\n",
-        ),
-        (
-            "",
-            "",
-            "{ return { dec_signed 8 { minus 128 } } }",
-            "returned -128\n",
-        ),
-        (
-            "",
-            "",
-            "{ return { dec_unsigned 13 4095 } }",
-            "returned 4095\n",
-        ),
-        (
-            "",
-            "",
-            "{ return { dec_unsigned 13 4096 } }",
-            "returned -4096\n",
-        ),
-        ("", "", "{ return K:2147483648 }", "returned -2147483648\n"),
-        (
-            "",
-            "",
-            "{ return { dec_unsigned 64 18446744073709551615 } }",
-            "returned -1\n",
-        ),
-        (
-            "",
-            "",
-            "{ return { dec_unsigned 64 9223372036854775808 } }",
-            "returned -9223372036854775808\n",
-        ),
-        (
-            "",
-            "",
-            "{ return { dec_unsigned 64 9223372036854775807 } }",
-            "returned 9223372036854775807\n",
-        ),
-        ("", "x:32", "{ return A:x }", "returned \"x\"+0\n"),
-        (
-            "",
-            "x:32",
-            "{ return { addr 32 { fref 32 \"x\" } { dec_unsigned 32 4294967295 } } }",
-            "returned \"x\"+4294967295\n",
-        ),
-        ("x", "x:32", "{ return }", "returned\nglobal \"x\" -\n"),
-        (
-            "y x y",
-            "x:32 y:16",
-            "{ store A:y with { dec_unsigned 16 65535 } } { store A:x with A:y } { return }",
-            "returned\nglobal \"y\" -1\nglobal \"x\" \"y\"+0\nglobal \"y\" -1\n",
-        ),
-    ];
-    let alloc = rt.alloc();
-    for (exports, frames, items, wanted) in cases {
-        let program = whole(alloc, exports, frames, items, "")?;
-        let (status, text) = answer_of(alloc, "run a.alf", program.as_bytes())?;
-        let wanted = format!(in alloc; "{wanted}turns 2\ncost 1\n")?;
-        assert_eq!(rt; status, Status::Done, "{items}");
-        assert_eq!(rt; text.as_slice(), wanted.as_bytes(), "{items}");
-    }
-    Ok(())
-}
-
-// Inputs of one entry of 32 bits, for the frame n.
-const FROM_0: &str = "[[input]]\nframe = \"n\"\noffset = 0\nsize = 32\nlow = 0\nhigh = 10\n";
-
-const TEN: &str = "[[input]]\nframe = \"n\"\noffset = 0\nsize = 32\nlow = 10\nhigh = 10\n";
-
-const BELOW: &str = "[[input]]\nframe = \"n\"\noffset = 0\nsize = 32\nlow = -5\nhigh = 10\n";
-
-const COSTS: &str = "default = 2\n[[cost]]\nfunction = \"main\"\nblock = 2\ncost = 5\n";
-
-#[test]
-fn inputs_and_costs_count(rt: HostRuntime) -> Result<(), Fail> {
-    // The line, the inputs, the costs, and the answer.
-    let cases = [
-        (
-            "run a.alf --inputs i.toml",
-            FROM_0,
-            "",
-            "returned\nglobal \"n\" 0\nturns 4\ncost 3\n",
-        ),
-        (
-            "run a.alf --inputs i.toml --costs c.toml",
-            TEN,
-            COSTS,
-            "returned\nglobal \"n\" 10\nturns 24\ncost 76\n",
-        ),
-        (
-            "run a.alf --inputs i.toml",
-            BELOW,
-            "",
-            "returned\nglobal \"n\" -5\nturns 4\ncost 3\n",
-        ),
-        (
-            "run --costs=c.toml --turns 24 --inputs=i.toml a.alf",
-            TEN,
-            "",
-            "returned\nglobal \"n\" 10\nturns 24\ncost 23\n",
-        ),
-        ("run a.alf --inputs i.toml --turns 23", TEN, "", UNBOUNDED),
-        // Without inputs the frame holds nothing.
-        (
-            "run a.alf",
-            TEN,
-            COSTS,
-            "stopped uninit \"main\":1\nturns 3\ncost 2\n",
-        ),
-        (
-            "analyse a.alf --costs c.toml",
-            TEN,
-            COSTS,
-            "facts 1\ndead 3\ndead 4\ntotal 0 1 1\ntotal 1 1 1\ntotal 2 1 1\nalarm 2 uninit\ncount-bound 4\nend\n",
-        ),
-    ];
-    let alloc = rt.alloc();
-    let program = whole(alloc, "n", "i:32 n:32", COUNTS_TO_N, "")?;
-    for (line, inputs, costs, wanted) in cases {
-        let (_, text) = answer_over(alloc, line, program.as_str(), inputs, costs)?;
-        assert_eq!(rt; text.as_slice(), wanted.as_bytes(), "{line}");
+fn each_run_is_told(rt: HostRuntime) -> Result<(), Fail> {
+    for table in [ENDINGS, FAULTS, VALUES, TABLES, LONG] {
+        for line in table.lines() {
+            let wanted = line.split(" => ").nth(1).unwrap_or("");
+            let found = told_of(rt.alloc(), line.split(" => ").nth(0).unwrap_or(""))?;
+            assert_eq!(rt; found.as_str(), wanted, "{line}");
+        }
     }
     Ok(())
 }

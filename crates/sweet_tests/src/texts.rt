@@ -1,6 +1,7 @@
-//! Texts that are read and texts that depart from the grammar, through `print`.
+//! Texts that are read, and texts that depart from the grammar: `print` prints the first, and each
+//! command tells the second.
 
-use crate::answers::{RETURNS, answer_of};
+use crate::answers::{RETURNS, answer_of, field};
 use std::alloc::{AllocError, Global};
 use std::test::Fail;
 use sweet_cli::Status;
@@ -55,6 +56,11 @@ o { return { dec_unsigned 1 1 } }
 n { return { dec_unsigned 1 ^2 } }
 o { return { dec_unsigned 8 255 } }
 n { return { dec_unsigned 8 ^256 } }
+o { return { dec_unsigned 32 4294967295 } }
+n { return { dec_unsigned 32 ^4294967296 } }
+n { return { dec_unsigned 32 ^000000000000000000001 } }
+n { store A:x with { add 32 V:x { dec_unsigned 32 ^4294967296 } { dec_unsigned 1 0 } } } { return }
+n { switch V:x { target { dec_unsigned 32 ^4294967296 } L:A } { default L:A } } L:A { return }
 o { return { dec_unsigned 63 9223372036854775807 } }
 n { return { dec_unsigned 63 ^9223372036854775808 } }
 o { return { dec_unsigned 64 18446744073709551615 } }
@@ -410,6 +416,13 @@ fn part(marked: &str, number: usize) -> &str {
     marked.split('^').nth(number).unwrap_or("")
 }
 
+// Whether `analyse` and `run` answer the text with this line.
+fn all_tell(alloc: Global, text: &str, line: &str) -> Result<bool, AllocError> {
+    let (_, report) = answer_of(alloc, "analyse a.alf", text.as_bytes())?;
+    let (_, run) = answer_of(alloc, "run a.alf", text.as_bytes())?;
+    Ok(report.as_slice() == line.as_bytes() && run.as_slice() == line.as_bytes())
+}
+
 // Whether the program with these items is answered as it is due.
 fn is_answered(alloc: Global, due: &str, items: &str) -> Result<bool, AllocError> {
     let marked = program_with(alloc, items)?;
@@ -423,7 +436,11 @@ fn is_answered(alloc: Global, due: &str, items: &str) -> Result<bool, AllocError
         return Ok(status == Status::Done && again == Status::Done && same == answer);
     }
     let line = line_due(alloc, due, front.len() + 1, rest)?;
-    Ok(status == Status::Source && answer.as_slice() == line.as_bytes())
+    Ok(
+        status == Status::Source
+            && answer.as_slice() == line.as_bytes()
+            && all_tell(alloc, text.as_str(), line.as_str())?,
+    )
 }
 
 #[test]
@@ -474,7 +491,8 @@ fn is_told(alloc: Global, number: usize, new: &str, due: &str) -> Result<bool, A
         "p" | "P" => format!(in alloc; "fault 12 profile 1 {column} \"")?,
         _ => format!(in alloc; "fault 10 syntax 1 {column}\n")?,
     };
-    Ok(status == Status::Source && answer.starts_with(front.as_bytes()))
+    let (_, report) = answer_of(alloc, "analyse a.alf", text.as_bytes())?;
+    Ok(status == Status::Source && answer.starts_with(front.as_bytes()) && report == answer)
 }
 
 #[test]
@@ -641,6 +659,39 @@ fn expressions_stand_in_one_another_up_to_64(rt: HostRuntime) -> Result<(), Fail
     Ok(())
 }
 
+// A text with `new` in place of each `old` in it.
+fn replaced(alloc: Global, text: &str, old: &str, new: &str) -> Result<String, AllocError> {
+    let mut made = String::new(alloc);
+    for (at, part) in text.split(old).enumerate() {
+        if at > 0 {
+            made.push_str(new)?;
+        }
+        made.push_str(part)?;
+    }
+    Ok(made)
+}
+
+// A part of the program that returns at once, what stands in its place, and the line due.
+const OTHERS: &str = r#"{ return } |  | fault 10 syntax 1 262
+{ return } | { null } | fault 10 syntax 1 270
+{ return } | { return } /* open | fault 10 syntax 1 272
+ 8  |  000000000000000000008  | fault 11 number 1 40
+ 8  |  16  | fault 12 profile 1 40 "16"
+"main" | "main | fault 10 syntax 1 178
+func  | func2  | fault 12 profile 1 152 "func2"
+32 0 | 320 | fault 12 profile 1 202 "320""#;
+
+#[test]
+fn other_texts_depart_where_they_differ(rt: HostRuntime) -> Result<(), Fail> {
+    let alloc = rt.alloc();
+    for row in OTHERS.split('\n') {
+        let text = replaced(alloc, RETURNS, field(row, 0), field(row, 1))?;
+        let line = format!(in alloc; "{}\n", field(row, 2))?;
+        assert!(rt; all_tell(alloc, text.as_str(), line.as_str())?, "{row}");
+    }
+    Ok(())
+}
+
 #[test]
 fn whole_texts_are_printed_or_depart(rt: HostRuntime) -> Result<(), Fail> {
     // A text, and the answer.
@@ -668,6 +719,9 @@ fn whole_texts_are_printed_or_depart(rt: HostRuntime) -> Result<(), Fail> {
     for (text, wanted) in cases {
         let (_, answer) = answer_of(rt.alloc(), "print a.alf", text.as_bytes())?;
         assert_eq!(rt; answer.as_slice(), wanted.as_bytes(), "{text}");
+        if wanted.starts_with("fault") {
+            assert!(rt; all_tell(rt.alloc(), text, wanted)?, "{text}");
+        }
     }
     Ok(())
 }

@@ -1,49 +1,112 @@
-use crate::answers::{REPORT, RETURNS, answer_of};
+//! Words that are a command, in every order and form, and words that are none.
+
+use crate::answers::{REPORT, RETURNS, answer_of, three_files, told};
+use crate::notation::program_of;
 use std::test::Fail;
 use sweet_cli::Status;
 
+const USAGE: &str = r#"analyse
+analyse a.alf --turns
+analyse a.alf --turns 
+analyse a.alf --turns 0
+analyse a.alf --turns 1000001
+analyse a.alf --turns 000000000000000000002
+analyse a.alf --turns 99999999999999999999
+analyse a.alf --turns +5
+analyse a.alf --turns -5
+analyse a.alf --turns 5x
+analyse a.alf --turns=
+analyse a.alf --turns=5=5
+analyse a.alf --turn 5
+anal a.alf
+analyse a.alf --turns 1 --turns 2
+analyse a.alf a.alf
+analyse -a.alf
+analyse a.c
+analyse .c
+Analyse a.alf
+analyse a.alf --root
+analyse a.alf --root -f
+analyse a.alf --root main --root main
+analyse a.alf --costs
+analyse a.alf --costs c.toml --costs=c.toml
+analyse a.alf --inputs i.toml
+analyse a.alf --inputs=i.toml
+analyse --inputs i.toml a.alf
+analyse a.alf --merge joins
+analyse a.alf --merge all
+analyse a.alf --pivots 1000
+analyse a.alf --cert
+analyse a.alf -- --root main
+print
+print a.c
+print -a.alf
+print a.alf b.alf
+print a.alf --turns 5
+print a.alf --root main
+a.alf analyse
+run
+run --root main
+run a.alf a.alf
+run a.alf b.alf
+run -a.alf
+run a.c
+run .c
+run --root main a.c
+Run a.alf
+ru a.alf
+run a.alf --turns
+run a.alf --turns 
+run a.alf --turns=
+run a.alf --turns 0
+run a.alf --turns 1000001
+run a.alf --turns 000000000000000000002
+run a.alf --turns -5
+run a.alf --turns=-5
+run a.alf --turns 5x
+run a.alf --turns 5 --turns 5
+run a.alf --turns=5 --turns 6
+run a.alf --root
+run a.alf --root -f
+run a.alf --root main --root main
+run a.alf --inputs
+run a.alf --inputs -i.toml
+run a.alf --inputs i.toml --inputs i.toml
+run a.alf --costs
+run a.alf --costs c.toml --root main --costs=c.toml
+run a.alf --input i.toml
+run a.alf --inputs i.toml i.toml
+run a.alf --merge joins
+run a.alf --at v.toml
+run a.alf --cert
+run a.alf -r main
+run a.alf -- --root main
+run -- a.alf --turns 5
+run a.alf --help
+--root main run a.alf
+check a.alf r.txt
+replay a.alf r.txt
+lower a.alf
+generate 3
+a.alf"#;
+
 #[test]
 fn other_words_are_no_command(rt: HostRuntime) -> Result<(), Fail> {
-    let lines = [
-        "",
-        "analyse",
-        "analyse a.alf --turns",
-        "analyse a.alf --turns ",
-        "analyse a.alf --turns 0",
-        "analyse a.alf --turns 1000001",
-        "analyse a.alf --turns 000000000000000000002",
-        "analyse a.alf --turns 99999999999999999999",
-        "analyse a.alf --turns +5",
-        "analyse a.alf --turns -5",
-        "analyse a.alf --turns 5x",
-        "analyse a.alf --turns=",
-        "analyse a.alf --turns=5=5",
-        "analyse a.alf --turn 5",
-        "anal a.alf",
-        "analyse a.alf --turns 1 --turns 2",
-        "analyse a.alf a.alf",
-        "analyse -a.alf",
-        "analyse a.c",
-        "analyse .c",
-        "Analyse a.alf",
-        "print",
-        "print a.c",
-        "print -a.alf",
-        "print a.alf b.alf",
-        "print a.alf --turns 5",
-        "a.alf analyse",
-    ];
-    for line in lines {
+    for line in USAGE.lines() {
         let (status, text) = answer_of(rt.alloc(), line, RETURNS.as_bytes())?;
         assert_eq!(rt; status, Status::Usage, "{line}");
         assert_eq!(rt; text.as_slice(), b"fault usage\n".as_slice(), "{line}");
     }
+    let (status, text) = answer_of(rt.alloc(), "", RETURNS.as_bytes())?;
+    assert_eq!(rt; status, Status::Usage);
+    assert_eq!(rt; text.as_slice(), b"fault usage\n".as_slice());
     Ok(())
 }
 
 #[test]
 fn a_run_ends_within_its_turns_or_is_unbounded(rt: HostRuntime) -> Result<(), Fail> {
     let unbounded = "unbounded 0 \"main\":entry\n";
+    let told = "returned\nturns 2\ncost 1\n";
     let cases = [
         ("analyse a.alf", Status::Done, REPORT),
         ("analyse a.alf --turns 2", Status::Done, REPORT),
@@ -58,11 +121,86 @@ fn a_run_ends_within_its_turns_or_is_unbounded(rt: HostRuntime) -> Result<(), Fa
         ),
         ("analyse a.alf --turns 1000000", Status::Done, REPORT),
         ("analyse a.alf --turns 1", Status::Unbounded, unbounded),
+        ("run a.alf", Status::Done, told),
+        ("run -- a.alf", Status::Done, told),
+        ("run a.alf --", Status::Done, told),
+        ("run a.alf --turns 00000000000000000002", Status::Done, told),
+        ("run a.alf --turns=1000000", Status::Done, told),
+        ("run --turns 1 a.alf", Status::Unbounded, unbounded),
     ];
     for (line, wanted, wanted_text) in cases {
         let (status, text) = answer_of(rt.alloc(), line, RETURNS.as_bytes())?;
         assert_eq!(rt; status, wanted, "{line}");
         assert_eq!(rt; text.as_slice(), wanted_text.as_bytes(), "{line}");
+    }
+    Ok(())
+}
+
+// The options of `run` in each order, with the file at each place, and each option in one word or two.
+const ORDERS: &str = r#"run a.alf --root f --inputs=i.toml --costs c.toml --turns=24
+run --root f a.alf --inputs=i.toml --turns 23 --costs=c.toml
+run --root=f --costs c.toml a.alf --inputs=i.toml --turns 24
+run --root=f --costs c.toml --turns=23 a.alf --inputs i.toml
+run --root f --turns=24 --inputs i.toml --costs=c.toml a.alf
+run a.alf --root f --turns=23 --costs c.toml --inputs=i.toml
+run --inputs=i.toml a.alf --root f --costs=c.toml --turns 24
+run --inputs=i.toml --root f a.alf --turns=23 --costs c.toml
+run --inputs i.toml --costs=c.toml --root f a.alf --turns=24
+run --inputs i.toml --costs=c.toml --turns 23 --root=f a.alf
+run a.alf --inputs=i.toml --turns 24 --root=f --costs c.toml
+run --inputs=i.toml a.alf --turns 23 --costs=c.toml --root f
+run --costs c.toml --root=f a.alf --inputs i.toml --turns=24
+run --costs c.toml --root=f --turns 23 a.alf --inputs=i.toml
+run --costs=c.toml --inputs i.toml --root=f --turns 24 a.alf
+run a.alf --costs=c.toml --inputs i.toml --turns=23 --root f
+run --costs c.toml a.alf --turns=24 --root f --inputs=i.toml
+run --costs c.toml --turns=23 a.alf --inputs i.toml --root=f
+run --turns=24 --root f --inputs=i.toml a.alf --costs c.toml
+run --turns=23 --root f --costs=c.toml --inputs i.toml a.alf
+run a.alf --turns 24 --inputs=i.toml --root f --costs=c.toml
+run --turns 23 a.alf --inputs=i.toml --costs c.toml --root=f
+run --turns=24 --costs c.toml a.alf --root=f --inputs i.toml
+run --turns=23 --costs c.toml --inputs=i.toml a.alf --root f"#;
+
+// The same of `analyse`.
+const FEWER_ORDERS: &str = r#"analyse a.alf --root f --costs=c.toml --turns 3
+analyse --root f a.alf --turns=2 --costs c.toml
+analyse --costs=c.toml --root f a.alf --turns=3
+analyse --costs=c.toml --turns 2 --root=f a.alf
+analyse a.alf --turns 3 --root=f --costs c.toml
+analyse --turns 2 a.alf --costs=c.toml --root f"#;
+
+// The function `f` counts up to its argument `n`, and costs more than 1 a block by the costs file.
+const COUNTS: &str =
+    "{ return #7 } /f:n:i i=0 @H { switch { s_lt 32 *i *n } { target '1 @B } { default @E } } @B i=i+1 ^H @E .";
+
+const INPUTS: &str = "[[input]];frame=\"n\";offset=0;size=32;low=10;high=20";
+
+const COSTS: &str = "default=2;[[cost]];function=\"f\";block=2;cost=5";
+
+#[test]
+fn options_stand_in_any_order_and_form(rt: HostRuntime) -> Result<(), Fail> {
+    let alloc = rt.alloc();
+    let program = program_of(alloc, "-", "-", COUNTS)?;
+    for line in ORDERS.lines() {
+        let files = three_files(alloc, program.as_str(), INPUTS, COSTS)?;
+        let found = told(alloc, line, files)?;
+        let wanted = if line.contains("24") {
+            "0 returned;turns 24;cost 76;"
+        } else {
+            "3 unbounded 0 \"f\":entry;"
+        };
+        assert_eq!(rt; found.as_str(), wanted, "{line}");
+    }
+    for line in FEWER_ORDERS.lines() {
+        let files = three_files(alloc, program.as_str(), "[[", COSTS)?;
+        let found = told(alloc, line, files)?;
+        let wanted = if line.contains("3") {
+            "0 facts 1;dead 3;dead 4;total 0 1 1;total 1 1 1;total 2 1 1;alarm 2 uninit;count-bound 4;end;"
+        } else {
+            "3 unbounded 0 \"f\":entry;"
+        };
+        assert_eq!(rt; found.as_str(), wanted, "{line}");
     }
     Ok(())
 }

@@ -1,15 +1,15 @@
 -- The scopes of a graph, or walks that cross, are its only meaning.
-use Rattle.std.proofs.Common.{◌≡◌, ℕ, List, Result, Ok, Err, refl, sym, ◌∙◌, subst}
-use Rattle.domain_core.specs.Outlines.{Outlined, Shape, shape_of}
+use Rattle.std.proofs.Common.{◌≡◌, ℕ, List, Result, Ok, Err, subst}
+use Rattle.domain_core.specs.Outlines.{Outlined, shape_of}
 use Rattle.domain_core.specs.OutlineOf.{IsOutlineOf}
 use Rattle.domain_core.specs.Reducible.{IsEdge, IsReducible, IsCrossing}
 use Rattle.flow_graph.specs.Numbering.{GraphParts}
 use Rattle.flow_graph.specs.Graphs.{HasProgram}
 use Rattle.scope_graph.specs.Placing.{plan_of}
 use Rattle.scope_graph.specs.Laws.{HasOneOutline}
-use Rattle.work.specs.Outcome.{Outcome, Example, AreAlikeResults}
+use Rattle.work.specs.Outcome.{Outcome, AreAlikeResults}
 use Rattle.work.specs.Work.{IsOnly}
-use Rattle.sweet_cli.specs.Scopes.{Scoped, IsScoped, ScopesMean, irreducible_line}
+use Rattle.sweet_cli.specs.Scopes.{Scoped, IsScoped, ScopesMean}
 use Rattle.sweet_cli.specs.Seen.{scopes_seen}
 
 -- three walks that cross show that a graph is not reducible

@@ -3,7 +3,7 @@
 use alf_ops::RunFault;
 
 /// What is said of each run. Nodes are told by their numbers.
-#[derive(Clone, Copy, Debug, PartialEq, Eq)]
+#[derive(Clone, Copy)]
 pub enum Fact {
     /// The node has no place in a run.
     Dead(u32),

@@ -5,7 +5,8 @@ ghost use Rattle.run_counts.specs.Counts.{outcome_of};
 ghost use Rattle.sweet_cli.specs.Facts.{alarm_facts};
 ghost use Rattle.sweet_cli.specs.Listed.{dead_from, totals_from, listed};
 
-use crate::{Fact, Report};
+use crate::fact::Fact;
+use crate::report::Report;
 use run_counts::{RunEnd, Tally};
 use std::alloc::{AllocError, Global};
 

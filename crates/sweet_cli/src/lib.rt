@@ -26,8 +26,6 @@ mod top;
 // Laws of answers.
 mod laws;
 
-pub use fact::Fact;
 pub use laws::one_answer;
-pub use report::Report;
 pub use top::{run, run_in_memory};
 pub use work::Status;

@@ -1,6 +1,6 @@
 //! What the program says of runs.
 
-use crate::Fact;
+use crate::fact::Fact;
 
 /// What the program says of a program's runs.
 #[derive(Drop)]

@@ -10,13 +10,13 @@ ghost use Rattle.sweet_cli.specs.Seen.{scoped_of};
 ghost use Rattle.sweet_cli.specs.ReportText.{report_text};
 ghost use Rattle.sweet_cli.specs.Analyse.{ReportMeans, costs_of, analysing, IsSoundReport};
 
-use crate::Report;
 use crate::commands::counting::counted;
 use crate::commands::scopes::{ScopedProgram, scoped_in};
 use crate::commands::tables::costs_in;
 use crate::findings::report;
 use crate::lines::{text_of, unbounded_line};
 use crate::node_costs::node_costs;
+use crate::report::Report;
 use crate::words::AnalyseWords;
 use alf_runs::a_run_has_one_end;
 use cost_table::Costs;

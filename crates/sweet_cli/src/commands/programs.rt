@@ -6,7 +6,7 @@ ghost use Rattle.alf_program.specs.Writable.{IsWritable};
 ghost use Rattle.alf_check.specs.CheckedPrograms.{seen};
 ghost use Rattle.flow_graph.specs.Numbering.{IsGraph};
 ghost use Rattle.work.specs.Works.{Works, Judges};
-ghost use Rattle.sweet_cli.specs.Programs.{program_bytes, ProgramMeans, program_in, CheckMeans, GraphMeans, checked_in, expanded_in, unranked};
+ghost use Rattle.sweet_cli.specs.Programs.{ProgramMeans, program_in, CheckMeans, GraphMeans, checked_in, expanded_in, unranked};
 ghost use Rattle.sweet_cli.specs.Seen.{expanded_of};
 
 use crate::lines::{check_line, check_why, fault_line, graph_line};
@@ -31,20 +31,13 @@ pub struct Expanded {
     pub graph: Graph,
 }
 
-// The bytes of the file.
-fn program_bytes<F: Shelf>(alloc: Global, file: &str, shelf: &mut F) -> Result<Vec<u8>, Stop>
-    ensures { Works (program_bytes file.now) (λ bytes. bytes.items) (F.state shelf.old) result (F.state shelf.new) }
-{
-    read_file(alloc, shelf, Role::Program, file, MOST_BYTES, TOO_LONG)
-}
-
 /// The program that the file spells.
 #[tactic(auto, unfolding(crate::specs::Programs::program_in))]
 pub fn program_in<F: Shelf>(alloc: Global, file: &str, shelf: &mut F) -> Result<Program, Stop>
     ensures work { Works (program_in file.now) (λ program. program_of program) (F.state shelf.old) result (F.state shelf.new) }
     ensures written { IfOk result (λ program. IsWritable (program_of program)) }
 {
-    let bytes = program_bytes(alloc, file, shelf)?;
+    let bytes = read_file(alloc, shelf, Role::Program, file, MOST_BYTES, TOO_LONG)?;
     spelled(alloc, &bytes)
 }
 

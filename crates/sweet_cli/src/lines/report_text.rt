@@ -8,8 +8,9 @@ ghost use Rattle.sweet_cli.specs.ReportText.{fact_line, findings_text, report_te
 ghost use Rattle.sweet_cli.specs.Seen.{scoped_of};
 
 use crate::commands::scopes::ScopedProgram;
+use crate::fact::Fact;
 use crate::lines::scope_lines::{push_nodes, push_scopes};
-use crate::{Fact, Report};
+use crate::report::Report;
 use alf_ops::RunFault;
 use std::alloc::{AllocError, Global};
 

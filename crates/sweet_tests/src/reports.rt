@@ -42,7 +42,13 @@ const BLOCKS: &str =
 "#;
 
 const LOOPS: &str =
-    r#"- | i | i=0 @H ?i:10>E:B @B i=i+1 ^H @E . | --turns 24 => 0 facts 1;node 0 0 0 "main":entry;node 1 0 1 "main":0;node 2 1 1 "main":1;node 3 1 1 "main":2;node 4 0 1 "main":3;scope 0 - 0 call;scope 1 0 2 loop;total 0 1 1;total 1 1 1;total 2 11 11;total 3 10 10;total 4 1 1;count-bound 23;end;
+    r#"- | i | i=0 @H ?i:10>E:B @B i=i+1 ^H @E . | --turns 10 => 3 unbounded 1 "main":1;
+- | - | @A ^A | --turns 5 => 3 unbounded 1 "main":0;
+- | - | @A ^A | --turns 1 => 3 unbounded 1 "main":0;
+- | i j | i=0 @H { switch { s_lt 32 *i #10 } { target '1 @B } { default @E } } @B j=0 @G { switch { s_lt 32 *j *i } { target '1 @C } { default @F } } @C { null } @D j=j+1 ^G @F i=i+1 ^H @E . => 0 facts 1;node 0 0 0 "main":entry;node 1 0 1 "main":0;node 2 1 1 "main":1;node 3 1 1 "main":2;node 4 2 1 "main":3;node 5 2 1 "main":4;node 6 2 1 "main":5;node 7 1 1 "main":6;node 8 0 1 "main":7;scope 0 - 0 call;scope 1 0 2 loop;scope 2 1 4 loop;total 0 1 1;total 1 1 1;total 2 11 11;total 3 10 10;total 4 55 55;total 5 45 45;total 6 45 45;total 7 10 10;total 8 1 1;count-bound 178;end;
+- | i j | i=0 @H { switch { s_lt 32 *i #10 } { target '1 @B } { default @E } } @B j=0 @G { switch { s_lt 32 *j *i } { target '1 @C } { default @F } } @C { null } @D j=j+1 ^G @F i=i+1 ^H @E . | --turns 7 => 3 unbounded 1 "main":1;
+- | i j | i=0 @H { switch { s_lt 32 *i #10 } { target '1 @B } { default @E } } @B j=0 @G { switch { s_lt 32 *j *i } { target '1 @C } { default @F } } @C { null } @D j=j+1 ^G @F i=i+1 ^H @E . | --turns 9 => 3 unbounded 2 "main":3;
+- | i | i=0 @H ?i:10>E:B @B i=i+1 ^H @E . | --turns 24 => 0 facts 1;node 0 0 0 "main":entry;node 1 0 1 "main":0;node 2 1 1 "main":1;node 3 1 1 "main":2;node 4 0 1 "main":3;scope 0 - 0 call;scope 1 0 2 loop;total 0 1 1;total 1 1 1;total 2 11 11;total 3 10 10;total 4 1 1;count-bound 23;end;
 - | i | i=0 @H ?i:10>E:B @B i=i+1 ^H @E . | --turns 23 => 3 unbounded 0 "main":entry;
 - | i | i=0 @H ?i:10>E:B @B { store &i with { sub 32 *i #1 '0 } } ^H @E . | --turns 1000 => 3 unbounded 1 "main":1;
 - | i | i=0 @H ?i:10>E:B @B { store &i with { add 32 *i #1 '1 } } ^H @E . => 0 facts 1;node 0 0 0 "main":entry;node 1 0 1 "main":0;node 2 1 1 "main":1;node 3 1 1 "main":2;node 4 0 1 "main":3;scope 0 - 0 call;scope 1 0 2 loop;total 0 1 1;total 1 1 1;total 2 6 6;total 3 5 5;total 4 1 1;count-bound 13;end;

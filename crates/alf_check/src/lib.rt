@@ -31,7 +31,6 @@ mod checking;
 mod fault;
 
 pub use checking::check;
-pub use cut::split_block;
 pub use fault::CheckFault;
 pub use program::Checked;
 pub use rows::{Act, Block, BlockEnd, FrameRow, FuncRow, InitRow, InputRow, Term};

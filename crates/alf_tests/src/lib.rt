@@ -3,8 +3,6 @@
 
 // Texts that are read and printed.
 #[cfg(test)]
-mod first_texts;
-#[cfg(test)]
 mod printed_texts;
 
 // Programs from a short notation.

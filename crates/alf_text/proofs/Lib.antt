@@ -1,8 +1,6 @@
--- Shared lemmas: the reader's, first texts, and which programs some text spells.
+-- Shared lemmas: the reader's, and which programs some text spells.
 pub mod Depths
 pub mod Meaning
-pub mod FirstMeaning
-pub mod FirstPrograms
 pub mod Decimals
 pub mod Named
 pub mod Signed

@@ -26,8 +26,8 @@ fn is_ending(item: &Item) -> bool
     }
 }
 
-/// Whether the last item is a jump, a switch or a return.
-pub fn ends_well(items: &[Item]) -> bool
+// Whether the last item is a jump, a switch or a return.
+fn ends_well(items: &[Item]) -> bool
     ensures { result ≡ ends_well (map item_of items.now) }
 {
     match items.last() {

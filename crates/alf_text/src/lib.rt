@@ -27,12 +27,8 @@ mod writable;
 // Writing a program.
 mod printing;
 
-// Texts whose program is `main` alone.
-mod first;
-
 pub use alf_program::{Alloc, Expr, Func, Init, Item, Num, Program, Stmt};
 pub use fault::{FaultAt, TextFault};
-pub use first::{FirstFault, first_texts, read_first};
 pub use language::{one_meaning, read};
 pub use laws::canonical_texts_are_read_back;
 pub use printing::print;

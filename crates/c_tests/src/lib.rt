@@ -1,4 +1,4 @@
-//! Tests of `c_tokens`, `c_constants` and `c_unit`. Without tests this library is empty.
+//! Tests of `c_tokens`, `c_constants`, `c_unit` and `c_printer`. Without tests this library is empty.
 #![tactic(auto)]
 
 // Tokens and their places.

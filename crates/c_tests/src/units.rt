@@ -1,6 +1,7 @@
 //! Ranges of tokens, and what is asked of expressions.
 
-use c_unit::{Binary, Expr, Span, Unary, range, spans};
+use c_printer::print;
+use c_unit::{Binary, CUnit, Expr, Span, Unary, range, spans};
 use std::test::Fail;
 
 /// A text, and where its tokens begin and end.
@@ -64,5 +65,31 @@ fn parentheses_are_no_operators(rt: HostRuntime) -> Result<(), Fail> {
     assert_eq!(rt; sum.first(), 0);
     assert!(rt; sum.is_within(3));
     assert!(rt; !sum.is_within(2));
+    Ok(())
+}
+
+/// Texts, and their canonical texts.
+static PRINTED: [(&str, &str); 4] = [
+    ("", "\n"),
+    (" // nothing\n", "\n"),
+    (
+        "int\tmain(void){return'a'+0x1F; /* x */}\n",
+        "int main ( void ) { return 'a' + 0x1F ; }\n",
+    ),
+    ("x=-1;y=a+++b<<=2", "x = - 1 ; y = a ++ + b <<= 2\n"),
+];
+
+#[test]
+fn tokens_are_printed_with_a_space_between(rt: HostRuntime) -> Result<(), Fail> {
+    let alloc = rt.alloc();
+    for (text, canonical) in &PRINTED {
+        let unit = CUnit {
+            text: text.as_bytes().to_vec(alloc)?,
+            tokens: spans(alloc, text.as_bytes())?,
+            externals: Vec::new(alloc),
+        };
+        let out = print(alloc, &unit)?;
+        assert_eq!(rt; out.as_slice(), canonical.as_bytes());
+    }
     Ok(())
 }

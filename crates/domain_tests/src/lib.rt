@@ -4,3 +4,7 @@
 // Sets of one word, or of every word.
 #[cfg(test)]
 mod flat;
+
+// Strided values.
+#[cfg(test)]
+mod strided;

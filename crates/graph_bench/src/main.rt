@@ -67,7 +67,14 @@ fn outlined(alloc: Global, graph: &Graph, scopes: bool) -> &'static str {
     }
     match outline(alloc, graph) {
         Ok(_) => "an outline\n",
-        Err(OutlineFault::Irreducible { .. }) => "two ways into a loop\n",
-        Err(OutlineFault::Memory) => "memory ran out\n",
+        Err(fault) => refused(&fault),
+    }
+}
+
+// Why a graph has no outline.
+fn refused(fault: &OutlineFault) -> &'static str {
+    match fault {
+        OutlineFault::Irreducible { .. } => "two ways into a loop\n",
+        OutlineFault::Memory => "memory ran out\n",
     }
 }

@@ -39,10 +39,17 @@ fn told(alloc: Global, items: &str) -> Result<String, Fail> {
     };
     let told = match outline(alloc, &graph) {
         Ok(found) => outline_text(alloc, &found)?,
-        Err(OutlineFault::Irreducible { .. }) => String::from_str(alloc, "irreducible")?,
-        Err(OutlineFault::Memory) => String::from_str(alloc, "memory")?,
+        Err(fault) => String::from_str(alloc, word_of(&fault))?,
     };
     Ok(told)
+}
+
+// The word of a fault.
+fn word_of(fault: &OutlineFault) -> &'static str {
+    match fault {
+        OutlineFault::Irreducible { .. } => "irreducible",
+        OutlineFault::Memory => "memory",
+    }
 }
 
 fn outline_text(alloc: Global, found: &Outline) -> Result<String, AllocError> {

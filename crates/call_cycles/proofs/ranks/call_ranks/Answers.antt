@@ -15,9 +15,13 @@ module _ (calls : List (List ℕ)) where
   rank_falls : (f g rank lower : ℕ) → IsRankOf calls f rank → IsRankOf calls g lower → Calls calls f g → lower < rank
   rank_falls f g rank lower r s call =
       let clear = unmarked_is s.marks f (λ is. let way = s.marking.reached f is in r.alone (on f way.0 way.1)) in
-      omega (arith,
-      marked_more s.marks r.marks f (omega (arith, r.marking.long, s.marking.long)) (λ h is. let way = s.marking.reached h is in r.marking.all h (f ∷ way.0, walk_cons (Calls calls) f g h way.0 call way.1)) clear
-      (r.marking.all f (f ∷ [], stays)), r.counted, s.counted)
+      omega (
+        arith,
+        marked_more s.marks r.marks f (omega (arith, r.marking.long, s.marking.long)) (λ h is. let way = s.marking.reached h is in r.marking.all h (f ∷ way.0, walk_cons (Calls calls) f g h way.0 call way.1)) clear
+            (r.marking.all f (f ∷ [], stays)),
+        r.counted,
+        s.counted,
+      )
     where
       -- the call of g and a walk from it lead where the walk does
       on : (h : ℕ) (path : List ℕ) → Walk (Calls calls) g h path → Reaches calls f h

@@ -1,0 +1,2 @@
+-- Texts of ranges.
+pub mod Texts

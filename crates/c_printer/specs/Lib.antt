@@ -1,0 +1,2 @@
+-- Texts of tokens.
+pub mod Texts

@@ -1,0 +1,99 @@
+-- Bounds under which the pieces of values fit 128 bits.
+--   piece_small       a piece within 2 to the 64 is small
+--   between_piece, end_piece   parts of such a piece are such pieces
+--   unsigned_far, signed_far   so are the pieces of a value
+--   unsigned_greatest_far, ..   and the greatest and the least of them lie there
+use Rattle.std.proofs.Common.{ℕ, ℤ, pos, neg_ℤ, ◌≤◌, ◌^◌, arith, Option, Some, None}
+use Rattle.std.specs.Prelude.{◌-ℤ◌, ◌≤ℤ◌}
+use Rattle.std.proofs.lemmas.Int.{ints, clamps}
+use Rattle.progressions.specs.declared.ends.Progression.{Progression}
+use Rattle.progressions.specs.declared.ends.Pieces.{Pieces}
+use Rattle.progressions.specs.Progressions.{Has, HasSome, IfProgression, full, half}
+use Rattle.progressions.specs.Parts.{IsPiece, IfPiece, ArePieces, between}
+use Rattle.progressions.specs.Limits.{IsSmall}
+use Rattle.progressions.specs.ProgressionLaws.{halves, full_most, step_width, has_lo, has_hi}
+use Rattle.strided_rules.specs.Strides.{Stride, IsStride}
+use Rattle.strided_rules.specs.Members.{unsigned_of, signed_of, without_end, greater_end, lesser_end, greatest_of, least_of, unsigned_greatest, unsigned_least, signed_greatest, signed_least}
+use Rattle.strided_rules.specs.MemberLaws.{of_unsigned, of_signed, IsPart, between_part, end_part}
+
+abbrev pub IsFar : Progression → Type 0
+IsFar p = IsPiece (neg_ℤ (pos (2 ^ 64))) (pos (2 ^ 64)) p
+
+pub piece_small : (p : Progression) → IsPiece (neg_ℤ (pos (2 ^ 64))) (pos (2 ^ 64)) p → IsSmall p
+piece_small p i = let s = step_width p i.progression in record {
+  low = omega (arith, ints, i.low);
+  high = omega (arith, ints, i.high);
+  order = i.progression.order;
+  rising = i.progression.rising;
+  near = omega (arith, ints, s, i.low, i.high);
+}
+
+inside_piece : (least most : ℤ) (p : Progression) (o : Option Progression) → IsPiece least most p → IfProgression o → ((n : ℤ) → HasSome o n → Has p n) → IfPiece least most o
+inside_piece least most p None piece is inside = tt
+inside_piece least most p (Some q) piece is inside = record {
+  progression = is;
+  low = let h = inside q.lo (has_lo q is) in omega (arith, ints, h.least, piece.low);
+  high = let h = inside q.hi (has_hi q is) in omega (arith, ints, h.most, piece.high);
+}
+
+part_piece : (part : Progression → Option Progression) (p : Progression) → IsPart part → IsFar p → IfPiece (neg_ℤ (pos (2 ^ 64))) (pos (2 ^ 64)) (part p)
+part_piece part p is i = inside_piece (neg_ℤ (pos (2 ^ 64))) (pos (2 ^ 64)) p (part p) i (is.is p i.progression) (λ n. is.inside p n i.progression)
+
+pub between_piece : (least greatest : ℤ) (p : Progression) → IsPiece (neg_ℤ (pos (2 ^ 64))) (pos (2 ^ 64)) p → IfPiece (neg_ℤ (pos (2 ^ 64))) (pos (2 ^ 64)) (between least greatest p)
+between_piece least greatest p i = part_piece (between least greatest) p (between_part least greatest) i
+
+pub end_piece : (n : ℤ) (p : Progression) → IsPiece (neg_ℤ (pos (2 ^ 64))) (pos (2 ^ 64)) p → IfPiece (neg_ℤ (pos (2 ^ 64))) (pos (2 ^ 64)) (without_end n p)
+end_piece n p i = part_piece (without_end n) p (end_part n) i
+
+wider : (least most : ℤ) (o : Option Progression) → neg_ℤ (pos (2 ^ 64)) ≤ℤ least → most ≤ℤ pos (2 ^ 64) → IfPiece least most o → IfPiece (neg_ℤ (pos (2 ^ 64))) (pos (2 ^ 64)) o
+wider least most None low high i = tt
+wider least most (Some p) low high i = record { progression = i.progression; low = omega (arith, ints, low, i.low); high = omega (arith, ints, high, i.high) }
+
+pub pieces_far : (least most : ℤ) (pieces : Pieces) → neg_ℤ (pos (2 ^ 64)) ≤ℤ least → most ≤ℤ pos (2 ^ 64) → ArePieces least most pieces → ArePieces (neg_ℤ (pos (2 ^ 64))) (pos (2 ^ 64)) pieces
+pieces_far least most pieces low high are = record {
+  first = wider least most pieces.first low high are.first;
+  second = wider least most pieces.second low high are.second;
+  third = wider least most pieces.third low high are.third;
+}
+
+pub unsigned_far : (w : ℕ) (pieces : Pieces) → w ≤ 64 → ArePieces (pos 0) (full w -ℤ pos 1) pieces → ArePieces (neg_ℤ (pos (2 ^ 64))) (pos (2 ^ 64)) pieces
+unsigned_far w pieces most are = pieces_far (pos 0) (full w -ℤ pos 1) pieces (omega (arith, ints)) (omega (arith, ints, full_most w most)) are
+
+pub signed_far : (w : ℕ) (pieces : Pieces) → 1 ≤ w → w ≤ 64 → ArePieces (neg_ℤ (half w)) (half w -ℤ pos 1) pieces → ArePieces (neg_ℤ (pos (2 ^ 64))) (pos (2 ^ 64)) pieces
+signed_far w pieces least most are = pieces_far (neg_ℤ (half w)) (half w -ℤ pos 1) pieces (omega (arith, ints, full_most w most, halves w least)) (omega (arith, ints, full_most w most, halves w least)) are
+
+-- an end of pieces that lie from low to high does
+end_within : (low high so_far : ℤ) (o : Option Progression) → low ≤ℤ so_far → so_far ≤ℤ high → IfPiece low high o
+    → ((low ≤ℤ greater_end so_far o) × (greater_end so_far o ≤ℤ high)) × ((low ≤ℤ lesser_end so_far o) × (lesser_end so_far o ≤ℤ high))
+end_within low high so_far None p q i = ((p, q), (p, q))
+end_within low high so_far (Some r) p q i = (
+  (omega (arith, ints, clamps, p, i.low, i.progression.order), omega (arith, ints, clamps, q, i.high)),
+  (omega (arith, ints, clamps, p, i.low), omega (arith, ints, clamps, q, i.high, i.progression.order)),
+)
+
+greatest_within : (low high so_far : ℤ) (pieces : Pieces) → low ≤ℤ so_far → so_far ≤ℤ high → ArePieces low high pieces → (low ≤ℤ greatest_of so_far pieces) × (greatest_of so_far pieces ≤ℤ high)
+greatest_within low high so_far pieces p q are =
+    let a = (end_within low high so_far pieces.first p q are.first).0 in
+    let b = (end_within low high (greater_end so_far pieces.first) pieces.second a.0 a.1 are.second).0 in
+    (end_within low high (greater_end (greater_end so_far pieces.first) pieces.second) pieces.third b.0 b.1 are.third).0
+
+least_within : (low high so_far : ℤ) (pieces : Pieces) → low ≤ℤ so_far → so_far ≤ℤ high → ArePieces low high pieces → (low ≤ℤ least_of so_far pieces) × (least_of so_far pieces ≤ℤ high)
+least_within low high so_far pieces p q are =
+    let a = (end_within low high so_far pieces.first p q are.first).1 in
+    let b = (end_within low high (lesser_end so_far pieces.first) pieces.second a.0 a.1 are.second).1 in
+    (end_within low high (lesser_end (lesser_end so_far pieces.first) pieces.second) pieces.third b.0 b.1 are.third).1
+
+abbrev pub Far : ℤ → Type 0
+Far z = (neg_ℤ (pos (2 ^ 64)) ≤ℤ z) × (z ≤ℤ pos (2 ^ 64))
+
+pub unsigned_greatest_far : (y : Stride) → IsStride y → Far (unsigned_greatest y)
+unsigned_greatest_far y s = greatest_within (neg_ℤ (pos (2 ^ 64))) (pos (2 ^ 64)) (pos 0) (unsigned_of y) (omega (arith, ints)) (omega (arith, ints)) (unsigned_far y.size (unsigned_of y) s.size.most (of_unsigned y s))
+
+pub unsigned_least_far : (y : Stride) → IsStride y → Far (unsigned_least y)
+unsigned_least_far y s = least_within (neg_ℤ (pos (2 ^ 64))) (pos (2 ^ 64)) (full y.size -ℤ pos 1) (unsigned_of y) (omega (arith, ints)) (omega (arith, ints, full_most y.size s.size.most)) (unsigned_far y.size (unsigned_of y) s.size.most (of_unsigned y s))
+
+pub signed_greatest_far : (y : Stride) → IsStride y → Far (signed_greatest y)
+signed_greatest_far y s = greatest_within (neg_ℤ (pos (2 ^ 64))) (pos (2 ^ 64)) (neg_ℤ (half y.size)) (signed_of y) (omega (arith, ints, full_most y.size s.size.most, halves y.size s.size.least)) (omega (arith, ints)) (signed_far y.size (signed_of y) s.size.least s.size.most (of_signed y s))
+
+pub signed_least_far : (y : Stride) → IsStride y → Far (signed_least y)
+signed_least_far y s = least_within (neg_ℤ (pos (2 ^ 64))) (pos (2 ^ 64)) (half y.size -ℤ pos 1) (signed_of y) (omega (arith, ints)) (omega (arith, ints, full_most y.size s.size.most, halves y.size s.size.least)) (signed_far y.size (signed_of y) s.size.least s.size.most (of_signed y s))

@@ -1,0 +1,24 @@
+//! Strided values: sets of words by a progression of whole numbers.
+//!
+//! Each call gives exactly what the rule in `strided_rules` says. No call takes memory, and none can
+//! fail. `Flat`, one word or every word, is handed on.
+#![tactic(auto)]
+
+// Progressions in normal form at a size, and joins of them.
+mod joining;
+mod placing;
+
+// Joins over pieces.
+mod over;
+
+// The values, their members, and what is kept of them.
+mod kept;
+mod member;
+mod relation;
+mod value;
+
+// What the trait of lattices asks for.
+mod lattice;
+
+pub use flat_domain::Flat;
+pub use value::Strided;

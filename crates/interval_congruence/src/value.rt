@@ -1,0 +1,178 @@
+//! The values.
+
+ghost use Rattle.std.specs.Prelude.{◌≡◌, ◌≤◌, ◌<◌, ◌^◌, pos, neg_ℤ, ◌-ℤ◌, ◌≤ℤ◌, ◌<ℤ◌};
+ghost use Rattle.domain_core.specs.WordSets.{IsWordSize};
+ghost use Rattle.progressions.specs.Progressions.{IsProgression, IsPlaced, full, half};
+ghost use Rattle.progressions.specs.Parts.{ArePieces};
+ghost use Rattle.progressions.specs.Limits.{IsSmall};
+ghost use Rattle.strided_rules.specs.Strides.{Stride, IsStride, norm as norm_of, one_word as one_word_of, every_word as every_word_of, joined as joined_of};
+ghost use Rattle.strided_rules.specs.Members.{unsigned_of, signed_of, is_one as is_one_of, word_of};
+
+use crate::joining::joined;
+use crate::placing::{normed, power, whole};
+use progressions::{Pieces, Progression};
+use std::marker::Model;
+use whole_numbers::Whole;
+
+/// A set of words of one size: n modulo 2 to the size for n = lo, lo + step, .., hi, in normal form.
+///
+/// Contracts see the size and the progression.
+#[derive(Clone, Copy, Debug, PartialEq, Eq, Drop)]
+pub struct Strided {
+    size: u32,
+    numbers: Progression,
+}
+
+impl Model for Strided {
+    ghost Value = { Stride };
+
+    ghost view = { λ s. record { size = s.size; numbers = s.numbers } };
+
+    ghost inverse = { λ x. record { size = x.size; numbers = x.numbers } };
+
+    ghost invariant = { λ s. IsStride (record { size = s.size; numbers = s.numbers }) };
+}
+
+impl Strided {
+    /// The value of a progression in normal form.
+    pub(crate) fn of(size: u32, numbers: Progression) -> Strided
+        requires size { IsWordSize size }
+        requires placed { IsPlaced size numbers }
+        ensures { result ≡ record { size = size; numbers = numbers } }
+    {
+        Strided { size, numbers }
+    }
+
+    /// How many bits its words have.
+    pub fn size(self) -> u32
+        ensures value { result ≡ self.size }
+        ensures size { IsWordSize result }
+    {
+        self.size
+    }
+
+    /// Its progression, whose ends are far from the limits of the machine.
+    pub fn numbers(self) -> Progression
+        ensures value { result ≡ self.numbers }
+        ensures stride { IsStride self }
+        ensures small { IsSmall result }
+    {
+        self.numbers
+    }
+
+    /// The least number.
+    pub fn lo(self) -> i128
+        ensures { result ≡ self.numbers.lo }
+    {
+        self.numbers.lo.number()
+    }
+
+    /// The greatest number.
+    pub fn hi(self) -> i128
+        ensures { result ≡ self.numbers.hi }
+    {
+        self.numbers.hi.number()
+    }
+
+    /// The distance of two numbers that follow one another; 0 where there is one number.
+    pub fn step(self) -> i128
+        ensures { result ≡ self.numbers.step }
+    {
+        self.numbers.step.number()
+    }
+
+    /// The numbers lo, lo + step, .., hi modulo 2 to the size, in normal form.
+    pub fn norm(size: u32, lo: i128, hi: i128, step: i128) -> Strided
+        requires size { IsWordSize size }
+        requires progression { IsProgression (record { lo = lo; hi = hi; step = step }) }
+        requires low { neg_ℤ (pos (2 ^ 126)) ≤ℤ lo }
+        requires high { hi <ℤ pos (2 ^ 126) }
+        ensures { result ≡ record { size = size; numbers = norm_of size (record { lo = lo; hi = hi; step = step }) } }
+    {
+        let numbers = Progression {
+            lo: Whole::of(lo),
+            hi: Whole::of(hi),
+            step: Whole::of(step),
+        };
+        Strided {
+            size,
+            numbers: normed(size, &numbers),
+        }
+    }
+
+    /// Every word of the size.
+    pub fn every_word(size: u32) -> Strided
+        requires { IsWordSize size }
+        ensures { result ≡ every_word_of size }
+    {
+        Strided {
+            size,
+            numbers: whole(size),
+        }
+    }
+
+    /// The one word.
+    pub fn one_word(size: u32, bits: u64) -> Strided
+        requires { IsWordSize size }
+        ensures { result ≡ one_word_of size bits }
+    {
+        let lone = Progression::lone(Whole::of_word(bits));
+        Strided {
+            size,
+            numbers: normed(size, &lone),
+        }
+    }
+
+    /// The words of both, of one size.
+    pub fn join(self, other: Strided) -> Strided
+        requires { self.size ≡ other.size }
+        ensures { result ≡ joined_of self other }
+    {
+        let size = self.size();
+        let first = self.numbers();
+        let second = other.numbers();
+        Strided {
+            size,
+            numbers: joined(size, &first, &second),
+        }
+    }
+
+    /// Its words as numbers from 0 on.
+    #[tactic(auto, using(strided_rules::specs::MemberLaws::of_unsigned))]
+    pub(crate) fn unsigned(self) -> Pieces
+        ensures value { result ≡ unsigned_of self }
+        ensures stride { IsStride self }
+        ensures are { ArePieces (pos 0) (full self.size -ℤ pos 1) result }
+    {
+        let numbers = self.numbers();
+        numbers.unsigned_pieces(self.size())
+    }
+
+    /// Its words as numbers of the signed range.
+    #[tactic(auto, using(strided_rules::specs::MemberLaws::of_signed))]
+    pub(crate) fn signed(self) -> Pieces
+        ensures value { result ≡ signed_of self }
+        ensures stride { IsStride self }
+        ensures are { ArePieces (neg_ℤ (half self.size)) (half self.size -ℤ pos 1) result }
+    {
+        let numbers = self.numbers();
+        numbers.signed_pieces(self.size())
+    }
+
+    /// It has one member.
+    pub fn is_one(self) -> bool
+        ensures { result ≡ is_one_of self }
+    {
+        self.numbers.hi.at_most(self.numbers.lo)
+    }
+
+    /// The word of its low end.
+    #[tactic(auto, using(flat_domain::specs::OperatorSizes::word_below))]
+    pub fn word(self) -> u64
+        ensures value { result ≡ word_of self }
+        ensures fits { result < 2 ^ self.size }
+    {
+        let lo = self.numbers().lo;
+        lo.rest(power(self.size())).word()
+    }
+}

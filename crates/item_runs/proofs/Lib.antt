@@ -1,0 +1,3 @@
+mod Checked
+mod Examples
+mod Tracks

@@ -9,7 +9,8 @@ pub const RETURNS: &str =
     "{ alf { macro_defs } { least_addr_unit 8 } little_endian { exports { frefs } { lrefs } } { imports { frefs } { lrefs } } { decls } { inits } { funcs { func { label 32 { lref 32 \"main\" } { dec_unsigned 32 0 } } { arg_decls } { scope { decls } { inits } { stmts { return } } } } } }";
 
 /// The report of a run with one block.
-pub const REPORT: &str = "facts 1\ntotal 0 1 1\ntotal 1 1 1\ncount-bound 1\nend\n";
+pub const REPORT: &str =
+    "facts 1\nnode 0 0 0 \"main\":entry\nnode 1 0 1 \"main\":0\nscope 0 - 0 call\ntotal 0 1 1\ntotal 1 1 1\ncount-bound 1\nend\n";
 
 /// A part of a line, where ` | ` stands between two parts. Empty where it is not there.
 pub fn field(line: &str, number: usize) -> &str {

@@ -279,3 +279,33 @@ fn a_graph_has_at_most_512_nodes_and_1024_edges(rt: HostRuntime) -> Result<(), F
     assert_eq!(rt; found.as_str(), "2 fault 13 limit nodes 513;");
     Ok(())
 }
+
+// Two blocks that jump to each other, either of which a run may come to first.
+const TWO_WAYS: &str = "{ switch #0 { target #0 @A } { default @B } } @A ^B @B ^A";
+
+// The walks that show it, from the one block to the other, or the other way round.
+const WALKS: [&str; 2] = [
+    "2 fault 40 irreducible to-header \"main\":entry \"main\":0 \"main\":1 to-tail \"main\":1 \"main\":2 around \"main\":entry \"main\":0 \"main\":2;",
+    "2 fault 40 irreducible to-header \"main\":entry \"main\":0 \"main\":2 to-tail \"main\":2 \"main\":1 around \"main\":entry \"main\":0 \"main\":1;",
+];
+
+#[test]
+fn a_loop_that_is_entered_at_two_nodes_is_refused(rt: HostRuntime) -> Result<(), Fail> {
+    let alloc = rt.alloc();
+    let program = program_of(alloc, "-", "-", TWO_WAYS)?;
+    // After the graph, and before any file of inputs or of costs is read.
+    let lines = [
+        "analyse a.alf",
+        "analyse a.alf --turns 1 --costs no.toml",
+        "run a.alf",
+        "run a.alf --turns 1 --inputs no.toml --costs c.toml",
+    ];
+    for line in lines {
+        let found = told(alloc, line, three_files(alloc, program.as_str(), "", "[[")?)?;
+        assert!(rt;
+            WALKS.iter().any(|walks| found.as_str() == *walks),
+            "{line}"
+        );
+    }
+    Ok(())
+}

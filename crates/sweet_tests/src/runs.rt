@@ -33,9 +33,14 @@ r | r | { call @f #4 result &r } { call @f *r result &r } { return *r } /f:x { r
 - | i | i=0 @H ?i:10>E:B @B i=i+1 ^H @E . | run a.alf --turns 24 => 0 returned;turns 24;cost 23;
 - | i | i=0 @H ?i:10>E:B @B i=i+1 ^H @E . | run a.alf --turns 23 => 3 unbounded 0 "main":entry;
 - | - | /main::i i=0 @H { switch { s_lt 32 *i #10 } { target '1 @B } { default @E } } @B i=i+1 ^H @E { return *i } => 0 returned 10;turns 24;cost 23;
-- | - | @A ^A | run a.alf --turns 1 => 3 unbounded 0 "main":entry;
-- | - | { call @f result } . /f @A ^A => 3 unbounded 0 "main":entry;
-- | - | . /f @A ^A | run a.alf --root f => 3 unbounded 0 "f":entry;
+- | - | @A ^A | run a.alf --turns 1 => 3 unbounded 1 "main":0;
+- | - | { call @f result } . /f @A ^A => 3 unbounded 2 "main".0"f":0;
+- | - | . /f @A ^A | run a.alf --root f => 3 unbounded 1 "f":0;
+- | i | i=0 @H ?i:10>E:B @B i=i+1 ^H @E . | run a.alf --turns 10 => 3 unbounded 1 "main":1;
+- | - | @A ^A | run a.alf --turns 5 => 3 unbounded 1 "main":0;
+- | - | @A { call @f result } ^A /f . | run a.alf --turns 2 => 3 unbounded 2 "main".0"f":entry;
+- | - | { call @f result } @A ^A /f . | run a.alf --turns 2 => 3 unbounded 2 "main".0"f":entry;
+- | - | { call @f result } @A ^A /f . | run a.alf --turns 4 => 3 unbounded 1 "main":1;
 - | - | . /f { return #7 } | run a.alf --root f --turns 1 => 3 unbounded 0 "f":entry;
 - | - | { return #1 } /f { return #2 } => 0 returned 1;turns 2;cost 1;
 - | - | { return #1 } /f { return #2 } | run a.alf --root f => 0 returned 2;turns 2;cost 1;
@@ -138,7 +143,7 @@ const LONG: &str =
 - | i | i=0 { null } @G i=0 @H ?i:49998>E:B @B i=i+1 ^H @E . => 3 unbounded 0 "main":entry;
 - | i | i=0 @H ?i:249999>E:B @B i=i+1 ^C @C { null } ^D @D ^H @E . | run a.alf --turns 1000000 => 0 returned;turns 1000000;cost 999999;
 - | i | i=0 @H ?i:249999>E:B @B i=i+1 ^C @C { null } ^D @D ^H @E . | run a.alf --turns 999999 => 3 unbounded 0 "main":entry;
-- | - | @A ^A | run a.alf --turns 1000000 => 3 unbounded 0 "main":entry;
+- | - | @A ^A | run a.alf --turns 1000000 => 3 unbounded 1 "main":0;
 "#;
 
 #[test]

@@ -196,9 +196,9 @@ fn options_stand_in_any_order_and_form(rt: HostRuntime) -> Result<(), Fail> {
         let files = three_files(alloc, program.as_str(), "[[", COSTS)?;
         let found = told(alloc, line, files)?;
         let wanted = if line.contains("3") {
-            "0 facts 1;dead 3;dead 4;total 0 1 1;total 1 1 1;total 2 1 1;alarm 2 uninit;count-bound 4;end;"
+            r#"0 facts 1;node 0 0 0 "f":entry;node 1 0 2 "f":0;node 2 1 2 "f":1;node 3 1 5 "f":2;node 4 0 2 "f":3;scope 0 - 0 call;scope 1 0 2 loop;dead 3;dead 4;total 0 1 1;total 1 1 1;total 2 1 1;alarm 2 uninit;count-bound 4;end;"#
         } else {
-            "3 unbounded 0 \"f\":entry;"
+            "3 unbounded 1 \"f\":1;"
         };
         assert_eq!(rt; found.as_str(), wanted, "{line}");
     }

@@ -1,12 +1,12 @@
 -- Products of numbers within 2 to the 63 fit.
-use Rattle.std.proofs.Common.{◌≡◌, ℕ, ℤ, pos, negsuc, neg_ℤ, ◌≤◌, ◌<◌, ◌^◌, arith}
+use Rattle.std.proofs.Common.{ℤ, pos, negsuc, neg_ℤ, ◌^◌, arith}
 use Rattle.std.specs.Prelude.{◌+ℤ◌, ◌-ℤ◌, ◌*ℤ◌, ◌≤ℤ◌, ◌<ℤ◌}
-use Rattle.std.specs.Int.{w128, int_min, int_max}
+use Rattle.std.specs.Int.{w128}
 use Rattle.std.specs.Int.RustNames.{FitsSigned}
 use Rattle.std.proofs.lemmas.Int.{ints, clamps, fits_signed_from_abs}
 use Rattle.whole_numbers.specs.Numbers.{gcd}
 use Rattle.whole_numbers.specs.GcdLaws.{gcd_fits}
-use Rattle.whole_numbers.specs.ProductLaws.{product_between, is_least, is_greatest}
+use Rattle.whole_numbers.specs.ProductLaws.{product_between}
 use Rattle.progressions.specs.declared.ends.Progression.{Progression}
 use Rattle.progressions.specs.Images.{products}
 use Rattle.progressions.specs.ImageLaws.{products_is}

@@ -1,7 +1,7 @@
 -- What the rules give can be placed.
-use Rattle.std.proofs.Common.{◌≡◌, ◌≢◌, ℕ, ℤ, pos, negsuc, neg_ℤ, suc, ◌<◌, ◌≤◌, ◌/◌, ◌^◌, arith}
-use Rattle.std.specs.Prelude.{◌+ℤ◌, ◌-ℤ◌, ◌≤ℤ◌, ◌<ℤ◌, int_le, int_lt, int_div, unsigned_abs}
-use Rattle.std.specs.Int.{int_div_euclid, int_rem_euclid, int_min, int_max}
+use Rattle.std.proofs.Common.{◌≢◌, ℕ, ℤ, pos, negsuc, neg_ℤ, suc, ◌<◌, ◌^◌, arith}
+use Rattle.std.specs.Prelude.{◌≤ℤ◌, ◌<ℤ◌, int_le, int_lt, int_div}
+use Rattle.std.specs.Int.{int_div_euclid, int_max}
 use Rattle.std.proofs.lemmas.Int.{ints, clamps}
 use Rattle.std.proofs.Math.Nat.{div-le_self}
 use Rattle.whole_numbers.specs.MultipleLaws.{by_test}

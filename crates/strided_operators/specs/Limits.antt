@@ -3,7 +3,7 @@
 --   IsHalf p                  a progression whose ends and step lie within 2 to the 63
 --   IfTakes takes o           the piece, if there is one, is taken
 --   TakesEach takes pieces    each piece is
-use Rattle.std.specs.Prelude.{ℤ, pos, neg_ℤ, ◌-ℤ◌, ◌≤ℤ◌, ◌<ℤ◌, ◌^◌, Option, Some, None}
+use Rattle.std.specs.Prelude.{pos, neg_ℤ, ◌-ℤ◌, ◌≤ℤ◌, ◌<ℤ◌, ◌^◌, Option, Some, None}
 use Rattle.progressions.specs.declared.ends.Progression.{Progression}
 use Rattle.progressions.specs.declared.ends.Pieces.{Pieces}
 use Rattle.progressions.specs.Progressions.{IsProgression}

@@ -1,5 +1,3 @@
-use Rattle.std.proofs.Common.{◌≡◌}
-use Rattle.progressions.specs.Images.{quotients}
 use Rattle.strided_operators.proofs.Places.{quotients_place}
 use Rattle.strided_operators.proofs.rules.QuotientsRule.at.Goals as goal
 

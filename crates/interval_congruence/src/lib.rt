@@ -11,6 +11,7 @@ mod relation;
 mod value;
 
 // What operators give at values.
+mod comparisons;
 mod images;
 mod sums;
 

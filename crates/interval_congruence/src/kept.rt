@@ -6,9 +6,9 @@ ghost use Rattle.progressions.specs.Parts.{IsPiece, IfPiece, ArePieces, between 
 ghost use Rattle.strided_rules.specs.Joins.{IfPlaced, kept_value as kept_value_of};
 ghost use Rattle.strided_rules.specs.Members.{part_of, parts_of, rest_of, is_same as is_same_of, without_end as without_end_of, without as without_of, unsigned_between as unsigned_between_of, signed_between as signed_between_of};
 
-use crate::over::joined_pieces;
 use crate::value::Strided;
 use progressions::{Pieces, Progression};
+use strided_operators::{Same, each};
 use whole_numbers::Whole;
 
 /// The value of what was joined, if there was a piece.
@@ -47,7 +47,7 @@ fn pieces_between(size: u32, least: Whole, greatest: Whole, pieces: &Pieces) -> 
         second: between(least, greatest, pieces.second),
         third: between(least, greatest, pieces.third),
     };
-    kept_value(size, joined_pieces(size, &parts))
+    kept_value(size, each(size, &Same, &parts))
 }
 
 /// It is the other.
@@ -96,7 +96,7 @@ impl Strided {
             second: without_end(word, pieces.second),
             third: without_end(word, pieces.third),
         };
-        kept_value(size, joined_pieces(size, &parts))
+        kept_value(size, each(size, &Same, &parts))
     }
 
     /// The members from `least` to `greatest`, read unsigned.

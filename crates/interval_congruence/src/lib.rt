@@ -4,18 +4,16 @@
 //! fail. `Flat`, one word or every word, is handed on.
 #![tactic(auto)]
 
-// Progressions in normal form at a size, and joins of them.
-mod joining;
-mod placing;
-
-// Joins over pieces.
-mod over;
-
 // The values, their members, and what is kept of them.
 mod kept;
 mod member;
 mod relation;
 mod value;
+
+// What operators give at values.
+mod comparisons;
+mod images;
+mod sums;
 
 // What the trait of lattices asks for.
 mod lattice;

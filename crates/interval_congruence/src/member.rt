@@ -5,9 +5,9 @@ ghost use Rattle.progressions.specs.Progressions.{IsProgression};
 ghost use Rattle.progressions.specs.Limits.{IsSmall};
 ghost use Rattle.strided_rules.specs.Members.{has_number as has_number_of, has as has_of, only as only_of};
 
-use crate::placing::power;
 use crate::value::Strided;
 use progressions::Progression;
+use strided_operators::power;
 use whole_numbers::Whole;
 
 /// The number is one of the progression's.

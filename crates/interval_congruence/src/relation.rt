@@ -6,10 +6,10 @@ ghost use Rattle.progressions.specs.Parts.{IfPiece, ArePieces};
 ghost use Rattle.strided_rules.specs.Members.{greater_end as greater_end_of, lesser_end as lesser_end_of, greatest_of as greatest_of_all, least_of as least_of_all, unsigned_greatest as unsigned_greatest_of, unsigned_least as unsigned_least_of, signed_greatest as signed_greatest_of, signed_least as signed_least_of, assumed as assumed_of};
 ghost use Rattle.domain_core.specs.declared.relation.Rel.TheVariants.{Eq, Neq, ULt, ULe, UGt, UGe, SLt, SLe, SGt, SGe};
 
-use crate::placing::power;
 use crate::value::Strided;
 use domain_core::Rel;
 use progressions::{Pieces, Progression};
+use strided_operators::power;
 use whole_numbers::Whole;
 
 /// The greater of a number and the last of a piece.

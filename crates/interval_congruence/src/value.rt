@@ -8,10 +8,9 @@ ghost use Rattle.progressions.specs.Limits.{IsSmall};
 ghost use Rattle.strided_rules.specs.Strides.{Stride, IsStride, norm as norm_of, one_word as one_word_of, every_word as every_word_of, joined as joined_of};
 ghost use Rattle.strided_rules.specs.Members.{unsigned_of, signed_of, is_one as is_one_of, word_of};
 
-use crate::joining::joined;
-use crate::placing::{normed, power, whole};
 use progressions::{Pieces, Progression};
 use std::marker::Model;
+use strided_operators::{joined, normed, power, whole};
 use whole_numbers::Whole;
 
 /// A set of words of one size: n modulo 2 to the size for n = lo, lo + step, .., hi, in normal form.

@@ -1,7 +1,7 @@
 use Rattle.progressions.specs.Progressions.{IsPlaced}
 use Rattle.progressions.specs.ProgressionLaws.{placed_small}
 use Rattle.strided_rules.specs.PlacedLaws.{norm_placed, join_placed}
-use Rattle.interval_congruence.proofs.over.added.Goals as goal
+use Rattle.strided_operators.proofs.over.added.Goals as goal
 
 pub joined-requires-clause-p : goal.joined-requires-clause-p
 joined-requires-clause-p c =

@@ -1,0 +1,2 @@
+mod Factors
+mod Places

@@ -1,6 +1,6 @@
 -- Abstract machines over the points of a concrete system. A point is a node and a value of the system.
 --   System C            where runs start, their next points, their ends and their faults
---   Machine T C         what a stepper names: its system, what its states cover, and what its calls answer
+--   Machine T C         what a stepper names: what it keeps, its system, what its states cover, and what its calls answer
 --   IsMachine T C order m   the laws of a stepper
 --   IsAlong C o ..      each step, abstract or concrete, lies along an edge of the outline
 use Rattle.std.specs.Prelude.{◌≡◌, ◌≢◌, ◌<◌, ℕ, List, [], ◌∷◌, Contains, true, length}
@@ -22,6 +22,8 @@ pub record System (C : Type 0) : Type 1 where
   pub fails : ℕ → C → RunFault → Type 0
 
 pub record Machine (T C : Type 0) : Type 1 where
+  -- what the stepper keeps: the laws speak of such steppers alone
+  pub kept : Type 0
   pub system : System C
   -- the state stands for the value, and for this one alone
   pub covers : T → C → Type 0

@@ -23,8 +23,12 @@ pub trait Stepper {
     /// The values of the concrete system. Only contracts name them.
     type Concrete;
 
-    /// The system, what states cover and fit, and what each call answers.
+    /// What the stepper keeps, the system, what states cover and fit, and what each call answers.
     ghost machine: { Self → Machine Self.State Self.Concrete };
+
+    /// What the laws ask of the stepper.
+    fn kept(&self)
+        ensures { (machine self.now).kept };
 
     /// The state at node 0.
     fn start(&self, alloc: Global) -> Result<Self::State, AllocError>
@@ -41,5 +45,5 @@ pub trait Stepper {
         ensures next { IfOk result (λ stepped. stepped.next.items ≡ (machine self.now).next node state.now) }
         ensures faults { IfOk result (λ stepped. stepped.faults ≡ (machine self.now).faults node state.now) };
 
-    ghost is_machine: { (m : Self) → IsMachine Self.State Self.Concrete Self.State.order (machine m) };
+    ghost is_machine: { (m : Self) → (machine m).kept → IsMachine Self.State Self.Concrete Self.State.order (machine m) };
 }

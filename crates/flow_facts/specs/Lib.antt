@@ -2,3 +2,4 @@
 pub mod Facts
 pub mod Reports
 pub mod Writable
+pub mod Walking

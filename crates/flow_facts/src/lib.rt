@@ -21,8 +21,12 @@ mod scopes;
 mod span;
 mod traces;
 
+// What the definitions promise.
+mod laws;
+
 pub use certificate::Cert;
 pub use fact::{Fact, RunKind};
+pub use laws::{lines_order_facts, wider_facts_are_met};
 pub use order::stands_before;
 pub use report::{BoundWord, NodeLine, Report};
-pub use traces::holds;
+pub use traces::{holds, is_about};

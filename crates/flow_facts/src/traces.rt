@@ -34,6 +34,20 @@ pub fn holds(fact: &Fact, outline: &Outline, trace: &[u32]) -> bool
     }
 }
 
+/// Whether the scope and the nodes that the fact names are those of the outline.
+pub fn is_about(fact: &Fact, outline: &Outline) -> bool
+    ensures { IsTrue result ↔ IsAbout (shape_of outline.now) fact.now }
+{
+    let nodes = outline.node_count();
+    let scopes = outline.scope_count();
+    match *fact {
+        Fact::Loop(s, _, _) => s < scopes,
+        Fact::Count(s, n, _, _) => s < scopes && n < nodes,
+        Fact::Pair(s, a, b) => s < scopes && a < nodes && b < nodes,
+        Fact::Dead(n) | Fact::Total(n, _, _) | Fact::Alarm(n, _) => n < nodes,
+    }
+}
+
 // How often the trace has the node.
 fn count(node: u32, trace: &[u32]) -> u64
     ensures { result ≡ places node trace.now }

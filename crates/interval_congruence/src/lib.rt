@@ -13,6 +13,10 @@ mod value;
 // What operators give at values.
 mod comparisons;
 mod images;
+mod pairs;
+mod products;
+mod quotients;
+mod rests;
 mod sums;
 
 // What the trait of lattices asks for.

@@ -18,8 +18,11 @@ mod products;
 mod quotients;
 mod rests;
 mod sums;
+mod stubs;
 
-// What the trait of lattices asks for.
+// What the traits ask for.
+mod dispatch;
+mod domain;
 mod lattice;
 
 pub use flat_domain::Flat;

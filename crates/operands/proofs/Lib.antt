@@ -1,2 +1,2 @@
 mod Fitting
-mod Places
+mod Written

@@ -5,10 +5,10 @@
 #![tactic(auto)]
 
 // Sets for the operands.
-mod fit;
+mod sizes;
 
 // The operator and its sizes.
 mod row;
 
-pub use fit::{HasSize, fit};
+pub use sizes::{HasSize, fit};
 pub use row::{divides, places, size_at, size_of};

@@ -33,7 +33,7 @@ pub fn size_at(sizes: &[u32], place: usize) -> u32
 }
 
 /// The first and the last place of the bits that `select` takes.
-#[tactic(auto, using(crate::proofs::Places::places_written))]
+#[tactic(auto, using(crate::proofs::Written::places_written))]
 pub fn places(sizes: &[u32]) -> (u32, u32)
     requires { IsSome (result_size Select sizes.now) }
     ensures low { result.0 ≡ slice_index sizes.now 1 }

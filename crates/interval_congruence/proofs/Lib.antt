@@ -1,5 +1,7 @@
 mod Bounds
 mod Divisors
+mod DivisorSizes
 mod Fits
+mod OperandLists
 mod Readings
 mod Takes

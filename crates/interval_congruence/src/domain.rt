@@ -1,12 +1,11 @@
 //! Strided values as a domain.
 
-ghost use Rattle.std.specs.Prelude.{◌≡◌, ◌<◌, ◌^◌, IsSome, IfSome, false, true, map, slice_get};
+ghost use Rattle.std.specs.Prelude.{◌≡◌, ◌<◌, ◌^◌, IsSome, ◌≤◌, IfSome, false, true, map, take, length, slice_get};
 ghost use Rattle.alf_ops.specs.Table.{result_size, operand_sizes};
 ghost use Rattle.alf_ops.specs.Words.{divides as divides_of, EachFits};
 ghost use Rattle.domain_core.specs.WordSets.{HaveSizes};
-ghost use Rattle.strided_rules.specs.Strides.{IsStride};
 ghost use Rattle.strided_rules.specs.Members.{word_of};
-ghost use Rattle.strided_rules.specs.Domains.{operand as operand_of, divisor as divisor_of, divided as divided_of, known as known_of, stride_sets};
+ghost use Rattle.strided_rules.specs.Domains.{operand as operand_of, all_one as all_one_of, divisor as divisor_of, divided as divided_of, known as known_of, stride_sets};
 ghost use Rattle.interval_congruence.specs.Operands.{IsSized};
 ghost use Rattle.interval_congruence.specs.Divisors.{IsDivisor};
 
@@ -18,14 +17,35 @@ use operands::{HasSize, divides, size_of};
 
 /// The operand at this place; one word after the last.
 fn operand(args: &[Strided], place: usize) -> Strided
-    ensures value { result ≡ operand_of args.now place }
-    ensures stride { IsStride result }
+    ensures { result ≡ operand_of args.now place }
 {
     if place < args.len() {
         args[place]
     } else {
         Strided::one_word(1, 0)
     }
+}
+
+/// Each operand has one member.
+fn all_one(args: &[Strided]) -> bool
+    ensures { result ≡ all_one_of args.now }
+{
+    match args.split_first() {
+        None => true,
+        Some((first, others)) => first.is_one() && all_one(others),
+    }
+}
+
+/// The words of the low ends of the operands; 0 after the last.
+fn words(args: &[Strided]) -> [u64; 3]
+    requires { length args.now ≤ 3 }
+    ensures { take (length args.now) result ≡ map word_of args.now }
+{
+    [
+        operand(args, 0).word(),
+        operand(args, 1).word(),
+        operand(args, 2).word(),
+    ]
 }
 
 /// What the operator gives at words.
@@ -50,8 +70,11 @@ fn known(op: Op, sizes: &[u32], words: &[u64]) -> Applied<Strided>
 /// The divisor without 0.
 fn divisor(b: Strided) -> Option<Strided>
     ensures value { result ≡ divisor_of b }
+    ensures size { IfSome result (λ rest. rest.size ≡ b.size) }
     ensures divisor { IfSome result IsDivisor }
 {
+    // Only a value in normal form has none but its own words.
+    let _numbers = b.numbers();
     if b.has(0) { b.without(0) } else { Some(b) }
 }
 
@@ -101,11 +124,12 @@ impl Domain for Strided {
     }
 
     fn apply(op: Op, sizes: &[u32], args: &[Self]) -> Applied<Self> {
+        if all_one(args) {
+            let words = words(args);
+            return known(op, sizes, &words[..args.len()]);
+        }
         let (a, b, c) = (operand(args, 0), operand(args, 1), operand(args, 2));
-        if a.is_one() && b.is_one() && c.is_one() {
-            let words = [a.word(), b.word(), c.word()];
-            known(op, sizes, &words[..args.len()])
-        } else if divides(op) {
+        if divides(op) {
             divided(op, sizes, a, b)
         } else {
             Applied {

@@ -2,7 +2,7 @@
 //!
 //! A line has the operator with its sizes, its operands, whether it may divide by 0, and what it gives: a value is its
 //! lo, hi and step, and `none` stands where there is no value. The first lines of an operator were worked out by hand,
-//! the others by `bench/strided_rows.py`, which reads the rules anew and uses nothing of the program.
+//! the others by `bench/strided_rows`, which reads the rules anew and uses nothing of the program.
 
 use crate::strided::value;
 use alf_ops::{Op, find, operand, rows, shape};

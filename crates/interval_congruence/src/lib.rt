@@ -11,8 +11,11 @@ mod relation;
 mod value;
 
 // What operators give at values.
+mod choices;
 mod comparisons;
+mod conjunctions;
 mod images;
+mod shifts;
 mod sums;
 
 // What the trait of lattices asks for.

@@ -1,8 +1,10 @@
 -- Bounds under which the pieces of values fit 128 bits.
 --   unsigned_far, signed_far   the pieces of a value lie within 2 to the 64
 --   unsigned_greatest_far, ..   and the greatest and the least of them lie there
+--   lesser_places     the words up to the lesser of two greatest ones can be placed
 use Rattle.std.proofs.Common.{ℕ, ℤ, pos, neg_ℤ, ◌≤◌, ◌^◌, arith, Option, Some, None}
 use Rattle.std.specs.Prelude.{◌-ℤ◌, ◌≤ℤ◌}
+use Rattle.std.specs.Int.{int_min}
 use Rattle.std.proofs.lemmas.Int.{ints, clamps}
 use Rattle.progressions.specs.declared.ends.Progression.{Progression}
 use Rattle.progressions.specs.declared.ends.Pieces.{Pieces}
@@ -12,6 +14,9 @@ use Rattle.progressions.specs.ProgressionLaws.{halves, full_most}
 use Rattle.strided_rules.specs.Strides.{Stride, IsStride}
 use Rattle.strided_rules.specs.Members.{unsigned_of, signed_of, greater_end, lesser_end, greatest_of, least_of, unsigned_greatest, unsigned_least, signed_greatest, signed_least}
 use Rattle.strided_rules.specs.MemberLaws.{of_unsigned, of_signed}
+use Rattle.strided_rules.specs.Rules.{span}
+use Rattle.strided_rules.specs.RuleLaws.{span_is}
+use Rattle.strided_operators.specs.Limits.{CanPlace}
 
 wider : (least most : ℤ) (o : Option Progression) → neg_ℤ (pos (2 ^ 64)) ≤ℤ least → most ≤ℤ pos (2 ^ 64) → IfPiece least most o → IfPiece (neg_ℤ (pos (2 ^ 64))) (pos (2 ^ 64)) o
 wider least most None low high i = tt
@@ -65,3 +70,22 @@ signed_greatest_far y s = greatest_within (neg_ℤ (pos (2 ^ 64))) (pos (2 ^ 64)
 
 pub signed_least_far : (y : Stride) → IsStride y → Far (signed_least y)
 signed_least_far y s = least_within (neg_ℤ (pos (2 ^ 64))) (pos (2 ^ 64)) (half y.size -ℤ pos 1) (signed_of y) (omega (arith, ints)) (omega (arith, ints, full_most y.size s.size.most, halves y.size s.size.least)) (signed_far y.size (signed_of y) s.size.least s.size.most (of_signed y s))
+
+-- the words from 0 to the lesser of the greatest ones can be placed
+end_rises : (so_far : ℤ) (o : Option Progression) → so_far ≤ℤ greater_end so_far o
+end_rises so_far None = omega (arith, ints)
+end_rises so_far (Some p) = omega (arith, ints, clamps)
+
+greatest_rises : (pieces : Pieces) → pos 0 ≤ℤ greatest_of (pos 0) pieces
+greatest_rises pieces =
+    let a = end_rises (pos 0) pieces.first in
+    let b = end_rises (greater_end (pos 0) pieces.first) pieces.second in
+    let c = end_rises (greater_end (greater_end (pos 0) pieces.first) pieces.second) pieces.third in
+    omega (arith, ints, a, b, c)
+
+pub lesser_places : (a b : Stride) → unsigned_greatest a ≤ℤ pos (2 ^ 64) → CanPlace (span (pos 0) (int_min (unsigned_greatest a) (unsigned_greatest b)))
+lesser_places a b small =
+    let first = greatest_rises (unsigned_of a) in
+    let second = greatest_rises (unsigned_of b) in
+    let least : pos 0 ≤ℤ int_min (unsigned_greatest a) (unsigned_greatest b) = omega (arith, ints, clamps, first, second) in
+    record { progression = span_is (pos 0) (int_min (unsigned_greatest a) (unsigned_greatest b)) least; low = omega (arith, ints); high = omega (arith, ints, clamps, small) }

@@ -1,5 +1,5 @@
 -- The size of a mask, a bit less at a time.
-use Rattle.std.proofs.Common.{◌≡◌, ◌≢◌, ℕ, zero, suc, ◌+◌, ◌-◌, ◌^◌, arith, refl, Option, Some, None, eq-eqb, ne_eqb}
+use Rattle.std.proofs.Common.{◌≡◌, ◌≢◌, ℕ, zero, suc, ◌+◌, ◌-◌, ◌^◌, arith, refl, Some, None, eq-eqb, ne_eqb}
 use Rattle.strided_rules.specs.Operators.{mask_size}
 
 pub mask_zero : (w x : ℕ) → w ≡ 0 → x ≡ 0 → mask_size w x ≡ Some 0

@@ -3,7 +3,6 @@
 --   between_piece, end_piece   parts of such a piece are such pieces
 --   steps_fit         the common divisor of the steps of two fits
 use Rattle.std.proofs.Common.{ℤ, pos, neg_ℤ, ◌^◌, arith, Option, Some, None}
-use Rattle.std.specs.Prelude.{◌≤ℤ◌}
 use Rattle.std.specs.Int.{w128}
 use Rattle.std.specs.Int.RustNames.{FitsSigned}
 use Rattle.std.proofs.lemmas.Int.{ints}

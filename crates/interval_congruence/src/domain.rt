@@ -140,7 +140,7 @@ impl Domain for Strided {
     }
 
     fn assume(&self, rel: Rel, other: &Self) -> Option<Self> {
-        Strided::assume(*self, rel, *other)
+        self.assumed(rel, *other)
     }
 
     fn only(&self, bits: u64) -> Option<Self> {

@@ -11,14 +11,17 @@ mod relation;
 mod value;
 
 // What operators give at values.
+mod choices;
 mod comparisons;
+mod conjunctions;
 mod images;
 mod pairs;
 mod products;
 mod quotients;
 mod rests;
-mod sums;
+mod shifts;
 mod stubs;
+mod sums;
 
 // What the traits ask for.
 mod dispatch;

@@ -4,14 +4,34 @@
 //! lo, hi and step, and `none` stands where there is no value. The first lines of an operator were worked out by hand,
 //! the others by `bench/strided_rows`, which reads the rules anew and uses nothing of the program.
 
+ghost use Rattle.std.specs.Prelude.{◌≡◌};
+
 use crate::strided::value;
 use alf_ops::{Op, find, operand, rows, shape};
-use domain_core::Domain;
+use domain_core::{Domain, Rel};
 use interval_congruence::Strided;
 use operands::fit;
 use std::alloc::{AllocError, Global};
 use std::process::Abort;
 use std::test::Fail;
+
+/// Numbers at a size, and the same in normal form.
+static NORMED: &str = "\
+8 250 255 1 = 0 -6 -1 1
+8 0 255 1 = 0 0 255 1
+8 0 256 1 = 0 -128 127 1
+8 128 128 0 = 0 -128 -128 0
+8 -129 -129 0 = 0 127 127 0
+8 -1000 -900 50 = 0 24 124 50
+8 1000 1255 5 = 0 -24 231 5
+1 1 1 0 = 0 -1 -1 0
+1 0 1 1 = 0 0 1 1
+1 1 2 1 = 0 -1 0 1
+63 4611686018427387904 4611686018427387904 0 = 0 -4611686018427387904 -4611686018427387904 0
+64 18446744073709551615 18446744073709551615 0 = 0 -1 -1 0
+64 -9223372036854775808 9223372036854775807 1 = 0 -9223372036854775808 9223372036854775807 1
+64 9223372036854775808 9223372036854775810 2 = 0 -9223372036854775808 -9223372036854775806 2
+";
 
 /// Sums and what is below 0.
 static SUMS: &str = "\
@@ -905,6 +925,36 @@ fn all_come_out(rt: &HostRuntime, table: &str) -> Result<(), Fail> {
         let answer = applied(rt, alloc, asked)?;
         assert_eq!(rt; answer.as_str(), due, "{asked}");
     }
+    Ok(())
+}
+
+#[test]
+fn numbers_are_moved_into_range(rt: HostRuntime) -> Result<(), Fail> {
+    let alloc = rt.alloc();
+    for line in NORMED.lines() {
+        let asked = line.split(" = ").nth(0).unwrap_or("");
+        let due = line.split(" = ").nth(1).unwrap_or("");
+        let size = asked.split_whitespace().nth(0).unwrap_or("");
+        let size = size.parse::<u32>().unwrap_or(0);
+        let (lo, hi, step) = (number(asked, 1), number(asked, 2), number(asked, 3));
+        let answer = told(alloc, false, value(size, lo, hi, step))?;
+        assert_eq!(&rt; answer.as_str(), due, "{asked}");
+    }
+    Ok(())
+}
+
+/// Whether some word of the first may be in the relation to one of the second, by the bound alone.
+fn may_relate<D: Domain + Drop>(rel: Rel, a: &D, b: &D) -> bool
+    requires { D.sets.size_of a.now ≡ D.sets.size_of b.now }
+{
+    a.assume(rel, b).is_some()
+}
+
+#[test]
+fn relations_are_had_by_the_bound(rt: HostRuntime) -> Result<(), Fail> {
+    let (few, all) = (Strided::single(8, 3), Strided::whole(8));
+    assert!(&rt; may_relate(Rel::ULt, &few, &all) && !may_relate(Rel::ULt, &all, &Strided::single(8, 0)));
+    assert!(&rt; few.has(3) && !few.has(4) && all.only(256).is_none());
     Ok(())
 }
 

@@ -917,8 +917,7 @@ fn applied(rt: &impl Abort, alloc: Global, asked: &str) -> Result<String, AllocE
 }
 
 /// Each line of a table comes out.
-fn all_come_out(rt: &HostRuntime, table: &str) -> Result<(), Fail> {
-    let alloc = rt.alloc();
+fn all_come_out(rt: &impl Abort, alloc: Global, table: &str) -> Result<(), Fail> {
     for line in table.lines() {
         let asked = line.split(" = ").nth(0).unwrap_or("");
         let due = line.split(" = ").nth(1).unwrap_or("");
@@ -960,25 +959,25 @@ fn relations_are_had_by_the_bound(rt: HostRuntime) -> Result<(), Fail> {
 
 #[test]
 fn sums_come_out(rt: HostRuntime) -> Result<(), Fail> {
-    all_come_out(&rt, SUMS)
+    all_come_out(&rt, rt.alloc(), SUMS)
 }
 
 #[test]
 fn products_quotients_and_rests_come_out(rt: HostRuntime) -> Result<(), Fail> {
-    all_come_out(&rt, PRODUCTS)
+    all_come_out(&rt, rt.alloc(), PRODUCTS)
 }
 
 #[test]
 fn shifts_and_bits_come_out(rt: HostRuntime) -> Result<(), Fail> {
-    all_come_out(&rt, SHIFTS)
+    all_come_out(&rt, rt.alloc(), SHIFTS)
 }
 
 #[test]
 fn comparisons_come_out(rt: HostRuntime) -> Result<(), Fail> {
-    all_come_out(&rt, COMPARISONS)
+    all_come_out(&rt, rt.alloc(), COMPARISONS)
 }
 
 #[test]
 fn other_sizes_and_choices_come_out(rt: HostRuntime) -> Result<(), Fail> {
-    all_come_out(&rt, SIZES)
+    all_come_out(&rt, rt.alloc(), SIZES)
 }

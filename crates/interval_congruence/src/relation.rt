@@ -74,13 +74,6 @@ impl Strided {
         }
     }
 
-    /// The members up to a number, read unsigned.
-    fn unsigned_up_to(self, greatest: Whole) -> Option<Strided>
-        ensures { result ≡ unsigned_between_of self (pos 0) greatest }
-    {
-        self.unsigned_between(Whole::of(0), greatest)
-    }
-
     /// The members from a number on, read unsigned.
     fn unsigned_from(self, least: Whole) -> Option<Strided>
         ensures { result ≡ unsigned_between_of self least (full self.size -ℤ pos 1) }
@@ -107,12 +100,12 @@ impl Strided {
         requires { self.size ≡ other.size }
         ensures { result ≡ assumed_of rel self other }
     {
-        let one = Whole::of(1);
+        let (zero, one) = (Whole::of(0), Whole::of(1));
         match rel {
             Rel::Eq => self.assume_equal(other),
             Rel::Neq => self.assume_unequal(other),
-            Rel::ULt => self.unsigned_up_to(other.unsigned_greatest() - one),
-            Rel::ULe => self.unsigned_up_to(other.unsigned_greatest()),
+            Rel::ULt => self.unsigned_between(zero, other.unsigned_greatest() - one),
+            Rel::ULe => self.unsigned_between(zero, other.unsigned_greatest()),
             Rel::UGt => self.unsigned_from(other.unsigned_least() + one),
             Rel::UGe => self.unsigned_from(other.unsigned_least()),
             Rel::SLt => self.signed_up_to(other.signed_greatest() - one),

@@ -1,5 +1,5 @@
 -- The places that are written with `select` lie in order within its size.
-use Rattle.std.proofs.Common.{◌≡◌, ℕ, List, length, ◌<◌, ◌≤◌, true, IsSome}
+use Rattle.std.proofs.Common.{ℕ, List, length, ◌<◌, ◌≤◌, IsSome}
 use Rattle.std.specs.Prelude.{◌==◌, ◌&&◌, nat_le, nat_lt, slice_index}
 use Rattle.std.proofs.lemmas.Bool.{false≢true, leb-true, ltb-true}
 use Rattle.lists.specs.Tests.{by_test}

@@ -4,11 +4,11 @@
 //! The table of operators decides, and nothing else is trusted. No call takes memory.
 #![tactic(auto)]
 
-// Sets for the operands.
-mod sizes;
-
 // The operator and its sizes.
 mod row;
 
+// Sets for the operands.
+mod sizes;
+
+pub use row::{divides, places, size_of};
 pub use sizes::{HasSize, fit};
-pub use row::{divides, places, size_at, size_of};

@@ -26,7 +26,7 @@ pub fn size_of(op: Op, sizes: &[u32]) -> u32
 }
 
 /// The size that is written at this place, or 0 after the last.
-pub fn size_at(sizes: &[u32], place: usize) -> u32
+fn size_at(sizes: &[u32], place: usize) -> u32
     ensures { result ≡ slice_index sizes.now place }
 {
     if place < sizes.len() { sizes[place] } else { 0 }

@@ -6,6 +6,7 @@ ghost use Rattle.alf_ops.specs.Table.{result_size, operand_sizes};
 ghost use Rattle.operands.specs.Fits.{sizes_fit};
 
 use alf_ops::{Op, operand};
+use flat_domain::Flat;
 
 /// A set of words of one size.
 pub trait HasSize: Sized {
@@ -15,6 +16,14 @@ pub trait HasSize: Sized {
     /// How many bits its words have.
     fn bits(&self) -> u32
         ensures { result ≡ bits_of self.now };
+}
+
+impl HasSize for Flat {
+    ghost bits_of = { λ d. d.size };
+
+    fn bits(&self) -> u32 {
+        self.size()
+    }
 }
 
 /// There is a set of its size for each operand from this place on.

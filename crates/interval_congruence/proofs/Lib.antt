@@ -1,2 +1,5 @@
 mod Bounds
+mod Divisors
 mod Fits
+mod Readings
+mod Takes

@@ -15,6 +15,11 @@ mod choices;
 mod comparisons;
 mod conjunctions;
 mod images;
+mod pairs;
+mod parts;
+mod products;
+mod quotients;
+mod rests;
 mod shifts;
 mod sums;
 

@@ -11,12 +11,16 @@ mod relation;
 mod value;
 
 // What operators give at values.
+mod choices;
 mod comparisons;
+mod conjunctions;
 mod images;
 mod pairs;
+mod parts;
 mod products;
 mod quotients;
 mod rests;
+mod shifts;
 mod sums;
 
 // What the trait of lattices asks for.

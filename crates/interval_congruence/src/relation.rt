@@ -3,56 +3,17 @@
 ghost use Rattle.std.specs.Prelude.{◌≡◌, ◌≤◌, ◌^◌, pos, neg_ℤ, ◌-ℤ◌, ◌≤ℤ◌};
 ghost use Rattle.progressions.specs.Progressions.{full, half};
 ghost use Rattle.progressions.specs.Parts.{IfPiece, ArePieces};
-ghost use Rattle.strided_rules.specs.Members.{greater_end as greater_end_of, lesser_end as lesser_end_of, greatest_of as greatest_of_all, least_of as least_of_all, unsigned_greatest as unsigned_greatest_of, unsigned_least as unsigned_least_of, signed_greatest as signed_greatest_of, signed_least as signed_least_of, assumed as assumed_of};
+ghost use Rattle.strided_rules.specs.Members.{unsigned_greatest as unsigned_greatest_of, unsigned_least as unsigned_least_of, signed_greatest as signed_greatest_of, signed_least as signed_least_of, assumed as assumed_of};
 ghost use Rattle.domain_core.specs.declared.relation.Rel.TheVariants.{Eq, Neq, ULt, ULe, UGt, UGe, SLt, SLe, SGt, SGe};
 
 use crate::value::Strided;
 use domain_core::Rel;
-use progressions::{Pieces, Progression};
-use strided_operators::power;
+use strided_operators::{greatest_of, least_of, power};
 use whole_numbers::Whole;
-
-/// The greater of a number and the last of a piece.
-fn greater_end(so_far: Whole, piece: Option<Progression>) -> Whole
-    ensures { result ≡ greater_end_of so_far piece }
-{
-    match piece {
-        None => so_far,
-        Some(p) => so_far.greatest(p.hi),
-    }
-}
-
-/// The lesser of a number and the first of a piece.
-fn lesser_end(so_far: Whole, piece: Option<Progression>) -> Whole
-    ensures { result ≡ lesser_end_of so_far piece }
-{
-    match piece {
-        None => so_far,
-        Some(p) => so_far.least(p.lo),
-    }
-}
-
-/// The greatest number of the pieces, or `least` where that is greater.
-fn greatest_of(least: Whole, pieces: &Pieces) -> Whole
-    ensures { result ≡ greatest_of_all least pieces.now }
-{
-    let one = greater_end(least, pieces.first);
-    let two = greater_end(one, pieces.second);
-    greater_end(two, pieces.third)
-}
-
-/// The least number of the pieces, or `greatest` where that is less.
-fn least_of(greatest: Whole, pieces: &Pieces) -> Whole
-    ensures { result ≡ least_of_all greatest pieces.now }
-{
-    let one = lesser_end(greatest, pieces.first);
-    let two = lesser_end(one, pieces.second);
-    lesser_end(two, pieces.third)
-}
 
 impl Strided {
     /// The greatest member, read unsigned.
-    fn unsigned_greatest(self) -> Whole
+    pub(crate) fn unsigned_greatest(self) -> Whole
         ensures value { result ≡ unsigned_greatest_of self }
         ensures low { neg_ℤ (pos (2 ^ 64)) ≤ℤ result }
         ensures high { result ≤ℤ pos (2 ^ 64) }

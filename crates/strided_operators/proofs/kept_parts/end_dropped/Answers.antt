@@ -1,5 +1,5 @@
-use Rattle.interval_congruence.proofs.Bounds.{piece_small}
-use Rattle.interval_congruence.proofs.kept.end_dropped.Goals as goal
+use Rattle.strided_operators.proofs.Parts.{piece_small}
+use Rattle.strided_operators.proofs.kept_parts.end_dropped.Goals as goal
 
 pub without_first-requires : goal.without_first-requires
 without_first-requires c = piece_small c.args.p.now c.requires

@@ -9,7 +9,7 @@ use Rattle.std.proofs.lemmas.Int.{ints, clamps}
 use Rattle.progressions.specs.declared.ends.Progression.{Progression}
 use Rattle.progressions.specs.declared.ends.Pieces.{Pieces}
 use Rattle.progressions.specs.Progressions.{full, half}
-use Rattle.progressions.specs.Parts.{IfPiece, ArePieces}
+use Rattle.progressions.specs.Parts.{IsPiece, IfPiece, ArePieces}
 use Rattle.progressions.specs.ProgressionLaws.{halves, full_most}
 use Rattle.strided_rules.specs.Strides.{Stride, IsStride}
 use Rattle.strided_rules.specs.Members.{unsigned_of, signed_of, greater_end, lesser_end, greatest_of, least_of, unsigned_greatest, unsigned_least, signed_greatest, signed_least}
@@ -17,6 +17,10 @@ use Rattle.strided_rules.specs.MemberLaws.{of_unsigned, of_signed}
 use Rattle.strided_rules.specs.Rules.{span}
 use Rattle.strided_rules.specs.RuleLaws.{span_is}
 use Rattle.strided_operators.specs.Limits.{CanPlace}
+
+-- a piece within 2 to the 64
+abbrev pub IsFar : Progression → Type 0
+IsFar p = IsPiece (neg_ℤ (pos (2 ^ 64))) (pos (2 ^ 64)) p
 
 wider : (least most : ℤ) (o : Option Progression) → neg_ℤ (pos (2 ^ 64)) ≤ℤ least → most ≤ℤ pos (2 ^ 64) → IfPiece least most o → IfPiece (neg_ℤ (pos (2 ^ 64))) (pos (2 ^ 64)) o
 wider least most None low high i = tt

@@ -16,11 +16,11 @@ mod comparisons;
 mod conjunctions;
 mod images;
 mod pairs;
+mod parts;
 mod products;
 mod quotients;
 mod rests;
 mod shifts;
-mod stubs;
 mod sums;
 
 // What the traits ask for.

@@ -1,7 +1,7 @@
-//! Values shifted, and bits selected of them.
+//! Values shifted.
 
-ghost use Rattle.std.specs.Prelude.{◌≡◌, ◌≤◌, ◌<◌};
-ghost use Rattle.strided_rules.specs.Operators.{by_word, l_shift_by as l_shift_by_of, r_shift_by as r_shift_by_of, r_shift_a_by as r_shift_a_by_of, select as select_of};
+ghost use Rattle.std.specs.Prelude.{◌≡◌};
+ghost use Rattle.strided_rules.specs.Operators.{by_word, l_shift_by as l_shift_by_of, r_shift_by as r_shift_by_of, r_shift_a_by as r_shift_a_by_of};
 
 use crate::value::Strided;
 use strided_operators::{Shifts, shifted_left};
@@ -20,7 +20,7 @@ impl Strided {
     }
 
     /// Its words, read unsigned, by 2 to the bits, rounded down.
-    fn r_shift_by(self, bits: u64) -> Strided
+    pub(crate) fn r_shift_by(self, bits: u64) -> Strided
         ensures { result ≡ r_shift_by_of self bits }
     {
         self.unsigned_each(self.size(), &Shifts { bits })
@@ -57,14 +57,5 @@ impl Strided {
         } else {
             Strided::every_word(self.size())
         }
-    }
-
-    /// The bits from `low` to `high` of its words.
-    pub fn select(self, low: u32, high: u32) -> Strided
-        requires low { low ≤ high }
-        requires high { high < self.size }
-        ensures { result ≡ select_of low high self }
-    {
-        self.r_shift_by(low as u64).trunc(high - low + 1)
     }
 }

@@ -1,4 +1,5 @@
 mod Bounds
+mod Cuts
 mod Divisors
 mod DivisorSizes
 mod Fits

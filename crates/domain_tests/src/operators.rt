@@ -952,7 +952,9 @@ fn may_relate<D: Domain + Drop>(rel: Rel, a: &D, b: &D) -> bool
 #[test]
 fn relations_are_had_by_the_bound(rt: HostRuntime) -> Result<(), Fail> {
     let (few, all) = (Strided::single(8, 3), Strided::whole(8));
-    assert!(&rt; may_relate(Rel::ULt, &few, &all) && !may_relate(Rel::ULt, &all, &Strided::single(8, 0)));
+    assert!(&rt;
+        may_relate(Rel::ULt, &few, &all) && !may_relate(Rel::ULt, &all, &Strided::single(8, 0))
+    );
     assert!(&rt; few.has(3) && !few.has(4) && all.only(256).is_none());
     Ok(())
 }

@@ -107,12 +107,7 @@ fn normal(size: u32, p: &Progression) -> Option<Strided> {
     if size < 1 || 64 < size || !p.is_small() || !p.is_progression() {
         return None;
     }
-    Some(Strided::norm(
-        size,
-        p.lo.number(),
-        p.hi.number(),
-        p.step.number(),
-    ))
+    Some(Strided::norm(size, p.lo.number(), p.hi.number(), p.step.number()))
 }
 
 // Values of a kind.

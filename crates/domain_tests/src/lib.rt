@@ -7,6 +7,4 @@ mod flat;
 
 // Strided values.
 #[cfg(test)]
-mod operators;
-#[cfg(test)]
 mod strided;

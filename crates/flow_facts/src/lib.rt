@@ -1,0 +1,18 @@
+//! Flow facts and the reports that hold them: what a program's runs may do, without the text.
+//!
+//! A fact says something of every run: how often a loop turns, how often a node occurs, which
+//! nodes exclude one another. `holds` tests one fact on one run's trace, by the definition in
+//! `specs/Facts.antt`. A report puts facts beside the program's nodes and scopes, the bounds that
+//! follow from them, and on request a certificate by which both can be checked again.
+#![tactic(auto)]
+
+// What a fact says, and the test of it.
+mod fact;
+
+// What a report holds.
+mod certificate;
+mod report;
+
+pub use certificate::Cert;
+pub use fact::{Fact, RunKind};
+pub use report::{BoundWord, NodeLine, Report};

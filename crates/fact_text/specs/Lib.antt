@@ -1,0 +1,7 @@
+-- Numbers and names, the grammar, what a text means, what the reader stands for, and what reports promise.
+pub mod Numbers
+pub mod Names
+pub mod Grammar
+pub mod Language
+pub mod Reading
+pub mod Laws

@@ -1,5 +1,4 @@
--- Digits, names, meanings, and what texts of reports promise.
-pub mod Digits
-pub mod Parts
-pub mod NodeNames
+-- Meanings, texts of reports, and the reports that texts spell.
 pub mod Meaning
+pub mod Written
+pub mod Kept

@@ -2,7 +2,7 @@
 use Rattle.std.proofs.Common.{◌≡◌, ℕ, List, Result, Ok, Err, refl, sym, ap, subst}
 use Rattle.grammar.specs.Exact.{Says}
 use Rattle.flow_facts.specs.Reports.{Reported}
-use Rattle.fact_text.specs.Numbers.{Fault}
+use Rattle.fact_words.specs.Numbers.{Fault}
 use Rattle.fact_text.specs.Grammar.{Place, report}
 use Rattle.fact_text.specs.Language.{start, Departure, placed, Means, HasOneMeaning}
 

@@ -25,8 +25,8 @@ use Rattle.flow_facts.specs.declared.report.BoundWord.TheVariants.{Least, Stoppe
 use Rattle.flow_facts.specs.Reports.{NamedNode, Certificate, Reported}
 use Rattle.flow_facts.specs.Writable.{kind_place, numbers_of}
 use Rattle.fact_tokens.specs.Tokens.{Lexeme}
-use Rattle.fact_text.specs.Numbers.{Fault, Syntax, Number, number_within, whole_within, is_positive}
-use Rattle.fact_text.specs.Names.{is_node_name}
+use Rattle.fact_words.specs.Numbers.{Fault, Syntax, Number, number_within, whole_within, is_positive}
+use Rattle.fact_words.specs.Names.{is_node_name}
 
 abbrev pub Place : Type 0
 Place = At Lexeme (Unit {0})
@@ -64,11 +64,15 @@ told r = judge (λ at. r)
 abbrev pub only_if : {A : Type 0} → Bool → A → ℕ → Result A Fault
 only_if b x left = if b then Ok x else Err (Syntax left)
 
+-- nothing, where this holds
+abbrev pub check : Bool → ℕ → Result (Unit {0}) Fault
+check b left = only_if b tt left
+
 -- this word begins the line
 unfoldable pub begins : List ℕ → Rule true (Unit {0})
 begins w = do
   t ← line_word
-  told (only_if (bytes_eq t.text w) tt t.left)
+  told (check (bytes_eq t.text w) t.left)
 
 -- a number of at most so much
 unfoldable pub number : ℕ → Rule true ℕ
@@ -126,7 +130,7 @@ heading = do
 
 -- this very number, which is that of the members before it
 abbrev pub is_next : ℕ → ℕ → ℕ → Result (Unit {0}) Fault
-is_next n m left = only_if (m == n) tt left
+is_next n m left = check (m == n) left
 
 unfoldable pub numbered : ℕ → Rule true (Unit {0})
 numbered n = do
@@ -316,9 +320,9 @@ low_fits (Alarm n k) = true
 unfoldable pub fact : ℕ → Option Fact → Rule true Fact
 fact form last = do
   w ← line_word
-  told (only_if (may_stand form last (place_of_word w.text)) tt w.left)
+  told (check (may_stand form last (place_of_word w.text)) w.left)
   x ← fact_tail w
-  told (only_if (follows last x.0) tt w.left)
+  told (check (follows last x.0) w.left)
   told (only_if (low_fits x.0) x.0 x.1)
 
 abbrev pub or_last : Fact → Option Fact → Option Fact
@@ -411,7 +415,7 @@ unfoldable pub ending : Rule true (Unit {0})
 ending = do
   begins (codes "end")
   t ← line_word
-  told (only_if (t.left == 0) tt t.left)
+  told (check (t.left == 0) t.left)
 
 -- the nodes, scopes and facts
 unfoldable pub lists : ℕ → Rule false (List NamedNode × List ScopeRow × List Fact)

@@ -6,15 +6,15 @@
 --   Departure, placed bytes fault the fault as it is told: with the place in the text
 --   Means bytes meaning           the bytes spell the report, or depart so
 --   HasOneMeaning bytes           they have exactly one meaning
---   departure_in answer           the departure of an answer, or none where memory ran out
+--   departure_of answer           the departure of an answer of `read`, or none where memory ran out
 use Rattle.std.specs.Prelude.{◌≡◌, ◌+◌, ◌-◌, ◌==◌, ℕ, not, Bool, List, length, take, filter, reverse, Result, Ok, Err, Option, Some, None}
 use Rattle.std.specs.List.{prefix_len}
 use Rattle.flow_base.specs.declared.place.Place.{Place}
 use Rattle.flow_facts.specs.Reports.{Reported}
 use Rattle.fact_tokens.specs.Tokens.{tokens_of}
-use Rattle.fact_text.specs.declared.fault.FaultAt.{FaultAt}
-use Rattle.fact_text.specs.declared.fault.FaultAt.TheVariants as faults
-use Rattle.fact_text.specs.Numbers.{DepartureAt, Fault, Syntax, Number}
+use Rattle.fact_words.specs.declared.fault.FaultAt.{FaultAt}
+use Rattle.fact_words.specs.Numbers.{DepartureAt, Fault, Syntax, Number}
+use Rattle.fact_words.specs.Answers.{departure_in}
 use Rattle.fact_text.specs.Grammar.{report}
 use Rattle.fact_text.specs.Grammar as grammar
 
@@ -72,12 +72,6 @@ pub record HasOneMeaning (bytes : List ℕ) : Type 0 where
   pub meaning : Result Reported Departure
   pub means : Means bytes meaning
   pub only : (other : Result Reported Departure) → Means bytes other → meaning ≡ other
-
--- the departure that an answer tells, or none for want of memory
-abbrev pub departure_in : {P : Type 0} → FaultAt P → Option (DepartureAt P)
-departure_in (faults.Syntax place) = Some (Syntax place)
-departure_in (faults.Number place) = Some (Number place)
-departure_in faults.Memory = None
 
 -- the departure that `read` tells
 abbrev pub departure_of : FaultAt Place → Option Departure

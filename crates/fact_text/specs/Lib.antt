@@ -1,6 +1,4 @@
--- Numbers and names, the grammar, what a text means, what the reader stands for, and what reports promise.
-pub mod Numbers
-pub mod Names
+-- The grammar, what a text means, what the reader stands for, and what reports promise.
 pub mod Grammar
 pub mod Language
 pub mod Reading

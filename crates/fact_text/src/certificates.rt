@@ -7,8 +7,8 @@ ghost use Rattle.fact_tokens.specs.Ahead.{lexeme};
 ghost use Rattle.fact_text.specs.Grammar.{event_begins, step, merge, event_tail, event, scale, line_is, multiplier, cert};
 ghost use Rattle.fact_text.specs.Reading.{position, Reads};
 
-use crate::fault::Departure;
-use crate::numbers::{is_positive, whole_within};
+use fact_words::Departure;
+use fact_words::{is_positive, whole_within};
 use crate::parts::{Events, Multipliers};
 use crate::reader::Reader;
 use domain_core::Event;
@@ -49,7 +49,7 @@ impl<'a> Reader<'a> {
 
     #[tactic(auto, unfolding(crate::specs::Grammar::event_tail, crate::specs::Grammar::unknown))]
     fn event_tail(&mut self, word: Token<'a>) -> Result<Event, Departure>
-        ensures { Reads (event_tail (lexeme word)) (λ x. x) result self.old self.new }
+        ensures { Reads (event_tail (lexeme word.entry)) (λ x. x) result self.old self.new }
     {
         if word.text == b"step".as_slice() {
             self.step()

@@ -7,8 +7,8 @@ ghost use Rattle.flow_facts.specs.Writable.{kind_place, numbers_of};
 ghost use Rattle.fact_text.specs.Grammar.{place_of_word, fact_begins, last_place, may_stand, bounds, loop_fact, count_fact, dead_fact, total_fact, pair_fact, cause, alarm_fact, fact_tail, stands_before, follows, low_fits, fact, next_fact};
 ghost use Rattle.fact_text.specs.Reading.{position, Reads};
 
-use crate::fault::Departure;
-use crate::numbers::number_within;
+use fact_words::Departure;
+use fact_words::number_within;
 use crate::order::stands_before;
 use crate::reader::Reader;
 use fact_tokens::Token;
@@ -196,7 +196,7 @@ impl<'a> Reader<'a> {
     // What follows the first word of a line, with the place at which the bounds are tested.
     #[tactic(auto, unfolding(crate::specs::Grammar::fact_tail, crate::specs::Grammar::unknown))]
     fn fact_tail(&mut self, word: Token<'a>) -> Result<(Fact, usize), Departure>
-        ensures { Reads (fact_tail (lexeme word)) (λ x. x) result self.old self.new }
+        ensures { Reads (fact_tail (lexeme word.entry)) (λ x. x) result self.old self.new }
     {
         if word.text == b"loop".as_slice() {
             self.loop_fact()

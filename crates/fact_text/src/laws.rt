@@ -17,5 +17,5 @@ pub fn writable_reports_are_spelled()
 pub fn two_reports_have_two_texts()
     ensures { ReportsHaveOwnTexts }
 {
-    writable_reports_are_spelled();
+    printed_texts_are_cut();
 }

@@ -8,12 +8,7 @@
 //! alone, `IsWritable` of `flow_facts`. The rules stand in words in `docs/formats/report.md`.
 #![tactic(auto)]
 
-// How a text departs.
-mod fault;
-
 // Single words.
-mod names;
-mod numbers;
 mod reader;
 
 // Lines and lists of them.
@@ -29,7 +24,7 @@ mod language;
 mod laws;
 mod printing;
 
-pub use fault::ReportFault;
+pub use fact_words::ReportFault;
 pub use language::{one_meaning, read};
 pub use laws::{two_reports_have_two_texts, writable_reports_are_spelled};
 pub use printing::print;

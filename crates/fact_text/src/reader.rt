@@ -5,13 +5,13 @@ ghost use Rattle.std.specs.Option.{option_map};
 ghost use Rattle.grammar.specs.Form.{first, after};
 ghost use Rattle.fact_tokens.specs.Tokens.{tokens_of};
 ghost use Rattle.fact_tokens.specs.Ahead.{lexeme};
-ghost use Rattle.fact_text.specs.declared.fault.FaultAt.TheVariants.{Syntax};
+ghost use Rattle.fact_words.specs.declared.fault.FaultAt.TheVariants.{Syntax};
 ghost use Rattle.fact_text.specs.Language.{start};
 ghost use Rattle.fact_text.specs.Grammar.{line_is, line_word, next_word, begins, number, count, whole};
 ghost use Rattle.fact_text.specs.Reading.{position, Reads};
 
-use crate::fault::Departure;
-use crate::numbers::{number_within, whole_within};
+use fact_words::Departure;
+use fact_words::{number_within, whole_within};
 use fact_tokens::{Cursor, Token};
 use std::alloc::Global;
 

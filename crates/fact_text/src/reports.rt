@@ -7,7 +7,7 @@ ghost use Rattle.flow_facts.specs.Reports.{node_of, certificate_of, reported};
 ghost use Rattle.fact_text.specs.Grammar.{heading, count_bound, path_bound, line_is, cert, ending, lists, tail, report};
 ghost use Rattle.fact_text.specs.Reading.{position, Reads};
 
-use crate::fault::Departure;
+use fact_words::Departure;
 use crate::reader::Reader;
 use domain_core::ScopeRow;
 use flow_facts::{BoundWord, Cert, Fact, NodeLine, Report};

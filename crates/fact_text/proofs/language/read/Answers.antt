@@ -3,7 +3,7 @@ use Rattle.std.proofs.Common.{◌≡◌, Ok, Err, Option, Some, None, IfSome, Is
 use Rattle.grammar.specs.Form.{Fails}
 use Rattle.flow_facts.specs.Reports.{reported}
 use Rattle.fact_text.specs.Grammar.{Place, report}
-use Rattle.fact_text.specs.Numbers.{Fault}
+use Rattle.fact_words.specs.Numbers.{Fault}
 use Rattle.fact_text.specs.Reading.{position, fault_of}
 use Rattle.fact_text.specs.Language.{start, Departure, departure_of, placed, Means}
 use Rattle.fact_text.proofs.Meaning.{read_means}

@@ -4,11 +4,12 @@
 --   is_block part           the number of a block
 --   fits_parts quoted parts what follows in a node's name, where quoted is true from the inside of quotes on
 --   is_node_name text       a node's name
-use Rattle.std.specs.Prelude.{ℕ, ◌-◌, ◌^◌, ◌&&◌, ◌||◌, ◌==◌, not, List, [], ◌∷◌, length, Bool, true, false, Result, Ok, Err, nat_lt, nat_le, codes, if◌then◌else◌}
+use Rattle.std.specs.Prelude.{ℕ, ◌-◌, ◌^◌, ◌&&◌, ◌||◌, ◌==◌, not, List, [], ◌∷◌, length, Bool, true, false, Option, Some, None, nat_lt, nat_le, codes, if◌then◌else◌}
+use denote.Ref.{Bor}
 use Rattle.std.specs.List.{list_all}
 use Rattle.std.specs.Str.{bytes_eq}
 use Rattle.flow_base.specs.Digits.{number_of}
-use Rattle.fact_text.specs.Numbers.{is_numeral, has_zeros}
+use Rattle.fact_words.specs.Numbers.{is_numeral, has_zeros}
 
 abbrev pub with_first : ℕ → List (List ℕ) → List (List ℕ)
 with_first b [] = []
@@ -18,6 +19,16 @@ with_first b (p ∷ ps) = (b ∷ p) ∷ ps
 abbrev pub parts_of : List ℕ → List (List ℕ)
 parts_of [] = [] ∷ []
 parts_of (b ∷ bs) = if b == 34 then [] ∷ parts_of bs else with_first b (parts_of bs)
+
+-- the parts after the quote that comes first
+abbrev pub further : List ℕ → List (List ℕ)
+further [] = []
+further (b ∷ bs) = parts_of bs
+
+-- the parts of the bytes, where there are any
+abbrev pub parts_after : Option (Bor (List ℕ)) → List (List ℕ)
+parts_after None = []
+parts_after (Some bytes) = parts_of bytes.now
 
 -- from the space to the tilde, but no quote and no backslash
 abbrev pub is_name_byte : ℕ → Bool

@@ -1,6 +1,6 @@
 -- Digits, and the numbers that they write.
-use Rattle.std.proofs.Common.{◌≡◌, ℕ, ℤ, pos, negsuc, zero, suc, ◌+◌, ◌-◌, ◌*◌, ◌/◌, ◌%◌, ◌^◌, ◌≤◌, ◌<◌, ◌&&◌, Bool, true, false, not, ltb, leb, List, [], ◌∷◌, ◌++◌, length, Ok, Err, refl, sym, ap, ◌∙◌, arith, length-append, append_assoc, append-nil}
-use Rattle.std.specs.Prelude.{◌==◌, decimal}
+use Rattle.std.proofs.Common.{◌≡◌, ℕ, ℤ, pos, negsuc, zero, suc, ◌+◌, ◌-◌, ◌*◌, ◌/◌, ◌%◌, ◌^◌, ◌≤◌, ◌<◌, ◌&&◌, Bool, true, false, not, ltb, leb, List, [], ◌∷◌, ◌++◌, length, Ok, Err, Result, cond, refl, sym, ap, subst, ◌∙◌, arith, length-append, append_assoc, append-nil}
+use Rattle.std.specs.Prelude.{◌==◌, decimal, neg_ℤ}
 use Rattle.std.specs.Fmt.{signed_decimal}
 use Rattle.std.specs.List.{list_all}
 use Rattle.std.specs.Char.{is_ascii_digit}
@@ -9,8 +9,11 @@ use Rattle.std.proofs.lemmas.Fmt.{decimal_by_steps_wide, decimal_step_wide}
 use Rattle.std.proofs.lemmas.List.Folds.{list_all-append}
 use Rattle.lists.specs.Tests.{by_test}
 use Rattle.flow_base.specs.Digits.{prefix_digits, number_after, number_of}
+use Rattle.grammar.specs.Form.{and_then}
+use Rattle.grammar.specs.Exact.{ok_is, ok_no_err}
+use Rattle.flow_facts.specs.Writable.{IsLong}
 use Rattle.fact_tokens.specs.Printed.{goes_through, is_word}
-use Rattle.fact_text.specs.Numbers.{Fault, Syntax, Number, is_numeral, has_zeros, number_within, is_below, whole_within}
+use Rattle.fact_words.specs.Numbers.{Fault, Syntax, Number, is_numeral, has_zeros, number_within, is_below, after_minus, negative, whole_within}
 
 -- all of them are the longest list of digits
 pub all_digits : (ds : List ℕ) → list_all is_ascii_digit ds ≡ true → prefix_digits ds ≡ ds
@@ -103,6 +106,9 @@ digits_word ds h = rw (← append-nil ds) (plain_goes ds [] h)
 pub decimal_word : (n : ℕ) → n < 10 ^ 64 → is_word (decimal n) ≡ true
 decimal_word n lt = digits_word (decimal n) (decimal_writes n lt).digits
 
+pub negative_word : (n : ℕ) → suc n < 10 ^ 64 → is_word (signed_decimal (negsuc n)) ≡ true
+negative_word n lt = decimal_word (suc n) lt
+
 -- what is known of the digits of a number of 32 bits
 pub record IsDigits (n : ℕ) : Type 0 where
   pub number : number_of (decimal n) ≡ n
@@ -192,3 +198,48 @@ decimal_of (d ∷ ds) some clean lt = by_test (d == 48)
         let some : 1 ≤ n = grind (arith, z, r) in
         let back : 48 + n ≡ d = omega (arith, r) in
         decimal_after n ds some (second (is_ascii_digit d) (list_all is_ascii_digit ds) all) lt ∙ rw (decimal_small n (omega (arith, r)), back) refl
+
+pub decimal_one : decimal 1 ≡ 49 ∷ []
+decimal_one = decimal_small 1 (omega arith)
+
+pub decimal_two : decimal 2 ≡ 50 ∷ []
+decimal_two = decimal_small 2 (omega arith)
+
+-- ---- what is read fits
+
+tested : {A : Type 0} (b : Bool) (f : Fault) (r : Result A Fault) (x : A) → cond b r (Err f) ≡ Ok x → (b ≡ true) × (r ≡ Ok x)
+tested true f r x e = (refl, e)
+tested false f r x e = ok_no_err x f e
+
+refused : {A : Type 0} (b : Bool) (f : Fault) (r : Result A Fault) (x : A) → cond b (Err f) r ≡ Ok x → (b ≡ false) × (r ≡ Ok x)
+refused true f r x e = ok_no_err x f e
+refused false f r x e = (refl, e)
+
+-- a number that was read is at most so much
+pub within_bounds : (most : ℕ) (text : List ℕ) (left n : ℕ) → number_within most text left ≡ Ok n → n ≤ most
+unfolding number_within
+within_bounds most text left n e =
+    let a = tested (is_numeral text) (Syntax left) _ n e in
+    let b = refused (ltb most (number_of text)) (Number left) _ n a.1 in
+    let c = refused (has_zeros text) (Syntax left) (Ok (number_of text)) n b.1 in
+    let k : number_of text ≡ n = ok_is {F = Fault} (number_of text) n c.1 in
+    grind (arith, b.0, k)
+
+below_long : (left n : ℕ) (b : Bool) (z : ℤ) → n == 0 ≡ b → n ≤ 2 ^ 127 → ◌≡◌ {A = Result ℤ Fault} (cond b (Err (Syntax left)) (Ok (neg_ℤ (pos n)))) (Ok z) → IsLong z
+below_long left zero true z h le e = ok_no_err z (Syntax left) e
+below_long left (suc n) true z h le e = ok_no_err z (Syntax left) e
+below_long left zero false z h le e = subst IsLong (ok_is {F = Fault} (neg_ℤ (pos 0)) z e) (omega arith)
+below_long left (suc n) false z h le e = subst IsLong (ok_is {F = Fault} (negsuc n) z e) (omega (arith, le))
+
+-- a whole number that was read fits
+pub whole_bounds : (text : List ℕ) (left : ℕ) (z : ℤ) → whole_within text left ≡ Ok z → IsLong z
+unfolding whole_within
+whole_bounds text left z e = by_test (is_below text) (λ t. below (number_within (2 ^ 127) (after_minus text) left) refl (rw t at e)) (λ t. above (number_within (2 ^ 127 - 1) text left) refl (rw t at e))
+  where
+    below : (r : Result ℕ Fault) → number_within (2 ^ 127) (after_minus text) left ≡ r → and_then r (negative left) ≡ Ok z → IsLong z
+    below (Ok n) k e = below_long left n (n == 0) z refl (within_bounds (2 ^ 127) (after_minus text) left n k) e
+    below (Err f) k e = ok_no_err z f e
+
+    above : (r : Result ℕ Fault) → number_within (2 ^ 127 - 1) text left ≡ r → ◌≡◌ {A = Result ℤ Fault} (and_then r (λ n. Ok (pos n))) (Ok z) → IsLong z
+    above (Ok n) k e = subst IsLong (ok_is {F = Fault} (pos n) z e) (omega (arith, within_bounds (2 ^ 127 - 1) text left n k))
+    above (Err f) k e = ok_no_err z f e

@@ -1,5 +1,5 @@
 ghost use Rattle.std.specs.Prelude.{◌≡◌};
-ghost use Rattle.fact_text.specs.declared.fault.FaultAt.TheVariants.{Memory};
+ghost use Rattle.fact_words.specs.declared.fault.FaultAt.TheVariants.{Memory};
 
 use flow_base::Place;
 use std::alloc::{AllocError, AllocFailed};

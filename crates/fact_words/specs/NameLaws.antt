@@ -14,10 +14,9 @@ use Rattle.flow_base.specs.Digits.{number_of}
 use Rattle.flow_facts.specs.Writable.{IsNumber, IsNameByte, IsName, quoted, IsPathName, of_root, of_call, IsNodeName, of_entry, of_block}
 use Rattle.fact_tokens.specs.Tokens.{ends_word, is_quoted_after}
 use Rattle.fact_tokens.specs.Printed.{goes_through, is_word}
-use Rattle.fact_text.specs.Numbers.{is_numeral, has_zeros}
-use Rattle.fact_text.specs.Names.{with_first, parts_of, is_name_byte, is_name, is_block, is_call, is_end, is_over, fits_parts, begins_quoted, is_node_name}
-use Rattle.fact_text.proofs.Digits.{decimal_of, decimal_is, decimal_goes}
-use Rattle.fact_text.proofs.Parts.{no_quote}
+use Rattle.fact_words.specs.Numbers.{is_numeral, has_zeros}
+use Rattle.fact_words.specs.Names.{with_first, parts_of, is_name_byte, is_name, is_block, is_call, is_end, is_over, fits_parts, begins_quoted, is_node_name}
+use Rattle.fact_words.specs.DigitLaws.{decimal_of, decimal_is, decimal_goes}
 
 and_left : (a b : Bool) → a && b ≡ true → a ≡ true
 and_left true b h = refl
@@ -26,6 +25,9 @@ and_left false b h = absurd cc
 and_right : (a b : Bool) → a && b ≡ true → b ≡ true
 and_right true b h = h
 and_right false b h = absurd cc
+
+abbrev no_quote : ℕ → Bool
+no_quote b = not (b == 34)
 
 -- ---- names between quotes
 

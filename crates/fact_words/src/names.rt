@@ -1,8 +1,8 @@
 //! Names of nodes.
 
-ghost use Rattle.std.specs.Prelude.{◌≡◌, ◌≤◌, ◌==◌, not, true, length, if◌then◌else◌};
-ghost use Rattle.std.specs.List.{prefix_len};
-ghost use Rattle.fact_text.specs.Names.{is_name_byte, is_name, is_block, is_call, is_end, fits_parts, parts_of, is_node_name};
+ghost use Rattle.std.specs.Prelude.{◌≡◌, ◌≤◌, ◌<◌, ◌==◌, not, true, IfSome, length, if◌then◌else◌};
+ghost use Rattle.std.specs.List.{prefix_len, list_all};
+ghost use Rattle.fact_words.specs.Names.{is_name_byte, is_name, is_block, is_call, is_end, fits_parts, parts_of, further, parts_after, is_node_name};
 
 use crate::numbers::{has_zeros, is_numeral};
 use flow_base::digits;
@@ -17,14 +17,27 @@ fn is_name_byte(byte: u8) -> bool
     b' ' <= byte && byte <= b'~' && byte != b'"' && byte != b'\\'
 }
 
+fn all_name_bytes(part: &[u8]) -> bool
+    ensures { result ≡ list_all is_name_byte part.now }
+{
+    let mut rest = part;
+    while let Some((byte, others)) = rest.split_first() {
+        if !is_name_byte(*byte) {
+            return false;
+        }
+        rest = others;
+    }
+    true
+}
+
 fn is_name(part: &[u8]) -> bool
     ensures { result ≡ is_name part.now }
 {
-    !part.is_empty() && part.len() <= MOST_NAME && part.iter().all(|byte| is_name_byte(*byte))
+    0 < part.len() && part.len() <= MOST_NAME && all_name_bytes(part)
 }
 
 // Whether these digits are the number of a block.
-#[tactic(auto, using(crate::proofs::Digits::all_digits))]
+#[tactic(auto, using(crate::specs::DigitLaws::all_digits))]
 fn is_block(part: &[u8]) -> bool
     ensures { result ≡ is_block part.now }
 {
@@ -63,6 +76,17 @@ fn part_len(text: &[u8]) -> usize
     text.iter().take_while(|byte| **byte != b'"').count()
 }
 
+// The bytes after the quote that ends a part, if there is one.
+fn after_quote(after: &[u8]) -> Option<&[u8]>
+    ensures parts { parts_after result ≡ further after.now }
+    ensures shorter { IfSome result (λ others. length others.now < length after.now) }
+{
+    match after {
+        [] => None,
+        [_, others @ ..] => Some(others),
+    }
+}
+
 // Whether what follows the first quote goes on as a node's name does.
 fn fits_after_quote(text: &[u8]) -> bool
     ensures { result ≡ fits_parts true (parts_of text.now) }
@@ -71,7 +95,7 @@ fn fits_after_quote(text: &[u8]) -> bool
     let mut rest = text;
     loop {
         let (part, after) = rest.split_at(part_len(rest));
-        let Some((_, others)) = after.split_first() else {
+        let Some(others) = after_quote(after) else {
             return !quoted && is_end(part);
         };
         if !fits_part(quoted, part) {
@@ -90,7 +114,7 @@ fn fits_part(quoted: bool, part: &[u8]) -> bool
 }
 
 /// Whether the word is the name of a node.
-#[tactic(auto, unfolding(crate::specs::Names::is_node_name))]
+#[tactic(auto, unfolding(crate::specs::Names::is_node_name), using(crate::proofs::NameParts::other_first))]
 pub fn is_node_name(text: &[u8]) -> bool
     ensures { result ≡ is_node_name text.now }
 {

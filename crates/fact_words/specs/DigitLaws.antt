@@ -92,12 +92,12 @@ plain_goes : (ds ys : List ℕ) → list_all is_ascii_digit ds ≡ true → goes
 plain_goes [] ys h = refl
 plain_goes (d ∷ ds) ys h = by_test (is_ascii_digit d)
     (λ t.
-        let more : list_all is_ascii_digit ds ≡ true = rw t at h in
-        let low : 48 ≤ d = (digit_range d t).0 in
-        let a : d == 10 ≡ false = ne_eqb _ _ (λ e. absurd (omega (arith, e, low))) in
-        let b : d == 32 ≡ false = ne_eqb _ _ (λ e. absurd (omega (arith, e, low))) in
-        let c : d == 34 ≡ false = ne_eqb _ _ (λ e. absurd (omega (arith, e, low))) in
-        rw (a, b, c) (plain_goes ds ys more))
+    let more : list_all is_ascii_digit ds ≡ true = rw t at h in
+    let low : 48 ≤ d = (digit_range d t).0 in
+    let a : d == 10 ≡ false = ne_eqb _ _ (λ e. absurd (omega (arith, e, low))) in
+    let b : d == 32 ≡ false = ne_eqb _ _ (λ e. absurd (omega (arith, e, low))) in
+    let c : d == 34 ≡ false = ne_eqb _ _ (λ e. absurd (omega (arith, e, low))) in
+    rw (a, b, c) (plain_goes ds ys more))
     (λ t. absurd (let k : false ≡ true = rw t at h in cc))
 
 digits_word : (ds : List ℕ) → list_all is_ascii_digit ds ≡ true → is_word ds ≡ true
@@ -165,14 +165,14 @@ decimal_after : (n : ℕ) (ds : List ℕ) → 1 ≤ n → list_all is_ascii_digi
 decimal_after n [] some all lt = simp append-nil
 decimal_after n (d ∷ ds) some all lt = by_test (is_ascii_digit d)
     (λ t.
-        let more : list_all is_ascii_digit ds ≡ true = rw t at all in
-        let r = digit_range d t in
-        let m = 10 * n + (d - 48) in
-        let small : m < 10 ^ 64 = omega (arith, lt, after-least m ds) in
-        let step : decimal m ≡ decimal (m / 10) ++ ((48 + m % 10) ∷ []) = decimal_step_wide m (omega (arith, some)) small in
-        let front : m / 10 ≡ n = omega (arith, r) in
-        let last : 48 + m % 10 ≡ d = omega (arith, r) in
-        rw (decimal_after m ds (omega (arith, some)) more lt, step, front, last) (append_assoc (decimal n) (d ∷ []) ds))
+    let more : list_all is_ascii_digit ds ≡ true = rw t at all in
+    let r = digit_range d t in
+    let m = 10 * n + (d - 48) in
+    let small : m < 10 ^ 64 = omega (arith, lt, after-least m ds) in
+    let step : decimal m ≡ decimal (m / 10) ++ ((48 + m % 10) ∷ []) = decimal_step_wide m (omega (arith, some)) small in
+    let front : m / 10 ≡ n = omega (arith, r) in
+    let last : 48 + m % 10 ≡ d = omega (arith, r) in
+    rw (decimal_after m ds (omega (arith, some)) more lt, step, front, last) (append_assoc (decimal n) (d ∷ []) ds))
     (λ t. absurd (let k : false ≡ true = rw t at all in cc))
 
 decimal_small : (n : ℕ) → n < 10 → decimal n ≡ (48 + n) ∷ []

@@ -64,7 +64,8 @@ fn is_end(part: &[u8]) -> bool
 {
     match part {
         [] => false,
-        [first, others @ ..] => *first == b':' && (others == b"entry".as_slice() || is_block(others)),
+        [first, others @ ..] => *first == b':'
+            && (others == b"entry".as_slice() || is_block(others)),
     }
 }
 

@@ -1,0 +1,10 @@
+-- The files here, each after those that it cites.
+pub mod Positions
+pub mod PositionLaws
+pub mod Pools
+pub mod Events
+pub mod Policies
+pub mod Runs
+pub mod Kept
+pub mod Places
+pub mod Successors

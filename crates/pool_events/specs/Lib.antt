@@ -8,3 +8,7 @@ pub mod Runs
 pub mod Kept
 pub mod Places
 pub mod Successors
+pub mod StepLaws
+pub mod MergeLaws
+pub mod EventLaws
+pub mod RunLaws

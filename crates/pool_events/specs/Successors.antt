@@ -47,17 +47,14 @@ pub along_rest : {T : Type 0} (o : Outlined) (n : ℕ) (s : ℕ × T) (next : Li
 along_rest o n s next along = λ t has. along t (further_member s next t has)
 
 module _ {T R B : Type 0} (order : Order R) (z : Recording R B) (o : Outlined) (r : R) (n : ℕ) (laws : IsRecording R B order z) (suited : IsSuited z o) (mine : z.is_of o r) (in_range : n < length o.nodes) where
-  abbrev of_book : (b : B) → z.book_is_of o b → IsOf z o r b
-  of_book b its = record { suited = suited; recorder = mine; book = its }
-
   -- one successor: the book stays one of the outline, and grows
   pub after_of : (b : B) (s : ℕ × T) → z.book_is_of o b → (s.0 ≢ length o.nodes → Contains o.edges (n, s.0) × (s.0 < length o.nodes)) → z.book_is_of o (book_after z o r n b s) × z.grows b (book_after z o r n b s)
   after_of b s its along =
       elim (cases_Bool (s.0 == length o.nodes)) [
-        | inl at_end ↦ rw at_end (laws.finished_is_of o r b n (of_book b its) in_range, laws.finished_grows o r b n (of_book b its) in_range)
+        | inl at_end ↦ rw at_end (laws.finished_is_of o r b n (record { suited = suited; recorder = mine; book = its }) in_range, laws.finished_grows o r b n (record { suited = suited; recorder = mine; book = its }) in_range)
         | inr at_node ↦
             let (edge, low) = along (eqb-false s.0 (length o.nodes) at_node) in
-            rw at_node ((laws.gone_is_of o r b n s.0 (of_book b its) edge low).book, laws.gone_grows o r b n s.0 (of_book b its) edge low)
+            rw at_node ((laws.gone_is_of o r b n s.0 (record { suited = suited; recorder = mine; book = its }) edge low).book, laws.gone_grows o r b n s.0 (record { suited = suited; recorder = mine; book = its }) edge low)
       ]
 
   pub spread_of : (next : List (ℕ × T)) (b : B) → z.book_is_of o b → AreAlong o n next → z.book_is_of o (spread_book z o r n b next) × z.grows b (spread_book z o r n b next)
@@ -77,7 +74,7 @@ module _ {T R B : Type 0} (order : Order R) (z : Recording R B) (o : Outlined) (
         | inl same ↦
             let at_end : (s.0 == length o.nodes) ≡ true = eq-eqb s.0 (length o.nodes) (sym (ap (λ (p : ℕ × T). p.0) same)) in
             let rest = spread_of next (book_after z o r n b s) one.0 (along_rest o n s next along) in
-            let now : z.sums_up o (book_after z o r n b s) (n ∷ past) = rw at_end (laws.finished_covers o r b n past (of_book b its) walk covered) in
+            let now : z.sums_up o (book_after z o r n b s) (n ∷ past) = rw at_end (laws.finished_covers o r b n past (record { suited = suited; recorder = mine; book = its }) walk covered) in
             laws.sums_up_grown o (book_after z o r n b s) (spread_book z o r n (book_after z o r n b s) next) (n ∷ past) rest.1 now
         | inr later ↦ spread_ends next (book_after z o r n b s) past u one.0 (along_rest o n s next along) walk (laws.covers_grown o r b (book_after z o r n b s) (n ∷ past) one.1 covered) later
       ]
@@ -90,7 +87,7 @@ module _ {T R B : Type 0} (order : Order R) (z : Recording R B) (o : Outlined) (
       let rest = spread_of next (book_after z o r n b s) one.0 (along_rest o n s next along) in
       let spot : Spot T R = next_spot z o position r n b s in
       let made : Contains (spots_after z o position r n b s) spot = rw at_node (first_member spot []) in
-      let now : z.covers o (z.gone o r b n s.0) (book_after z o r n b s) (s.0 ∷ n ∷ past) = rw at_node (laws.gone_covers o r b n s.0 past (of_book b its) walk covered) in
+      let now : z.covers o (z.gone o r b n s.0) (book_after z o r n b s) (s.0 ∷ n ∷ past) = rw at_node (laws.gone_covers o r b n s.0 past (record { suited = suited; recorder = mine; book = its }) walk covered) in
       (
         spot,
         Contains-append_left (spots_after z o position r n b s) (spread_spots z o position r n (book_after z o r n b s) next) spot made,
@@ -130,8 +127,8 @@ module _ {T R B : Type 0} (order : Order R) (z : Recording R B) (o : Outlined) (
           node = refl;
           position_is = refl;
           state = refl;
-          is_of = (laws.gone_is_of o r b n s.0 (of_book b its) edge low).recorder;
-          long = laws.gone_length o r b n s.0 (of_book b its) edge low;
+          is_of = (laws.gone_is_of o r b n s.0 (record { suited = suited; recorder = mine; book = its }) edge low).recorder;
+          long = laws.gone_length o r b n s.0 (record { suited = suited; recorder = mine; book = its }) edge low;
         })
         | inr none ↦ no_member spot none
       ]

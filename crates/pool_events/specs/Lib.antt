@@ -2,6 +2,7 @@
 pub mod Positions
 pub mod PositionLaws
 pub mod Pools
+pub mod FaultTests
 pub mod Events
 pub mod Policies
 pub mod Runs
@@ -12,3 +13,6 @@ pub mod StepLaws
 pub mod MergeLaws
 pub mod EventLaws
 pub mod RunLaws
+pub mod PolicyLaws
+pub mod Sharp
+pub mod SharpLaws

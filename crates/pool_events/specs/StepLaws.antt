@@ -1,12 +1,12 @@
 -- A step keeps what every pool keeps.
---   some_fault   a set with a fault may fault
+--   still_told, now_told   what is told at nodes after a step
+--   faults_of, faults_sum   the book of a step whose node may fault
 --   step_kept    what every pool keeps holds after a step
 use Rattle.std.proofs.Common.{◌≡◌, ◌≢◌, ℕ, zero, suc, ◌+◌, ◌<◌, ◌≤◌, List, [], ◌∷◌, ◌++◌, length, take, drop, map, ◌⊎◌, inl, inr, refl, sym, subst, ap, ◌∙◌, Bool, true, false, ◌==◌, ◌||◌, cond, arith, Contains, Some, slice_get, slice_set, slice_index, get_or, length-set}
 use Rattle.std.proofs.lemmas.List.{length-map}
 use Rattle.std.proofs.lemmas.Bool.{cases_Bool}
 use Rattle.lists.specs.Members.{contained}
 use Rattle.alf_ops.specs.declared.history.RunFault.{RunFault}
-use Rattle.alf_ops.specs.declared.history.RunFault.TheVariants.{Divide, Uninit, Mixed, Bounds, Dead, Kind, Pointers}
 use Rattle.domain_core.specs.declared.fault_set.FaultSet.{FaultSet}
 use Rattle.domain_core.specs.FaultSets.{has_fault, no_faults, either}
 use Rattle.domain_core.specs.FaultLaws.{is_united}
@@ -18,6 +18,7 @@ use Rattle.domain_core.specs.Recordings.{Recording, IsRecording, IsSuited, IsOf}
 use Rattle.pool_events.specs.Positions.{ranks_and_turns, position_of, turn_in, entered, moved_position}
 use Rattle.pool_events.specs.PositionLaws.{next_position, turns_rise}
 use Rattle.pool_events.specs.Pools.{Spot, Pooled, alarm_at, with_alarm, may_fault}
+use Rattle.pool_events.specs.FaultTests.{or_right, some_fault}
 use Rattle.pool_events.specs.Events.{book_at_faults, spread_book, spread_spots, stepped_at}
 use Rattle.pool_events.specs.Runs.{IsHandled, waits, passed, Stands, EachIsHandled}
 use Rattle.pool_events.specs.Kept.{IsPlaced, IsKept}
@@ -27,36 +28,7 @@ use Rattle.pool_events.specs.Successors.{AreAlong, IsMade, IsFrom, spread_of, sp
 -- ---- faults
 
 or_left : (a b : Bool) → a ≡ true → a || b ≡ true
-or_left true b e = refl
-or_left false b e = absurd (let bad : false ≡ true = e in cc)
-
-or_right : (a b : Bool) → b ≡ true → a || b ≡ true
-or_right true b e = refl
-or_right false b e = e
-
--- a set with a fault may fault
-pub some_fault : (set : FaultSet) (kind : RunFault) → has_fault set kind ≡ true → may_fault set ≡ true
-some_fault set Divide has = rw has refl
-some_fault set Uninit has = or_right set.divide (set.uninit || (set.mixed || (set.bounds || (set.dead || (set.kind || set.pointers))))) (rw has refl)
-some_fault set Mixed has =
-    or_right set.divide (set.uninit || (set.mixed || (set.bounds || (set.dead || (set.kind || set.pointers)))))
-    (or_right set.uninit (set.mixed || (set.bounds || (set.dead || (set.kind || set.pointers)))) (rw has refl))
-some_fault set Bounds has =
-    or_right set.divide (set.uninit || (set.mixed || (set.bounds || (set.dead || (set.kind || set.pointers)))))
-    (or_right set.uninit (set.mixed || (set.bounds || (set.dead || (set.kind || set.pointers)))) (or_right set.mixed (set.bounds || (set.dead || (set.kind || set.pointers))) (rw has refl)))
-some_fault set Dead has =
-    or_right set.divide (set.uninit || (set.mixed || (set.bounds || (set.dead || (set.kind || set.pointers)))))
-    (or_right set.uninit (set.mixed || (set.bounds || (set.dead || (set.kind || set.pointers))))
-    (or_right set.mixed (set.bounds || (set.dead || (set.kind || set.pointers))) (or_right set.bounds (set.dead || (set.kind || set.pointers)) (rw has refl))))
-some_fault set Kind has =
-    or_right set.divide (set.uninit || (set.mixed || (set.bounds || (set.dead || (set.kind || set.pointers)))))
-    (or_right set.uninit (set.mixed || (set.bounds || (set.dead || (set.kind || set.pointers))))
-    (or_right set.mixed (set.bounds || (set.dead || (set.kind || set.pointers))) (or_right set.bounds (set.dead || (set.kind || set.pointers)) (or_right set.dead (set.kind || set.pointers) (rw has refl)))))
-some_fault set Pointers has =
-    or_right set.divide (set.uninit || (set.mixed || (set.bounds || (set.dead || (set.kind || set.pointers)))))
-    (or_right set.uninit (set.mixed || (set.bounds || (set.dead || (set.kind || set.pointers))))
-    (or_right set.mixed (set.bounds || (set.dead || (set.kind || set.pointers)))
-    (or_right set.bounds (set.dead || (set.kind || set.pointers)) (or_right set.dead (set.kind || set.pointers) (or_right set.kind set.pointers has)))))
+or_left a b e = rw e refl
 
 -- what was told at a node stays told
 told_after : (sets : List FaultSet) (i j : ℕ) (v : FaultSet) (kind : RunFault) → (has_fault (get_or sets i no_faults) kind ≡ true → has_fault v kind ≡ true)

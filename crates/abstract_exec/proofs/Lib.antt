@@ -1,0 +1,5 @@
+pub mod Rooms
+pub mod Spreads
+pub mod Progress
+pub mod Marks
+pub mod Choices

@@ -1,0 +1,17 @@
+//! Places that stand in the room of one.
+
+ghost use Rattle.std.specs.Prelude.{◌≡◌, ◌≤◌, ◌++◌, length, take, drop, OnOk};
+
+use least_lists::{Keyed, Line};
+use std::alloc::AllocError;
+
+/// Puts elements at a place, in their order.
+pub fn put_all<X: Keyed + Drop>(line: &mut Line<X>, place: usize, mut made: Vec<X>) -> Result<(), AllocError>
+    requires { place ≤ length line.old }
+    ensures { OnOk result (line.new ≡ take place line.old ++ (made.items ++ drop place line.old)) }
+{
+    while let Some(element) = made.pop() {
+        line.put(place, element)?;
+    }
+    Ok(())
+}

@@ -3,3 +3,5 @@ pub mod Spreads
 pub mod Progress
 pub mod Marks
 pub mod Choices
+pub mod Around
+pub mod GoOns

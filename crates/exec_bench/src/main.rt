@@ -21,9 +21,12 @@ fn main(rt: HostRuntime) -> ExitCode {
     let Ok(mut args) = env::args(&rt) else {
         return ExitCode::from(1);
     };
-    let (Some(low), Some(high), Some(first), Some(policy)) =
-        (args.nth(1), args.next(), args.next(), args.next())
-    else {
+    let (Some(low), Some(high), Some(first), Some(policy)) = (
+        args.nth(1),
+        args.next(),
+        args.next(),
+        args.next(),
+    ) else {
         return ExitCode::from(1);
     };
     let (Ok(low), Ok(high)) = (low.parse::<u32>(), high.parse::<u32>()) else {

@@ -12,11 +12,7 @@ use std::alloc::Global;
 use std::test::Fail;
 
 // Whether the event is refused.
-fn is_refused<S: Stepper, R: Recorder>(
-    alloc: Global,
-    pool: &mut Pool<S, R>,
-    event: Event,
-) -> bool
+fn is_refused<S: Stepper, R: Recorder>(alloc: Global, pool: &mut Pool<S, R>, event: Event) -> bool
     requires kept { IsPool S.machine R.recording pool.old }
     requires room { pool.old.steps < 2 ^ 32 - 2 }
     ensures { IsTrue result → pool.new ≡ pool.old }

@@ -74,21 +74,23 @@ spread_sharp first (t ∷ []) span c k d low high e =
 spread_sharp first (t ∷ u ∷ others) span zero k d low high e =
     let is : Some (t, 0) ≡ Some (k, d) = e in
     let node : t ≡ k = cc in let value : 0 ≡ d = cc in
-    let point : Span = record { low = 0; high = 0 } in
-    (point,
+    let point : Span = record { low = 0; high = 0 } in (
+      point,
       both_orders first (of_more u span) (of_zero t span) ((k, point) ∷ [])
-      (rw (more_gone u span high, zero_there t span low, node) refl) (rw (more_gone u span high, zero_there t span low, node) refl),
-      (value, value))
+          (rw (more_gone u span high, zero_there t span low, node) refl) (rw (more_gone u span high, zero_there t span low, node) refl),
+      (value, value),
+    )
 spread_sharp first (t ∷ u ∷ others) span (suc c) k d low high e =
     let is : Some (u, c) ≡ Some (k, d) = e in
     let node : u ≡ k = cc in let value : c ≡ d = cc in
     let rest : Span = record { low = span.low - 1; high = span.high - 1 } in
     let none : span.low ≢ 0 = λ bad. omega arith in
-    let some : span.high ≢ 0 = λ bad. omega arith in
-    (rest,
+    let some : span.high ≢ 0 = λ bad. omega arith in (
+      rest,
       both_orders first (of_more u span) (of_zero t span) ((k, rest) ∷ [])
-      (rw (more_there u span some, zero_gone t span none, node) refl) (rw (more_there u span some, zero_gone t span none, node) refl),
-      (omega arith, omega arith))
+          (rw (more_there u span some, zero_gone t span none, node) refl) (rw (more_there u span some, zero_gone t span none, node) refl),
+      (omega arith, omega arith),
+    )
 
 -- ---- the ways lie along edges
 

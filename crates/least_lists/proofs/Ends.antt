@@ -1,10 +1,8 @@
 -- First leasts at the ends of the two parts of a list.
-use Rattle.std.proofs.Common.{◌≡◌, ◌≢◌, ◌<◌, ◌≤◌, ◌+◌, ◌-◌, ℕ, zero, suc, List, [], ◌∷◌, ◌++◌, map, reverse, length, length-append, get_or, slice_get, Some, take, drop, refl, ap, sym, ◌∙◌, subst, arith}
+use Rattle.std.proofs.Common.{◌≡◌, ◌<◌, ◌+◌, ◌-◌, ℕ, zero, suc, List, [], ◌∷◌, ◌++◌, map, reverse, length, get_or, slice_get, Some, take, drop, refl, ap, sym, ◌∙◌, subst, arith}
 use Rattle.std.proofs.lemmas.List.{append_assoc, append-nil, get_or-map, get_or-reverse, reverse-append, reverse-reverse, length-reverse, map-append}
 use Rattle.std.proofs.lemmas.Simd.{map-map}
 use Rattle.std.proofs.Math.Seq.{take-append_seam, drop-append_seam}
-use Rattle.std.specs.Ordering.{nat_cmp}
-use Rattle.std.specs.Cmp.Lexicographic.{slice_cmp}
 use Rattle.least_lists.specs.declared.entry.Entry.{Entry}
 use Rattle.least_lists.specs.Least.{key_at, Precedes, IsFirstLeast}
 use Rattle.least_lists.specs.LeastLaws.{least_one, least_right, least_left}

@@ -66,7 +66,9 @@ impl<X: Keyed + Drop> Line<X> {
         ensures others { OnOk result (self.new ≡ take place self.old ++ drop (suc place) self.old) }
     {
         part_at(&mut self.earlier, &mut self.later, place)?;
-        let Some(entry) = self.later.pop() else { unreachable!() };
+        let Some(entry) = self.later.pop() else {
+            unreachable!()
+        };
         Ok(entry.item)
     }
 

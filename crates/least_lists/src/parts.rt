@@ -26,11 +26,15 @@ pub fn part_at<X: Keyed + Drop>(
     ensures least { AreLeast X.key_of (reverse later.new.items) }
 {
     while earlier.len() > count {
-        let Some(last) = earlier.pop() else { unreachable!() };
+        let Some(last) = earlier.pop() else {
+            unreachable!()
+        };
         put_first(later, last.item)?;
     }
     while earlier.len() < count {
-        let Some(first) = later.pop() else { unreachable!() };
+        let Some(first) = later.pop() else {
+            unreachable!()
+        };
         put_last(earlier, first.item)?;
     }
     Ok(())

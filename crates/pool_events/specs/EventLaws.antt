@@ -3,7 +3,7 @@
 --   event_kept, events_kept   an event keeps it, and so do events one after another
 --   event_one_on  an event goes on with the same stepper and outline
 --   events_join   events one after another, and then others
-use Rattle.std.proofs.Common.{◌≡◌, ℕ, zero, suc, ◌+◌, ◌<◌, ◌≤◌, List, [], ◌∷◌, ◌++◌, length, map, refl, sym, subst, ap, ◌∙◌, inl, inr, Bool, false, arith, Contains, replicate, slice_index, slice_get, Some}
+use Rattle.std.proofs.Common.{◌≡◌, List, [], ◌∷◌, length, refl, sym, subst, inl, inr, false, arith, slice_index}
 use Rattle.std.proofs.lemmas.List.{length-replicate, length-map}
 use Rattle.lists.specs.Members.{no_member, first_member}
 use Rattle.walks.specs.ListLaws.{contains_cases}

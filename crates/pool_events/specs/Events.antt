@@ -7,7 +7,7 @@
 --   Happens .. old event new the event is allowed, and leads from the old pool to the new one
 --   HappenAll                so do events, one after another
 --   IsOneOn old new          the new pool explores the same, with at most one step more
-use Rattle.std.specs.Prelude.{◌≡◌, ℕ, suc, ◌+◌, ◌<◌, ◌≤◌, Bool, true, false, List, [], ◌∷◌, ◌++◌, length, take, drop, remove, Some, slice_get, slice_set, replicate, ◌==◌, if◌then◌else◌}
+use Rattle.std.specs.Prelude.{◌≡◌, ℕ, suc, ◌+◌, ◌<◌, ◌≤◌, true, false, List, [], ◌∷◌, ◌++◌, length, take, drop, remove, Some, slice_get, slice_set, replicate, ◌==◌, if◌then◌else◌}
 use Rattle.domain_core.specs.declared.fault_set.FaultSet.{FaultSet}
 use Rattle.domain_core.specs.declared.event.Event.{Event}
 use Rattle.domain_core.specs.declared.event.Event.TheVariants.{Step, Merge}

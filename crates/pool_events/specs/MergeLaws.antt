@@ -1,19 +1,17 @@
 -- A merge keeps what every pool keeps.
 --   alike_at     two places of one position may be joined
 --   merge_kept   what every pool keeps holds after a merge
-use Rattle.std.proofs.Common.{◌≡◌, ◌≢◌, ℕ, zero, suc, ◌+◌, ◌<◌, ◌≤◌, max, List, [], ◌∷◌, ◌++◌, length, map, ◌⊎◌, inl, inr, refl, sym, subst, ap, ◌∙◌, arith, Contains, Some, slice_get, slice_set, slice_index}
+use Rattle.std.proofs.Common.{◌≡◌, ℕ, ◌<◌, List, [], ◌∷◌, length, ◌⊎◌, inl, inr, sym, subst, ◌∙◌, arith, Contains, Some, slice_get, slice_set}
 use Rattle.std.proofs.lemmas.List.{length-map}
-use Rattle.std.specs.List.{remove}
 use Rattle.lists.specs.Members.{contained}
 use Rattle.domain_core.specs.Orders.{Order, IsOrder}
 use Rattle.domain_core.specs.Outlines.{Outlined, IsOutline, shape_of}
 use Rattle.domain_core.specs.Machines.{Machine, IsMachine}
-use Rattle.domain_core.specs.MachineLaws.{joined_left, joined_right}
 use Rattle.domain_core.specs.Recordings.{Recording, IsRecording}
 use Rattle.pool_events.specs.PositionLaws.{same_node}
 use Rattle.pool_events.specs.Pools.{Spot, Pooled}
 use Rattle.pool_events.specs.Events.{met, merged_at}
-use Rattle.pool_events.specs.Runs.{IsHandled, waits, passed, Stands, EachIsHandled}
+use Rattle.pool_events.specs.Runs.{IsHandled, waits, passed, Stands}
 use Rattle.pool_events.specs.Kept.{IsPlaced, IsKept}
 use Rattle.pool_events.specs.Places.{elsewhere, beside_set, from_set, later_as_before, stays_written, from_remove}
 

@@ -2,11 +2,11 @@
 --   elsewhere, in_room, from_room   where others stand in the room of one element
 --   beside_set, from_set, later_as_before, still_set, now_set   after a write
 --   stays_written, from_remove   where a later element is taken out after a write
-use Rattle.std.proofs.Common.{◌≡◌, ◌≢◌, ℕ, zero, suc, ◌+◌, ◌<◌, ◌≤◌, List, [], ◌∷◌, ◌++◌, length, take, drop, slice_get, slice_set, Option, Some, None, ◌⊎◌, inl, inr, refl, arith, Contains, sym, ◌∙◌, ap, subst}
+use Rattle.std.proofs.Common.{◌≡◌, ℕ, zero, suc, ◌<◌, List, [], ◌∷◌, ◌++◌, length, take, drop, slice_get, slice_set, Some, ◌⊎◌, inl, inr, refl, arith, Contains, sym, ◌∙◌, subst}
 use Rattle.std.specs.List.{remove}
 use Rattle.std.proofs.lemmas.Option.{same_Some, none-some}
 use Rattle.std.proofs.lemmas.List.Elements.{Contains-append_left, Contains-append_right, Contains-append_cases}
-use Rattle.lists.specs.Members.{no_member, first_member, further_member, contained}
+use Rattle.lists.specs.Members.{no_member, first_member, further_member}
 use Rattle.walks.specs.ListLaws.{contains_cases}
 
 -- the first element, by an equation

@@ -3,7 +3,7 @@
 --   IsChoice o policy spots event   the policy's next event
 --   IsPolicyRun .. policy turns old events new   the policy's events lead from the old pool to the new one, which is
 --                             empty or has so many steps
-use Rattle.std.specs.Prelude.{◌≡◌, ◌≢◌, ℕ, ◌+◌, ◌<◌, List, [], ◌∷◌, ◌⊎◌, length, Some, slice_get}
+use Rattle.std.specs.Prelude.{◌≡◌, ◌≢◌, ℕ, List, [], ◌∷◌, ◌⊎◌, Some, slice_get}
 use Rattle.least_lists.specs.Least.{IsFirstLeast, IsNextSame}
 use Rattle.domain_core.specs.declared.event.Event.{Event}
 use Rattle.domain_core.specs.declared.event.Event.TheVariants.{Step, Merge}

@@ -6,9 +6,9 @@
 --   closed_longer    where it leaves no place, more turns give the same run
 --   IsPolicyStart    the policy's first events lead from the old pool to the new one
 --   start_more, start_done   one event more, and the end
-use Rattle.std.proofs.Common.{◌≡◌, ◌≢◌, ℕ, ◌+◌, ◌<◌, ◌≤◌, List, [], ◌∷◌, ◌++◌, ◌⊎◌, inl, inr, length, Some, slice_get, refl, sym, subst, ap, ◌∙◌, arith}
+use Rattle.std.proofs.Common.{◌≡◌, ◌≢◌, ℕ, ◌<◌, ◌≤◌, List, [], ◌∷◌, ◌++◌, ◌⊎◌, inl, inr, Some, slice_get, refl, sym, subst, ap, ◌∙◌, arith}
 use Rattle.std.proofs.lemmas.Option.{same_Some}
-use Rattle.least_lists.specs.Least.{IsFirstLeast, IsNextSame}
+use Rattle.least_lists.specs.Least.{IsNextSame}
 use Rattle.least_lists.specs.LeastLaws.{least_unique, next_unique}
 use Rattle.domain_core.specs.declared.event.Event.{Event}
 use Rattle.domain_core.specs.declared.event.Event.TheVariants.{Step, Merge}

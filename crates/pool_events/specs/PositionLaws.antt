@@ -3,13 +3,13 @@
 --   next_position    after an edge
 --   turns_rise       the numbers after an edge are at most one more
 --   same_node        equal positions are those of one node
-use Rattle.std.proofs.Common.{◌≡◌, ◌≢◌, ℕ, zero, suc, ◌+◌, ◌<◌, ◌≤◌, ◌-◌, Bool, true, false, ◌==◌, cond, List, [], ◌∷◌, ◌++◌, ◌⊎◌, inl, inr, reverse, length, replicate, get_or, slice_index, Contains, refl, ap, sym, ◌∙◌, subst, arith}
+use Rattle.std.proofs.Common.{◌≡◌, ℕ, zero, suc, ◌+◌, ◌<◌, ◌≤◌, true, false, ◌==◌, List, [], ◌∷◌, ◌++◌, inl, inr, reverse, length, get_or, slice_index, Contains, refl, ap, sym, ◌∙◌, subst, arith}
 use Rattle.std.proofs.lemmas.Bool.{cases_Bool, cases_lt, eqb-true, eq-eqb, ne_eqb}
 use Rattle.std.proofs.lemmas.List.{reverse-append, get_or-replicate}
 use Rattle.lists.specs.Members.{no_member, first_member, further_member}
 use Rattle.lists.specs.Tests.{by_test}
 use Rattle.walks.specs.ListLaws.{contains_cases}
-use Rattle.domain_core.specs.Outlines.{Shape, Holds, IsOutline, is_held, header_of, scopes_around}
+use Rattle.domain_core.specs.Outlines.{Shape, IsOutline, is_held, scopes_around}
 use Rattle.domain_core.specs.OutlineLaws.{held_is, is_holder, around_is, holder_low}
 use Rattle.domain_core.specs.Executions.{is_header, turn_after, turns_after, turns_of}
 use Rattle.domain_core.specs.ExecutionLaws.{length-turns_of}

@@ -1,13 +1,12 @@
 -- From each start handled to each run: a run follows the tree of what is handled.
 --   each_run           each run is waited for or is over
 --   each_run_is_over   where no place is left, each run is over
-use Rattle.std.proofs.Common.{◌≡◌, ℕ, zero, suc, List, [], ◌∷◌, Option, Some, None, ◌⊎◌, inl, inr, refl, sym, subst, Contains}
+use Rattle.std.proofs.Common.{◌≡◌, ℕ, suc, List, [], ◌∷◌, Option, Some, ◌⊎◌, inl, inr, refl, subst, Contains}
 use Rattle.lists.specs.Members.{no_member}
-use Rattle.domain_core.specs.Outlines.{shape_of}
 use Rattle.domain_core.specs.Machines.{Machine}
 use Rattle.domain_core.specs.Recordings.{Recording}
 use Rattle.pool_events.specs.Pools.{Spot, Pooled}
-use Rattle.pool_events.specs.Runs.{IsHandled, waits, passed, EachIsHandled, EachRun, EachRunIsOver, IsRun, IsWaited, IsOver, trace_to, with_node, AllStepped}
+use Rattle.pool_events.specs.Runs.{IsHandled, waits, passed, EachIsHandled, EachRun, EachRunIsOver, IsRun, IsWaited, IsOver, trace_to, AllStepped}
 
 module _ {S T C R B : Type 0} (m : Machine T C) (z : Recording R B) (w : Pooled S T R B) (run : ℕ → Option (ℕ × C)) (is_run : IsRun m.system run) where
   follow : {past : List ℕ} {n : ℕ} {c : C} → IsHandled m z w past n c → (k : ℕ) → run k ≡ Some (n, c) → past ≡ trace_to run k → AllStepped w.stepped past → IsWaited m z w run ⊎ IsOver m z w run

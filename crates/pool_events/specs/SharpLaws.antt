@@ -1,11 +1,11 @@
 -- Events keep a sharp pool sharp.
 --   sharp_start   a pool at its start is sharp, where runs start with one value
 --   sharp_event, sharp_events   an event keeps it so, and so do events one after another
-use Rattle.std.proofs.Common.{◌≡◌, ◌≢◌, ℕ, zero, suc, ◌+◌, ◌<◌, ◌≤◌, List, [], ◌∷◌, ◌++◌, ◌⊎◌, inl, inr, length, take, drop, Option, None, Some, slice_get, slice_set, get_or, replicate, Bool, true, false, ◌==◌, cond, Contains, refl, sym, subst, ap, ◌∙◌, arith}
+use Rattle.std.proofs.Common.{◌≡◌, ◌≢◌, ℕ, zero, suc, ◌<◌, List, [], ◌∷◌, ◌++◌, ◌⊎◌, inl, inr, length, take, drop, Option, None, Some, slice_get, slice_set, get_or, replicate, Bool, true, false, ◌==◌, Contains, refl, sym, subst, ap, ◌∙◌, arith}
 use Rattle.std.proofs.lemmas.Bool.{eq-eqb, ne_eqb}
 use Rattle.std.proofs.lemmas.Option.{same_Some}
 use Rattle.std.proofs.lemmas.List.{length-map}
-use Rattle.lists.specs.Members.{no_member, first_member, further_member, contained}
+use Rattle.lists.specs.Members.{first_member, further_member, contained}
 use Rattle.alf_ops.specs.declared.history.RunFault.{RunFault}
 use Rattle.alf_ops.specs.declared.history.RunFault.TheVariants.{Divide, Uninit, Mixed, Bounds, Dead, Kind, Pointers}
 use Rattle.domain_core.specs.declared.event.Event.{Event}
@@ -15,7 +15,7 @@ use Rattle.domain_core.specs.FaultSets.{no_faults, with_fault, either}
 use Rattle.domain_core.specs.Orders.{Order, IsOrder}
 use Rattle.domain_core.specs.Outlines.{Outlined, shape_of}
 use Rattle.domain_core.specs.Traces.{IsTrace}
-use Rattle.domain_core.specs.Machines.{Machine, IsMachine, IsAlong}
+use Rattle.domain_core.specs.Machines.{Machine, IsMachine}
 use Rattle.domain_core.specs.Recordings.{Recording, IsRecording, IsSuited, IsOf}
 use Rattle.pool_events.specs.Positions.{position_of, moved_position}
 use Rattle.pool_events.specs.PositionLaws.{next_position}
@@ -25,7 +25,7 @@ use Rattle.pool_events.specs.Runs.{IsRun, trace_to, with_node, AllStepped}
 use Rattle.pool_events.specs.Kept.{IsPlaced, IsKept}
 use Rattle.pool_events.specs.Places.{still_set, now_set}
 use Rattle.pool_events.specs.EventLaws.{event_kept}
-use Rattle.pool_events.specs.Sharp.{IsQuiet, HasStepped, IsSharpAt, IsSharpOver, EndsSharp, IsSharp}
+use Rattle.pool_events.specs.Sharp.{HasStepped, IsSharpAt, IsSharpOver, IsSharp}
 
 -- ---- what is told
 
@@ -111,17 +111,23 @@ module _ {S T C R B : Type 0} (machine : S → Machine T C) (states : Order T) (
       → ((c d : C) → (machine stepper).system.starts c → (machine stepper).system.starts d → d ≡ c) → IsSharp (machine stepper) z (opened machine z stepper o) run
   sharp_start stepper o run machine_laws laws suited is_run alone =
       let (c, here, starts) = is_run.first in
-      inl (0, 0, c, here, record {
-        spot = record { node = 0; position = position_of (shape_of o) (0 ∷ []); state = (machine stepper).first; recorder = z.first o };
-        one = refl;
-        node = refl;
-        position = refl;
-        walk = refl;
-        state = machine_laws.first_sharp c starts (λ d other. alone c d starts other);
-        recorder = laws.first_sharp o suited;
-        quiet = λ k. no_alarm (length o.nodes) k;
-        stepped = record { all = tt; only = λ k is. absurd (no_flag (length o.nodes) k is); count = refl };
-      })
+      inl (
+        0,
+        0,
+        c,
+        here,
+        record {
+          spot = record { node = 0; position = position_of (shape_of o) (0 ∷ []); state = (machine stepper).first; recorder = z.first o };
+          one = refl;
+          node = refl;
+          position = refl;
+          walk = refl;
+          state = machine_laws.first_sharp c starts (λ d other. alone c d starts other);
+          recorder = laws.first_sharp o suited;
+          quiet = λ k. no_alarm (length o.nodes) k;
+          stepped = record { all = tt; only = λ k is. absurd (no_flag (length o.nodes) k is); count = refl };
+        },
+      )
 
   module _ (w : Pooled S T R B) (machine_laws : IsMachine T C states (machine w.stepper)) (laws : IsRecording R B recorders z) (kept : IsKept machine z w)
       (past : List ℕ) (n : ℕ) (c : C) (p : IsSharpAt (machine w.stepper) z w past n c) where
@@ -142,9 +148,11 @@ module _ {S T C R B : Type 0} (machine : S → Machine T C) (states : Order T) (
 
     stepped_now : HasStepped new (n ∷ past)
     stepped_now = record {
-      all =
-          (subst (λ (k : ℕ). slice_get (slice_set w.stepped p.spot.node true) k ≡ Some true) p.node
-          (now_set w.stepped p.spot.node true (let flags = kept.flags in let low = placed.in_range in omega arith)), all_still w.stepped p.spot.node past p.stepped.all);
+      all = (
+        subst (λ (k : ℕ). slice_get (slice_set w.stepped p.spot.node true) k ≡ Some true) p.node
+            (now_set w.stepped p.spot.node true (let flags = kept.flags in let low = placed.in_range in omega arith)),
+        all_still w.stepped p.spot.node past p.stepped.all,
+      );
       only = λ k is. elim (flag_was w.stepped p.spot.node k is) [
         | inl e ↦ subst (λ (j : ℕ). Contains (n ∷ past) j) (sym (e ∙ p.node)) (first_member n past)
         | inr was ↦ further_member n past k (p.stepped.only k was)
@@ -239,8 +247,13 @@ module _ {S T C R B : Type 0} (machine : S → Machine T C) (states : Order T) (
               (ap (λ (next : List (ℕ × T)). spread_book z w.outline p.spot.recorder p.spot.node (book_at_faults z w.outline p.spot.recorder p.spot.node w.book (m.faults p.spot.node p.spot.state)) next) follows
               ∙ ap (λ (set : FaultSet). book_at_faults z w.outline p.spot.recorder p.spot.node w.book set) is
               ∙ (let some : may_fault (with_fault no_faults kind) ≡ true = new_may_fault kind in rw some refl));
-          way = inr (kind, failed, told_at kind is, λ k other.
-              written_elsewhere w.alarms p.spot.node k (either (alarm_at w.alarms p.spot.node) (m.faults p.spot.node p.spot.state)) no_faults (λ e. other (e ∙ p.node)) ∙ p.quiet k);
+          way = inr (
+            kind,
+            failed,
+            told_at kind is,
+            λ k other.
+                written_elsewhere w.alarms p.spot.node k (either (alarm_at w.alarms p.spot.node) (m.faults p.spot.node p.spot.state)) no_faults (λ e. other (e ∙ p.node)) ∙ p.quiet k,
+          );
           stepped = stepped_now;
         }
 
@@ -249,14 +262,27 @@ module _ {S T C R B : Type 0} (machine : S → Machine T C) (states : Order T) (
   sharp_step w run k n c machine_laws laws kept is_run here p =
       elim (is_run.on k n c here) [
         | inl (j, d, step, next) ↦
-            inl (suc k, j, d, next, subst (λ (nodes : List ℕ). IsSharpAt (machine w.stepper) z (stepped_at machine z w 0 p.spot) nodes j d)
-                (let e : n ∷ trace_to run k ≡ trace_to run (suc k) = ap (λ (point : Option (ℕ × C)). with_node point (trace_to run k)) (sym here) in e)
-                (sharp_goes w machine_laws laws kept (trace_to run k) n c p j d step))
+            inl (
+              suc k,
+              j,
+              d,
+              next,
+              subst (λ (nodes : List ℕ). IsSharpAt (machine w.stepper) z (stepped_at machine z w 0 p.spot) nodes j d)
+                  (let e : n ∷ trace_to run k ≡ trace_to run (suc k) = ap (λ (point : Option (ℕ × C)). with_node point (trace_to run k)) (sym here) in e)
+                  (sharp_goes w machine_laws laws kept (trace_to run k) n c p j d step),
+            )
         | inr (way, over) ↦
-            inr (k, n, c, here, over, elim way [
-              | inl done ↦ sharp_ends w machine_laws laws kept (trace_to run k) n c p done
-              | inr (kind, failed) ↦ sharp_fails w machine_laws laws kept (trace_to run k) n c p kind failed
-            ])
+            inr (
+              k,
+              n,
+              c,
+              here,
+              over,
+              elim way [
+                | inl done ↦ sharp_ends w machine_laws laws kept (trace_to run k) n c p done
+                | inr (kind, failed) ↦ sharp_fails w machine_laws laws kept (trace_to run k) n c p kind failed
+              ],
+            )
       ]
 
   -- an event keeps a sharp pool sharp

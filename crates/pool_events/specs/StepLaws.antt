@@ -2,7 +2,7 @@
 --   still_told, now_told   what is told at nodes after a step
 --   faults_of, faults_sum   the book of a step whose node may fault
 --   step_kept    what every pool keeps holds after a step
-use Rattle.std.proofs.Common.{◌≡◌, ◌≢◌, ℕ, zero, suc, ◌+◌, ◌<◌, ◌≤◌, List, [], ◌∷◌, ◌++◌, length, take, drop, map, ◌⊎◌, inl, inr, refl, sym, subst, ap, ◌∙◌, Bool, true, false, ◌==◌, ◌||◌, cond, arith, Contains, Some, slice_get, slice_set, slice_index, get_or, length-set}
+use Rattle.std.proofs.Common.{◌≡◌, ◌≢◌, ℕ, zero, suc, ◌+◌, ◌<◌, ◌≤◌, List, [], ◌∷◌, ◌++◌, length, inl, inr, refl, sym, subst, ap, ◌∙◌, Bool, true, ◌||◌, arith, Contains, Some, slice_get, slice_set, slice_index, get_or, length-set}
 use Rattle.std.proofs.lemmas.List.{length-map}
 use Rattle.std.proofs.lemmas.Bool.{cases_Bool}
 use Rattle.lists.specs.Members.{contained}
@@ -13,17 +13,17 @@ use Rattle.domain_core.specs.FaultLaws.{is_united}
 use Rattle.domain_core.specs.Orders.{Order}
 use Rattle.domain_core.specs.Outlines.{Outlined, IsOutline, shape_of, scopes_around}
 use Rattle.domain_core.specs.Traces.{IsTrace}
-use Rattle.domain_core.specs.Machines.{Machine, IsMachine, IsAlong}
-use Rattle.domain_core.specs.Recordings.{Recording, IsRecording, IsSuited, IsOf}
-use Rattle.pool_events.specs.Positions.{ranks_and_turns, position_of, turn_in, entered, moved_position}
+use Rattle.domain_core.specs.Machines.{Machine, IsMachine}
+use Rattle.domain_core.specs.Recordings.{Recording, IsRecording, IsOf}
+use Rattle.pool_events.specs.Positions.{ranks_and_turns, turn_in, entered, moved_position}
 use Rattle.pool_events.specs.PositionLaws.{next_position, turns_rise}
 use Rattle.pool_events.specs.Pools.{Spot, Pooled, alarm_at, with_alarm, may_fault}
 use Rattle.pool_events.specs.FaultTests.{or_right, some_fault}
-use Rattle.pool_events.specs.Events.{book_at_faults, spread_book, spread_spots, stepped_at}
-use Rattle.pool_events.specs.Runs.{IsHandled, waits, passed, Stands, EachIsHandled}
+use Rattle.pool_events.specs.Events.{book_at_faults, spread_spots, stepped_at}
+use Rattle.pool_events.specs.Runs.{IsHandled, waits, passed, Stands}
 use Rattle.pool_events.specs.Kept.{IsPlaced, IsKept}
 use Rattle.pool_events.specs.Places.{elsewhere, in_room, from_room, still_set, now_set}
-use Rattle.pool_events.specs.Successors.{AreAlong, IsMade, IsFrom, spread_of, spread_ends, spread_finds, spread_from}
+use Rattle.pool_events.specs.Successors.{AreAlong, IsFrom, spread_of, spread_ends, spread_finds, spread_from}
 
 -- ---- faults
 
@@ -205,9 +205,10 @@ module _ {S T C R B : Type 0} (machine : S → Machine T C) (states : Order T) (
             (machine_laws.next_fits spot.node from.source.0 spot.state from.source.1 placed.fits from.among (λ e. from.no_end (e ∙ kept.along.exit_is ∙ own_long))));
         is_of = from.is_of;
         long = omega arith;
-        ends =
-            (ranks_and_turns (shape_of o) (λ t. entered (shape_of o) from.source.0 t (turn_in (scopes_around (shape_of o) spot.node) spot.position t)) (scopes_around (shape_of o) from.source.0),
-            from.position_is ∙ ap (λ (k : ℕ). ranks_and_turns (shape_of o) (λ t. entered (shape_of o) from.source.0 t (turn_in (scopes_around (shape_of o) spot.node) spot.position t)) (scopes_around (shape_of o) from.source.0) ++ slice_index (shape_of o).ranks k ∷ []) (sym node));
+        ends = (
+          ranks_and_turns (shape_of o) (λ t. entered (shape_of o) from.source.0 t (turn_in (scopes_around (shape_of o) spot.node) spot.position t)) (scopes_around (shape_of o) from.source.0),
+          from.position_is ∙ ap (λ (k : ℕ). ranks_and_turns (shape_of o) (λ t. entered (shape_of o) from.source.0 t (turn_in (scopes_around (shape_of o) spot.node) spot.position t)) (scopes_around (shape_of o) from.source.0) ++ slice_index (shape_of o).ranks k ∷ []) (sym node),
+        );
         low = λ t.
             subst (λ (position : List ℕ). turn_in (scopes_around (shape_of o) other.node) position t ≤ (w.steps + 1) + 1) (sym from.position_is)
             (subst (λ (k : ℕ). turn_in (scopes_around (shape_of o) k) moved t ≤ (w.steps + 1) + 1) (sym node)

@@ -3,16 +3,15 @@
 --   spread_ends   a successor at the end of runs leaves the trace collected
 --   spread_finds  each other one makes a place, which covers one node more
 --   spread_from   each place that is made comes from a successor
-use Rattle.std.proofs.Common.{◌≡◌, ◌≢◌, ℕ, zero, suc, ◌+◌, ◌<◌, ◌≤◌, List, [], ◌∷◌, ◌++◌, length, Option, Some, None, ◌⊎◌, inl, inr, refl, sym, subst, ap, ◌∙◌, Bool, true, false, ◌==◌, cond, arith, Contains}
+use Rattle.std.proofs.Common.{◌≡◌, ◌≢◌, ℕ, ◌+◌, ◌<◌, ◌≤◌, List, [], ◌∷◌, length, inl, inr, refl, sym, subst, ap, true, false, ◌==◌, Contains}
 use Rattle.std.proofs.lemmas.Bool.{eq-eqb, ne_eqb, eqb-false, cases_Bool}
 use Rattle.std.proofs.lemmas.List.Elements.{Contains-append_left, Contains-append_right, Contains-append_cases}
 use Rattle.lists.specs.Members.{no_member, first_member, further_member}
 use Rattle.walks.specs.ListLaws.{contains_cases}
 use Rattle.domain_core.specs.Orders.{Order}
-use Rattle.domain_core.specs.Reducible.{IsEdge}
 use Rattle.domain_core.specs.Outlines.{Outlined, shape_of}
 use Rattle.domain_core.specs.Traces.{IsTrace}
-use Rattle.domain_core.specs.Recordings.{Recording, IsRecording, IsSuited, IsOf}
+use Rattle.domain_core.specs.Recordings.{Recording, IsRecording, IsSuited}
 use Rattle.pool_events.specs.Positions.{moved_position}
 use Rattle.pool_events.specs.Pools.{Spot}
 use Rattle.pool_events.specs.Events.{next_spot, book_after, spots_after, spread_book, spread_spots}
@@ -87,8 +86,7 @@ module _ {T R B : Type 0} (order : Order R) (z : Recording R B) (o : Outlined) (
       let rest = spread_of next (book_after z o r n b s) one.0 (along_rest o n s next along) in
       let spot : Spot T R = next_spot z o position r n b s in
       let made : Contains (spots_after z o position r n b s) spot = rw at_node (first_member spot []) in
-      let now : z.covers o (z.gone o r b n s.0) (book_after z o r n b s) (s.0 ∷ n ∷ past) = rw at_node (laws.gone_covers o r b n s.0 past (record { suited = suited; recorder = mine; book = its }) walk covered) in
-      (
+      let now : z.covers o (z.gone o r b n s.0) (book_after z o r n b s) (s.0 ∷ n ∷ past) = rw at_node (laws.gone_covers o r b n s.0 past (record { suited = suited; recorder = mine; book = its }) walk covered) in (
         spot,
         Contains-append_left (spots_after z o position r n b s) (spread_spots z o position r n (book_after z o r n b s) next) spot made,
         record {

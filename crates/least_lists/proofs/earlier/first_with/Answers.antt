@@ -1,5 +1,4 @@
-use Rattle.std.proofs.Common.{rules, ◌≡◌, length, refl, true, false}
-use Rattle.least_lists.specs.Least.{Precedes, key_at}
+use Rattle.std.proofs.Common.{rules, ◌≡◌, refl, true, false}
 use Rattle.least_lists.specs.Lines.{keys_of}
 use Rattle.least_lists.proofs.Ends.{alone_after, put_after, first_after}
 use Rattle.least_lists.proofs.earlier.first_with.Goals as goal

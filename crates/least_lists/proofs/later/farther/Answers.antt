@@ -1,4 +1,4 @@
-use Rattle.std.proofs.Common.{rules, ◌≡◌, length, reverse, refl, true, false}
+use Rattle.std.proofs.Common.{rules, ◌≡◌, reverse, refl, true, false}
 use Rattle.least_lists.specs.Lines.{keys_of}
 use Rattle.least_lists.proofs.Ends.{alone_before, first_before, itself_before}
 use Rattle.least_lists.proofs.later.farther.Goals as goal

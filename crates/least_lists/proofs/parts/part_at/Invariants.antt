@@ -1,4 +1,4 @@
-use Rattle.std.proofs.Common.{◌≡◌, ◌+◌, ◌-◌, ◌≤◌, length, reverse, vec_len}
+use Rattle.std.proofs.Common.{◌≡◌, ◌+◌, ◌≤◌, length, reverse, vec_len}
 use Rattle.least_lists.specs.Lines.{line_of, AreFirst, AreLeast}
 use Rattle.least_lists.proofs.parts.part_at.Given as goal
 

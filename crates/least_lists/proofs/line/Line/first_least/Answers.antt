@@ -1,4 +1,4 @@
-use Rattle.std.proofs.Common.{◌≡◌, ◌∙◌, ap, sym, subst, map, ℕ, List}
+use Rattle.std.proofs.Common.{◌∙◌, ap, sym, subst, map, ℕ, List}
 use Rattle.least_lists.specs.Least.{IsFirstLeast}
 use Rattle.least_lists.proofs.Ends.{keys_line}
 use Rattle.least_lists.proofs.line.Line.first_least.Goals as goal

@@ -302,19 +302,19 @@ module _ {S T C R B : Type 0} (machine : S → Machine T C) (states : Order T) (
   sharp_event w new run (Merge i j) machine_laws laws kept is_run (inr (k, n, c, here, over, p)) (a, b, before, first, second, same, is) =
       absurd (no_place b j (subst (λ (xs : List (Spot T R)). slice_get xs j ≡ Some b) p.none second))
 
-  stepper_same : (w new : Pooled S T R B) (event : Event) → Happens machine states recorders z w event new → new.stepper ≡ w.stepper
-  stepper_same w new (Step i) (spot, found, is) = ap (λ (v : Pooled S T R B). v.stepper) is
-  stepper_same w new (Merge i j) (a, b, before, first, second, same, is) = ap (λ (v : Pooled S T R B). v.stepper) is
+  stepper_same : (w after : Pooled S T R B) (event : Event) → Happens machine states recorders z w event after → after.stepper ≡ w.stepper
+  stepper_same w after (Step i) (spot, found, is) = ap (λ (v : Pooled S T R B). v.stepper) is
+  stepper_same w after (Merge i j) (a, b, before, first, second, same, is) = ap (λ (v : Pooled S T R B). v.stepper) is
 
   -- and so do events one after another
-  pub sharp_events : (events : List Event) (stepper : S) (w new : Pooled S T R B) (run : ℕ → Option (ℕ × C)) → w.stepper ≡ stepper → IsOrder T states → ((s : S) → (machine s).kept → IsMachine T C states (machine s))
-      → IsOrder R recorders → IsRecording R B recorders z → IsKept machine z w → IsRun (machine stepper).system run → IsSharp (machine stepper) z w run → HappenAll machine states recorders z w events new
-      → IsSharp (machine stepper) z new run
-  sharp_events [] stepper w new run its states_laws machine_laws recorders_laws laws kept is_run sharp is =
+  pub sharp_events : (events : List Event) (stepper : S) (w after : Pooled S T R B) (run : ℕ → Option (ℕ × C)) → w.stepper ≡ stepper → IsOrder T states → ((s : S) → (machine s).kept → IsMachine T C states (machine s))
+      → IsOrder R recorders → IsRecording R B recorders z → IsKept machine z w → IsRun (machine stepper).system run → IsSharp (machine stepper) z w run → HappenAll machine states recorders z w events after
+      → IsSharp (machine stepper) z after run
+  sharp_events [] stepper w after run its states_laws machine_laws recorders_laws laws kept is_run sharp is =
       subst (λ (v : Pooled S T R B). IsSharp (machine stepper) z v run) (sym is) sharp
-  sharp_events (event ∷ events) stepper w new run its states_laws machine_laws recorders_laws laws kept is_run sharp (mid, happens, rest) =
+  sharp_events (event ∷ events) stepper w after run its states_laws machine_laws recorders_laws laws kept is_run sharp (mid, happens, rest) =
       let next = event_kept machine states recorders z w mid event states_laws (machine_laws w.stepper kept.stepper) recorders_laws laws kept happens in
-      sharp_events events stepper mid new run (stepper_same w mid event happens ∙ its) states_laws machine_laws recorders_laws laws next is_run
+      sharp_events events stepper mid after run (stepper_same w mid event happens ∙ its) states_laws machine_laws recorders_laws laws next is_run
       (subst (λ (s : S). IsSharp (machine s) z mid run) its
       (sharp_event w mid run event (machine_laws w.stepper kept.stepper) laws kept (subst (λ (s : S). IsRun (machine s).system run) (sym its) is_run) (subst (λ (s : S). IsSharp (machine s) z w run) (sym its) sharp) happens))
       rest

@@ -31,14 +31,14 @@ or_left : (a b : Bool) → a ≡ true → a || b ≡ true
 or_left a b e = rw e refl
 
 -- what was told at a node stays told
-told_after : (sets : List FaultSet) (i j : ℕ) (v : FaultSet) (kind : RunFault) → (has_fault (get_or sets i no_faults) kind ≡ true → has_fault v kind ≡ true)
-    → has_fault (get_or sets j no_faults) kind ≡ true → has_fault (get_or (slice_set sets i v) j no_faults) kind ≡ true
-told_after [] zero j v kind stays has = has
-told_after [] (suc i) j v kind stays has = has
-told_after (set ∷ sets) zero zero v kind stays has = stays has
-told_after (set ∷ sets) zero (suc j) v kind stays has = has
-told_after (set ∷ sets) (suc i) zero v kind stays has = has
-told_after (set ∷ sets) (suc i) (suc j) v kind stays has = told_after sets i j v kind stays has
+told_after : (sets : List FaultSet) (i j : ℕ) (v : FaultSet) (fault : RunFault) → (has_fault (get_or sets i no_faults) fault ≡ true → has_fault v fault ≡ true)
+    → has_fault (get_or sets j no_faults) fault ≡ true → has_fault (get_or (slice_set sets i v) j no_faults) fault ≡ true
+told_after [] zero j v fault stays has = has
+told_after [] (suc i) j v fault stays has = has
+told_after (set ∷ sets) zero zero v fault stays has = stays has
+told_after (set ∷ sets) zero (suc j) v fault stays has = has
+told_after (set ∷ sets) (suc i) zero v fault stays has = has
+told_after (set ∷ sets) (suc i) (suc j) v fault stays has = told_after sets i j v fault stays has
 
 pub still_told : (alarms : List FaultSet) (n m : ℕ) (faults : FaultSet) (kind : RunFault) → has_fault (alarm_at alarms m) kind ≡ true → has_fault (alarm_at (with_alarm alarms n faults) m) kind ≡ true
 still_told alarms n m faults kind has =

@@ -1,9 +1,0 @@
-use Rattle.std.proofs.Common.{◌≡◌, length}
-use Rattle.pool_events.specs.Positions.{turn_in}
-use Rattle.abstract_exec.proofs.position.number_in.Given as goal
-
-abbrev pub invariant-loop-first : goal.invariant-loop-first
-invariant-loop-first l = turn_in l.left l.rest l.scope ≡ turn_in l.fn.scopes l.fn.position l.scope
-
-abbrev pub decreases-loop-first : goal.decreases-loop-first
-decreases-loop-first l = length l.left

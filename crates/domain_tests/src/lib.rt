@@ -7,4 +7,6 @@ mod flat;
 
 // Strided values.
 #[cfg(test)]
+mod operators;
+#[cfg(test)]
 mod strided;

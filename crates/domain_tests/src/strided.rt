@@ -635,7 +635,7 @@ fn word_of(word: i128) -> u64 {
 }
 
 /// The value with these ends and this step, where they belong together.
-fn value(size: u32, lo: i128, hi: i128, step: i128) -> Option<Strided>
+pub(crate) fn value(size: u32, lo: i128, hi: i128, step: i128) -> Option<Strided>
     ensures { IfSome result (λ x. x.size ≡ size) }
 {
     let numbers = Progression {

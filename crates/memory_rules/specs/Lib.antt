@@ -4,3 +4,10 @@ pub mod Frames
 pub mod Covers
 pub mod Sharp
 pub mod Memories
+pub mod FromBytes
+pub mod Flags
+pub mod Holds
+pub mod Cells
+pub mod Above
+pub mod Updates
+pub mod Loads

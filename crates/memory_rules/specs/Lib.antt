@@ -11,3 +11,11 @@ pub mod Cells
 pub mod Above
 pub mod Updates
 pub mod Loads
+pub mod MemoryCovering
+pub mod Gathered
+pub mod SharpFrames
+pub mod SharpMemories
+pub mod AbstractSets
+pub mod AbstractSetLaws
+pub mod MemoryLaws
+pub mod MemoryProofs

@@ -7,3 +7,13 @@
 //! but functions that do nothing, whose clauses are the laws. The crate rests on the histories of runs and on
 //! the laws of abstract values.
 #![tactic(auto)]
+
+// What the memory promises.
+mod laws;
+
+pub use laws::{
+    a_join_covers_both_sides, a_load_from_a_sharp_frame_is_exact, a_load_gathers_its_results,
+    a_load_is_among_the_results, a_pin_covers, a_sharp_frame_stays_sharp,
+    a_sharp_memory_stays_sharp, a_store_covers, abstract_values_suit_a_memory, calls_keep_covering,
+    each_call_keeps_the_sizes,
+};

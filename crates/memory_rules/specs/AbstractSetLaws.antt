@@ -2,7 +2,7 @@
 --   byte_applied, conc_applied   the operators select and conc at the sizes of a byte
 --   abstract_is_sets             the laws
 use Rattle.std.specs.Prelude.{IsSomeAnd, IfSome}
-use Rattle.std.proofs.Common.{◌≡◌, ◌≢◌, ◌⊎◌, inl, inr, sym, subst, ◌∙◌, ap, ℕ, pos, true, false, List, [], ◌∷◌, ◌++◌, map, Option, Some, None, IsSome, refl, arith, ◌+◌, ◌-◌, ◌*◌, ◌<◌, ◌≤◌, ◌/◌, ◌%◌, ◌^◌, ◌==◌}
+use Rattle.std.proofs.Common.{◌≡◌, sym, subst, ◌∙◌, ap, ℕ, true, List, [], ◌∷◌, Option, Some, None, IsSome, refl, arith, ◌+◌, ◌-◌, ◌*◌, ◌<◌, ◌≤◌, ◌/◌, ◌%◌, ◌^◌}
 use Rattle.std.proofs.lemmas.Bool.{le-leb, lt-ltb, false≢true}
 use Rattle.std.proofs.lemmas.Option.{same_Some}
 use Rattle.std.proofs.lemmas.Nat.{pow-add}
@@ -10,7 +10,6 @@ use Rattle.std.proofs.Math.Nat.{mod-eq_of_lt}
 use Rattle.lists.specs.Members.{first_or_further, no_member}
 use Rattle.alf_ops.specs.declared.history.Value.{Value}
 use Rattle.alf_ops.specs.declared.history.Value.TheVariants.{Int, Ptr}
-use Rattle.alf_ops.specs.declared.operator.Op.{Op}
 use Rattle.alf_ops.specs.declared.operator.Op.TheVariants.{Select, Conc}
 use Rattle.alf_ops.specs.Table.{result_size}
 use Rattle.alf_ops.specs.Words.{value}
@@ -133,7 +132,8 @@ sizes_fit a b size s t few = omega (arith, s, t, few)
 sizes_sum : (a b size : ℕ) → a ≡ size → b ≡ 8 → a + b ≡ size + 8
 sizes_sum a b size s t = omega (arith, s, t)
 
-conc_sized : (a b : Stride) (size : ℕ) → size + 8 ≤ 64 → IsOfSize stride_sets size a → IsOfSize stride_sets 8 b → IsOfSize stride_sets (size + 8) (above_byte a b)
+conc_sized : (a b : Stride) (size : ℕ) → size + 8 ≤ 64 → IsOfSize stride_sets size a → IsOfSize stride_sets 8 b
+    → IsOfSize stride_sets (size + 8) (above_byte a b)
 conc_sized a b size few of_a of_b =
     let r = conc_applied a b of_a.kept of_b.kept (sizes_fit a.size b.size size of_a.size of_b.size few) in
     let t = some_word a of_a.kept in let u = some_word b of_b.kept in
@@ -221,7 +221,8 @@ only_word v own size bits of_v only =
     }
     go (Places frame offsets) e h = elim h [ ]
 
-only_pointer : (v : AbstractValue) (own frame offset : ℕ) → IsValue own v → OnlyCovers abstract_sets v (Ptr frame offset) → (v.words ≡ None) × (has_pointer v ≡ true)
+only_pointer : (v : AbstractValue) (own frame offset : ℕ) → IsValue own v → OnlyCovers abstract_sets v (Ptr frame offset)
+    → (v.words ≡ None) × (has_pointer v ≡ true)
 only_pointer v own frame offset of_v only =
     let one = value_alone own v (Ptr frame offset) of_v (as_only v (Ptr frame offset) only) in
     go one.0 one.1 one.2
@@ -230,7 +231,8 @@ only_pointer v own frame offset of_v only =
     go (Words x) e h = elim h [ ]
     go (Places f offsets) e h = (ap (λ (u : AbstractValue). u.words) e, ap has_pointer e)
 
-both_only : (a b : AbstractValue) (size : ℕ) (own : Value) → IsValue size a → IsValue size b → OnlyCovers abstract_sets a own → OnlyCovers abstract_sets b own → OnlyCovers abstract_sets (joined a b) own
+both_only : (a b : AbstractValue) (size : ℕ) (own : Value) → IsValue size a → IsValue size b → OnlyCovers abstract_sets a own → OnlyCovers abstract_sets b own
+    → OnlyCovers abstract_sets (joined a b) own
 both_only a b size own of_a of_b h k =
     let r = joined_only size a b own of_a of_b (as_only a own h) (as_only b own k) in (r.is, r.one)
 

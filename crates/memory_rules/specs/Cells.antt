@@ -31,7 +31,8 @@ apart offset size place width none = elim (and_cases _ _ none) [
 ]
 
 -- cells that share a byte
-pub shared : (offset size place width : ℕ) → IsCellSize size → IsCellSize width → share_byte offset size place width ≡ true → (byte : ℕ) × (offset ≤ byte) × (byte < offset + size / 8) × (place ≤ byte) × (byte < place + width / 8)
+pub shared : (offset size place width : ℕ) → IsCellSize size → IsCellSize width → share_byte offset size place width ≡ true
+    → (byte : ℕ) × (offset ≤ byte) × (byte < offset + size / 8) × (place ≤ byte) × (byte < place + width / 8)
 shared offset size place width is is_too share =
     let parts = and_parts _ _ share in
     let a : offset < place + width / 8 = ltb-true offset (place + width / 8) parts.0 in
@@ -39,7 +40,8 @@ shared offset size place width is is_too share =
     (max offset place, omega arith, omega (arith, is.0), omega arith, omega (arith, is_too.0))
 
 -- after a store no other cell that shares a byte with it is whole
-pub broken : (from : ℕ → Option Byte) (offset size : ℕ) (value : Value) (place width : ℕ) → IsCellSize size → IsCellSize width → is_same offset size place width ≡ false → share_byte offset size place width ≡ true → is_whole (put offset size value from) place width ≡ false
+pub broken : (from : ℕ → Option Byte) (offset size : ℕ) (value : Value) (place width : ℕ) → IsCellSize size → IsCellSize width
+    → is_same offset size place width ≡ false → share_byte offset size place width ≡ true → is_whole (put offset size value from) place width ≡ false
 broken from offset size value place width is is_too differ share = by_test (is_whole (put offset size value from) place width)
     (λ whole.
     let found = shared offset size place width is is_too share in
@@ -57,7 +59,8 @@ module _ (d : ValueSets) (laws : IsValueSets d) (bits : ℕ) (m : FrameMem d) (f
   pub not_kept_holds : (offset size : ℕ) → is_whole from offset size ≡ false → FlagCovers d (not_kept (taken d m offset size)) (cell_in from offset size)
   not_kept_holds offset size many = go (reading from offset size)
     where
-      go : Reading (map from (bytes_of offset size)) offset size (cell_in from offset size) → FlagCovers d (not_kept (taken d m offset size)) (cell_in from offset size)
+      go : Reading (map from (bytes_of offset size)) offset size (cell_in from offset size)
+          → FlagCovers d (not_kept (taken d m offset size)) (cell_in from offset size)
       go (reads_empty none r) = rw r (some_u d laws m.bytes from h.bytes offset (size / 8) none)
       go (reads_whole some one r) = absurd (false≢true (sym many ∙ one))
       go (reads_pointers some more pointer r) = rw r (all_stored d laws m.bytes from h.bytes offset (size / 8) some)
@@ -67,6 +70,7 @@ module _ (d : ValueSets) (laws : IsValueSets d) (bits : ℕ) (m : FrameMem d) (f
   pub stands_holds : (offset size : ℕ) → IsCellSize size → fits_in bits offset size ≡ true → FlagCovers d (stands d m offset size) (cell_in from offset size)
   stands_holds offset size is fits = go (m.cells offset size) refl
     where
-      go : (kept : Option (Cell d.Val)) → m.cells offset size ≡ kept → FlagCovers d (kept_or kept (not_kept (taken d m offset size))) (cell_in from offset size)
+      go : (kept : Option (Cell d.Val)) → m.cells offset size ≡ kept
+          → FlagCovers d (kept_or kept (not_kept (taken d m offset size))) (cell_in from offset size)
       go None at = not_kept_holds offset size (h.others offset size at is)
       go (Some cell) at = h.kept offset size cell at is fits

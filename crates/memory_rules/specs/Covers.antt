@@ -4,12 +4,11 @@
 --   Among r results         the load's value or fault is one of the results
 --   FrameCovers bits m from the frame of so many bits covers the table
 --   FrameSized              the values that are kept have their sizes
-use Rattle.std.specs.Prelude.{◌≡◌, ◌⊎◌, ℕ, true, false, Bool, List, [], ◌∷◌, map, Option, Some, None, Result, Ok, Err, IsSomeAnd, IfSome, ◌-◌, ◌/◌, ◌%◌, ◌^◌, ◌<◌, ◌≤◌}
-use Rattle.std.specs.List.{list_all}
+use Rattle.std.specs.Prelude.{◌≡◌, ◌⊎◌, ℕ, true, false, List, [], ◌∷◌, Option, Some, None, Result, Ok, Err, IsSomeAnd, IfSome, ◌/◌, ◌%◌, ◌<◌, ◌≤◌}
 use Rattle.alf_ops.specs.declared.history.Value.{Value}
 use Rattle.alf_ops.specs.declared.history.Value.TheVariants.{Int, Ptr}
 use Rattle.alf_ops.specs.declared.history.RunFault.{RunFault}
-use Rattle.alf_ops.specs.Histories.{Byte, byte_of, bytes_of, is_from, is_byte_of, cell_in, fits_in}
+use Rattle.alf_ops.specs.Histories.{Byte, byte_of, cell_in, fits_in}
 use Rattle.alf_ops.specs.WholeCells.{is_whole}
 use Rattle.memory_rules.specs.ValueSets.{ValueSets}
 use Rattle.memory_rules.specs.Frames.{AbstractByte, Cell, FrameMem, taken, results}

@@ -7,8 +7,8 @@ use Rattle.alf_ops.specs.declared.history.Value.{Value}
 use Rattle.alf_ops.specs.declared.history.Value.TheVariants.{Int, Ptr}
 use Rattle.alf_ops.specs.declared.history.RunFault.{RunFault}
 use Rattle.alf_ops.specs.declared.history.RunFault.TheVariants.{Uninit, Mixed, Bounds, Dead, Kind, Divide, Pointers}
-use Rattle.alf_ops.specs.Histories.{Byte, byte_of, bits_at, bytes_of, offsets, is_empty, is_from, of_pointer, first_value, word_of, cell_in, is_byte_of}
-use Rattle.alf_ops.specs.Values.{bits_of, is_pointer, FitsValue}
+use Rattle.alf_ops.specs.Histories.{Byte, bits_at, bytes_of, is_empty, of_pointer, word_of, cell_in, is_byte_of}
+use Rattle.alf_ops.specs.Values.{is_pointer, FitsValue}
 use Rattle.alf_ops.specs.Spans.{each_fails}
 use Rattle.alf_ops.specs.Tables.{whole_cell, in_cell}
 use Rattle.alf_ops.specs.WholeCells.{IsTable, OneStore, whole_word}
@@ -53,7 +53,8 @@ module _ (d : ValueSets) (laws : IsValueSets d) where
       go (Some word) (inl h) = h
       go (Some word) (inr h) = h
 
-  value_flag : (bytes : List (AbstractByte d.Word)) (value : Value) (set : Option d.Val) (u x : Bool) → Among d (Ok value) (results d bytes (record { value = set; u = u; x = x }))
+  value_flag : (bytes : List (AbstractByte d.Word)) (value : Value) (set : Option d.Val) (u x : Bool)
+      → Among d (Ok value) (results d bytes (record { value = set; u = u; x = x }))
       → IsSomeAnd set (λ a. d.covers a value) ⊎ ((x ≡ true) × (is_pointer value ≡ false))
   value_flag bytes value set u x h = elim (among_cases d (Ok value) (value_result d set) _ h) [ inl a ↦ inl (at set a) | inr b ↦ inr (behind u x b) ]
     where
@@ -68,15 +69,18 @@ module _ (d : ValueSets) (laws : IsValueSets d) where
       mixed false h = h
 
       read : (x : Bool) → Among d (Ok value) (if x then from_bytes d bytes else []) → (x ≡ true) × (is_pointer value ≡ false)
-      read true h = elim (among_cases d (Ok value) (words_result d (values_in bytes)) _ h) [ inl w ↦ (refl, word_is (values_in bytes) value w) | inr m ↦ absurd (mixed _ m) ]
+      read true h =
+          elim (among_cases d (Ok value) (words_result d (values_in bytes)) _ h) [ inl w ↦ (refl, word_is (values_in bytes) value w) | inr m ↦ absurd (mixed _ m) ]
       read false h = elim h [ ]
 
-      behind : (u x : Bool) → Among d (Ok value) ((if u then Err Uninit ∷ [] else []) ++ (if x then from_bytes d bytes else [])) → (x ≡ true) × (is_pointer value ≡ false)
+      behind : (u x : Bool) → Among d (Ok value) ((if u then Err Uninit ∷ [] else []) ++ (if x then from_bytes d bytes else []))
+          → (x ≡ true) × (is_pointer value ≡ false)
       behind true x (inl h) = elim h [ ]
       behind true x (inr h) = read x h
       behind false x h = read x h
 
-  fault_flag : (bytes : List (AbstractByte d.Word)) (fault : RunFault) (set : Option d.Val) (u x : Bool) → Among d (Err fault) (results d bytes (record { value = set; u = u; x = x }))
+  fault_flag : (bytes : List (AbstractByte d.Word)) (fault : RunFault) (set : Option d.Val) (u x : Bool)
+      → Among d (Err fault) (results d bytes (record { value = set; u = u; x = x }))
       → FlagFault {V = d.Val} (record { value = set; u = u; x = x }) fault
   fault_flag bytes fault set u x h = elim (among_cases d (Err fault) (value_result d set) _ h) [ inl a ↦ absurd (at set a) | inr b ↦ behind u x b ]
     where
@@ -97,7 +101,8 @@ module _ (d : ValueSets) (laws : IsValueSets d) where
       ]
       read u false h = elim h [ ]
 
-      behind : (u x : Bool) → Among d (Err fault) ((if u then Err Uninit ∷ [] else []) ++ (if x then from_bytes d bytes else [])) → FlagFault {V = d.Val} (record { value = set; u = u; x = x }) fault
+      behind : (u x : Bool) → Among d (Err fault) ((if u then Err Uninit ∷ [] else []) ++ (if x then from_bytes d bytes else []))
+          → FlagFault {V = d.Val} (record { value = set; u = u; x = x }) fault
       behind true x (inl h) = subst (λ (f : RunFault). FlagFault {V = d.Val} (record { value = set; u = true; x = x }) f) h refl
       behind true x (inr h) = read true x h
       behind false x h = read false x h
@@ -107,7 +112,8 @@ module _ (d : ValueSets) (laws : IsValueSets d) where
   to_flags bytes cell (Err fault) h = fault_flag bytes fault cell.value cell.u cell.x h
 
   -- the three parts of the results
-  in_value : (bytes : List (AbstractByte d.Word)) (cell : Cell d.Val) (value : Value) → IsSomeAnd cell.value (λ set. d.covers set value) → Among d (Ok value) (results d bytes cell)
+  in_value : (bytes : List (AbstractByte d.Word)) (cell : Cell d.Val) (value : Value) → IsSomeAnd cell.value (λ set. d.covers set value)
+      → Among d (Ok value) (results d bytes cell)
   in_value bytes cell value h = among_left d (Ok value) (value_result d cell.value) _ (go cell.value h)
     where
       go : (set : Option d.Val) → IsSomeAnd set (λ a. d.covers a value) → Among d (Ok value) (value_result d set)
@@ -115,9 +121,11 @@ module _ (d : ValueSets) (laws : IsValueSets d) where
       go (Some a) h = inl h
 
   in_u : (bytes : List (AbstractByte d.Word)) (cell : Cell d.Val) → cell.u ≡ true → Among d (Err Uninit) (results d bytes cell)
-  in_u bytes cell h = among_right d (Err Uninit) (value_result d cell.value) _ (among_left d (Err Uninit) (if cell.u then Err Uninit ∷ [] else []) _ (rw h (inl refl)))
+  in_u bytes cell h =
+      among_right d (Err Uninit) (value_result d cell.value) _ (among_left d (Err Uninit) (if cell.u then Err Uninit ∷ [] else []) _ (rw h (inl refl)))
 
-  in_x : (bytes : List (AbstractByte d.Word)) (cell : Cell d.Val) (r : Result Value RunFault) → cell.x ≡ true → Among d r (from_bytes d bytes) → Among d r (results d bytes cell)
+  in_x : (bytes : List (AbstractByte d.Word)) (cell : Cell d.Val) (r : Result Value RunFault) → cell.x ≡ true → Among d r (from_bytes d bytes)
+      → Among d r (results d bytes cell)
   in_x bytes cell r h among = among_right d r (value_result d cell.value) _ (among_right d r (if cell.u then Err Uninit ∷ [] else []) _ (rw h among))
 
   in_mixed : (bytes : List (AbstractByte d.Word)) → list_any (λ (byte : AbstractByte d.Word). byte.p) bytes ≡ true → Among d (Err Mixed) (from_bytes d bytes)
@@ -128,29 +136,36 @@ module _ (d : ValueSets) (laws : IsValueSets d) where
       (cell : Cell d.Val) (offset size : ℕ) → IsCellSize size → FlagCovers d cell (cell_in from offset size) → Among d (cell_in from offset size) (results d (taken d m offset size) cell)
   from_flags m from sized covered table cell offset size is h = go (reading from offset size)
     where
-      words : list_any is_empty (map from (bytes_of offset size)) ≡ false → list_any of_pointer (map from (bytes_of offset size)) ≡ false → Among d (Ok (Int size (word_of (map from (bytes_of offset size))))) (from_bytes d (taken d m offset size))
+      words : list_any is_empty (map from (bytes_of offset size)) ≡ false → list_any of_pointer (map from (bytes_of offset size)) ≡ false
+          → Among d (Ok (Int size (word_of (map from (bytes_of offset size))))) (from_bytes d (taken d m offset size))
       words some no_pointer =
           let n : size / 8 * 8 ≡ size = omega (arith, is.1) in
           let c = bytes_concatenate d (Member d) (member_conc d laws) m.bytes from offset (size / 8) (omega (arith, is.2)) (λ byte low high. both_hold (λ word. d.sized word 8) (λ word. d.has word 8 (bits_at (from byte))) (m.bytes byte).value (sized.bytes byte) (word_at d laws m.bytes from covered byte (each_fails is_empty from offset (size / 8) some byte low high) (each_fails of_pointer from offset (size / 8) no_pointer byte low high))) in
           word_among d laws (taken d m offset size) size (word_of (map from (bytes_of offset size))) (omega (arith, is.0)) (subst (λ (k : ℕ). Concatenates d (Member d) (taken d m offset size) k (word_of (map from (bytes_of offset size)))) n c)
 
-      of_store : list_any is_empty (map from (bytes_of offset size)) ≡ false → OneStore from offset size → Among d (cell_in from offset size) (results d (taken d m offset size) cell)
+      of_store : list_any is_empty (map from (bytes_of offset size)) ≡ false → OneStore from offset size
+          → Among d (cell_in from offset size) (results d (taken d m offset size) cell)
       of_store some one = at one.value one.fits one.each
         where
-          at : (value : Value) → FitsValue size value → ((byte : ℕ) → is_byte_of offset size byte ≡ true → from byte ≡ Some (record { offset = offset; size = size; value = value; place = byte - offset })) → Among d (cell_in from offset size) (results d (taken d m offset size) cell)
+          at : (value : Value) → FitsValue size value
+              → ((byte : ℕ) → is_byte_of offset size byte ≡ true → from byte ≡ Some (record { offset = offset; size = size; value = value; place = byte - offset }))
+              → Among d (cell_in from offset size) (results d (taken d m offset size) cell)
           at value fits each =
               let gives : cell_in from offset size ≡ Ok value = whole_cell from offset size value is.0 (λ byte low high. each byte (in_cell offset size byte low high)) in
               let flags : FlagCovers d cell (Ok value) = subst (λ (r : Result Value RunFault). FlagCovers d cell r) gives h in
               rw gives (chosen value fits each flags)
             where
-              chosen : (value : Value) → FitsValue size value → ((byte : ℕ) → is_byte_of offset size byte ≡ true → from byte ≡ Some (record { offset = offset; size = size; value = value; place = byte - offset })) → FlagCovers d cell (Ok value) → Among d (Ok value) (results d (taken d m offset size) cell)
+              chosen : (value : Value) → FitsValue size value
+                  → ((byte : ℕ) → is_byte_of offset size byte ≡ true → from byte ≡ Some (record { offset = offset; size = size; value = value; place = byte - offset }))
+                  → FlagCovers d cell (Ok value) → Among d (Ok value) (results d (taken d m offset size) cell)
               chosen value fits each (inl covers) = in_value (taken d m offset size) cell value covers
               chosen (Ptr f o) fits each (inr flags) = absurd (false≢true (sym flags.1))
               chosen (Int own k) fits each (inr flags) =
                   let w = whole_word from offset size own k (is.0, is.1) fits each in
                   in_x (taken d m offset size) cell (Ok (Int own k)) flags.0 (rw (w.1, ← w.2) (words some w.0))
 
-      go : Reading (map from (bytes_of offset size)) offset size (cell_in from offset size) → Among d (cell_in from offset size) (results d (taken d m offset size) cell)
+      go : Reading (map from (bytes_of offset size)) offset size (cell_in from offset size)
+          → Among d (cell_in from offset size) (results d (taken d m offset size) cell)
       go (reads_empty none r) =
           let flag : cell.u ≡ true = subst (λ (r : Result Value RunFault). FlagCovers d cell r) r h in
           rw r (in_u (taken d m offset size) cell flag)

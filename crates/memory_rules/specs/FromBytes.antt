@@ -37,7 +37,8 @@ module _ (d : ValueSets) (laws : IsValueSets d) (bytes : ℕ → AbstractByte d.
       go None h none = h
       go (Some stored) h none = absurd (false≢true none)
 
-  pub some_u : (offset count : ℕ) → list_any is_empty (map from (offsets offset count)) ≡ true → list_any (λ (byte : AbstractByte d.Word). byte.u) (map bytes (offsets offset count)) ≡ true
+  pub some_u : (offset count : ℕ) → list_any is_empty (map from (offsets offset count)) ≡ true
+      → list_any (λ (byte : AbstractByte d.Word). byte.u) (map bytes (offsets offset count)) ≡ true
   some_u offset count none =
       let found = one_passes is_empty from offset count none in
       some_pass (λ (byte : AbstractByte d.Word). byte.u) bytes offset count found.0 found.1 found.2 (u_at found.0 found.3)
@@ -54,7 +55,8 @@ module _ (d : ValueSets) (laws : IsValueSets d) (bytes : ℕ → AbstractByte d.
       go None h pointer = absurd (false≢true pointer)
       go (Some stored) h pointer = at stored.value stored.place h pointer
 
-  pub some_p : (offset count : ℕ) → list_any of_pointer (map from (offsets offset count)) ≡ true → list_any (λ (byte : AbstractByte d.Word). byte.p) (map bytes (offsets offset count)) ≡ true
+  pub some_p : (offset count : ℕ) → list_any of_pointer (map from (offsets offset count)) ≡ true
+      → list_any (λ (byte : AbstractByte d.Word). byte.p) (map bytes (offsets offset count)) ≡ true
   some_p offset count pointer =
       let found = one_passes of_pointer from offset count pointer in
       some_pass (λ (byte : AbstractByte d.Word). byte.p) bytes offset count found.0 found.1 found.2 (p_at found.0 found.3)
@@ -75,18 +77,23 @@ module _ (d : ValueSets) (laws : IsValueSets d) (bytes : ℕ → AbstractByte d.
       go None h some = absurd (false≢true (sym some))
       go (Some stored) h some = at stored.value stored.place h
 
-  pub all_stored : (offset count : ℕ) → list_any is_empty (map from (offsets offset count)) ≡ false → list_all is_stored (map bytes (offsets offset count)) ≡ true
-  all_stored offset count some = all_pass is_stored bytes offset count (λ byte low high. stored_at byte (each_fails is_empty from offset count some byte low high))
+  pub all_stored : (offset count : ℕ) → list_any is_empty (map from (offsets offset count)) ≡ false
+      → list_all is_stored (map bytes (offsets offset count)) ≡ true
+  all_stored offset count some =
+      all_pass is_stored bytes offset count (λ byte low high. stored_at byte (each_fails is_empty from offset count some byte low high))
 
   -- a byte that comes from a word has a value that covers it
-  pub word_at : (byte : ℕ) → is_empty (from byte) ≡ false → of_pointer (from byte) ≡ false → IsSomeAnd (bytes byte).value (λ word. d.has word 8 (bits_at (from byte)))
+  pub word_at : (byte : ℕ) → is_empty (from byte) ≡ false → of_pointer (from byte) ≡ false
+      → IsSomeAnd (bytes byte).value (λ word. d.has word 8 (bits_at (from byte)))
   word_at byte some words = go (from byte) (covered byte) some words
     where
-      at : (value : Value) (place : ℕ) → HoldsByte d (bytes byte) value place → is_pointer value ≡ false → IsSomeAnd (bytes byte).value (λ word. d.has word 8 (byte_of place (bits_of value)))
+      at : (value : Value) (place : ℕ) → HoldsByte d (bytes byte) value place → is_pointer value ≡ false
+          → IsSomeAnd (bytes byte).value (λ word. d.has word 8 (byte_of place (bits_of value)))
       at (Int size bits) place h words = h
       at (Ptr frame offset) place h words = absurd (false≢true (sym words))
 
-      go : (stored : Option Byte) → ByteCovers d (bytes byte) stored → is_empty stored ≡ false → of_pointer stored ≡ false → IsSomeAnd (bytes byte).value (λ word. d.has word 8 (bits_at stored))
+      go : (stored : Option Byte) → ByteCovers d (bytes byte) stored → is_empty stored ≡ false → of_pointer stored ≡ false
+          → IsSomeAnd (bytes byte).value (λ word. d.has word 8 (bits_at stored))
       go None h some words = absurd (false≢true (sym some))
       go (Some stored) h some words = at stored.value stored.place h words
 
@@ -102,10 +109,12 @@ pub both_hold : {A : Type 0} (S P : A → Type 0) (value : Option A) → IfSome 
 both_hold S P None s h = elim h [ ]
 both_hold S P (Some a) s h = (s, h)
 
-pub member_conc : (d : ValueSets) (laws : IsValueSets d) (a b : d.Word) (size x y : ℕ) → size + 8 ≤ 64 → Member d a size x → Member d b 8 y → Member d (d.conc a b) (size + 8) (x * 256 + y)
+pub member_conc : (d : ValueSets) (laws : IsValueSets d) (a b : d.Word) (size x y : ℕ) → size + 8 ≤ 64 → Member d a size x → Member d b 8 y
+    → Member d (d.conc a b) (size + 8) (x * 256 + y)
 member_conc d laws a b size x y few h k = (laws.conc_sized a b size few h.0 k.0, laws.conc_has a b size x y few h.0 k.0 h.1 k.1)
 
-pub only_conc : (d : ValueSets) (laws : IsValueSets d) (a b : d.Word) (size x y : ℕ) → size + 8 ≤ 64 → OnlyMember d a size x → OnlyMember d b 8 y → OnlyMember d (d.conc a b) (size + 8) (x * 256 + y)
+pub only_conc : (d : ValueSets) (laws : IsValueSets d) (a b : d.Word) (size x y : ℕ) → size + 8 ≤ 64 → OnlyMember d a size x → OnlyMember d b 8 y
+    → OnlyMember d (d.conc a b) (size + 8) (x * 256 + y)
 only_conc d laws a b size x y few h k = (laws.conc_sized a b size few h.0 k.0, laws.conc_only a b size x y few h.0 k.0 h.1 k.1)
 
 -- the words of bytes, concatenated, are in this relation to the word of the bytes
@@ -120,7 +129,8 @@ pub record Concatenates (d : ValueSets) (H : d.Word → ℕ → ℕ → Type 0) 
 
 -- a relation that concatenation keeps: membership, and being the only member
 module _ (d : ValueSets) (H : d.Word → ℕ → ℕ → Type 0) (conc_keeps : (a b : d.Word) (size x y : ℕ) → size + 8 ≤ 64 → H a size x → H b 8 y → H (d.conc a b) (size + 8) (x * 256 + y)) where
-  appended_keeps : (high : Option d.Word) (low : d.Word) (size x y : ℕ) → size + 8 ≤ 64 → Holds d H high size x → H low 8 y → H (appended d high low) (size + 8) (x * 256 + y)
+  appended_keeps : (high : Option d.Word) (low : d.Word) (size x y : ℕ) → size + 8 ≤ 64 → Holds d H high size x → H low 8 y
+      → H (appended d high low) (size + 8) (x * 256 + y)
   appended_keeps None low size x y few (no_size, no_bits) h =
       let s : 8 ≡ size + 8 = omega arith in
       let b : y ≡ x * 256 + y = omega arith in
@@ -149,15 +159,18 @@ module _ (d : ValueSets) (H : d.Word → ℕ → ℕ → Type 0) (conc_keeps : (
           }
 
   -- bytes with a size have one concatenation
-  pub one_word : (bytes : List (AbstractByte d.Word)) (size bits : ℕ) → 0 < size → Concatenates d H bytes size bits → (word : d.Word) × (words_result d (values_in bytes) ≡ Ok (d.of_word word) ∷ []) × H word size bits
+  pub one_word : (bytes : List (AbstractByte d.Word)) (size bits : ℕ) → 0 < size → Concatenates d H bytes size bits
+      → (word : d.Word) × (words_result d (values_in bytes) ≡ Ok (d.of_word word) ∷ []) × H word size bits
   one_word bytes size bits some h = go (concatenated d h.words) refl h.hold
     where
-      go : (word : Option d.Word) → concatenated d h.words ≡ word → Holds d H word size bits → (word : d.Word) × (words_result d (values_in bytes) ≡ Ok (d.of_word word) ∷ []) × H word size bits
+      go : (word : Option d.Word) → concatenated d h.words ≡ word → Holds d H word size bits
+          → (word : d.Word) × (words_result d (values_in bytes) ≡ Ok (d.of_word word) ∷ []) × H word size bits
       go None is (no_size, no_bits) = absurd (omega arith)
       go (Some word) is has = (word, rw (h.are, is) refl, has)
 
 -- the concatenation is among the results from bytes
-pub word_among : (d : ValueSets) (laws : IsValueSets d) (bytes : List (AbstractByte d.Word)) (size bits : ℕ) → 0 < size → Concatenates d (Member d) bytes size bits → Among d (Ok (Int size bits)) (from_bytes d bytes)
+pub word_among : (d : ValueSets) (laws : IsValueSets d) (bytes : List (AbstractByte d.Word)) (size bits : ℕ) → 0 < size
+    → Concatenates d (Member d) bytes size bits → Among d (Ok (Int size bits)) (from_bytes d bytes)
 word_among d laws bytes size bits some h =
     let w = one_word d (Member d) (member_conc d laws) bytes size bits some h in
     let among : Among d (Ok (Int size bits)) (words_result d (values_in bytes)) = rw w.1 (inl (laws.word_covers w.0 size bits w.2.1)) in

@@ -27,22 +27,27 @@ module _ (d : ValueSets) (laws : IsValueSets d) (size : ℕ) where
   sized_append (Ok set ∷ xs) ys s t = (s.0, sized_append xs ys s.1 t)
   sized_append (Err fault ∷ xs) ys s t = sized_append xs ys s t
 
-  step_sized : (before : Option d.Val) (set : d.Val) → IfSome before (λ a. d.val_sized a size) → d.val_sized set size → IfSome (either d.join before (Some set)) (λ a. d.val_sized a size)
-  step_sized before set s t = either_alike d.join (λ a. d.val_sized a size) (λ a. d.val_sized a size) (λ x y. laws.joined_sized x y size) before (Some set) s t
+  step_sized : (before : Option d.Val) (set : d.Val) → IfSome before (λ a. d.val_sized a size) → d.val_sized set size
+      → IfSome (either d.join before (Some set)) (λ a. d.val_sized a size)
+  step_sized before set s t =
+      either_alike d.join (λ a. d.val_sized a size) (λ a. d.val_sized a size) (λ x y. laws.joined_sized x y size) before (Some set) s t
 
-  pub value_kept : (before : Option d.Val) (rs : List (Result d.Val RunFault)) (value : Value) → IfSome before (λ a. d.val_sized a size) → EachSized d size rs → IsSomeAnd before (λ a. d.covers a value) → IsSomeAnd (joined_values d before rs) (λ a. d.covers a value)
+  pub value_kept : (before : Option d.Val) (rs : List (Result d.Val RunFault)) (value : Value) → IfSome before (λ a. d.val_sized a size) → EachSized d size rs
+      → IsSomeAnd before (λ a. d.covers a value) → IsSomeAnd (joined_values d before rs) (λ a. d.covers a value)
   value_kept before [] value s each h = h
   value_kept before (Ok set ∷ rs) value s each h =
       value_kept (either d.join before (Some set)) rs value (step_sized before set s each.0) each.1
       (either_left d.join (λ a. d.val_sized a size) (λ a. d.covers a value) (λ x y. laws.joined_left x y size value) before (Some set) s each.0 h)
   value_kept before (Err fault ∷ rs) value s each h = value_kept before rs value s each h
 
-  pub value_gathered : (before : Option d.Val) (rs : List (Result d.Val RunFault)) (value : Value) → IfSome before (λ a. d.val_sized a size) → EachSized d size rs → Among d (Ok value) rs → IsSomeAnd (joined_values d before rs) (λ a. d.covers a value)
+  pub value_gathered : (before : Option d.Val) (rs : List (Result d.Val RunFault)) (value : Value) → IfSome before (λ a. d.val_sized a size)
+      → EachSized d size rs → Among d (Ok value) rs → IsSomeAnd (joined_values d before rs) (λ a. d.covers a value)
   value_gathered before [] value s each h = elim h [ ]
   value_gathered before (Ok set ∷ rs) value s each (inl h) =
       value_kept (either d.join before (Some set)) rs value (step_sized before set s each.0) each.1
       (either_right d.join (λ a. d.val_sized a size) (λ a. d.covers a value) (λ x y. laws.joined_right x y size value) before (Some set) s each.0 h)
-  value_gathered before (Ok set ∷ rs) value s each (inr h) = value_gathered (either d.join before (Some set)) rs value (step_sized before set s each.0) each.1 h
+  value_gathered before (Ok set ∷ rs) value s each (inr h) =
+      value_gathered (either d.join before (Some set)) rs value (step_sized before set s each.0) each.1 h
   value_gathered before (Err fault ∷ rs) value s each (inl h) = elim h [ ]
   value_gathered before (Err fault ∷ rs) value s each (inr h) = value_gathered before rs value s each h
 
@@ -54,17 +59,22 @@ module _ (d : ValueSets) (laws : IsValueSets d) (size : ℕ) where
   fault_gathered (Err told ∷ rs) fault (inr h) = let k = fault_gathered rs fault h in (suc k.0, omega (arith, k.1), k.2)
 
   -- exactly this value
-  pub exact_values : (before : Option d.Val) (rs : List (Result d.Val RunFault)) (value : Value) → IfSome before (λ a. d.val_sized a size) → EachSized d size rs → IfSome before (λ a. OnlyCovers d a value) → EachIs d (Ok value) rs → IfSome (joined_values d before rs) (λ a. OnlyCovers d a value) × (faults_of d rs ≡ [])
+  pub exact_values : (before : Option d.Val) (rs : List (Result d.Val RunFault)) (value : Value) → IfSome before (λ a. d.val_sized a size)
+      → EachSized d size rs → IfSome before (λ a. OnlyCovers d a value) → EachIs d (Ok value) rs
+      → IfSome (joined_values d before rs) (λ a. OnlyCovers d a value) × (faults_of d rs ≡ [])
   exact_values before [] value s sizes h each = (h, refl)
-  exact_values before (Ok set ∷ rs) value s sizes h each = exact_values (either d.join before (Some set)) rs value (step_sized before set s sizes.0) sizes.1 (go before s h) each.1
+  exact_values before (Ok set ∷ rs) value s sizes h each =
+      exact_values (either d.join before (Some set)) rs value (step_sized before set s sizes.0) sizes.1 (go before s h) each.1
     where
-      go : (before : Option d.Val) → IfSome before (λ a. d.val_sized a size) → IfSome before (λ a. OnlyCovers d a value) → IfSome (either d.join before (Some set)) (λ a. OnlyCovers d a value)
+      go : (before : Option d.Val) → IfSome before (λ a. d.val_sized a size) → IfSome before (λ a. OnlyCovers d a value)
+          → IfSome (either d.join before (Some set)) (λ a. OnlyCovers d a value)
       go None s h = each.0
       go (Some a) s h = laws.joined_only a set size value s sizes.0 h each.0
   exact_values before (Err fault ∷ rs) value s sizes h each = elim each.0 [ ]
 
   -- exactly this fault
-  pub exact_faults : (before : Option d.Val) (rs : List (Result d.Val RunFault)) (fault : RunFault) → EachIs d (Err fault) rs → joined_values d before rs ≡ before
+  pub exact_faults : (before : Option d.Val) (rs : List (Result d.Val RunFault)) (fault : RunFault) → EachIs d (Err fault) rs
+      → joined_values d before rs ≡ before
   exact_faults before [] fault each = refl
   exact_faults before (Ok set ∷ rs) fault each = elim each.0 [ ]
   exact_faults before (Err told ∷ rs) fault each = exact_faults before rs fault each.1
@@ -75,16 +85,22 @@ WordSized d None size = size ≡ 0
 WordSized d (Some word) size = d.sized word size
 
 module _ (d : ValueSets) (laws : IsValueSets d) (m : FrameMem d) (sized : FrameSized d m) where
-  pub words_sized : (offset count : ℕ) (words : List d.Word) → count * 8 ≤ 64 → values_in (map m.bytes (offsets offset count)) ≡ Some words → WordSized d (concatenated d words) (count * 8)
+  pub words_sized : (offset count : ℕ) (words : List d.Word) → count * 8 ≤ 64 → values_in (map m.bytes (offsets offset count)) ≡ Some words
+      → WordSized d (concatenated d words) (count * 8)
   words_sized offset zero words few is = let e : [] ≡ words = cc in subst (λ (w : List d.Word). WordSized d (concatenated d w) 0) e refl
-  words_sized offset (suc count) words few is = go (m.bytes offset).value (values_in (map m.bytes (offsets (suc offset) count))) refl refl (sized.bytes offset) is (λ lows e. words_sized (suc offset) count lows (omega (arith, few)) e)
+  words_sized offset (suc count) words few is =
+      go (m.bytes offset).value (values_in (map m.bytes (offsets (suc offset) count))) refl refl (sized.bytes offset) is (λ lows e. words_sized (suc offset) count lows (omega (arith, few)) e)
     where
       two : (high : Option d.Word) (low : d.Word) → WordSized d high (count * 8) → d.sized low 8 → d.sized (appended d high low) (suc count * 8)
       two None low none s = let e : 8 ≡ suc count * 8 = omega arith in subst (λ (n : ℕ). d.sized low n) e s
-      two (Some high) low h s = let e : count * 8 + 8 ≡ suc count * 8 = omega arith in subst (λ (n : ℕ). d.sized (d.conc high low) n) e (laws.conc_sized high low (count * 8) (omega (arith, few)) h s)
+      two (Some high) low h s =
+          let e : count * 8 + 8 ≡ suc count * 8 = omega arith in subst (λ (n : ℕ). d.sized (d.conc high low) n) e (laws.conc_sized high low (count * 8) (omega (arith, few)) h s)
 
-      go : (value : Option d.Word) (rest : Option (List d.Word)) → (m.bytes offset).value ≡ value → values_in (map m.bytes (offsets (suc offset) count)) ≡ rest → IfSome (m.bytes offset).value (λ w. d.sized w 8)
-          → values_in (map m.bytes (offsets offset (suc count))) ≡ Some words → ((lows : List d.Word) → values_in (map m.bytes (offsets (suc offset) count)) ≡ Some lows → WordSized d (concatenated d lows) (count * 8)) → WordSized d (concatenated d words) (suc count * 8)
+      go : (value : Option d.Word) (rest : Option (List d.Word)) → (m.bytes offset).value ≡ value
+          → values_in (map m.bytes (offsets (suc offset) count)) ≡ rest → IfSome (m.bytes offset).value (λ w. d.sized w 8)
+          → values_in (map m.bytes (offsets offset (suc count))) ≡ Some words
+          → ((lows : List d.Word) → values_in (map m.bytes (offsets (suc offset) count)) ≡ Some lows → WordSized d (concatenated d lows) (count * 8))
+          → WordSized d (concatenated d words) (suc count * 8)
       go None rest v r s is rec = let e : None ≡ Some words = rw v at is in cc
       go (Some low) None v r s is rec = let e : None ≡ Some words = rw (v, r) at is in cc
       go (Some low) (Some lows) v r s is rec =
@@ -118,7 +134,8 @@ module _ (d : ValueSets) (laws : IsValueSets d) (m : FrameMem d) (sized : FrameS
           of_word (concatenated d words) (subst (λ (k : ℕ). WordSized d (concatenated d words) k) n (words_sized offset (size / 8) words (omega (arith, is.2)) at))
 
       of_x : (x : Bool) → EachSized d size (if x then from_bytes d (taken d m offset size) else [])
-      of_x true = sized_append d laws size (words_result d (values_in (taken d m offset size))) _ (of_words (values_in (taken d m offset size)) refl) (of_fault Mixed _)
+      of_x true =
+          sized_append d laws size (words_result d (values_in (taken d m offset size))) _ (of_words (values_in (taken d m offset size)) refl) (of_fault Mixed _)
       of_x false = tt
 
 -- a value that is among the results is in the joined value, and a fault is told

@@ -9,7 +9,8 @@ use Rattle.memory_rules.specs.Flags.{FlagCovers, to_flags, from_flags}
 
 pub record FrameHolds (d : ValueSets) (bits : ℕ) (m : FrameMem d) (from : ℕ → Option Byte) : Type 0 where
   pub bytes : (byte : ℕ) → ByteCovers d (m.bytes byte) (from byte)
-  pub kept : (offset size : ℕ) (cell : Cell d.Val) → m.cells offset size ≡ Some cell → IsCellSize size → fits_in bits offset size ≡ true → FlagCovers d cell (cell_in from offset size)
+  pub kept : (offset size : ℕ) (cell : Cell d.Val) → m.cells offset size ≡ Some cell → IsCellSize size → fits_in bits offset size ≡ true
+      → FlagCovers d cell (cell_in from offset size)
   pub others : (offset size : ℕ) → m.cells offset size ≡ None → IsCellSize size → is_whole from offset size ≡ false
 
 module _ (d : ValueSets) (laws : IsValueSets d) (bits : ℕ) (m : FrameMem d) (from : ℕ → Option Byte) where

@@ -9,9 +9,7 @@ use Rattle.alf_ops.specs.declared.history.Value.{Value}
 use Rattle.alf_ops.specs.declared.history.RunFault.{RunFault}
 use Rattle.alf_ops.specs.declared.history.FrameShape.{FrameShape}
 use Rattle.alf_ops.specs.declared.history.RunEvent.{RunEvent}
-use Rattle.alf_ops.specs.declared.history.RunEvent.TheVariants.{Enter, Leave, Store}
 use Rattle.alf_ops.specs.Histories.{origin, is_active, is_owner, fits_in}
-use Rattle.alf_ops.specs.Values.{FitsValue}
 use Rattle.memory_rules.specs.ValueSets.{ValueSets, OnlyCovers}
 use Rattle.memory_rules.specs.Frames.{FrameMem, strong, weak, empty, joined, either, load_results}
 use Rattle.memory_rules.specs.Covers.{FrameCovers, FrameSized}
@@ -98,11 +96,13 @@ module _ (d : ValueSets) where
   -- the same frames are active, and each active frame covers what its bytes come from
   pub record MemCovers (rows : List FrameShape) (m : Mem d) (history : List RunEvent) : Type 0 where
     pub active : (owner : Option ℕ) → is_active owner history ≡ is_on m.runs owner
-    pub frames : (frame : ℕ) (row : FrameShape) → slice_get rows frame ≡ Some row → is_active row.owner history ≡ true → FrameCovers d row.bits (m.frames frame) (origin row.owner frame history)
+    pub frames : (frame : ℕ) (row : FrameShape) → slice_get rows frame ≡ Some row → is_active row.owner history ≡ true
+        → FrameCovers d row.bits (m.frames frame) (origin row.owner frame history)
 
   pub record MemSharp (rows : List FrameShape) (m : Mem d) (history : List RunEvent) : Type 0 where
     pub active : (owner : Option ℕ) → is_active owner history ≡ is_on m.runs owner
-    pub frames : (frame : ℕ) (row : FrameShape) → slice_get rows frame ≡ Some row → is_active row.owner history ≡ true → FrameSharp d row.bits (m.frames frame) (origin row.owner frame history)
+    pub frames : (frame : ℕ) (row : FrameShape) → slice_get rows frame ≡ Some row → is_active row.owner history ≡ true
+        → FrameSharp d row.bits (m.frames frame) (origin row.owner frame history)
 
 -- the values of each frame have their sizes
 abbrev pub MemSized : (d : ValueSets) → Mem d → Type 0

@@ -36,9 +36,11 @@ contains_cases x xs y (suc k, low, at) = inr (k, omega arith, at)
 
 pub record MemHolds (d : ValueSets) (rows : List FrameShape) (m : Mem d) (history : List RunEvent) : Type 0 where
   pub active : (owner : Option ℕ) → is_active owner history ≡ is_on m.runs owner
-  pub frames : (frame : ℕ) (row : FrameShape) → slice_get rows frame ≡ Some row → is_active row.owner history ≡ true → FrameHolds d row.bits (m.frames frame) (origin row.owner frame history)
+  pub frames : (frame : ℕ) (row : FrameShape) → slice_get rows frame ≡ Some row → is_active row.owner history ≡ true
+      → FrameHolds d row.bits (m.frames frame) (origin row.owner frame history)
 
-pub active_stored : (owner : Option ℕ) (frame offset size : ℕ) (value : Value) (history : List RunEvent) → is_active owner (Store frame offset size value ∷ history) ≡ is_active owner history
+pub active_stored : (owner : Option ℕ) (frame offset size : ℕ) (value : Value) (history : List RunEvent)
+    → is_active owner (Store frame offset size value ∷ history) ≡ is_active owner history
 active_stored None frame offset size value history = refl
 active_stored (Some function) frame offset size value history = refl
 
@@ -52,7 +54,8 @@ module _ (d : ValueSets) (laws : IsValueSets d) (rows : List FrameShape) where
   pub mem_covers : (m : Mem d) (history : List RunEvent) → MemSized d m → IsSound history → MemHolds d rows m history → MemCovers d rows m history
   mem_covers m history sized sound h = record {
     active = h.active;
-    frames = λ frame row found runs. covers d laws row.bits (m.frames frame) (origin row.owner frame history) (sized frame) (origin_is_table row.owner frame history sound) (h.frames frame row found runs);
+    frames =
+        λ frame row found runs. covers d laws row.bits (m.frames frame) (origin row.owner frame history) (sized frame) (origin_is_table row.owner frame history sound) (h.frames frame row found runs);
   }
 
   -- a frame in which nothing was stored
@@ -63,7 +66,8 @@ module _ (d : ValueSets) (laws : IsValueSets d) (rows : List FrameShape) where
       (sym (funext (origin owner frame (Store other offset size value ∷ history)) (origin owner frame history) (λ byte. origin_elsewhere owner frame other offset size value history byte differ))) h
 
   within : (bits : ℕ) (m : FrameMem d) (owner : Option ℕ) (frame offset size : ℕ) (value : Value) (history : List RunEvent)
-      → FrameHolds d bits m (put offset size value (origin owner frame history)) → FrameHolds d bits m (origin owner frame (Store frame offset size value ∷ history))
+      → FrameHolds d bits m (put offset size value (origin owner frame history))
+      → FrameHolds d bits m (origin owner frame (Store frame offset size value ∷ history))
   within bits m owner frame offset size value history h =
       subst (λ (from : ℕ → Option Byte). FrameHolds d bits m from)
       (sym (funext (origin owner frame (Store frame offset size value ∷ history)) (put offset size value (origin owner frame history)) (λ byte. origin_stored owner frame offset size value history byte))) h
@@ -113,27 +117,32 @@ module _ (d : ValueSets) (laws : IsValueSets d) (rows : List FrameShape) where
     mem_stored_sized m (cell ∷ other ∷ cells) sized = all_sized m (cell ∷ other ∷ cells) sized
 
     -- a possible cell in which nothing is stored
-    weak_at_holds : (m : Mem d) (history : List RunEvent) (frame offset : ℕ) → MemSized d m → IsPlaced rows history frame offset size → MemHolds d rows m history → MemHolds d rows (weak_at d m (frame, offset) size set) history
+    weak_at_holds : (m : Mem d) (history : List RunEvent) (frame offset : ℕ) → MemSized d m → IsPlaced rows history frame offset size
+        → MemHolds d rows m history → MemHolds d rows (weak_at d m (frame, offset) size set) history
     weak_at_holds m history frame offset sized p h =
         one_frame m (weak d (m.frames frame) offset size set) frame p.row history history p.found h (λ owner. refl)
         (weak_holds d laws p.row.bits (m.frames frame) (origin p.row.owner frame history) (h.frames frame p.row p.found p.runs) offset size set is set_sized (sized frame) p.fits)
         (λ other own differ held. held)
 
-    all_hold : (m : Mem d) (history : List RunEvent) (cells : List (ℕ × ℕ)) → MemSized d m → ((cell : ℕ × ℕ) → Contains cells cell → IsPlaced rows history cell.0 cell.1 size) → MemHolds d rows m history → MemHolds d rows (weak_all d m cells size set) history
+    all_hold : (m : Mem d) (history : List RunEvent) (cells : List (ℕ × ℕ)) → MemSized d m
+        → ((cell : ℕ × ℕ) → Contains cells cell → IsPlaced rows history cell.0 cell.1 size) → MemHolds d rows m history
+        → MemHolds d rows (weak_all d m cells size set) history
     all_hold m history [] sized placed h = h
     all_hold m history (cell ∷ cells) sized placed h =
         all_hold (weak_at d m cell size set) history cells (weak_at_sized m cell sized) (λ other among. placed other (contains_later cell cells other among))
         (weak_at_holds m history cell.0 cell.1 sized (placed cell (contains_first cell cells)) h)
 
     module _ (value : Value) (in_set : d.covers set value) (fits : FitsValue size value) where
-      strong_at_stores : (m : Mem d) (history : List RunEvent) (frame offset : ℕ) → IsPlaced rows history frame offset size → MemHolds d rows m history → MemHolds d rows (strong_at d m (frame, offset) size set) (Store frame offset size value ∷ history)
+      strong_at_stores : (m : Mem d) (history : List RunEvent) (frame offset : ℕ) → IsPlaced rows history frame offset size → MemHolds d rows m history
+          → MemHolds d rows (strong_at d m (frame, offset) size set) (Store frame offset size value ∷ history)
       strong_at_stores m history frame offset p h =
           one_frame m (strong d (m.frames frame) offset size set) frame p.row history (Store frame offset size value ∷ history) p.found h (λ owner. active_stored owner frame offset size value history)
           (within p.row.bits (strong d (m.frames frame) offset size set) p.row.owner frame offset size value history
           (strong_holds d laws p.row.bits (m.frames frame) (origin p.row.owner frame history) (h.frames frame p.row p.found p.runs) offset size set is set_sized value in_set fits))
           (λ other own differ held. elsewhere own.bits (m.frames other) own.owner other frame offset size value history (λ e. differ (sym e)) held)
 
-      weak_at_stores : (m : Mem d) (history : List RunEvent) (frame offset : ℕ) → MemSized d m → IsPlaced rows history frame offset size → MemHolds d rows m history → MemHolds d rows (weak_at d m (frame, offset) size set) (Store frame offset size value ∷ history)
+      weak_at_stores : (m : Mem d) (history : List RunEvent) (frame offset : ℕ) → MemSized d m → IsPlaced rows history frame offset size
+          → MemHolds d rows m history → MemHolds d rows (weak_at d m (frame, offset) size set) (Store frame offset size value ∷ history)
       weak_at_stores m history frame offset sized p h =
           one_frame m (weak d (m.frames frame) offset size set) frame p.row history (Store frame offset size value ∷ history) p.found h (λ owner. active_stored owner frame offset size value history)
           (within p.row.bits (weak d (m.frames frame) offset size set) p.row.owner frame offset size value history
@@ -141,7 +150,8 @@ module _ (d : ValueSets) (laws : IsValueSets d) (rows : List FrameShape) where
           (λ other own differ held. elsewhere own.bits (m.frames other) own.owner other frame offset size value history (λ e. differ (sym e)) held)
 
       -- one of the possible cells is stored
-      all_store : (m : Mem d) (history : List RunEvent) (cells : List (ℕ × ℕ)) (frame offset : ℕ) → MemSized d m → ((cell : ℕ × ℕ) → Contains cells cell → IsPlaced rows history cell.0 cell.1 size) → Contains cells (frame, offset) → MemHolds d rows m history
+      all_store : (m : Mem d) (history : List RunEvent) (cells : List (ℕ × ℕ)) (frame offset : ℕ) → MemSized d m
+          → ((cell : ℕ × ℕ) → Contains cells cell → IsPlaced rows history cell.0 cell.1 size) → Contains cells (frame, offset) → MemHolds d rows m history
           → MemHolds d rows (weak_all d m cells size set) (Store frame offset size value ∷ history)
       all_store m history [] frame offset sized placed among h = absurd (contains_none (frame, offset) among)
       all_store m history (cell ∷ cells) frame offset sized placed among h = elim (contains_cases cell cells (frame, offset) among) [
@@ -155,29 +165,36 @@ module _ (d : ValueSets) (laws : IsValueSets d) (rows : List FrameShape) where
             (weak_at_holds m history cell.0 cell.1 sized (placed cell (contains_first cell cells)) h)
       ]
         where
-          later : (frame offset : ℕ) (cell : ℕ × ℕ) → IsPlaced rows history cell.0 cell.1 size → IsPlaced rows (Store frame offset size value ∷ history) cell.0 cell.1 size
-          later frame offset cell p = record { row = p.row; found = p.found; runs = active_stored p.row.owner frame offset size value history ∙ p.runs; fits = p.fits }
+          later : (frame offset : ℕ) (cell : ℕ × ℕ) → IsPlaced rows history cell.0 cell.1 size
+              → IsPlaced rows (Store frame offset size value ∷ history) cell.0 cell.1 size
+          later frame offset cell p =
+              record { row = p.row; found = p.found; runs = active_stored p.row.owner frame offset size value history ∙ p.runs; fits = p.fits }
 
-      pub stored_holds : (m : Mem d) (history : List RunEvent) (cells : List (ℕ × ℕ)) (frame offset : ℕ) → MemSized d m → ((cell : ℕ × ℕ) → Contains cells cell → IsPlaced rows history cell.0 cell.1 size) → Contains cells (frame, offset) → MemHolds d rows m history
+      pub stored_holds : (m : Mem d) (history : List RunEvent) (cells : List (ℕ × ℕ)) (frame offset : ℕ) → MemSized d m
+          → ((cell : ℕ × ℕ) → Contains cells cell → IsPlaced rows history cell.0 cell.1 size) → Contains cells (frame, offset) → MemHolds d rows m history
           → MemHolds d rows (stored d m cells size set) (Store frame offset size value ∷ history)
       stored_holds m history [] frame offset sized placed among h = absurd (contains_none (frame, offset) among)
       stored_holds m history (cell ∷ []) frame offset sized placed among h = elim (contains_cases cell [] (frame, offset) among) [
         | inl same ↦ subst (λ (c : ℕ × ℕ). MemHolds d rows (strong_at d m c size set) (Store frame offset size value ∷ history)) same (strong_at_stores m history frame offset (placed (frame, offset) among) h)
         | inr rest ↦ absurd (contains_none (frame, offset) rest)
       ]
-      stored_holds m history (cell ∷ other ∷ cells) frame offset sized placed among h = all_store m history (cell ∷ other ∷ cells) frame offset sized placed among h
+      stored_holds m history (cell ∷ other ∷ cells) frame offset sized placed among h =
+          all_store m history (cell ∷ other ∷ cells) frame offset sized placed among h
 
   -- two memories: what covers on one side covers after the join, where the same functions run
   pub both_left : (a b : Mem d) (history : List RunEvent) → MemSized d a → MemSized d b → MemHolds d rows a history → MemHolds d rows (both d a b) history
   both_left a b history s t h = record {
     active = h.active;
-    frames = λ frame row found runs. joined_holds_left d laws row.bits (a.frames frame) (b.frames frame) (origin row.owner frame history) (s frame) (t frame) (h.frames frame row found runs);
+    frames =
+        λ frame row found runs. joined_holds_left d laws row.bits (a.frames frame) (b.frames frame) (origin row.owner frame history) (s frame) (t frame) (h.frames frame row found runs);
   }
 
-  pub both_right : (a b : Mem d) (history : List RunEvent) → MemSized d a → MemSized d b → ((function : ℕ) → a.runs function ≡ b.runs function) → MemHolds d rows b history → MemHolds d rows (both d a b) history
+  pub both_right : (a b : Mem d) (history : List RunEvent) → MemSized d a → MemSized d b → ((function : ℕ) → a.runs function ≡ b.runs function)
+      → MemHolds d rows b history → MemHolds d rows (both d a b) history
   both_right a b history s t same h = record {
     active = λ owner. h.active owner ∙ is_same owner;
-    frames = λ frame row found runs. joined_holds_right d laws row.bits (a.frames frame) (b.frames frame) (origin row.owner frame history) (s frame) (t frame) (h.frames frame row found runs);
+    frames =
+        λ frame row found runs. joined_holds_right d laws row.bits (a.frames frame) (b.frames frame) (origin row.owner frame history) (s frame) (t frame) (h.frames frame row found runs);
   }
     where
       is_same : (owner : Option ℕ) → is_on b.runs owner ≡ is_on a.runs owner
@@ -185,7 +202,8 @@ module _ (d : ValueSets) (laws : IsValueSets d) (rows : List FrameShape) where
       is_same (Some function) = sym (same function)
 
   -- leaving a function: what is active afterwards was active
-  pub left_holds : (m : Mem d) (history : List RunEvent) (function : ℕ) → MemHolds d rows m history → MemHolds d rows (left d m function) (Leave function ∷ history)
+  pub left_holds : (m : Mem d) (history : List RunEvent) (function : ℕ) → MemHolds d rows m history
+      → MemHolds d rows (left d m function) (Leave function ∷ history)
   left_holds m history function h = record {
     active = active;
     frames = λ frame row found runs. h.frames frame row found (was row.owner runs);
@@ -206,7 +224,8 @@ module _ (d : ValueSets) (laws : IsValueSets d) (rows : List FrameShape) where
       ]
 
   -- entering a function empties its frames
-  pub entered_holds : (m : Mem d) (history : List RunEvent) (function : ℕ) → MemHolds d rows m history → MemHolds d rows (entered d rows m function) (Enter function ∷ history)
+  pub entered_holds : (m : Mem d) (history : List RunEvent) (function : ℕ) → MemHolds d rows m history
+      → MemHolds d rows (entered d rows m function) (Enter function ∷ history)
   entered_holds m history function h = record {
     active = active;
     frames = λ frame row found runs. by_test (is_owner row.owner function)

@@ -88,13 +88,15 @@ module _ (d : ValueSets) where
   -- a cell that holds a value is pinned to a set with it
   abbrev pub PinCovers : Type 0
   PinCovers = (bits : ℕ) (m : FrameMem d) (from : ℕ → Option Byte) (offset size : ℕ) (set : d.Val) (value : Value)
-      → IsTable from → FrameSized d m → FrameCovers d bits m from → IsCellSize size → d.val_sized set size → cell_in from offset size ≡ Ok value → d.covers set value
+      → IsTable from → FrameSized d m → FrameCovers d bits m from → IsCellSize size → d.val_sized set size → cell_in from offset size ≡ Ok value
+      → d.covers set value
       → FrameCovers d bits (pinned d m offset size set) from
 
   -- and to this value alone
   abbrev pub PinSharp : Type 0
   PinSharp = (bits : ℕ) (m : FrameMem d) (from : ℕ → Option Byte) (offset size : ℕ) (set : d.Val) (value : Value)
-      → IsTable from → FrameSized d m → FrameSharp d bits m from → IsCellSize size → d.val_sized set size → cell_in from offset size ≡ Ok value → OnlyCovers d set value
+      → IsTable from → FrameSized d m → FrameSharp d bits m from → IsCellSize size → d.val_sized set size → cell_in from offset size ≡ Ok value
+      → OnlyCovers d set value
       → FrameSharp d bits (pinned d m offset size set) from
 
   -- a store of one value to the one possible cell keeps a whole memory sharp

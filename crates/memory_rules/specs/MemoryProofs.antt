@@ -29,7 +29,7 @@ module _ (d : ValueSets) (laws : IsValueSets d) where
       load_covered d laws p.row.bits (m.frames frame) (origin p.row.owner frame history) (sized frame) (origin_is_table p.row.owner frame history sound) (c.frames frame p.row p.found p.runs) offset size is p.fits
 
   pub load_gathers : LoadGathers d
-  load_gathers m offset size r sized is = 
+  load_gathers m offset size r sized is =
       let sizes = results_sized d laws m sized offset size is in
       (gathered_all d laws size (load_results d m offset size) sizes r, gathered_all_only d laws size (load_results d m offset size) sizes r)
 
@@ -70,7 +70,8 @@ module _ (d : ValueSets) (laws : IsValueSets d) where
   sharp_covers : (rows : List FrameShape) (m : Mem d) (history : List RunEvent) → MemSharp d rows m history → MemCovers d rows m history
   sharp_covers rows m history h = record { active = h.active; frames = λ frame row found runs. (h.frames frame row found runs).covers }
 
-  only_cell : (rows : List FrameShape) (history : List RunEvent) (frame offset size : ℕ) → IsPlaced rows history frame offset size → (cell : ℕ × ℕ) → Contains ((frame, offset) ∷ []) cell → IsPlaced rows history cell.0 cell.1 size
+  only_cell : (rows : List FrameShape) (history : List RunEvent) (frame offset size : ℕ) → IsPlaced rows history frame offset size → (cell : ℕ × ℕ)
+      → Contains ((frame, offset) ∷ []) cell → IsPlaced rows history cell.0 cell.1 size
   only_cell rows history frame offset size p cell among = elim (contains_cases (frame, offset) [] cell among) [
     | inl same ↦ subst (λ (c : ℕ × ℕ). IsPlaced rows history c.0 c.1 size) (sym same) p
     | inr none ↦ absurd (contains_none cell none)

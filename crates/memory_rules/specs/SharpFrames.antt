@@ -29,7 +29,8 @@ SharpByte d byte None = (byte.u ≡ true) × (byte.p ≡ false) × (byte.value �
 SharpByte d byte (Some stored) = SharpValue d byte stored.value stored.place
 
 -- a byte without a value: not all have one
-missing : {W : Type 0} (bytes : ℕ → AbstractByte W) (offset count byte : ℕ) → offset ≤ byte → byte < offset + count → (bytes byte).value ≡ None → values_in (map bytes (offsets offset count)) ≡ None
+missing : {W : Type 0} (bytes : ℕ → AbstractByte W) (offset count byte : ℕ) → offset ≤ byte → byte < offset + count → (bytes byte).value ≡ None
+    → values_in (map bytes (offsets offset count)) ≡ None
 missing bytes offset zero byte low high none = absurd (omega arith)
 missing {W} bytes offset (suc count) byte low high none = elim (cases_eq byte offset) [
   | inl same ↦ let here : (bytes offset).value ≡ None = subst (λ (b : ℕ). (bytes b).value ≡ None) same none in rw here refl
@@ -94,28 +95,34 @@ module _ (d : ValueSets) (laws : IsValueSets d) where
         go None one pointer = absurd (false≢true pointer)
         go (Some stored) one pointer = at stored.value stored.place one pointer
 
-    word_at : (byte : ℕ) → is_empty (from byte) ≡ false → of_pointer (from byte) ≡ false → ((m.bytes byte).p ≡ false) × IsSomeAnd (m.bytes byte).value (λ word. OnlyHas d word 8 (bits_at (from byte)))
+    word_at : (byte : ℕ) → is_empty (from byte) ≡ false → of_pointer (from byte) ≡ false
+        → ((m.bytes byte).p ≡ false) × IsSomeAnd (m.bytes byte).value (λ word. OnlyHas d word 8 (bits_at (from byte)))
     word_at byte some words = go (from byte) (at_byte byte) some words
       where
-        at : (value : Value) (place : ℕ) → SharpValue d (m.bytes byte) value place → is_pointer value ≡ false → ((m.bytes byte).p ≡ false) × IsSomeAnd (m.bytes byte).value (λ word. OnlyHas d word 8 (byte_of place (bits_of value)))
+        at : (value : Value) (place : ℕ) → SharpValue d (m.bytes byte) value place → is_pointer value ≡ false
+            → ((m.bytes byte).p ≡ false) × IsSomeAnd (m.bytes byte).value (λ word. OnlyHas d word 8 (byte_of place (bits_of value)))
         at (Int size bits) place one words = (one.1, one.2)
         at (Ptr frame offset) place one words = absurd (false≢true (sym words))
 
-        go : (stored : Option Byte) → SharpByte d (m.bytes byte) stored → is_empty stored ≡ false → of_pointer stored ≡ false → ((m.bytes byte).p ≡ false) × IsSomeAnd (m.bytes byte).value (λ word. OnlyHas d word 8 (bits_at stored))
+        go : (stored : Option Byte) → SharpByte d (m.bytes byte) stored → is_empty stored ≡ false → of_pointer stored ≡ false
+            → ((m.bytes byte).p ≡ false) × IsSomeAnd (m.bytes byte).value (λ word. OnlyHas d word 8 (bits_at stored))
         go None one some words = absurd (false≢true (sym some))
         go (Some stored) one some words = at stored.value stored.place one words
 
     -- what is not kept gives exactly the load
-    not_kept_exact : (offset size : ℕ) → IsCellSize size → is_whole from offset size ≡ false → Exactly d (cell_in from offset size) (results d (taken d m offset size) (not_kept (taken d m offset size)))
+    not_kept_exact : (offset size : ℕ) → IsCellSize size → is_whole from offset size ≡ false
+        → Exactly d (cell_in from offset size) (results d (taken d m offset size) (not_kept (taken d m offset size)))
     not_kept_exact offset size is many = go (reading from offset size)
       where
         covered : (byte : ℕ) → ByteCovers d (m.bytes byte) (from byte)
         covered = sharp.covers.bytes
 
         no_u : list_any is_empty (map from (bytes_of offset size)) ≡ false → list_any (λ (byte : AbstractByte d.Word). byte.u) (taken d m offset size) ≡ false
-        no_u some = none_passes (λ (byte : AbstractByte d.Word). byte.u) m.bytes offset (size / 8) (λ byte low high. stored_at byte (each_fails is_empty from offset (size / 8) some byte low high))
+        no_u some =
+            none_passes (λ (byte : AbstractByte d.Word). byte.u) m.bytes offset (size / 8) (λ byte low high. stored_at byte (each_fails is_empty from offset (size / 8) some byte low high))
 
-        go : Reading (map from (bytes_of offset size)) offset size (cell_in from offset size) → Exactly d (cell_in from offset size) (results d (taken d m offset size) (not_kept (taken d m offset size)))
+        go : Reading (map from (bytes_of offset size)) offset size (cell_in from offset size)
+            → Exactly d (cell_in from offset size) (results d (taken d m offset size) (not_kept (taken d m offset size)))
         go (reads_empty none r) =
             let found = one_passes is_empty from offset (size / 8) none in
             let x : list_all is_stored (taken d m offset size) ≡ false = by_test (list_all is_stored (taken d m offset size))
@@ -147,15 +154,18 @@ module _ (d : ValueSets) (laws : IsValueSets d) where
             )
 
     -- a load from a sharp frame is exact
-    pub load_exact : (offset size : ℕ) → IsCellSize size → fits_in bits offset size ≡ true → Exactly d (cell_in from offset size) (load_results d m offset size)
+    pub load_exact : (offset size : ℕ) → IsCellSize size → fits_in bits offset size ≡ true
+        → Exactly d (cell_in from offset size) (load_results d m offset size)
     load_exact offset size is fits = go (m.cells offset size) refl
       where
-        go : (kept : Option (Cell d.Val)) → m.cells offset size ≡ kept → Exactly d (cell_in from offset size) (results d (taken d m offset size) (kept_or kept (not_kept (taken d m offset size))))
+        go : (kept : Option (Cell d.Val)) → m.cells offset size ≡ kept
+            → Exactly d (cell_in from offset size) (results d (taken d m offset size) (kept_or kept (not_kept (taken d m offset size))))
         go None at = not_kept_exact offset size is (sharp.covers.others offset size at is)
         go (Some cell) at = sharp.kept offset size cell at is fits
 
   -- the byte that a sharp store leaves
-  new_byte_sharp : (set : d.Val) (value : Value) (size place : ℕ) → d.val_sized set size → OnlyCovers d set value → FitsValue size value → 8 * place + 8 ≤ size → ExactlyOne d (new_byte d set place)
+  new_byte_sharp : (set : d.Val) (value : Value) (size place : ℕ) → d.val_sized set size → OnlyCovers d set value → FitsValue size value
+      → 8 * place + 8 ≤ size → ExactlyOne d (new_byte d set place)
   new_byte_sharp set (Int own k) size place s only fits room =
       let w = laws.only_word set size own k s only in
       let inside : 8 * place + 8 ≤ own = omega (arith, fits.0) in
@@ -178,12 +188,15 @@ module _ (d : ValueSets) (laws : IsValueSets d) where
       (sym (same_bytes n.bytes m.bytes offset (size / 8) bytes)) h)
 
   -- a cell that is kept with one value gives exactly this value
-  kept_exact : (bytes : List (AbstractByte d.Word)) (set : d.Val) (value : Value) → OnlyCovers d set value → Exactly d (Ok value) (results d bytes (record { value = Some set; u = false; x = false }))
+  kept_exact : (bytes : List (AbstractByte d.Word)) (set : d.Val) (value : Value) → OnlyCovers d set value
+      → Exactly d (Ok value) (results d bytes (record { value = Some set; u = false; x = false }))
   kept_exact bytes set value only = (inl only.0, (only, tt))
 
   -- after a store at the one possible cell
-  pub strong_sharp : (bits : ℕ) (m : FrameMem d) (from : ℕ → Option Byte) (offset size : ℕ) (set : d.Val) (value : Value) → FrameSharp d bits m from → FrameCovers d bits (strong d m offset size set) (put offset size value from)
-      → IsCellSize size → d.val_sized set size → OnlyCovers d set value → FitsValue size value → FrameSharp d bits (strong d m offset size set) (put offset size value from)
+  pub strong_sharp : (bits : ℕ) (m : FrameMem d) (from : ℕ → Option Byte) (offset size : ℕ) (set : d.Val) (value : Value) → FrameSharp d bits m from
+      → FrameCovers d bits (strong d m offset size set) (put offset size value from)
+      → IsCellSize size → d.val_sized set size → OnlyCovers d set value → FitsValue size value
+      → FrameSharp d bits (strong d m offset size set) (put offset size value from)
   strong_sharp bits m from offset size set value sharp covers is set_sized only fits = record {
     covers = covers;
     bytes = λ byte. by_test (is_byte_of offset size byte)
@@ -212,7 +225,8 @@ module _ (d : ValueSets) (laws : IsValueSets d) where
   }
 
   -- after a cell is pinned to the one value that it holds
-  pub pinned_sharp : (bits : ℕ) (m : FrameMem d) (from : ℕ → Option Byte) (offset size : ℕ) (set : d.Val) (value : Value) → FrameSharp d bits m from → FrameCovers d bits (pinned d m offset size set) from
+  pub pinned_sharp : (bits : ℕ) (m : FrameMem d) (from : ℕ → Option Byte) (offset size : ℕ) (set : d.Val) (value : Value) → FrameSharp d bits m from
+      → FrameCovers d bits (pinned d m offset size set) from
       → cell_in from offset size ≡ Ok value → OnlyCovers d set value → FrameSharp d bits (pinned d m offset size set) from
   pinned_sharp bits m from offset size set value sharp covers gives only = record {
     covers = covers;

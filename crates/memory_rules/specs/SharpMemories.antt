@@ -19,12 +19,14 @@ use Rattle.memory_rules.specs.MemoryCovering.{funext, active_stored}
 use Rattle.memory_rules.specs.SharpFrames.{strong_sharp, empty_sharp}
 
 -- a frame whose table is the same
-same_table : (d : ValueSets) (bits : ℕ) (m : FrameMem d) (f g : ℕ → Option Byte) → ((byte : ℕ) → g byte ≡ f byte) → FrameSharp d bits m f → FrameSharp d bits m g
+same_table : (d : ValueSets) (bits : ℕ) (m : FrameMem d) (f g : ℕ → Option Byte) → ((byte : ℕ) → g byte ≡ f byte) → FrameSharp d bits m f
+    → FrameSharp d bits m g
 same_table d bits m f g same h = subst (λ (from : ℕ → Option Byte). FrameSharp d bits m from) (sym (funext g f same)) h
 
 module _ (d : ValueSets) (laws : IsValueSets d) (rows : List FrameShape) where
   -- a store of one value to the one possible cell
-  pub stored_sharp : (m : Mem d) (history : List RunEvent) (frame offset size : ℕ) (set : d.Val) (value : Value) → MemSharp d rows m history → MemCovers d rows (strong_at d m (frame, offset) size set) (Store frame offset size value ∷ history)
+  pub stored_sharp : (m : Mem d) (history : List RunEvent) (frame offset size : ℕ) (set : d.Val) (value : Value) → MemSharp d rows m history
+      → MemCovers d rows (strong_at d m (frame, offset) size set) (Store frame offset size value ∷ history)
       → IsCellSize size → d.val_sized set size → OnlyCovers d set value → FitsValue size value → IsPlaced rows history frame offset size
       → MemSharp d rows (strong_at d m (frame, offset) size set) (Store frame offset size value ∷ history)
   stored_sharp m history frame offset size set value sharp covers is set_sized only fits p = record {
@@ -55,7 +57,8 @@ module _ (d : ValueSets) (laws : IsValueSets d) (rows : List FrameShape) where
           rw (eq-eqb other frame same) (subst (λ (f : ℕ). FrameSharp d row.bits (strong d (m.frames frame) offset size set) (origin row.owner f (Store frame offset size value ∷ history))) (sym same) done)
 
   -- what is active after a function of others is entered was active
-  was_active : (owner : Option ℕ) (function : ℕ) (history : List RunEvent) → is_owner owner function ≡ false → is_active owner (Enter function ∷ history) ≡ true
+  was_active : (owner : Option ℕ) (function : ℕ) (history : List RunEvent) → is_owner owner function ≡ false
+      → is_active owner (Enter function ∷ history) ≡ true
       → is_active owner history ≡ true
   was_active None function history other runs = refl
   was_active (Some g) function history other runs = elim (cases_eq g function) [

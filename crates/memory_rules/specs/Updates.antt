@@ -22,7 +22,8 @@ use Rattle.memory_rules.specs.Cells.{same_is, apart, broken, stands_holds}
 use Rattle.memory_rules.specs.Above.{new_byte_holds, weak_old, weak_new, weak_cell_old, weak_cell_new, join_bytes_left, join_bytes_right, join_cells_left, join_cells_right, cell_above, either_alike}
 
 -- a cell that lies apart from a store is whole where it was
-pub whole_apart : (from : ℕ → Option Byte) (offset size : ℕ) (value : Value) (place width : ℕ) → (place + width / 8 ≤ offset) ⊎ (offset + size / 8 ≤ place) → is_whole (put offset size value from) place width ≡ is_whole from place width
+pub whole_apart : (from : ℕ → Option Byte) (offset size : ℕ) (value : Value) (place width : ℕ) → (place + width / 8 ≤ offset) ⊎ (offset + size / 8 ≤ place)
+    → is_whole (put offset size value from) place width ≡ is_whole from place width
 whole_apart from offset size value place width apart =
     ap (λ (bytes : List (Option Byte)). list_all (is_from place width) bytes)
     (same_bytes (put offset size value from) from place (width / 8)
@@ -32,7 +33,8 @@ module _ (d : ValueSets) (laws : IsValueSets d) where
   pub stands_sized : (m : FrameMem d) → FrameSized d m → (offset size : ℕ) → IfSome (stands d m offset size).value (λ set. d.val_sized set size)
   stands_sized m sized offset size = go (m.cells offset size) refl
     where
-      go : (kept : Option (Cell d.Val)) → m.cells offset size ≡ kept → IfSome (kept_or kept (not_kept (taken d m offset size))).value (λ set. d.val_sized set size)
+      go : (kept : Option (Cell d.Val)) → m.cells offset size ≡ kept
+          → IfSome (kept_or kept (not_kept (taken d m offset size))).value (λ set. d.val_sized set size)
       go None at = tt
       go (Some cell) at = sized.kept offset size cell at
 
@@ -84,7 +86,8 @@ module _ (d : ValueSets) (laws : IsValueSets d) (bits : ℕ) (m : FrameMem d) (f
       }
 
       -- a byte that the store leaves empty was empty, so a load that is uninit was uninit
-      was_uninit : (place width : ℕ) → list_any is_empty (map (put offset size value from) (bytes_of place width)) ≡ true → cell_in from place width ≡ Err Uninit
+      was_uninit : (place width : ℕ) → list_any is_empty (map (put offset size value from) (bytes_of place width)) ≡ true
+          → cell_in from place width ≡ Err Uninit
       was_uninit place width none =
           let found = one_passes is_empty (put offset size value from) place (width / 8) none in
           let bare : is_empty (from found.0) ≡ true = by_test (is_byte_of offset size found.0)
@@ -94,11 +97,13 @@ module _ (d : ValueSets) (laws : IsValueSets d) (bits : ℕ) (m : FrameMem d) (f
           rw some refl
 
       -- after the store a kept cell that shares a byte with it is read from bytes
-      shared_holds : (place width : ℕ) (cell : Cell d.Val) → IsCellSize width → is_same offset size place width ≡ false → share_byte offset size place width ≡ true → FlagCovers d cell (cell_in from place width)
+      shared_holds : (place width : ℕ) (cell : Cell d.Val) → IsCellSize width → is_same offset size place width ≡ false
+          → share_byte offset size place width ≡ true → FlagCovers d cell (cell_in from place width)
           → FlagCovers d (record { value = cell.value; u = cell.u; x = true }) (cell_in (put offset size value from) place width)
       shared_holds place width cell width_is differ share old = go (reading (put offset size value from) place width)
         where
-          go : Reading (map (put offset size value from) (bytes_of place width)) place width (cell_in (put offset size value from) place width) → FlagCovers d (record { value = cell.value; u = cell.u; x = true }) (cell_in (put offset size value from) place width)
+          go : Reading (map (put offset size value from) (bytes_of place width)) place width (cell_in (put offset size value from) place width)
+              → FlagCovers d (record { value = cell.value; u = cell.u; x = true }) (cell_in (put offset size value from) place width)
           go (reads_empty none r) =
               let u : cell.u ≡ true = subst (λ (r : Result Value RunFault). FlagCovers d cell r) (was_uninit place width none) old in
               rw r u
@@ -133,7 +138,8 @@ module _ (d : ValueSets) (laws : IsValueSets d) (bits : ℕ) (m : FrameMem d) (f
             whole_apart from offset size value place width (apart offset size place width alone) ∙ h.others place width same width_is));
       }
         where
-          marked : (place width : ℕ) (cell : Cell d.Val) (kept : Option (Cell d.Val)) → m.cells place width ≡ kept → with_x d kept ≡ Some cell → IsCellSize width → fits_in bits place width ≡ true → is_same offset size place width ≡ false → share_byte offset size place width ≡ true
+          marked : (place width : ℕ) (cell : Cell d.Val) (kept : Option (Cell d.Val)) → m.cells place width ≡ kept → with_x d kept ≡ Some cell
+              → IsCellSize width → fits_in bits place width ≡ true → is_same offset size place width ≡ false → share_byte offset size place width ≡ true
               → FlagCovers d cell (cell_in (put offset size value from) place width)
           marked place width cell None at e width_is room differ share = cc
           marked place width cell (Some old) at e width_is room differ share =
@@ -168,7 +174,8 @@ module _ (d : ValueSets) (laws : IsValueSets d) (bits : ℕ) (m : FrameMem d) (f
         unmarked None e = refl
         unmarked (Some cell) e = cc
 
-        marked : (place width : ℕ) (cell : Cell d.Val) (kept : Option (Cell d.Val)) → m.cells place width ≡ kept → with_x d kept ≡ Some cell → IsCellSize width → fits_in bits place width ≡ true → FlagCovers d cell (cell_in from place width)
+        marked : (place width : ℕ) (cell : Cell d.Val) (kept : Option (Cell d.Val)) → m.cells place width ≡ kept → with_x d kept ≡ Some cell
+            → IsCellSize width → fits_in bits place width ≡ true → FlagCovers d cell (cell_in from place width)
         marked place width cell None at e width_is room = cc
         marked place width cell (Some old) at e width_is room =
             let c : record { value = old.value; u = old.u; x = true } ≡ cell = cc in
@@ -193,7 +200,8 @@ module _ (d : ValueSets) (laws : IsValueSets d) (bits : ℕ) (m : FrameMem d) (f
 
 -- two sides: what covers on one side covers after the join
 module _ (d : ValueSets) (laws : IsValueSets d) (bits : ℕ) (a b : FrameMem d) (from : ℕ → Option Byte) where
-  join_kept : (offset size : ℕ) (cell : Cell d.Val) → (joined d a b).cells offset size ≡ Some cell → join_cells d (stands d a offset size) (stands d b offset size) ≡ cell
+  join_kept : (offset size : ℕ) (cell : Cell d.Val) → (joined d a b).cells offset size ≡ Some cell
+      → join_cells d (stands d a offset size) (stands d b offset size) ≡ cell
   join_kept offset size cell kept = by_test (is_some (a.cells offset size) || is_some (b.cells offset size))
       (λ some. let e : Some (join_cells d (stands d a offset size) (stands d b offset size)) ≡ Some cell = rw some at kept in cc)
       (λ none. let e : None ≡ Some cell = rw none at kept in cc)
@@ -237,7 +245,8 @@ empty_holds d bits = record {
 
 -- each call keeps the sizes
 module _ (d : ValueSets) (laws : IsValueSets d) where
-  pub weak_sized : (m : FrameMem d) (offset size : ℕ) (set : d.Val) → IsCellSize size → FrameSized d m → d.val_sized set size → FrameSized d (weak d m offset size set)
+  pub weak_sized : (m : FrameMem d) (offset size : ℕ) (set : d.Val) → IsCellSize size → FrameSized d m → d.val_sized set size
+      → FrameSized d (weak d m offset size set)
   weak_sized m offset size set is sized set_sized = record {
     bytes = λ byte. by_test (is_byte_of offset size byte)
         (λ inside. rw inside (either_alike d.join_words (λ w. d.sized w 8) (λ w. d.sized w 8) (λ x y. laws.joined_words_sized x y 8) (m.bytes byte).value (new_byte d set (byte - offset)).value (sized.bytes byte) (new_byte_sized d laws set size (byte - offset) (byte_room offset size byte is inside) set_sized)))
@@ -254,15 +263,18 @@ module _ (d : ValueSets) (laws : IsValueSets d) where
         (λ alone. sized.kept place width cell (rw (differ, alone) at kept)));
   }
     where
-      marked : (place width : ℕ) (cell : Cell d.Val) (kept : Option (Cell d.Val)) → m.cells place width ≡ kept → with_x d kept ≡ Some cell → IfSome cell.value (λ v. d.val_sized v width)
+      marked : (place width : ℕ) (cell : Cell d.Val) (kept : Option (Cell d.Val)) → m.cells place width ≡ kept → with_x d kept ≡ Some cell
+          → IfSome cell.value (λ v. d.val_sized v width)
       marked place width cell None at e = cc
       marked place width cell (Some old) at e =
           let c : record { value = old.value; u = old.u; x = true } ≡ cell = cc in
           subst (λ (k : Cell d.Val). IfSome k.value (λ v. d.val_sized v width)) c (sized.kept place width old at)
 
-  pub strong_sized : (m : FrameMem d) (offset size : ℕ) (set : d.Val) → IsCellSize size → FrameSized d m → d.val_sized set size → FrameSized d (strong d m offset size set)
+  pub strong_sized : (m : FrameMem d) (offset size : ℕ) (set : d.Val) → IsCellSize size → FrameSized d m → d.val_sized set size
+      → FrameSized d (strong d m offset size set)
   strong_sized m offset size set is sized set_sized = record {
-    bytes = λ byte. by_test (is_byte_of offset size byte) (λ inside. rw inside (new_byte_sized d laws set size (byte - offset) (byte_room offset size byte is inside) set_sized)) (λ outside. rw outside (sized.bytes byte));
+    bytes =
+        λ byte. by_test (is_byte_of offset size byte) (λ inside. rw inside (new_byte_sized d laws set size (byte - offset) (byte_room offset size byte is inside) set_sized)) (λ outside. rw outside (sized.bytes byte));
     kept = λ place width cell kept. by_test (is_same offset size place width)
         (λ same.
         let at = same_is offset size place width same in
@@ -276,8 +288,10 @@ module _ (d : ValueSets) (laws : IsValueSets d) where
 
   pub joined_sized : (a b : FrameMem d) → FrameSized d a → FrameSized d b → FrameSized d (joined d a b)
   joined_sized a b s t = record {
-    bytes = λ byte. either_alike d.join_words (λ w. d.sized w 8) (λ w. d.sized w 8) (λ x y. laws.joined_words_sized x y 8) (a.bytes byte).value (b.bytes byte).value (s.bytes byte) (t.bytes byte);
-    kept = λ offset size cell kept. subst (λ (k : Cell d.Val). IfSome k.value (λ v. d.val_sized v size)) (join_kept d laws 0 a b (λ byte. None) offset size cell kept)
+    bytes =
+        λ byte. either_alike d.join_words (λ w. d.sized w 8) (λ w. d.sized w 8) (λ x y. laws.joined_words_sized x y 8) (a.bytes byte).value (b.bytes byte).value (s.bytes byte) (t.bytes byte);
+    kept =
+        λ offset size cell kept. subst (λ (k : Cell d.Val). IfSome k.value (λ v. d.val_sized v size)) (join_kept d laws 0 a b (λ byte. None) offset size cell kept)
         (either_alike d.join (λ v. d.val_sized v size) (λ v. d.val_sized v size) (λ x y. laws.joined_sized x y size) (stands d a offset size).value (stands d b offset size).value (stands_sized d laws a s offset size) (stands_sized d laws b t offset size));
   }
 

@@ -1,0 +1,19 @@
+//! The abstract memory of a run, as definitions, and its laws.
+//!
+//! A memory keeps bytes and cells of frames. A byte knows the words that its newest store may have left in it;
+//! a cell knows more, the values that one store of exactly this cell may have left. Loads, stores, functions
+//! entered and left, joins and pins are definitions over any sets of values, and it is proved of them that a
+//! memory covers what a run's memory holds, and that it is exact where one run is followed. Here is no code
+//! but functions that do nothing, whose clauses are the laws. The crate rests on the histories of runs and on
+//! the laws of abstract values.
+#![tactic(auto)]
+
+// What the memory promises.
+mod laws;
+
+pub use laws::{
+    a_join_covers_both_sides, a_load_from_a_sharp_frame_is_exact, a_load_gathers_its_results,
+    a_load_is_among_the_results, a_pin_covers, a_sharp_frame_stays_sharp,
+    a_sharp_memory_stays_sharp, a_store_covers, abstract_values_suit_a_memory, calls_keep_covering,
+    each_call_keeps_the_sizes,
+};

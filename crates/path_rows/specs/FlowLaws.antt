@@ -37,7 +37,7 @@ weigh_times k f (s ∷ steps) = omega (arith, ints, weigh_times k f steps, sum_t
 -- ---- nodes
 
 -- one place more
-place_more : (n m : ℕ) (past : List ℕ) → pos (places n (m ∷ past)) ≡ one_if (n == m) +ℤ pos (places n past)
+pub place_more : (n m : ℕ) (past : List ℕ) → pos (places n (m ∷ past)) ≡ one_if (n == m) +ℤ pos (places n past)
 place_more n m past = ap pos (sum_by-cons (λ k. cond (n == k) 1 0) m past) ∙ by (n == m)
   where
     by : (v : Bool) → pos (cond v 1 0 + places n past) ≡ one_if v +ℤ pos (places n past)

@@ -8,3 +8,5 @@ pub mod Rows
 pub mod Uses
 pub mod UseLaws
 pub mod FlowLaws
+pub mod ColumnLaws
+pub mod ExecutionSums

@@ -5,4 +5,4 @@
 // What the definitions promise.
 mod laws;
 
-pub use laws::{rows_weigh_what_is_used, runs_flow};
+pub use laws::{rows_weigh_what_is_used, runs_flow, scratch};

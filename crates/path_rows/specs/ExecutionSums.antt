@@ -40,7 +40,7 @@ places_in n (e ∷ es) = pos (places n e) +ℤ places_in n es
 
 -- ---- a node of the scope stands in executions alone
 
-places_closed : (n : ℕ) (part : List ℕ) (others : List (List ℕ)) → places_in n (with_closed part others) ≡ pos (places n part) +ℤ places_in n others
+pub places_closed : (n : ℕ) (part : List ℕ) (others : List (List ℕ)) → places_in n (with_closed part others) ≡ pos (places n part) +ℤ places_in n others
 places_closed n [] others = omega (arith, ints)
 places_closed n (m ∷ part) others = refl
 
@@ -59,7 +59,7 @@ all_places inside n (m ∷ past) held =
 
 -- ---- a run begins an execution where it enters the scope
 
-number_closed : (part : List ℕ) (others : List (List ℕ)) → number_of (with_closed part others) ≡ one_if (is_some_part part) +ℤ number_of others
+pub number_closed : (part : List ℕ) (others : List (List ℕ)) → number_of (with_closed part others) ≡ one_if (is_some_part part) +ℤ number_of others
 number_closed [] others = omega (arith, ints)
 number_closed (m ∷ part) others = refl
 
@@ -148,7 +148,7 @@ between_sums n low high (e ∷ es) each =
     (omega (arith, ints, rest, here, lows), omega (arith, ints, rest, here, highs))
 
 -- a list and its reverse have a node as often
-places_turned : (n : ℕ) (nodes : List ℕ) → places n (reverse nodes) ≡ places n nodes
+pub places_turned : (n : ℕ) (nodes : List ℕ) → places n (reverse nodes) ≡ places n nodes
 places_turned n [] = refl
 places_turned n (m ∷ nodes) =
     let rest = places_turned n nodes in

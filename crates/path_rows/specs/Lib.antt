@@ -10,3 +10,7 @@ pub mod UseLaws
 pub mod FlowLaws
 pub mod ColumnLaws
 pub mod ExecutionSums
+pub mod Shaped
+pub mod RowLaws
+pub mod OnceLaws
+pub mod IterationSums

@@ -20,9 +20,9 @@ use Rattle.path_rows.specs.UseLaws.{AreApart}
 apart_append : (xs ys : List Column) → AreApart xs → AreApart ys → ((c : Column) → Contains xs c → Contains ys c → ⊥) → AreApart (xs ++ ys)
 apart_append [] ys a b none = b
 apart_append (x ∷ xs) ys a b none = (
-    λ there. elim (Contains-append_cases xs ys x there) [ inl l ↦ a.0 l | inr r ↦ none x (first_member x xs) r ],
-    apart_append xs ys a.1 b (λ c there. none c (further_member x xs c there)),
-  )
+  λ there. elim (Contains-append_cases xs ys x there) [ inl l ↦ a.0 l | inr r ↦ none x (first_member x xs) r ],
+  apart_append xs ys a.1 b (λ c there. none c (further_member x xs c there)),
+)
 
 -- ---- edges
 
@@ -32,13 +32,13 @@ one_edge e d same = ap (λ (c : Column). let p : ℕ × ℕ = (c.from, c.into) i
 edges_apart : (es : List (ℕ × ℕ)) → AllPairs (λ e f. e ≢ f) es → AreApart (map edge_column es)
 edges_apart [] all = tt
 edges_apart (e ∷ es) all = (
-    λ there.
-    let m = mapped edge_column es (edge_column e) there in
-    let same : m.0 ≡ e = one_edge m.0 e m.2 in
-    let low = m.1.1 in
-    all 0 (suc m.1.0) m.0 (omega arith) (omega arith) (sym same ∙ sym m.1.2),
-    edges_apart es (λ i j d before within. all (suc i) (suc j) d (omega arith) (omega arith)),
-  )
+  λ there.
+      let m = mapped edge_column es (edge_column e) there in
+      let same : m.0 ≡ e = one_edge m.0 e m.2 in
+      let low = m.1.1 in
+      all 0 (suc m.1.0) m.0 (omega arith) (omega arith) (sym same ∙ sym m.1.2),
+  edges_apart es (λ i j d before within. all (suc i) (suc j) d (omega arith) (omega arith)),
+)
 
 -- ---- faults
 
@@ -65,10 +65,10 @@ faults_apart o p b zero = tt
 faults_apart o p b (suc n) = by_test (p b)
     (λ is. subst (λ (v : Bool). AreApart (map (λ k. fault_column o k) (cond v (b ∷ filter p (range_with_len (b + 1) n)) (filter p (range_with_len (b + 1) n))))) (sym is) (
       λ there.
-      let m = mapped (λ k. fault_column o k) (filter p (range_with_len (b + 1) n)) (fault_column o b) there in
-      let same : m.0 ≡ b = ap (λ (c : Column). c.from) m.2 in
-      let above = filtered_above p (b + 1) n m.0 m.1 in
-      absurd (omega arith),
+          let m = mapped (λ k. fault_column o k) (filter p (range_with_len (b + 1) n)) (fault_column o b) there in
+          let same : m.0 ≡ b = ap (λ (c : Column). c.from) m.2 in
+          let above = filtered_above p (b + 1) n m.0 m.1 in
+          absurd (omega arith),
       faults_apart o p (b + 1) n,
     ))
     (λ clear. subst (λ (v : Bool). AreApart (map (λ k. fault_column o k) (cond v (b ∷ filter p (range_with_len (b + 1) n)) (filter p (range_with_len (b + 1) n))))) (sym clear) (faults_apart o p (b + 1) n))

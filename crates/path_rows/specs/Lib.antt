@@ -14,3 +14,6 @@ pub mod Shaped
 pub mod RowLaws
 pub mod OnceLaws
 pub mod IterationSums
+pub mod Feasible
+pub mod SparseLaws
+pub mod Examples

@@ -125,7 +125,7 @@ abbrev ReadsFrom : (ℕ → ℤ) → ℕ → (Column → ℤ) → List Column �
 ReadsFrom x e u [] = Unit {0}
 ReadsFrom x e u (c ∷ cs) = (x e ≡ u c) × ReadsFrom x (e + 1) u cs
 
-vanish_is : (z : ℤ) → vanishes z ≡ true → z ≡ pos 0
+pub vanish_is : (z : ℤ) → vanishes z ≡ true → z ≡ pos 0
 vanish_is z e = let both = and_parts (int_le z (pos 0)) (int_le (pos 0) z) e in omega (arith, ints, both.0, both.1)
 
 terms_value : (f u : Column → ℤ) (x : ℕ → ℤ) (e : ℕ) (cs : List Column) → ReadsFrom x e u cs → value_at (terms_from f e cs) x ≡ weighted f u cs
@@ -144,9 +144,9 @@ terms_value f u x e (c ∷ cs) reads = by_test (vanishes (f c))
 reads_along : (x y : ℕ → ℤ) (e : ℕ) (steps cs : List Column) → ((k : ℕ) → x (e + k) ≡ pos (number_at (map (λ c. uses c steps) cs) k)) → ReadsFrom x e (λ c. pos (uses c steps)) cs
 reads_along x y e steps [] same = tt
 reads_along x y e steps (c ∷ cs) same = (
-    subst (λ (k : ℕ). x k ≡ pos (uses c steps)) (omega arith) (same 0),
-    reads_along x y (e + 1) steps cs (λ k. subst (λ (j : ℕ). x j ≡ pos (number_at (map (λ c. uses c steps) cs) k)) (omega arith) (same (suc k))),
-  )
+  subst (λ (k : ℕ). x k ≡ pos (uses c steps)) (omega arith) (same 0),
+  reads_along x y (e + 1) steps cs (λ k. subst (λ (j : ℕ). x j ≡ pos (number_at (map (λ c. uses c steps) cs) k)) (omega arith) (same (suc k))),
+)
 
 -- a row's terms at the uses have the sum of the weights of what is used as their value
 pub row_value : (f : Column → ℤ) (cs steps : List Column) → AreApart cs → ((s : Column) → Contains steps s → Contains cs s) → value_at (terms_from f 0 cs) (column_counts cs steps) ≡ weigh f steps

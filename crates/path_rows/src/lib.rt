@@ -5,4 +5,4 @@
 // What the definitions promise.
 mod laws;
 
-pub use laws::{rows_weigh_what_is_used, runs_flow, scratch};
+pub use laws::{column_counts_are_feasible, rows_weigh_what_is_used, runs_flow, terms_are_weights};

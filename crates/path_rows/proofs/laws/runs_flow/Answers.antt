@@ -1,5 +1,5 @@
 -- What is left to show of `runs_flow`.
-use Rattle.path_rows.specs.FlowLaws.{left, flow_is, worth_is}
+use Rattle.path_rows.specs.FlowLaws.{left, flow_is}
 use Rattle.path_rows.proofs.laws.runs_flow.Goals as goal
 
 pub returns-clause-left : goal.returns-clause-left
@@ -7,6 +7,3 @@ returns-clause-left c = left
 
 pub returns-clause-flow : goal.returns-clause-flow
 returns-clause-flow c = flow_is
-
-pub returns-clause-cost : goal.returns-clause-cost
-returns-clause-cost c = worth_is

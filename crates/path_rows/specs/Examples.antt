@@ -7,7 +7,6 @@ use Rattle.std.specs.Prelude.{◌≡◌, ℕ, ℤ, pos, negsuc, true, false, Non
 use Rattle.alf_ops.specs.declared.history.RunFault.TheVariants.{Divide, Uninit}
 use Rattle.domain_core.specs.declared.scope_kind.ScopeKind.TheVariants.{Call, Loop as LoopScope}
 use Rattle.domain_core.specs.Outlines.{Shape}
-use Rattle.flow_facts.specs.declared.fact.Fact.{Fact}
 use Rattle.flow_facts.specs.declared.fact.Fact.TheVariants.{Loop, Count, Dead, Total, Pair, Alarm}
 use Rattle.path_rows.specs.Programs.{Row}
 use Rattle.path_rows.specs.Rows.{program_of}

@@ -4,9 +4,9 @@
 --   all_places           a node of the scope stands in executions alone
 --   begun                a run begins an execution where it enters the scope
 --   between_sums         where each has the node low to high times
-use Rattle.std.proofs.Common.{◌≡◌, ◌≢◌, ◌<◌, ◌≤◌, ◌+◌, ◌==◌, ◌&&◌, not, ℕ, zero, suc, ℤ, pos, Bool, true, false, List, [], ◌∷◌, ◌++◌, inl, inr, cond, length, reverse, Contains, refl, ap, sym, ◌∙◌, subst, arith}
+use Rattle.std.proofs.Common.{◌≡◌, ◌≢◌, ◌<◌, ◌+◌, ◌==◌, ◌&&◌, ℕ, ℤ, pos, Bool, true, false, List, [], ◌∷◌, inl, inr, cond, length, reverse, Contains, refl, ap, sym, ◌∙◌, subst, arith}
 use Rattle.std.specs.Prelude.{◌+ℤ◌, ◌-ℤ◌, ◌*ℤ◌, ◌≤ℤ◌}
-use Rattle.std.proofs.lemmas.Bool.{eqb-true, eq-eqb, ne_eqb, and_left, and_right, both_ways, false_from_ne_true}
+use Rattle.std.proofs.lemmas.Bool.{eq-eqb, ne_eqb, both_ways, false_from_ne_true}
 use Rattle.std.proofs.lemmas.Int.{ints}
 use Rattle.std.proofs.lemmas.List.{reverse-append}
 use Rattle.std.proofs.lemmas.List.Sums.{sum_by-cons, sum_by-append}
@@ -16,12 +16,12 @@ use Rattle.whole_numbers.specs.MultipleLaws.{sum_times}
 use Rattle.domain_core.specs.Outlines.{Shape, IsOutline, Holds, is_held, header_of}
 use Rattle.domain_core.specs.OutlineLaws.{held_is, is_holder}
 use Rattle.domain_core.specs.Traces.{IsTrace}
-use Rattle.domain_core.specs.Stretches.{open_stretch, closed_stretches, stretches, with_closed}
+use Rattle.domain_core.specs.Stretches.{open_stretch, closed_stretches, with_closed}
 use Rattle.domain_core.specs.Executions.{IsExecution, executions, open_execution, closed_executions}
 use Rattle.domain_core.specs.ExecutionLaws.{found_execution}
 use Rattle.flow_facts.specs.Facts.{places, IsBetween}
 use Rattle.flow_facts.specs.Walking.{is_some_part}
-use Rattle.path_rows.specs.Columns.{Column, edge_column}
+use Rattle.path_rows.specs.Columns.{edge_column}
 use Rattle.path_rows.specs.Weights.{one_if, begins, leaves}
 use Rattle.path_rows.specs.Uses.{edges_used, steps_of}
 use Rattle.path_rows.specs.UseLaws.{weigh}

@@ -2,7 +2,7 @@
 --   all_met      each row is met
 --   feasible     so the column counts meet the program
 --   worth_cost   and are worth the run's cost
-use Rattle.std.proofs.Common.{◌≡◌, ℕ, ℤ, pos, Bool, false, List, [], ◌∷◌, ◌++◌, map, take, length, reverse, Contains, All, refl, subst, ◌∙◌, arith}
+use Rattle.std.proofs.Common.{◌≡◌, ℕ, pos, Bool, false, List, [], ◌∷◌, map, take, reverse, Contains, All, subst, ◌∙◌, arith}
 use Rattle.std.specs.Prelude.{◌+ℤ◌, ◌-ℤ◌, ◌≤ℤ◌}
 use Rattle.std.specs.List.{flat_map}
 use Rattle.std.proofs.lemmas.Int.{ints}
@@ -13,9 +13,9 @@ use Rattle.flow_facts.specs.declared.fact.Fact.{Fact}
 use Rattle.flow_facts.specs.declared.fact.Fact.TheVariants.{Loop, Count, Dead, Total, Pair, Alarm}
 use Rattle.flow_facts.specs.Facts.{Meets}
 use Rattle.path_rows.specs.Points.{MeetsAll, worth}
-use Rattle.path_rows.specs.Columns.{Column, nodes_of, columns_of}
+use Rattle.path_rows.specs.Columns.{nodes_of, columns_of}
 use Rattle.path_rows.specs.Weights.{Weighing, leaves, flow_row, loop_rows, dead_rows, total_rows, pair_rows, count_rows, most_pairs, weighings}
-use Rattle.path_rows.specs.Rows.{cost_of, program_of}
+use Rattle.path_rows.specs.Rows.{program_of}
 use Rattle.path_rows.specs.Uses.{steps_of, uses, number_at, column_counts, run_cost, IsEnded}
 use Rattle.path_rows.specs.Shaped.{FitsOutline, FitOutline}
 use Rattle.path_rows.specs.FlowLaws.{worth_is}

@@ -4,17 +4,16 @@
 --   entered_at    and enters it as often, but that it begins at node 0
 --   flow_is       so the flow of each node is 0, and that of node 0 is 1
 --   worth_is      the costs of the steps are the run's cost
-use Rattle.std.proofs.Common.{◌≡◌, ◌<◌, ◌≤◌, ◌+◌, ◌==◌, ℕ, zero, suc, ℤ, pos, Bool, true, false, List, [], ◌∷◌, cond, map, length, refl, ap, sym, ◌∙◌, subst, arith}
+use Rattle.std.proofs.Common.{◌≡◌, ◌<◌, ◌+◌, ◌==◌, ℕ, ℤ, pos, Bool, true, false, List, [], ◌∷◌, cond, length, refl, ap, sym, ◌∙◌, subst, arith}
 use Rattle.std.specs.Prelude.{◌+ℤ◌, ◌-ℤ◌, ◌*ℤ◌, slice_index}
-use Rattle.std.proofs.lemmas.Bool.{eqb-true, eq-eqb, ne_eqb}
+use Rattle.std.proofs.lemmas.Bool.{ne_eqb}
 use Rattle.std.proofs.lemmas.Int.{ints}
 use Rattle.std.proofs.lemmas.List.Sums.{sum_by-cons}
-use Rattle.lists.specs.Tests.{by_test}
 use Rattle.whole_numbers.specs.MultipleLaws.{sum_times}
 use Rattle.domain_core.specs.Outlines.{Shape}
 use Rattle.domain_core.specs.Traces.{IsTrace}
 use Rattle.flow_facts.specs.Facts.{places}
-use Rattle.path_rows.specs.Columns.{Column, edge_column}
+use Rattle.path_rows.specs.Columns.{Column}
 use Rattle.path_rows.specs.Weights.{one_if, leaves, enters}
 use Rattle.path_rows.specs.Rows.{cost_of}
 use Rattle.path_rows.specs.Uses.{edges_used, steps_of, run_cost}

@@ -3,27 +3,26 @@
 --   parts_begin      there is one for each visit of the header
 --   once_each        a node with this scope as its own stands in each at most once
 --   pair_met         so two that are in none together are there at most as often as the header
-use Rattle.std.proofs.Common.{◌≡◌, ◌≢◌, ◌<◌, ◌≤◌, ◌+◌, ◌==◌, ◌&&◌, not, ℕ, zero, suc, ℤ, pos, Bool, true, false, List, [], ◌∷◌, ◌++◌, inl, inr, cond, length, get_or, reverse, Contains, refl, ap, sym, ◌∙◌, subst, arith}
-use Rattle.std.specs.Prelude.{◌+ℤ◌, ◌-ℤ◌, ◌*ℤ◌, ◌≤ℤ◌}
+use Rattle.std.proofs.Common.{◌≡◌, ◌≢◌, ◌<◌, ◌≤◌, ◌+◌, ◌==◌, not, ℕ, pos, Bool, true, false, List, [], ◌∷◌, ◌++◌, inl, inr, cond, length, get_or, reverse, Contains, refl, ap, sym, ◌∙◌, subst, arith}
+use Rattle.std.specs.Prelude.{◌+ℤ◌, ◌-ℤ◌, ◌≤ℤ◌}
 use Rattle.std.proofs.lemmas.Bool.{eqb-true, eq-eqb, ne_eqb, cases_eq, cases_lt, both_ways, and_parts, not-true}
 use Rattle.std.proofs.lemmas.Int.{ints}
 use Rattle.std.proofs.lemmas.List.{append_assoc}
 use Rattle.std.proofs.lemmas.List.Sums.{sum_by-append}
 use Rattle.std.proofs.lemmas.List.Elements.{Contains-append_left}
-use Rattle.lists.specs.Members.{no_member, first_member, further_member}
+use Rattle.lists.specs.Members.{first_member, further_member}
 use Rattle.lists.specs.Tests.{by_test}
 use Rattle.walks.specs.ListLaws.{contains_cases, cut_at}
 use Rattle.domain_core.specs.Outlines.{Shape, IsOutline, Holds, LeadsTo, here, is_held, header_of}
 use Rattle.domain_core.specs.OutlineLaws.{held_is, is_holder, in_reverse}
 use Rattle.domain_core.specs.Traces.{IsTrace}
 use Rattle.domain_core.specs.Stretches.{Passes, with_closed}
-use Rattle.domain_core.specs.Parts.{further, open_part, closed_parts, parts, IsPart}
+use Rattle.domain_core.specs.Parts.{further, IsPart}
 use Rattle.domain_core.specs.PartLaws.{found_part}
 use Rattle.domain_core.specs.Executions.{IsIteration, is_header, begins_at, goes_on_at, open_iteration, closed_iterations, iterations}
 use Rattle.domain_core.specs.IterationLaws.{found_iteration}
 use Rattle.flow_facts.specs.Facts.{places}
 use Rattle.flow_facts.specs.Walking.{is_some_part}
-use Rattle.path_rows.specs.Columns.{Column}
 use Rattle.path_rows.specs.Weights.{one_if, leaves}
 use Rattle.path_rows.specs.Uses.{steps_of}
 use Rattle.path_rows.specs.UseLaws.{weigh}

@@ -3,15 +3,15 @@
 --   header_around    where a scope around another begins at a node of it, both begin there
 --   climbs           on the way from a node of the scope, ranks stay above its own
 --   once             so it does not come back before the header
-use Rattle.std.proofs.Common.{◌≡◌, ◌≢◌, ◌<◌, ◌≤◌, ℕ, zero, suc, List, [], ◌∷◌, ◌++◌, ◌⊎◌, inl, inr, Contains, length, get_or, refl, ap, sym, ◌∙◌, subst, arith}
+use Rattle.std.proofs.Common.{◌≡◌, ◌≢◌, ◌<◌, ◌≤◌, ℕ, List, [], ◌∷◌, ◌++◌, ◌⊎◌, inl, inr, Contains, length, get_or, refl, ap, sym, ◌∙◌, subst, arith}
 use Rattle.std.proofs.lemmas.Bool.{cases_eq, cases_lt}
 use Rattle.lists.specs.Members.{no_member, first_member, further_member}
 use Rattle.walks.specs.Walks.{Walk, stays}
 use Rattle.walks.specs.ListLaws.{contains_cases}
 use Rattle.domain_core.specs.Reducible.{IsEdge, Dominates}
 use Rattle.domain_core.specs.ReducibleLaws.{dominates_before}
-use Rattle.domain_core.specs.Outlines.{Shape, IsOutline, Holds, LeadsTo, here, header_of}
-use Rattle.domain_core.specs.OutlineLaws.{scopes_nested, lies_in, header_dominates, holder_low}
+use Rattle.domain_core.specs.Outlines.{Shape, IsOutline, Holds, LeadsTo, header_of}
+use Rattle.domain_core.specs.OutlineLaws.{lies_in, header_dominates, holder_low}
 use Rattle.domain_core.specs.Traces.{IsTrace}
 use Rattle.path_rows.specs.ColumnLaws.{newest_low}
 

@@ -3,15 +3,14 @@
 --   flow_met, loop_met, dead_met, total_met, count_met   the rows of each kind are met
 --   rows_meet         where all rows are met, the uses of the columns meet the program
 --   worth_of          what the uses are worth
-use Rattle.std.proofs.Common.{◌≡◌, ◌≢◌, ◌<◌, ◌≤◌, ◌+◌, ℕ, zero, suc, ℤ, pos, Bool, true, false, List, [], ◌∷◌, ◌++◌, map, length, reverse, Contains, All, inl, inr, refl, ap, sym, ◌∙◌, subst, arith}
+use Rattle.std.proofs.Common.{◌≡◌, ◌≢◌, ◌<◌, ◌+◌, ℕ, zero, suc, ℤ, pos, Bool, true, false, List, [], ◌∷◌, map, length, reverse, Contains, All, inl, inr, refl, ap, sym, ◌∙◌, subst, arith}
 use Rattle.std.specs.Prelude.{◌+ℤ◌, ◌-ℤ◌, ◌*ℤ◌, ◌≤ℤ◌}
 use Rattle.std.specs.List.{range_with_len}
 use Rattle.std.proofs.lemmas.Int.{ints}
 use Rattle.std.proofs.lemmas.List.Elements.{All-nil, All-cons, All-head, All-tail}
-use Rattle.lists.specs.Members.{no_member, first_member, further_member}
+use Rattle.lists.specs.Members.{no_member}
 use Rattle.lists.specs.Images.{all_images}
 use Rattle.walks.specs.ListLaws.{contains_cases}
-use Rattle.domain_core.specs.declared.scope_kind.ScopeKind.{ScopeKind}
 use Rattle.domain_core.specs.declared.scope_kind.ScopeKind.TheVariants.{Call, Loop as LoopScope}
 use Rattle.domain_core.specs.Outlines.{Shape, IsOutline, Holds, LeadsTo, here, header_of, kind_of}
 use Rattle.domain_core.specs.Traces.{IsTrace}
@@ -19,15 +18,15 @@ use Rattle.flow_facts.specs.declared.fact.Fact.{Fact}
 use Rattle.flow_facts.specs.declared.fact.Fact.TheVariants.{Loop, Count, Dead, Total, Pair, Alarm}
 use Rattle.flow_facts.specs.Facts.{places, Meets}
 use Rattle.path_rows.specs.Sums.{total, value_at}
-use Rattle.path_rows.specs.Programs.{Row, row_at, cost_at}
+use Rattle.path_rows.specs.Programs.{row_at, cost_at}
 use Rattle.path_rows.specs.Points.{MeetsAs, Meets as MeetsRow}
-use Rattle.path_rows.specs.Columns.{Column, nodes_of, columns_of}
-use Rattle.path_rows.specs.Weights.{Weighing, leaves, enters, begins, flow_row, between_rows, loop_rows, dead_rows, total_rows, count_rows}
+use Rattle.path_rows.specs.Columns.{Column, nodes_of}
+use Rattle.path_rows.specs.Weights.{Weighing, leaves, begins, flow_row, loop_rows, dead_rows, total_rows, count_rows}
 use Rattle.path_rows.specs.Rows.{row_of, cost_of}
 use Rattle.path_rows.specs.Uses.{steps_of, uses, number_at, column_counts}
 use Rattle.path_rows.specs.Shaped.{FitsOutline}
 use Rattle.path_rows.specs.UseLaws.{AreApart, weigh, weighted, all_uses, row_value}
-use Rattle.path_rows.specs.FlowLaws.{left, flow_is, weigh_minus, weigh_times}
+use Rattle.path_rows.specs.FlowLaws.{left, flow_is, weigh_minus}
 use Rattle.path_rows.specs.ExecutionSums.{places_turned, most_met, least_met}
 
 -- the steps meet the row

@@ -4,12 +4,11 @@
 --   terms_within         the terms are of the columns
 --   terms_ascend         and by ascending column
 --   terms_count          and none is 0
-use Rattle.std.proofs.Common.{◌≡◌, ◌≢◌, ◌<◌, ◌≤◌, ◌+◌, ◌==◌, ℕ, zero, suc, ℤ, pos, Bool, true, false, List, [], ◌∷◌, length, refl, ap, sym, ◌∙◌, subst, arith}
-use Rattle.std.specs.Prelude.{◌+ℤ◌, int_le}
+use Rattle.std.proofs.Common.{◌≡◌, ◌≢◌, ◌<◌, ◌+◌, ◌==◌, ℕ, zero, suc, ℤ, pos, true, false, List, [], ◌∷◌, length, refl, ap, sym, ◌∙◌, arith}
 use Rattle.std.proofs.lemmas.Bool.{eq-eqb, ne_eqb, both_ways}
 use Rattle.std.proofs.lemmas.Int.{ints}
 use Rattle.lists.specs.Tests.{by_test}
-use Rattle.path_rows.specs.Sums.{coefficient, coefficient_of, StartsAbove, IsAscending}
+use Rattle.path_rows.specs.Sums.{coefficient, StartsAbove, IsAscending}
 use Rattle.path_rows.specs.Programs.{IsWithin}
 use Rattle.path_rows.specs.Columns.{Column}
 use Rattle.path_rows.specs.Rows.{vanishes, terms_from}

@@ -5,11 +5,11 @@
 --   column_counts o facts steps   the uses of each column of the program, by its number
 --   run_cost costs past       what the run costs
 --   IsEnded o facts fault past    a run of the outline that is over, with an alarm for its fault
-use Rattle.std.specs.Prelude.{◌≡◌, ◌==◌, ◌&&◌, ℕ, zero, suc, ◌+◌, ℤ, pos, Bool, true, false, List, [], ◌∷◌, map, length, count_by, sum_by, Contains, slice_index, if◌then◌else◌}
+use Rattle.std.specs.Prelude.{◌≡◌, ◌==◌, ◌&&◌, ℕ, zero, suc, ℤ, pos, Bool, true, false, List, [], ◌∷◌, map, length, count_by, sum_by, Contains, slice_index}
 use Rattle.domain_core.specs.Outlines.{Shape}
 use Rattle.domain_core.specs.Traces.{IsTrace}
 use Rattle.flow_facts.specs.declared.fact.Fact.{Fact}
-use Rattle.path_rows.specs.Columns.{Column, edge_column, has_alarm, columns_of}
+use Rattle.path_rows.specs.Columns.{Column, edge_column, has_alarm}
 
 -- an edge for each two nodes
 abbrev pub edges_used : List ℕ → List Column

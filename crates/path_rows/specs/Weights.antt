@@ -7,7 +7,7 @@
 --   loop_rows, dead_rows, total_rows, pair_rows, count_rows   the rows of a fact of this kind
 --   weighings o facts  all rows in their order
 --   most_pairs        so many pairs have a row
-use Rattle.std.specs.Prelude.{◌==◌, ◌&&◌, not, ℕ, ℤ, pos, ◌+ℤ◌, ◌-ℤ◌, ◌*ℤ◌, Bool, true, false, List, [], ◌∷◌, ◌++◌, map, take, if◌then◌else◌}
+use Rattle.std.specs.Prelude.{◌==◌, ◌&&◌, not, ℕ, ℤ, pos, ◌+ℤ◌, ◌-ℤ◌, ◌*ℤ◌, Bool, true, false, List, [], ◌∷◌, ◌++◌, map, take}
 use Rattle.std.specs.List.{flat_map}
 use Rattle.domain_core.specs.Outlines.{Shape, header_of, is_held}
 use Rattle.flow_facts.specs.declared.fact.Fact.{Fact}

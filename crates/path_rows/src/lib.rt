@@ -1,5 +1,8 @@
-//! The linear program of implicit path enumeration that an outline and a report's facts make, as
-//! definitions, and what the column counts of a run are in it.
+//! The linear program of implicit path enumeration (Li and Malik 1995) that an outline and a
+//! report's facts make, as definitions, and its first law: how often a run that meets the facts
+//! uses each edge is a feasible point, whose value is the run's cost.
+//!
+//! There is no code here that runs: the functions do nothing, and their clauses are the laws.
 #![tactic(auto)]
 
 // What the definitions promise.

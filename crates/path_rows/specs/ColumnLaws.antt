@@ -110,7 +110,8 @@ last_within o facts false k past low ends =
     Contains-append_left (map edge_column o.edges) (map (λ n. fault_column o n) (filter (λ n. has_alarm facts n) (nodes_of o))) (edge_column (k, length o.own)) (image edge_column o.edges (k, length o.own) ends)
 
 -- each step of a run that is over is a column
-pub steps_within : (o : Shape) (facts : List Fact) → IsOutline o → (fault : Bool) (k : ℕ) (past : List ℕ) → IsEnded o facts fault (k ∷ past) → (s : Column) → Contains (steps_of o fault (k ∷ past)) s → Contains (columns_of o facts) s
+pub steps_within : (o : Shape) (facts : List Fact) → IsOutline o → (fault : Bool) (k : ℕ) (past : List ℕ) → IsEnded o facts fault (k ∷ past)
+    → (s : Column) → Contains (steps_of o fault (k ∷ past)) s → Contains (columns_of o facts) s
 steps_within o facts ok fault k past run s there = elim (contains_cases (record { from = k; into = length o.own; fault = fault }) (edges_used (k ∷ past)) s there) [
   | inl e ↦ subst (λ (c : Column). Contains (columns_of o facts) c) (sym e) (last_within o facts fault k past (newest_low o ok k past run.trace) run.ends)
   | inr later ↦ Contains-append_left (map edge_column o.edges) (map (λ n. fault_column o n) (filter (λ n. has_alarm facts n) (nodes_of o))) s (edges_within o k past run.trace s later)

@@ -44,7 +44,8 @@ pub places_closed : (n : ℕ) (part : List ℕ) (others : List (List ℕ)) → p
 places_closed n [] others = omega (arith, ints)
 places_closed n (m ∷ part) others = refl
 
-pub all_places : (inside : ℕ → Bool) (n : ℕ) (past : List ℕ) → inside n ≡ true → pos (places n (open_stretch inside past)) +ℤ places_in n (closed_stretches inside past) ≡ pos (places n past)
+pub all_places : (inside : ℕ → Bool) (n : ℕ) (past : List ℕ) → inside n ≡ true
+    → pos (places n (open_stretch inside past)) +ℤ places_in n (closed_stretches inside past) ≡ pos (places n past)
 all_places inside n [] held = refl
 all_places inside n (m ∷ past) held =
     let rest = all_places inside n past held in
@@ -138,7 +139,8 @@ module _ (o : Shape) (ok : IsOutline o) (s : ℕ) (low : s < length o.scopes) (i
 
 -- ---- where each execution has the node low to high times
 
-pub between_sums : (n low high : ℕ) (es : List (List ℕ)) → ((e : List ℕ) → Contains es e → IsBetween low high (places n e)) → ((pos low *ℤ number_of es) ≤ℤ places_in n es) × (places_in n es ≤ℤ (pos high *ℤ number_of es))
+pub between_sums : (n low high : ℕ) (es : List (List ℕ)) → ((e : List ℕ) → Contains es e → IsBetween low high (places n e))
+    → ((pos low *ℤ number_of es) ≤ℤ places_in n es) × (places_in n es ≤ℤ (pos high *ℤ number_of es))
 between_sums n low high [] each = (omega (arith, ints), omega (arith, ints))
 between_sums n low high (e ∷ es) each =
     let rest = between_sums n low high es (λ d there. each d (further_member e es d there)) in

@@ -42,7 +42,8 @@ module _ (o : Shape) (ok : IsOutline o) (facts : List Fact) (fault : Bool) (k : 
   pair_rows_met (Alarm n why) shape m = All-nil (λ w. IsMet (steps_of o fault (k ∷ past)) w)
 
   -- what is met of each fact's rows is met of all facts' rows
-  joined_met : (rows : Fact → List Weighing) → ((f : Fact) → FitsOutline o f → Meets o (reverse (k ∷ past)) f → All (λ w. IsMet (steps_of o fault (k ∷ past)) w) (rows f)) → All (λ w. IsMet (steps_of o fault (k ∷ past)) w) (flat_map rows facts)
+  joined_met : (rows : Fact → List Weighing)
+      → ((f : Fact) → FitsOutline o f → Meets o (reverse (k ∷ past)) f → All (λ w. IsMet (steps_of o fault (k ∷ past)) w) (rows f)) → All (λ w. IsMet (steps_of o fault (k ∷ past)) w) (flat_map rows facts)
   joined_met rows each = all_joined (λ w. IsMet (steps_of o fault (k ∷ past)) w) rows facts (λ f there. each f (of_all (λ f. FitsOutline o f) facts fits f there) (of_all (λ f. Meets o (reverse (k ∷ past)) f) facts met f there))
 
   -- each row is met

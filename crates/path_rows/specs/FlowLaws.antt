@@ -64,14 +64,16 @@ edges_entered o n k (m ∷ past) trace =
     omega (arith, ints, rest, more)
 
 -- a run enters each node of the outline as often as it is there, but that it begins at node 0
-pub entered_at : (o : Shape) (fault : Bool) (n k : ℕ) (past : List ℕ) → IsTrace o (k ∷ past) → n < length o.own → weigh (λ c. enters n c) (steps_of o fault (k ∷ past)) +ℤ one_if (n == 0) ≡ pos (places n (k ∷ past))
+pub entered_at : (o : Shape) (fault : Bool) (n k : ℕ) (past : List ℕ) → IsTrace o (k ∷ past) → n < length o.own
+    → weigh (λ c. enters n c) (steps_of o fault (k ∷ past)) +ℤ one_if (n == 0) ≡ pos (places n (k ∷ past))
 entered_at o fault n k past trace low =
     let rest = edges_entered o n k past trace in
     let other : (n == length o.own) ≡ false = ne_eqb n (length o.own) (λ e. omega arith) in
     rw other (omega (arith, ints, rest))
 
 -- the flow of each node is 0, and that of node 0 is 1
-pub flow_is : (o : Shape) (fault : Bool) (n k : ℕ) (past : List ℕ) → IsTrace o (k ∷ past) → n < length o.own → weigh (λ c. leaves n c -ℤ enters n c) (steps_of o fault (k ∷ past)) ≡ one_if (n == 0)
+pub flow_is : (o : Shape) (fault : Bool) (n k : ℕ) (past : List ℕ) → IsTrace o (k ∷ past) → n < length o.own
+    → weigh (λ c. leaves n c -ℤ enters n c) (steps_of o fault (k ∷ past)) ≡ one_if (n == 0)
 flow_is o fault n k past trace low =
     let out = left o fault n k past in
     let into = entered_at o fault n k past trace low in
@@ -89,7 +91,8 @@ edges_cost costs k (m ∷ past) =
     apart_sum a b = omega (arith, ints)
 
 -- the costs of the steps are the run's cost
-pub worth_is : (o : Shape) (fault : Bool) (costs : List ℕ) (k : ℕ) (past : List ℕ) → weigh (λ c. pos (cost_of costs c)) (steps_of o fault (k ∷ past)) ≡ pos (run_cost costs (k ∷ past))
+pub worth_is : (o : Shape) (fault : Bool) (costs : List ℕ) (k : ℕ) (past : List ℕ)
+    → weigh (λ c. pos (cost_of costs c)) (steps_of o fault (k ∷ past)) ≡ pos (run_cost costs (k ∷ past))
 worth_is o fault costs k past =
     ap (λ (z : ℤ). pos (slice_index costs k) +ℤ z) (edges_cost costs k past)
     ∙ sym (ap pos (sum_by-cons (λ n. slice_index costs n) k past) ∙ apart_sum (slice_index costs k) (run_cost costs past))

@@ -50,18 +50,21 @@ module _ (o : Shape) (ok : IsOutline o) (s : ℕ) (low : s < length o.scopes) wh
   header_held = is_holder o ok s (header_of o.scopes s) (ok.headers_held s low)
 
   -- what is known one node later: at the header, at another node of the scope, and outside
-  opens_at : (k : ℕ) (past : List ℕ) → k ≡ header_of o.scopes s → (open_iteration o s (k ∷ past) ≡ k ∷ []) × (closed_iterations o s (k ∷ past) ≡ with_closed (open_iteration o s past) (closed_iterations o s past))
+  opens_at : (k : ℕ) (past : List ℕ) → k ≡ header_of o.scopes s
+      → (open_iteration o s (k ∷ past) ≡ k ∷ []) × (closed_iterations o s (k ∷ past) ≡ with_closed (open_iteration o s past) (closed_iterations o s past))
   opens_at k past e =
       let held : is_held o s k ≡ true = ap (λ (n : ℕ). is_held o s n) e ∙ header_held in
       let at_header : is_header o s k ≡ true = eq-eqb (header_of o.scopes s) k (sym e) in
       (rw (held, at_header) refl, rw (held, at_header) refl)
 
-  goes_to : (k : ℕ) (past : List ℕ) → is_held o s k ≡ true → (k ≡ header_of o.scopes s → ⊥) → (open_iteration o s (k ∷ past) ≡ further k (open_iteration o s past)) × (closed_iterations o s (k ∷ past) ≡ closed_iterations o s past)
+  goes_to : (k : ℕ) (past : List ℕ) → is_held o s k ≡ true → (k ≡ header_of o.scopes s → ⊥)
+      → (open_iteration o s (k ∷ past) ≡ further k (open_iteration o s past)) × (closed_iterations o s (k ∷ past) ≡ closed_iterations o s past)
   goes_to k past held other =
       let no_header : is_header o s k ≡ false = ne_eqb (header_of o.scopes s) k (λ e. other (sym e)) in
       (rw (held, no_header) refl, rw (held, no_header) refl)
 
-  stops_at : (k : ℕ) (past : List ℕ) → is_held o s k ≡ false → (open_iteration o s (k ∷ past) ≡ []) × (closed_iterations o s (k ∷ past) ≡ with_closed (open_iteration o s past) (closed_iterations o s past))
+  stops_at : (k : ℕ) (past : List ℕ) → is_held o s k ≡ false
+      → (open_iteration o s (k ∷ past) ≡ []) × (closed_iterations o s (k ∷ past) ≡ with_closed (open_iteration o s past) (closed_iterations o s past))
   stops_at k past clear = (rw clear refl, rw clear refl)
 
   -- where a run is in the scope, an iteration is not over
@@ -186,7 +189,8 @@ module _ (o : Shape) (ok : IsOutline o) (s : ℕ) (low : s < length o.scopes) wh
   ]
 
   module _ (a : ℕ) (own : get_or o.own a 0 ≡ s) (no_header : a ≡ header_of o.scopes s → ⊥) where
-    others_once : (others : List ℕ) (m : ℕ) (tail : List ℕ) → IsTrace o (others ++ m ∷ tail) → ((n : ℕ) → Contains others n → Holds o s n × (n ≡ header_of o.scopes s → ⊥)) → places a others ≤ 1
+    others_once : (others : List ℕ) (m : ℕ) (tail : List ℕ) → IsTrace o (others ++ m ∷ tail)
+        → ((n : ℕ) → Contains others n → Holds o s n × (n ≡ header_of o.scopes s → ⊥)) → places a others ≤ 1
     others_once [] m tail trace all = let none : places a [] ≡ 0 = refl in omega arith
     others_once (x ∷ []) m tail trace all =
         let more = place_more a x [] in
@@ -236,7 +240,8 @@ module _ (o : Shape) (ok : IsOutline o) (s : ℕ) (low : s < length o.scopes) wh
                 let both = and_parts (is_held o s n) (not (is_header o s n)) on in
                 (held_is o ok s n both.0, λ e. both_ways (is_header o s n) (not-true (is_header o s n) both.1) (eq-eqb (header_of o.scopes s) n (sym e)))
 
-            others_most : (newer others : List ℕ) (m : ℕ) (older : List ℕ) → IsTrace o (newer ++ (others ++ m ∷ older)) → ((n : ℕ) → Contains others n → Holds o s n × (n ≡ header_of o.scopes s → ⊥)) → places a others ≤ 1
+            others_most : (newer others : List ℕ) (m : ℕ) (older : List ℕ) → IsTrace o (newer ++ (others ++ m ∷ older))
+                → ((n : ℕ) → Contains others n → Holds o s n × (n ≡ header_of o.scopes s → ⊥)) → places a others ≤ 1
             others_most newer [] m older whole all = let none : places a [] ≡ 0 = refl in omega arith
             others_most newer (x ∷ others) m older whole all = others_once (x ∷ others) m older (rest_of newer x (others ++ m ∷ older) whole) all
 

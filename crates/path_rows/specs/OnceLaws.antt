@@ -23,7 +23,8 @@ module _ (o : Shape) (ok : IsOutline o) where
       elim (contains_cases 0 [] d there) [ inl same ↦ same ∙ sym first | inr none ↦ no_member d none ]
 
   -- of two nodes not each dominates the other
-  pub no_mutual : (a b : ℕ) → a ≢ b → Dominates (IsEdge o.edges) a b → Dominates (IsEdge o.edges) b a → (k : ℕ) (past : List ℕ) → IsTrace o (k ∷ past) → Dominates (IsEdge o.edges) a k ⊎ Dominates (IsEdge o.edges) b k → ⊥
+  pub no_mutual : (a b : ℕ) → a ≢ b → Dominates (IsEdge o.edges) a b → Dominates (IsEdge o.edges) b a → (k : ℕ) (past : List ℕ) → IsTrace o (k ∷ past)
+      → Dominates (IsEdge o.edges) a k ⊎ Dominates (IsEdge o.edges) b k → ⊥
   no_mutual a b apart ab ba k [] first either = elim either [
     | inl of_a ↦
         let e : a ≡ k = first_alone a k first of_a in
@@ -44,7 +45,8 @@ module _ (o : Shape) (ok : IsOutline o) where
   ]
 
   -- where a scope around another begins at a node of it, both begin there
-  pub header_around : (s t k : ℕ) (past : List ℕ) → IsTrace o (k ∷ past) → s < length o.scopes → Holds o s k → LeadsTo o.scopes t s → header_of o.scopes t ≡ k → header_of o.scopes s ≡ k
+  pub header_around : (s t k : ℕ) (past : List ℕ) → IsTrace o (k ∷ past) → s < length o.scopes → Holds o s k → LeadsTo o.scopes t s
+      → header_of o.scopes t ≡ k → header_of o.scopes s ≡ k
   header_around s t k past trace low held around at_header = elim (cases_eq (header_of o.scopes s) k) [
     | inl e ↦ e
     | inr other ↦

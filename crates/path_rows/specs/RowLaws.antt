@@ -110,7 +110,8 @@ module _ (o : Shape) (ok : IsOutline o) (fault : Bool) (k : ℕ) (past : List �
 -- ---- the program
 
 -- one row
-meets_one : (cs steps : List Column) (w : Weighing) → AreApart cs → ((s : Column) → Contains steps s → Contains cs s) → IsMet steps w → MeetsRow (row_of cs w) (column_counts cs steps) (pos 1)
+meets_one : (cs steps : List Column) (w : Weighing) → AreApart cs → ((s : Column) → Contains steps s → Contains cs s) → IsMet steps w
+    → MeetsRow (row_of cs w) (column_counts cs steps) (pos 1)
 meets_one cs steps w apart within met = by w.equation met
   where
     value : value_at (row_of cs w).terms (column_counts cs steps) ≡ weigh w.weight steps
@@ -132,7 +133,8 @@ total_first : (n : ℕ) (f : ℕ → ℤ) → total (suc n) f ≡ f 0 +ℤ total
 total_first zero f = omega (arith, ints)
 total_first (suc n) f = omega (arith, ints, total_first n f)
 
-total_of : (price count : Column → ℕ) (cs : List Column) → total (length (map price cs)) (λ e. pos (cost_at (map price cs) e) *ℤ pos (number_at (map count cs) e)) ≡ weighted (λ c. pos (price c)) (λ c. pos (count c)) cs
+total_of : (price count : Column → ℕ) (cs : List Column)
+    → total (length (map price cs)) (λ e. pos (cost_at (map price cs) e) *ℤ pos (number_at (map count cs) e)) ≡ weighted (λ c. pos (price c)) (λ c. pos (count c)) cs
 total_of price count [] = refl
 total_of price count (c ∷ cs) =
     total_first (length (map price cs)) (λ e. pos (cost_at (map price (c ∷ cs)) e) *ℤ pos (number_at (map count (c ∷ cs)) e))

@@ -149,7 +149,8 @@ reads_along x y e steps (c ∷ cs) same = (
 )
 
 -- a row's terms at the uses have the sum of the weights of what is used as their value
-pub row_value : (f : Column → ℤ) (cs steps : List Column) → AreApart cs → ((s : Column) → Contains steps s → Contains cs s) → value_at (terms_from f 0 cs) (column_counts cs steps) ≡ weigh f steps
+pub row_value : (f : Column → ℤ) (cs steps : List Column) → AreApart cs → ((s : Column) → Contains steps s → Contains cs s)
+    → value_at (terms_from f 0 cs) (column_counts cs steps) ≡ weigh f steps
 row_value f cs steps apart within =
     terms_value f (λ c. pos (uses c steps)) (column_counts cs steps) 0 cs (reads_along (column_counts cs steps) (column_counts cs steps) 0 steps cs (λ k. ap (λ (j : ℕ). column_counts cs steps j) (omega arith)))
     ∙ all_uses f cs steps apart within

@@ -3,21 +3,15 @@
 --   words_fit      each word fits the size of its operand
 --   operand_past   there is none after the last
 --   sized_at       each operand by its place has the size that is wanted
-use Rattle.std.proofs.Common.{◌≡◌, ℕ, zero, suc, List, [], ◌∷◌, map, take, length, ◌≤◌, ◌<◌, ◌^◌, arith, refl, sym, ap, ◌∙◌}
-use Rattle.std.proofs.lemmas.Slice.Zip.{AllZip-long}
+use Rattle.std.proofs.Common.{◌≡◌, ℕ, zero, suc, List, [], ◌∷◌, map, take, length, ◌≤◌, arith, refl}
 use Rattle.std.specs.Prelude.{slice_get}
-use Rattle.alf_ops.specs.declared.operator.Op.{Op}
-use Rattle.alf_ops.specs.Table.{operand_sizes}
 use Rattle.alf_ops.specs.Words.{EachFits}
 use Rattle.domain_core.specs.WordSets.{HaveSizes}
-use Rattle.flat_domain.specs.OperatorSizes.{word_below, few_operands}
+use Rattle.flat_domain.specs.OperatorSizes.{word_below}
 use Rattle.strided_rules.specs.Strides.{Stride, one_word}
 use Rattle.strided_rules.specs.Members.{word_of}
 use Rattle.strided_rules.specs.Domains.{operand, stride_sets}
 use Rattle.interval_congruence.specs.Operands.{IsSized}
-
-pub few : (op : Op) (sizes : List ℕ) (args : List Stride) → HaveSizes stride_sets (operand_sizes op sizes) args → length args ≤ 3
-few op sizes args sized = omega (arith, few_operands op sizes, AllZip-long (λ s d. stride_sets.size_of d ≡ s) (operand_sizes op sizes) args sized)
 
 pub words_taken : (args : List Stride) → length args ≤ 3 → take (length args) (word_of (operand args 0) ∷ word_of (operand args 1) ∷ word_of (operand args 2) ∷ []) ≡ map word_of args
 words_taken [] small = refl
@@ -25,13 +19,6 @@ words_taken (a ∷ []) small = refl
 words_taken (a ∷ b ∷ []) small = refl
 words_taken (a ∷ b ∷ c ∷ []) small = refl
 words_taken (a ∷ b ∷ c ∷ d ∷ args) small = absurd (omega (arith, small))
-
-pub three_taken : (args : List Stride) (x y z : ℕ) → length args ≤ 3 → length args ≡ length (take (length args) (x ∷ y ∷ z ∷ []))
-three_taken [] x y z small = refl
-three_taken (a ∷ []) x y z small = refl
-three_taken (a ∷ b ∷ []) x y z small = refl
-three_taken (a ∷ b ∷ c ∷ []) x y z small = refl
-three_taken (a ∷ b ∷ c ∷ d ∷ args) x y z small = absurd (omega (arith, small))
 
 pub words_fit : (sizes : List ℕ) (args : List Stride) → HaveSizes stride_sets sizes args → EachFits sizes (map word_of args)
 words_fit [] [] sized = tt

@@ -1,7 +1,5 @@
 //! Outlines of programs in a short notation.
 
-ghost use Rattle.std.specs.Prelude.{◌≡◌, ◌<◌, length};
-
 use alf_check::check;
 use alf_text::read;
 use domain_core::Outline;

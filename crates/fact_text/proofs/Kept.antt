@@ -228,18 +228,18 @@ unknown_stays t = refused_stays
 abbrev IsNamed : Lexeme → Fact × ℕ → Type 0
 IsNamed w x = NumbersFit x.0 × (place_of_word w.text ≡ Some (kind_place x.0))
 
-named_so : (w : Lexeme) (k : ℕ) → place_of_word w.text ≡ Some k → {p : Rule true (Fact × ℕ)} → Stays p (IsKind k) → Stays p (IsNamed w)
-named_so w k e h = weakened h (λ x i. (i.0, rw i.1 e))
+named_so : (w : Lexeme) (k : ℕ) → place_of_word w.text ≡ Some k → (p : Rule true (Fact × ℕ)) → Stays p (IsKind k) → Stays p (IsNamed w)
+named_so w k e p h = weakened h (λ x i. (i.0, rw i.1 e))
 
 tail_stays : (w : Lexeme) → Stays (fact_tail w) (IsNamed w)
 unfolding fact_tail place_of_word
 tail_stays w =
-    either_stays (bytes_eq w.text (codes "loop")) _ _ (λ a. named_so w 0 (rw a refl) loop_stays) (λ a.
-    either_stays (bytes_eq w.text (codes "count")) _ _ (λ b. named_so w 1 (rw (a, b) refl) count_fact_stays) (λ b.
-    either_stays (bytes_eq w.text (codes "dead")) _ _ (λ c. named_so w 2 (rw (a, b, c) refl) dead_stays) (λ c.
-    either_stays (bytes_eq w.text (codes "total")) _ _ (λ d. named_so w 3 (rw (a, b, c, d) refl) total_stays) (λ d.
-    either_stays (bytes_eq w.text (codes "pair")) _ _ (λ e. named_so w 4 (rw (a, b, c, d, e) refl) pair_stays) (λ e.
-    either_stays (bytes_eq w.text (codes "alarm")) _ _ (λ f. named_so w 5 (rw (a, b, c, d, e, f) refl) alarm_stays) (λ f. unknown_stays w))))))
+    either_stays (bytes_eq w.text (codes "loop")) _ _ (λ a. named_so w 0 (rw a refl) loop_fact loop_stays) (λ a.
+    either_stays (bytes_eq w.text (codes "count")) _ _ (λ b. named_so w 1 (rw (a, b) refl) count_fact count_fact_stays) (λ b.
+    either_stays (bytes_eq w.text (codes "dead")) _ _ (λ c. named_so w 2 (rw (a, b, c) refl) dead_fact dead_stays) (λ c.
+    either_stays (bytes_eq w.text (codes "total")) _ _ (λ d. named_so w 3 (rw (a, b, c, d) refl) total_fact total_stays) (λ d.
+    either_stays (bytes_eq w.text (codes "pair")) _ _ (λ e. named_so w 4 (rw (a, b, c, d, e) refl) pair_fact pair_stays) (λ e.
+    either_stays (bytes_eq w.text (codes "alarm")) _ _ (λ f. named_so w 5 (rw (a, b, c, d, e, f) refl) alarm_fact alarm_stays) (λ f. unknown_stays w))))))
 
 and_right : (a b : Bool) → a && b ≡ true → b ≡ true
 and_right true b h = h
@@ -263,7 +263,7 @@ fact_stays form last = stays (λ room. line_word_passes >>- λ w _. check_stays 
   where
     next : (w : Lexeme) (x : Fact × ℕ) (f : Fact) → may_stand form last (place_of_word w.text) ≡ true → IsNamed w x → follows last x.0 ≡ true → (low_fits x.0 ≡ true) × (x.0 ≡ f) → IsNextFact form last f
     next w x f m h o l =
-        let k : may_stand form last (Some (kind_place x.0)) ≡ true = rw (← h.1) m in
+        let k : may_stand form last (Some (kind_place x.0)) ≡ true = subst (λ (o : Option ℕ). may_stand form last o ≡ true) h.1 m in
         subst (IsNextFact form last) l.1 (fits_form form last x.0 h.0 k l.0, o)
 
 -- ---- the order of facts

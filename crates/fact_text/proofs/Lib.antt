@@ -2,3 +2,4 @@
 pub mod Meaning
 pub mod Written
 pub mod Kept
+pub mod Lasts

@@ -4,6 +4,7 @@ use Rattle.std.specs.Prelude.{◌==◌, decimal, IfSome}
 use Rattle.std.specs.Fmt.{signed_decimal}
 use Rattle.std.specs.List.{list_all, flat_map}
 use Rattle.std.specs.Str.{bytes_eq}
+use Rattle.std.specs.Char.{is_ascii_digit}
 use Rattle.std.specs.List.{AllPairs}
 use Rattle.std.specs.Ordering.{nat_cmp, ordering_then}
 use Rattle.std.specs.Cmp.Lexicographic.{slice_cmp}
@@ -40,7 +41,8 @@ use Rattle.fact_printer.specs.Canonical as marks
 use Rattle.fact_words.specs.Numbers.{Fault, number_within, whole_within, is_positive}
 use Rattle.fact_words.specs.Names.{is_node_name}
 use Rattle.fact_text.specs.Grammar.{Place, Rule, line_word, next_word, told, begins, number, count, whole, either, unknown, line_is, heading, numbered, name, node, next_node, node_begins, parent, scope_kind, scope, next_scope, scope_begins, place_of_word, fact_begins, last_place, may_stand, bounds, loop_fact, count_fact, dead_fact, total_fact, pair_fact, cause, alarm_fact, fact_tail, follows, low_fits, fact, stands_before, last_of, next_fact, count_bound, path_bound, event_begins, step, merge, event_tail, event, scale, multiplier, cert, ending, lists, tail, report}
-use Rattle.fact_words.specs.DigitLaws.{decimal_within, decimal_word, positive_within, negative_within, negative_word}
+use Rattle.fact_words.specs.DigitLaws.{decimal_within, decimal_word, positive_within, negative_within, negative_word, decimal_one, decimal_two, decimal_is}
+use Rattle.fact_text.specs.Language.{start, SpellsReport}
 use Rattle.fact_words.specs.NameLaws.{node_name_passes, node_name_word}
 
 -- ---- printed words as tokens
@@ -108,6 +110,15 @@ name_writes text h = record { prints = one_mark (a_word text) (node_name_word te
 node_writes : (n : ℕ) → IsNumber n → (x : NamedNode) → NodeIsWritable x → Plain (node n) (node_marks n x) x
 unfolding node
 node_writes n lt x w = begins_writes (codes "node") refl then λ _. numbered_writes n lt then λ _. count_writes x.scope w.scope then λ s. count_writes x.cost w.cost then λ c. as_value (name_writes x.name w.name)
+
+-- no digits are a dash
+no_dash : (n : ℕ) → IsNumber n → bytes_eq (decimal n) (codes "-") ≡ false
+no_dash n lt = by_test (bytes_eq (decimal n) (codes "-"))
+    (λ t. let e : decimal n ≡ codes "-" = (bytes_eq-Decides (decimal n) (codes "-")).0 t in absurd (no_digits (subst (λ ds. list_all is_ascii_digit ds ≡ true) e (decimal_is n lt).digits)))
+    (λ t. t)
+  where
+    no_digits : list_all is_ascii_digit (codes "-") ≡ true → ⊥
+    no_digits h = cc
 
 parent_writes : (p : Option ℕ) → IfSome p IsNumber → Plain parent (parent_mark p ∷ []) p
 unfolding parent next_word told
@@ -179,11 +190,11 @@ node_lines done [] = refl
 node_lines done (x ∷ xs) = rw (node_lines (done ++ x ∷ []) xs, one_longer done x) refl
 
 nodes_print : (xs : List NamedNode) → length xs ≤ 2 ^ 32 → All NodeIsWritable xs → list_all is_mark (nodes_marks 0 xs) ≡ true
-nodes_print xs le w = rw (← node_lines [] xs) (lines_print node_begins next_node node_line NodeFine (λ done x h more. refl) (λ done x h. as_value (node_writes (length done) h.0 x h.1)) [] xs (nodes_fine [] xs le w))
+nodes_print xs le w = rw (← node_lines [] xs) (lines_print node_begins next_node node_line NodeFine (λ done x h more. refl) (λ done x h. as_value (node_writes (length done) h.0 x h.1)) [] xs (nodes_fine [] xs (omega (arith, le)) w))
 
 nodes_read : (xs : List NamedNode) → length xs ≤ 2 ^ 32 → All NodeIsWritable xs → (more : List Lexeme) → line_is (codes "node") (after more) ≡ false
     → (grow node_begins next_node []).form.reading (after (tokens printing more (nodes_marks 0 xs))) ≡ Ok (xs, after more)
-nodes_read xs le w more stops = rw (← node_lines [] xs) (grow_reads node_begins next_node node_line NodeFine (λ done x h more. refl) (λ done x h. as_value (node_writes (length done) h.0 x h.1)) [] xs (nodes_fine [] xs le w) more stops)
+nodes_read xs le w more stops = rw (← node_lines [] xs) (grow_reads node_begins next_node node_line NodeFine (λ done x h more. refl) (λ done x h. as_value (node_writes (length done) h.0 x h.1)) [] xs (nodes_fine [] xs (omega (arith, le)) w) more stops)
 
 -- ---- scopes
 
@@ -204,11 +215,11 @@ scope_lines done [] = refl
 scope_lines done (x ∷ xs) = rw (scope_lines (done ++ x ∷ []) xs, one_longer done x) refl
 
 scopes_print : (xs : List ScopeRow) → length xs ≤ 2 ^ 32 → All ScopeIsWritable xs → list_all is_mark (scopes_marks 0 xs) ≡ true
-scopes_print xs le w = rw (← scope_lines [] xs) (lines_print scope_begins next_scope scope_line ScopeFine (λ done x h more. refl) (λ done x h. as_value (scope_writes (length done) h.0 x h.1)) [] xs (scopes_fine [] xs le w))
+scopes_print xs le w = rw (← scope_lines [] xs) (lines_print scope_begins next_scope scope_line ScopeFine (λ done x h more. refl) (λ done x h. as_value (scope_writes (length done) h.0 x h.1)) [] xs (scopes_fine [] xs (omega (arith, le)) w))
 
 scopes_read : (xs : List ScopeRow) → length xs ≤ 2 ^ 32 → All ScopeIsWritable xs → (more : List Lexeme) → line_is (codes "scope") (after more) ≡ false
     → (grow scope_begins next_scope []).form.reading (after (tokens printing more (scopes_marks 0 xs))) ≡ Ok (xs, after more)
-scopes_read xs le w more stops = rw (← scope_lines [] xs) (grow_reads scope_begins next_scope scope_line ScopeFine (λ done x h more. refl) (λ done x h. as_value (scope_writes (length done) h.0 x h.1)) [] xs (scopes_fine [] xs le w) more stops)
+scopes_read xs le w more stops = rw (← scope_lines [] xs) (grow_reads scope_begins next_scope scope_line ScopeFine (λ done x h more. refl) (λ done x h. as_value (scope_writes (length done) h.0 x h.1)) [] xs (scopes_fine [] xs (omega (arith, le)) w) more stops)
 
 -- ---- facts
 
@@ -365,8 +376,8 @@ count_bound_writes v lt = begins_writes (codes "count-bound") refl then λ _. as
 
 path_bound_writes : (b : ℕ × BoundWord) → b.0 < 2 ^ 64 → Plain path_bound (path_bound_marks b) b
 unfolding path_bound begins number line_word next_word told
-path_bound_writes (v, Least) lt = let k = (λ left. decimal_within (2 ^ 64 - 1) v left (omega (arith, lt)) (omega (arith, lt))) in record { prints = rw (decimal_word v (omega (arith, lt))) refl; reads = λ more free. rw (k _) refl }
-path_bound_writes (v, Stopped) lt = let k = (λ left. decimal_within (2 ^ 64 - 1) v left (omega (arith, lt)) (omega (arith, lt))) in record { prints = rw (decimal_word v (omega (arith, lt))) refl; reads = λ more free. rw (k _) refl }
+path_bound_writes (v, Least) lt = record { prints = rw (decimal_word v (omega (arith, lt))) refl; reads = λ more free. rw (decimal_within (2 ^ 64 - 1) v _ (omega (arith, lt)) (omega (arith, lt))) refl }
+path_bound_writes (v, Stopped) lt = record { prints = rw (decimal_word v (omega (arith, lt))) refl; reads = λ more free. rw (decimal_within (2 ^ 64 - 1) v _ (omega (arith, lt)) (omega (arith, lt))) refl }
 
 -- ---- the end
 
@@ -487,7 +498,7 @@ same_tokens more (m ∷ ms) = ap (λ (ts : List Lexeme). token_before ts m ∷ t
 -- the text of a writable report spells it
 pub text_spells : EachPrintedTextIsCut → (r : Reported) → IsWritable r → SpellsReport (report_text r) r
 text_spells cut r w =
-    let e : tokens_of (report_text r) ≡ tokens printing [] (report_marks r) = cut _ _ refl (report_prints r w) ∙ sym (same_tokens [] (report_marks r)) in
+    let e : tokens_of (report_text r) ≡ tokens printing [] (report_marks r) = cut (marks.begins (codes "facts")) (a_number r.form ∷ (lists_marks r ++ tail_marks r)) refl (report_prints r w) ∙ sym (same_tokens [] (report_marks r)) in
     (after [], rw e (reads_spells report (after (tokens printing [] (report_marks r))) r (after []) (report_reads r w)))
 
 -- reading gives one report

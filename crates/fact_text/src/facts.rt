@@ -4,7 +4,7 @@ ghost use Rattle.std.specs.Prelude.{◌≡◌, []};
 ghost use Rattle.grammar_chains.specs.Chain.{grow};
 ghost use Rattle.fact_tokens.specs.Ahead.{lexeme};
 ghost use Rattle.flow_facts.specs.Writable.{kind_place, numbers_of};
-ghost use Rattle.fact_text.specs.Grammar.{place_of_word, fact_begins, last_place, may_stand, bounds, loop_fact, count_fact, dead_fact, total_fact, pair_fact, cause, alarm_fact, fact_tail, stands_before, follows, low_fits, fact, next_fact};
+ghost use Rattle.fact_text.specs.Grammar.{place_of_word, fact_begins, last_place, may_stand, bounds, loop_fact, count_fact, dead_fact, total_fact, pair_fact, cause, alarm_fact, fact_tail, stands_before, follows, low_fits, fact, last_of, next_fact};
 ghost use Rattle.fact_text.specs.Reading.{position, Reads};
 
 use fact_words::Departure;
@@ -68,6 +68,14 @@ fn may_stand(form: u8, last: &Option<Fact>, place: Option<u8>) -> bool
         None => false,
         Some(kind) => last_place(last) <= kind && (kind != 1 || form == 2),
     }
+}
+
+// The last of the facts, if there is one.
+#[tactic(auto, using(crate::proofs::Lasts::last_is))]
+fn last_of(facts: &[Fact]) -> Option<Fact>
+    ensures { result ≡ last_of facts.now }
+{
+    facts.last().copied()
 }
 
 fn low_fits(fact: &Fact) -> bool
@@ -234,16 +242,27 @@ impl<'a> Reader<'a> {
         Ok(fact)
     }
 
+    // The line of the fact after these.
+    fn next_fact(&mut self, form: u8, facts: Vec<Fact>) -> Result<Vec<Fact>, Departure>
+        ensures { Reads (next_fact form facts.items) (λ x. x.items) result self.old self.new }
+    {
+        let last = last_of(&facts);
+        let fact = self.fact(form, &last)?;
+        let mut facts = facts;
+        facts.push(fact)?;
+        Ok(facts)
+    }
+
     /// The lines of all facts.
     pub fn facts(&mut self, form: u8) -> Result<Vec<Fact>, Departure>
         ensures { Reads (grow fact_begins (next_fact form) []) (λ x. x.items) result self.old self.new }
     {
         let mut facts = Vec::new(self.alloc);
-        let mut last = None;
         while self.at_fact() {
-            let fact = self.fact(form, &last)?;
-            facts.push(fact)?;
-            last = Some(fact);
+            match self.next_fact(form, facts) {
+                Ok(next) => facts = next,
+                Err(error) => return Err(error),
+            }
         }
         Ok(facts)
     }

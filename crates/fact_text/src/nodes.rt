@@ -55,14 +55,26 @@ impl<'a> Reader<'a> {
         Ok(NodeLine { scope, cost, name })
     }
 
+    // The line of the node after these.
+    fn next_node(&mut self, nodes: Vec<NodeLine>) -> Result<Vec<NodeLine>, Departure>
+        ensures { Reads (next_node (map node_of nodes.items)) (λ x. map node_of x.items) result self.old self.new }
+    {
+        let node = self.node(nodes.len())?;
+        let mut nodes = nodes;
+        nodes.push(node)?;
+        Ok(nodes)
+    }
+
     /// The lines of all nodes.
     pub fn nodes(&mut self) -> Result<Vec<NodeLine>, Departure>
         ensures { Reads (grow node_begins next_node []) (λ x. map node_of x.items) result self.old self.new }
     {
         let mut nodes = Vec::new(self.alloc);
         while self.line_is(b"node") {
-            let node = self.node(nodes.len())?;
-            nodes.push(node)?;
+            match self.next_node(nodes) {
+                Ok(next) => nodes = next,
+                Err(error) => return Err(error),
+            }
         }
         Ok(nodes)
     }
@@ -110,14 +122,26 @@ impl<'a> Reader<'a> {
         })
     }
 
+    // The line of the scope after these.
+    fn next_scope(&mut self, scopes: Vec<ScopeRow>) -> Result<Vec<ScopeRow>, Departure>
+        ensures { Reads (next_scope (scopes.items)) (λ x. x.items) result self.old self.new }
+    {
+        let scope = self.scope(scopes.len())?;
+        let mut scopes = scopes;
+        scopes.push(scope)?;
+        Ok(scopes)
+    }
+
     /// The lines of all scopes.
     pub fn scopes(&mut self) -> Result<Vec<ScopeRow>, Departure>
         ensures { Reads (grow scope_begins next_scope []) (λ x. x.items) result self.old self.new }
     {
         let mut scopes = Vec::new(self.alloc);
         while self.line_is(b"scope") {
-            let scope = self.scope(scopes.len())?;
-            scopes.push(scope)?;
+            match self.next_scope(scopes) {
+                Ok(next) => scopes = next,
+                Err(error) => return Err(error),
+            }
         }
         Ok(scopes)
     }

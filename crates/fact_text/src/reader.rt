@@ -93,10 +93,13 @@ impl<'a> Reader<'a> {
         ensures { Reads next_word lexeme result self.old self.new }
     {
         let token = self.token()?;
-        if token.line {
-            Err(Departure::Syntax(token.left + 1))
-        } else {
-            Ok(token)
+        if !token.line {
+            return Ok(token);
+        }
+        match token.left.checked_add(1) {
+            Some(left) => Err(Departure::Syntax(left)),
+            // No text is so long.
+            None => Err(Departure::Memory),
         }
     }
 

@@ -1,13 +1,14 @@
 -- The lines that were read, and those that are to come, are those of all.
-use Rattle.std.proofs.Common.{◌≡◌, []}
+use Rattle.std.proofs.Common.{[], map}
 use Rattle.grammar.specs.Form.{left}
 use Rattle.grammar_chains.specs.Turns.{ChainSoFar}
-use Rattle.fact_text.specs.Grammar.{next_fact, fact_begins, last_of}
+use Rattle.flow_facts.specs.Reports.{node_of}
+use Rattle.fact_text.specs.Grammar.{fact_begins, next_fact}
 use Rattle.fact_text.specs.Reading.{position}
 use Rattle.fact_text.proofs.reader.Reader.facts.Given as goal
 
-abbrev pub invariant-loop : goal.invariant-loop
-invariant-loop l = (l.last ≡ last_of l.facts.items) × ChainSoFar fact_begins (next_fact l.form) [] l.facts.items (position l.self) (position l.fn.self)
+abbrev pub invariant-loop-self : goal.invariant-loop-self
+invariant-loop-self l = ChainSoFar fact_begins (next_fact l.form) [] (l.facts.items) (position l.self) (position l.fn.self)
 
-abbrev pub decreases-loop : goal.decreases-loop
-decreases-loop l = left (position l.self)
+abbrev pub decreases-loop-self : goal.decreases-loop-self
+decreases-loop-self l = left (position l.self)

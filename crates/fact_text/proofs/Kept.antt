@@ -372,18 +372,21 @@ report_tail_stays = stays (λ room. count_bound_stays >>- λ v h. maybe_stays (l
 
 report_stays : Stays report IsWritable
 unfolding report
-report_stays = stays (λ room. heading_stays >>- λ form h. lists_stay form >>- λ l i. report_tail_stays >>- λ t j. done (record {
-      form = h;
-      few_nodes = i.0.0;
-      nodes = i.0.1;
-      few_scopes = i.1.0;
-      scopes = i.1.1;
-      facts = i.2.0;
-      ascends = i.2.1;
-      count_bound = j.0;
-      path_bound = j.1;
-      certificate = j.2;
-    }, refl))
+report_stays = stays (λ room. heading_stays >>- λ form h. lists_stay form >>- λ l i. report_tail_stays >>- λ t j. done (
+  record {
+    form = h;
+    few_nodes = i.0.0;
+    nodes = i.0.1;
+    few_scopes = i.1.0;
+    scopes = i.1.1;
+    facts = i.2.0;
+    ascends = i.2.1;
+    count_bound = j.0;
+    path_bound = j.1;
+    certificate = j.2;
+  },
+  refl,
+))
 
 each_any : (ts : List Lexeme) → Each Any ts
 each_any [] = tt

@@ -464,9 +464,11 @@ lists_read r w more h =
     let s = scopes_marks 0 r.scopes in
     let n = nodes_marks 0 r.nodes in
     rw (tokens_append more (n ++ s) f, tokens_append (tokens printing more f) n s)
-    (rw (nodes_read r.nodes w.few_nodes w.nodes (tokens printing (tokens printing more f) s) (no_node r.scopes r.facts more h),
-         scopes_read r.scopes w.few_scopes w.scopes (tokens printing more f) (no_scope r.facts more h),
-         facts_read r.form r.facts (facts_fine r.form [] r.facts (first_fine r.facts) w.ascends w.facts) more (no_fact more h)) refl)
+    (rw (
+      nodes_read r.nodes w.few_nodes w.nodes (tokens printing (tokens printing more f) s) (no_node r.scopes r.facts more h),
+      scopes_read r.scopes w.few_scopes w.scopes (tokens printing more f) (no_scope r.facts more h),
+      facts_read r.form r.facts (facts_fine r.form [] r.facts (first_fine r.facts) w.ascends w.facts) more (no_fact more h),
+    ) refl)
 
 lists_print : (r : Reported) → IsWritable r → list_all is_mark (lists_marks r) ≡ true
 lists_print r w =

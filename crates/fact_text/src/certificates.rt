@@ -7,12 +7,11 @@ ghost use Rattle.fact_tokens.specs.Ahead.{lexeme};
 ghost use Rattle.fact_text.specs.Grammar.{event_begins, step, merge, event_tail, event, scale, line_is, multiplier, cert};
 ghost use Rattle.fact_text.specs.Reading.{position, Reads};
 
-use fact_words::Departure;
-use fact_words::{is_positive, whole_within};
 use crate::parts::{Events, Multipliers};
 use crate::reader::Reader;
 use domain_core::Event;
 use fact_tokens::Token;
+use fact_words::{Departure, is_positive, whole_within};
 use flow_facts::Cert;
 use grammar::many;
 

@@ -7,11 +7,10 @@ ghost use Rattle.flow_facts.specs.Writable.{kind_place, numbers_of};
 ghost use Rattle.fact_text.specs.Grammar.{place_of_word, fact_begins, last_place, may_stand, bounds, loop_fact, count_fact, dead_fact, total_fact, pair_fact, cause, alarm_fact, fact_tail, stands_before, follows, low_fits, fact, last_of, next_fact};
 ghost use Rattle.fact_text.specs.Reading.{position, Reads};
 
-use fact_words::Departure;
-use fact_words::number_within;
 use crate::order::stands_before;
 use crate::reader::Reader;
 use fact_tokens::Token;
+use fact_words::{Departure, number_within};
 use flow_facts::{Fact, RunKind};
 
 const MOST_COUNT: u128 = 0xffff_ffff;

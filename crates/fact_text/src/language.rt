@@ -7,9 +7,9 @@ ghost use Rattle.flow_facts.specs.Writable.{IsWritable};
 ghost use Rattle.fact_text.specs.Reading.{fault_of};
 ghost use Rattle.fact_text.specs.Language.{Means, HasOneMeaning, departure_of, placed, place_of, place_after, is_line_feed};
 
-use fact_words::{Departure, ReportFault};
 use crate::laws::writable_reports_are_spelled;
 use crate::reader::Reader;
+use fact_words::{Departure, ReportFault};
 use flow_base::Place;
 use flow_facts::Report;
 use std::alloc::Global;

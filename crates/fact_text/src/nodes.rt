@@ -6,11 +6,9 @@ ghost use Rattle.flow_facts.specs.Reports.{node_of};
 ghost use Rattle.fact_text.specs.Grammar.{numbered, name, node, next_node, node_begins, parent, scope_kind, scope, next_scope, scope_begins};
 ghost use Rattle.fact_text.specs.Reading.{position, Reads};
 
-use fact_words::Departure;
-use fact_words::is_node_name;
-use fact_words::number_within;
 use crate::reader::Reader;
 use domain_core::{ScopeKind, ScopeRow};
+use fact_words::{Departure, is_node_name, number_within};
 use flow_facts::NodeLine;
 
 const MOST_COUNT: u128 = 0xffff_ffff;

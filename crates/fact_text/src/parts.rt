@@ -5,9 +5,9 @@ ghost use Rattle.domain_core.specs.declared.event.Event.{Event as EventSeen};
 ghost use Rattle.fact_text.specs.Grammar.{event_begins, event, line_is, multiplier};
 ghost use Rattle.fact_text.specs.Reading.{lines, fault_of};
 
-use fact_words::Departure;
 use crate::reader::Reader;
 use domain_core::Event;
+use fact_words::Departure;
 use grammar::Part;
 
 /// Events.

@@ -10,9 +10,8 @@ ghost use Rattle.fact_text.specs.Language.{start};
 ghost use Rattle.fact_text.specs.Grammar.{line_is, line_word, next_word, begins, number, count, whole};
 ghost use Rattle.fact_text.specs.Reading.{position, Reads};
 
-use fact_words::Departure;
-use fact_words::{number_within, whole_within};
 use fact_tokens::{Cursor, Token};
+use fact_words::{Departure, number_within, whole_within};
 use std::alloc::Global;
 
 /// A place in a text.

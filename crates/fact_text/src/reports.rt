@@ -7,9 +7,9 @@ ghost use Rattle.flow_facts.specs.Reports.{node_of, certificate_of, reported};
 ghost use Rattle.fact_text.specs.Grammar.{heading, count_bound, path_bound, line_is, cert, ending, lists, tail, report};
 ghost use Rattle.fact_text.specs.Reading.{position, Reads};
 
-use fact_words::Departure;
 use crate::reader::Reader;
 use domain_core::ScopeRow;
+use fact_words::Departure;
 use flow_facts::{BoundWord, Cert, Fact, NodeLine, Report};
 
 impl<'a> Reader<'a> {

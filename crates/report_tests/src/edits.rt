@@ -59,10 +59,7 @@ fn put_text(text: &mut Vec<u8>, new: &str) -> Result<(), AllocError> {
 }
 
 /// `ok`, or the kind of a fault with its line and column.
-pub fn told(
-    alloc: Global,
-    answer: &Result<Report, ReportFault>,
-) -> Result<String, AllocError> {
+pub fn told(alloc: Global, answer: &Result<Report, ReportFault>) -> Result<String, AllocError> {
     match answer {
         Ok(_) => format!(in alloc; "ok"),
         Err(ReportFault::Syntax(place)) => {

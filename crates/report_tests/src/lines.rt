@@ -1003,7 +1003,12 @@ const SWAPS: &str = "\
 #[test]
 fn a_line_in_place_of_another_is_told(rt: HostRuntime) -> Result<(), Fail> {
     for row in ROWS.split('\n') {
-        let at = row.split(" => ").nth(0).unwrap_or("").parse::<usize>().unwrap_or(99);
+        let at = row
+            .split(" => ")
+            .nth(0)
+            .unwrap_or("")
+            .parse::<usize>()
+            .unwrap_or(99);
         let due = row.split(" => ").nth(1).unwrap_or("");
         let new = row.split(" => ").nth(2).unwrap_or("");
         let text = with_line(rt.alloc(), REPORT, at, new)?;
@@ -1017,8 +1022,18 @@ fn a_line_in_place_of_another_is_told(rt: HostRuntime) -> Result<(), Fail> {
 fn lines_that_change_places_are_told(rt: HostRuntime) -> Result<(), Fail> {
     for row in SWAPS.split('\n') {
         let pair = row.split(" => ").nth(0).unwrap_or("");
-        let first = pair.split(' ').nth(0).unwrap_or("").parse::<usize>().unwrap_or(99);
-        let second = pair.split(' ').nth(1).unwrap_or("").parse::<usize>().unwrap_or(99);
+        let first = pair
+            .split(' ')
+            .nth(0)
+            .unwrap_or("")
+            .parse::<usize>()
+            .unwrap_or(99);
+        let second = pair
+            .split(' ')
+            .nth(1)
+            .unwrap_or("")
+            .parse::<usize>()
+            .unwrap_or(99);
         let due = row.split(" => ").nth(1).unwrap_or("");
         let text = swapped(rt.alloc(), REPORT, first, second)?;
         let answer = told(rt.alloc(), &read(rt.alloc(), &text))?;

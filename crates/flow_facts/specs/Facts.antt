@@ -3,6 +3,7 @@
 --   IsBetween low high k  the number k is low to high
 --   IsAbout o fact        the scope and the nodes that the fact names are those of the outline
 --   Meets o trace fact    what the fact says is so of the trace
+--   IsWider fact wider    the second is the first with a least count that is not greater and a greatest that is not less
 use Rattle.std.specs.Prelude.{◌≡◌, ◌<◌, ◌≤◌, ◌==◌, ℕ, List, length, count_by, Contains}
 use Rattle.domain_core.specs.Outlines.{Shape, header_of}
 use Rattle.domain_core.specs.Executions.{IsExecution, IsIteration}
@@ -34,3 +35,9 @@ Meets o trace (Dead n) = places n trace ≡ 0
 Meets o trace (Total n low high) = IsBetween low high (places n trace)
 Meets o trace (Pair s a b) = (iteration : List ℕ) → IsIteration o s trace iteration → Contains iteration a → Contains iteration b → ⊥
 Meets o trace (Alarm n fault) = Unit {0}
+
+-- the second is the first with a least count that is not greater and a greatest that is not less
+pub data IsWider : Fact → Fact → Type 0 where
+  wider_loop : (s low high lower higher : ℕ) → lower ≤ low → high ≤ higher → IsWider (Loop s low high) (Loop s lower higher)
+  wider_count : (s n low high lower higher : ℕ) → lower ≤ low → high ≤ higher → IsWider (Count s n low high) (Count s n lower higher)
+  wider_total : (n low high lower higher : ℕ) → lower ≤ low → high ≤ higher → IsWider (Total n low high) (Total n lower higher)

@@ -2,3 +2,5 @@
 pub mod Facts
 pub mod Reports
 pub mod Writable
+pub mod OrderLaws
+pub mod Walking

@@ -13,7 +13,7 @@
 --   CertificateIsWritable cert  the scale is at least 1, and all numbers fit
 --   IsWritable report           so everywhere in the report, and its facts are in the order of lines, no two the same
 -- Whether scopes and nodes that are named are there, and whether the numbers are right, is not asked here.
-use Rattle.std.specs.Prelude.{◌≡◌, ◌≢◌, ◌<◌, ◌≤◌, ◌-◌, ◌^◌, ◌⊎◌, ◌++◌, ℕ, ℤ, pos, negsuc, List, [], ◌∷◌, length, codes, Option, Some, None, All, AllPairs, IfSome}
+use Rattle.std.specs.Prelude.{◌≡◌, ◌≢◌, ◌<◌, ◌≤◌, ◌^◌, ◌⊎◌, ◌++◌, ℕ, ℤ, pos, negsuc, List, [], ◌∷◌, length, codes, All, AllPairs, IfSome}
 use Rattle.std.specs.Fmt.{decimal}
 use Rattle.std.specs.Cmp.Lexicographic.{slice_cmp}
 use Rattle.std.specs.Ordering.{nat_cmp}

@@ -6,13 +6,27 @@
 //! follow from them, and on request a certificate by which both can be checked again.
 #![tactic(auto)]
 
-// What a fact says, and the test of it.
+// What a fact says, and the order of facts.
 mod fact;
+mod order;
 
 // What a report holds.
 mod certificate;
 mod report;
 
+// The test of a fact on a trace.
+mod executions;
+mod iterations;
+mod scopes;
+mod span;
+mod traces;
+
+// What the definitions promise.
+mod laws;
+
 pub use certificate::Cert;
 pub use fact::{Fact, RunKind};
+pub use laws::{lines_order_facts, wider_facts_are_met};
+pub use order::stands_before;
 pub use report::{BoundWord, NodeLine, Report};
+pub use traces::{holds, is_about};

@@ -7,7 +7,7 @@ ghost use Rattle.flow_facts.specs.Writable.{kind_place, numbers_of};
 ghost use Rattle.fact_text.specs.Grammar.{place_of_word, fact_begins, last_place, may_stand, bounds, loop_fact, count_fact, dead_fact, total_fact, pair_fact, cause, alarm_fact, fact_tail, stands_before, follows, low_fits, fact, last_of, next_fact};
 ghost use Rattle.fact_text.specs.Reading.{position, Reads};
 
-use crate::order::stands_before;
+use crate::order::comes_before;
 use crate::reader::Reader;
 use fact_tokens::Token;
 use fact_words::{Departure, number_within};
@@ -95,7 +95,7 @@ fn follows(last: &Option<Fact>, fact: &Fact) -> bool
 {
     match last {
         None => true,
-        Some(before) => stands_before(before, fact),
+        Some(before) => comes_before(before, fact),
     }
 }
 

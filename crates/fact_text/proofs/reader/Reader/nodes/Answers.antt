@@ -1,0 +1,20 @@
+-- That a line takes some of the text is the type of its rule.
+use Rattle.std.proofs.Common.{sym, ◌∙◌, [], map}
+use Rattle.grammar_chains.specs.Turns.{chain_goes_on, chain_fails}
+use Rattle.flow_facts.specs.Reports.{node_of}
+use Rattle.fact_text.specs.Grammar.{node_begins, next_node}
+use Rattle.fact_text.specs.Reading.{position, fault_of}
+use Rattle.fact_text.proofs.reader.Reader.nodes.Goals as goal
+
+pub loop-self-smaller : goal.loop-self-smaller
+loop-self-smaller c = (next_node (map node_of c.loop-self.nodes.items)).exact.shrinks (position c.loop-self.self) (map node_of c.in-Ok.next.items, position c.next_node.new.self) c.in-Ok.ensures
+
+pub loop-self-preserved : goal.loop-self-preserved
+loop-self-preserved c =
+    chain_goes_on node_begins next_node [] (map node_of c.loop-self.nodes.items) (position c.loop-self.self) (position c.args.self.now) (map node_of c.in-Ok.next.items) (position c.next_node.new.self)
+    (sym c.line_is.ensures ∙ c.loop-self-test.true) c.in-Ok.ensures c.loop-self.invariant
+
+pub returns-in-Err : goal.returns-in-Err
+returns-in-Err c =
+    chain_fails node_begins next_node [] (map node_of c.loop-self.nodes.items) (position c.loop-self.self) (position c.args.self.now) (fault_of c.in-Err.error)
+    (sym c.line_is.ensures ∙ c.loop-self-test.true) c.in-Err.ensures c.loop-self.invariant

@@ -1,0 +1,89 @@
+//! Texts and what they mean.
+
+ghost use Rattle.std.specs.Prelude.{◌≡◌, ◌-◌, ◌≤◌, ℕ, not, List, length, take, filter, reverse, Ok, Err, IfOk, IfErr, IfSome, IsSomeAnd};
+ghost use Rattle.std.specs.List.{prefix_len};
+ghost use Rattle.flow_facts.specs.Reports.{reported};
+ghost use Rattle.flow_facts.specs.Writable.{IsWritable};
+ghost use Rattle.fact_text.specs.Reading.{fault_of};
+ghost use Rattle.fact_text.specs.Language.{Means, HasOneMeaning, departure_of, placed, place_of, place_after, is_line_feed};
+
+use crate::laws::writable_reports_are_spelled;
+use crate::reader::Reader;
+use fact_words::{Departure, ReportFault};
+use flow_base::Place;
+use flow_facts::Report;
+use std::alloc::Global;
+
+/// The report that a text spells, or the text's first departure from the grammar.
+///
+/// The text is read from its first byte in one pass, in time in proportion to it, and what it takes
+/// of memory is the report alone. The words of a line are tested in their order; then that the line
+/// stands after the one before it, then that its least count is not above its greatest.
+pub fn read(alloc: Global, bytes: &[u8]) -> Result<Report, ReportFault>
+    // A text means one thing (`one_meaning`), and this is it.
+    ensures spelled { IfOk result (λ report. Means bytes.now (Ok (reported report))) }
+    ensures departs { IfErr result (λ fault. IfSome (departure_of fault) (λ departure. Means bytes.now (Err departure))) }
+    // The condition of `print`.
+    ensures writable { IfOk result (λ report. IsWritable (reported report)) }
+{
+    writable_reports_are_spelled();
+    let mut reader = Reader::new(alloc, bytes);
+    match reader.report() {
+        Ok(report) => Ok(report),
+        Err(departure) => Err(told(bytes, departure)),
+    }
+}
+
+/// Each text spells exactly one report, or has exactly one first departure.
+pub fn one_meaning()
+    ensures { (bytes : List ℕ) → HasOneMeaning bytes }
+{}
+
+// The departure with its place in the text.
+fn told(bytes: &[u8], departure: Departure) -> ReportFault
+    ensures { IfSome (departure_of result) (λ told. IsSomeAnd (fault_of departure) (λ fault. told ≡ placed bytes.now fault)) }
+{
+    match departure {
+        Departure::Syntax(left) => ReportFault::Syntax(place_of(bytes, left)),
+        Departure::Number(left) => ReportFault::Number(place_of(bytes, left)),
+        Departure::Memory => ReportFault::Memory,
+    }
+}
+
+// The place where so many bytes are left.
+fn place_of(bytes: &[u8], left: usize) -> Place
+    ensures { result ≡ place_of bytes.now left }
+{
+    let prefix = bytes.len().saturating_sub(left);
+    place_after(&bytes[..prefix])
+}
+
+// The place after these bytes.
+fn place_after(prefix: &[u8]) -> Place
+    ensures { result ≡ place_after prefix.now }
+{
+    Place {
+        offset: prefix.len() as u64,
+        line: line_feeds(prefix) as u64 + 1,
+        column: last_line_len(prefix) as u64 + 1,
+    }
+}
+
+fn line_feeds(prefix: &[u8]) -> usize
+    ensures count { result ≡ length (filter is_line_feed prefix.now) }
+    ensures within { result ≤ length prefix.now }
+{
+    prefix.iter().filter(|byte| **byte == b'\n').count()
+}
+
+// How many bytes stand after the last line feed.
+fn last_line_len(prefix: &[u8]) -> usize
+    ensures count { result ≡ prefix_len (λ byte. not (is_line_feed byte)) (reverse prefix.now) }
+    ensures within { result ≤ length prefix.now }
+{
+    prefix
+        .iter()
+        .rev()
+        .take_while(|byte| **byte != b'\n')
+        .count()
+}

@@ -1,0 +1,30 @@
+//! The text of a report, and what it means.
+//!
+//! The grammar stands in `specs/Grammar.antt`, rule by rule; each rule is exact by its type, so a
+//! text spells one report or has one first departure. `read` gives which of the two it is, and where.
+//! Words are cut from the rest of the text as they are wanted, so a report of millions of lines takes
+//! no memory beside its lists. `print` writes the text of a report, which is read back to the same
+//! report; so two reports have two texts. Which reports some text spells is a condition on reports
+//! alone, `IsWritable` of `flow_facts`. The rules stand in words in `docs/formats/report.md`.
+#![tactic(auto)]
+
+// Single words.
+mod reader;
+
+// Lines and lists of them.
+mod certificates;
+mod facts;
+mod nodes;
+mod order;
+mod parts;
+mod reports;
+
+// Texts and reports.
+mod language;
+mod laws;
+mod printing;
+
+pub use fact_words::ReportFault;
+pub use language::{one_meaning, read};
+pub use laws::{two_reports_have_two_texts, writable_reports_are_spelled};
+pub use printing::print;

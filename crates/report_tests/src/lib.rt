@@ -1,0 +1,12 @@
+//! Tests of `fact_text`, and of the crates that it is made of. Without tests this library is empty.
+#![tactic(auto)]
+
+// Reports that are made of a report.
+#[cfg(test)]
+mod edits;
+
+// Lines, and whole texts.
+#[cfg(test)]
+mod lines;
+#[cfg(test)]
+mod texts;

@@ -6,3 +6,4 @@ pub mod TotalLaws
 pub mod TallyRules
 pub mod TallyLaws
 pub mod LoopRules
+pub mod BookLaws

@@ -181,6 +181,9 @@ fn applied(count: u32, kinds: &[u8], op: Op, sizes: &[u32]) -> u64 {
             many = place as usize + 1;
         }
     }
+    if 3 < many {
+        return 0;
+    }
     let mut sum: u64 = 0;
     for i in 0..count {
         let (n, m) = (i as usize % MANY, i as usize / MANY % MANY);

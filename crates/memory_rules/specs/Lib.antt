@@ -19,3 +19,5 @@ pub mod AbstractSets
 pub mod AbstractSetLaws
 pub mod MemoryLaws
 pub mod MemoryProofs
+pub mod Addresses
+pub mod AddressLaws

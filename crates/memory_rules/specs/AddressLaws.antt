@@ -3,7 +3,7 @@
 --   possible                the cell of an address that is covered is one of them
 --   loads_at, stores_at, faults_at   the laws of loads and stores
 use Rattle.std.specs.Prelude.{slice_get, IsSomeAnd, Contains, ◌==◌, ◌&&◌}
-use Rattle.std.proofs.Common.{◌≡◌, ◌≢◌, ◌⊎◌, inl, inr, sym, subst, ◌∙◌, ap, ℕ, zero, suc, Bool, true, false, List, [], ◌∷◌, ◌++◌, Option, Some, None, Result, Ok, Err, refl, arith, ◌+◌, ◌*◌, ◌<◌, ◌≤◌, ◌/◌}
+use Rattle.std.proofs.Common.{◌≡◌, ◌≢◌, inl, inr, sym, subst, ◌∙◌, ap, ℕ, zero, suc, Bool, true, false, List, [], ◌∷◌, Option, Some, None, Result, Ok, Err, refl, arith, ◌+◌, ◌*◌, ◌<◌, ◌≤◌, ◌/◌}
 use Rattle.std.proofs.lemmas.Bool.{and_parts, and_from, eqb-true, eqb-false, leb-true}
 use Rattle.std.proofs.lemmas.List.Elements.{Contains-append_left, Contains-append_right, Contains-append_cases}
 use Rattle.lists.specs.Tests.{by_test}
@@ -15,19 +15,18 @@ use Rattle.alf_ops.specs.declared.history.RunFault.TheVariants.{Kind, Dead, Boun
 use Rattle.alf_ops.specs.declared.history.FrameShape.{FrameShape}
 use Rattle.alf_ops.specs.declared.history.RunEvent.{RunEvent}
 use Rattle.alf_ops.specs.declared.history.RunEvent.TheVariants.{Store}
-use Rattle.alf_ops.specs.Histories.{Address, offsets, origin, cell_in, fits_in, is_active, address_in, loaded, stored as stored_run, IsSound}
-use Rattle.alf_ops.specs.Values.{FitsValue, size_of}
+use Rattle.alf_ops.specs.Histories.{offsets, origin, cell_in, fits_in, is_active, address_in, loaded, stored as stored_run}
+use Rattle.alf_ops.specs.Values.{size_of}
 use Rattle.strided_rules.specs.Strides.{Stride, Covers as CoversWord}
 use Rattle.strided_rules.specs.Members.{has}
 use Rattle.strided_rules.specs.MemberLaws.{has_tells}
-use Rattle.pointer_rules.specs.AbstractValues.{AbstractValue, Covers, ArePlaces, IsPlace, offsets_in}
-use Rattle.pointer_rules.specs.Covering.{IsValue}
+use Rattle.pointer_rules.specs.AbstractValues.{AbstractValue, ArePlaces, offsets_in}
 use Rattle.memory_rules.specs.Covers.{IsCellSize}
-use Rattle.memory_rules.specs.Memories.{Mem, is_on, load_all, joined_values, faults_of, Gathers, MemCovers, MemSized, IsPlaced}
+use Rattle.memory_rules.specs.Memories.{Mem, is_on, joined_values, faults_of, Gathers, MemCovers, IsPlaced}
 use Rattle.memory_rules.specs.AbstractSets.{abstract_sets}
 use Rattle.memory_rules.specs.AbstractSetLaws.{abstract_is_sets}
 use Rattle.memory_rules.specs.MemoryProofs.{store_covers, loads_cover, loads_gather}
-use Rattle.memory_rules.specs.Addresses.{tested, tested_in, cells_at, cells_in, cells_of, IsAddressFault, load_at, stored_at, TellsLoad, LoadsAt, StoresAt, FaultsAt}
+use Rattle.memory_rules.specs.Addresses.{cells_at, cells_in, cells_of, IsAddressFault, load_at, stored_at, TellsLoad, LoadsAt, StoresAt, FaultsAt}
 
 -- ---- the offsets of a frame
 
@@ -107,7 +106,8 @@ fits_below bits offset size is fits =
     omega (arith, is.0, low)
 
 here_on : (found : Option FrameShape) (row : FrameShape) (runs : ℕ → Bool) (place : ℕ × Stride) (offset size : ℕ) → found ≡ Some row → IsCellSize size
-    → is_on runs row.owner ≡ true → fits_in row.bits offset size ≡ true → has place.1 offset ≡ true → Contains (cells_in found runs place size) (place.0, offset)
+    → is_on runs row.owner ≡ true → fits_in row.bits offset size ≡ true → has place.1 offset ≡ true
+    → Contains (cells_in found runs place size) (place.0, offset)
 here_on None row runs place offset size is cell active fits member = cc
 here_on (Some own) row runs place offset size is cell active fits member =
     let same : row ≡ own = cc in
@@ -116,7 +116,8 @@ here_on (Some own) row runs place offset size is cell active fits member =
     (among_offsets 0 (row.bits / 8) offset (omega arith) (fits_below row.bits offset size cell fits))))
 
 -- the cell of a pointer that is covered is one of them
-pub possible : (rows : List FrameShape) (runs : ℕ → Bool) (places : List (ℕ × Stride)) (row : FrameShape) (frame offset size : ℕ) → ArePlaces places → IsCellSize size
+pub possible : (rows : List FrameShape) (runs : ℕ → Bool) (places : List (ℕ × Stride)) (row : FrameShape) (frame offset size : ℕ) → ArePlaces places
+    → IsCellSize size
     → IsSomeAnd (offsets_in places frame) (λ members. CoversWord members offset)
     → slice_get rows frame ≡ Some row → is_on runs row.owner ≡ true → fits_in row.bits offset size ≡ true
     → Contains (cells_of rows runs places size) (frame, offset)
@@ -144,7 +145,8 @@ pub loads_at : LoadsAt
 loads_at rows m history at (Int own word) size sound sized c is of_at covers = inl (Int own word, covers, refl)
 loads_at rows m history at (Ptr frame offset) size sound sized c is of_at covers = go (slice_get rows frame) refl
   where
-    go : (found : Option FrameShape) → slice_get rows frame ≡ found → TellsLoad rows m at size (loaded history size (address_in found history frame offset size))
+    go : (found : Option FrameShape) → slice_get rows frame ≡ found
+        → TellsLoad rows m at size (loaded history size (address_in found history frame offset size))
     go None found = inl (Ptr frame offset, covers, rw found refl)
     go (Some row) found = by_test (is_active row.owner history)
         (λ active. by_test (fits_in row.bits offset size)
@@ -168,7 +170,8 @@ pub stores_at : StoresAt
 stores_at rows m history after at set (Int own word) value sound sized c is of_at of_set fits covers in_set done = cc
 stores_at rows m history after at set (Ptr frame offset) value sound sized c is of_at of_set fits covers in_set done = go (slice_get rows frame) refl done
   where
-    go : (found : Option FrameShape) → slice_get rows frame ≡ found → stored_run history value (address_in found history frame offset (size_of value)) ≡ Ok after
+    go : (found : Option FrameShape) → slice_get rows frame ≡ found
+        → stored_run history value (address_in found history frame offset (size_of value)) ≡ Ok after
         → MemCovers abstract_sets rows (stored_at rows m at (size_of value) set) after × (cells_of rows m.runs at.places (size_of value) ≢ [])
     go None found e = cc
     go (Some row) found e = by_test (is_active row.owner history)
@@ -188,10 +191,12 @@ stores_at rows m history after at set (Ptr frame offset) value sound sized c is 
         (λ dead. let bad : Err Dead ≡ Ok after = rw dead at e in cc)
 
 pub faults_at : FaultsAt
-faults_at rows m history at (Int own word) value fault c covers done = let same : Kind ≡ fault = cc in (Int own word, covers, ap (λ (f : RunFault). Err f) same)
+faults_at rows m history at (Int own word) value fault c covers done =
+    let same : Kind ≡ fault = cc in (Int own word, covers, ap (λ (f : RunFault). Err f) same)
 faults_at rows m history at (Ptr frame offset) value fault c covers done = go (slice_get rows frame) refl done
   where
-    go : (found : Option FrameShape) → slice_get rows frame ≡ found → stored_run history value (address_in found history frame offset (size_of value)) ≡ Err fault
+    go : (found : Option FrameShape) → slice_get rows frame ≡ found
+        → stored_run history value (address_in found history frame offset (size_of value)) ≡ Err fault
         → IsAddressFault rows m.runs at (size_of value) fault
     go None found e = let same : Dead ≡ fault = cc in (Ptr frame offset, covers, rw found (ap (λ (f : RunFault). Err f) same))
     go (Some row) found e = by_test (is_active row.owner history)

@@ -3,9 +3,12 @@
 --   cells_of rows runs places size the cells in active frames that fit them, by ascending frame and offset
 --   IsAddressFault                 some address that is covered has the fault
 --   load_at, stored_at             the results of a load through the address, and the memory after a store through it
---   TellsLoad                      the load's value is covered by the joined value, or its fault is one of the address or of the cells
+--   IsLoadFault                    the fault is one of the address, or of a cell
+--   TellsLoad                      the load's value is covered by the joined value, or its fault is told
+--   TellsOnly                      exactly its value, or exactly its fault
 --   LoadsAt, StoresAt              a load and a store of a run through an address that is covered are told
 --   FaultsAt                       the faults of a run's store are told
+--   LoadsOnly, StoresOnly, FaultsOnly   of a sharp memory and an address with one member exactly the run's results are told
 use Rattle.std.specs.Prelude.{◌≡◌, ◌≢◌, ◌⊎◌, ℕ, Bool, List, [], ◌∷◌, ◌++◌, Option, Some, None, Result, Ok, Err, ◌/◌, ◌&&◌, if◌then◌else◌, slice_get, IsSomeAnd, Contains}
 use Rattle.alf_ops.specs.declared.history.Value.{Value}
 use Rattle.alf_ops.specs.declared.history.Value.TheVariants.{Int, Ptr}
@@ -20,7 +23,8 @@ use Rattle.strided_rules.specs.Members.{has}
 use Rattle.pointer_rules.specs.AbstractValues.{AbstractValue, Covers}
 use Rattle.pointer_rules.specs.Covering.{IsValue}
 use Rattle.memory_rules.specs.Covers.{IsCellSize}
-use Rattle.memory_rules.specs.Memories.{Mem, is_on, stored, load_all, joined_values, faults_of, MemCovers, MemSized}
+use Rattle.memory_rules.specs.Memories.{Mem, is_on, stored, load_all, joined_values, faults_of, MemCovers, MemSharp, MemSized}
+use Rattle.memory_rules.specs.ValueSets.{OnlyCovers}
 use Rattle.memory_rules.specs.AbstractSets.{abstract_sets}
 
 -- the cell at an offset of a frame of the table, or its fault
@@ -63,10 +67,24 @@ load_at rows m at size = load_all abstract_sets m (cells_of rows m.runs at.place
 abbrev pub stored_at : List FrameShape → Mem abstract_sets → AbstractValue → ℕ → AbstractValue → Mem abstract_sets
 stored_at rows m at size set = stored abstract_sets m (cells_of rows m.runs at.places size) size set
 
+-- the fault is one of the address, or of a cell
+abbrev pub IsLoadFault : List FrameShape → Mem abstract_sets → AbstractValue → ℕ → RunFault → Type 0
+IsLoadFault rows m at size fault = IsAddressFault rows m.runs at size fault ⊎ Contains (faults_of abstract_sets (load_at rows m at size)) fault
+
 -- the load's value is covered, or its fault told
 abbrev pub TellsLoad : List FrameShape → Mem abstract_sets → AbstractValue → ℕ → Result Value RunFault → Type 0
 TellsLoad rows m at size (Ok value) = IsSomeAnd (joined_values abstract_sets None (load_at rows m at size)) (λ set. Covers set value)
-TellsLoad rows m at size (Err fault) = IsAddressFault rows m.runs at size fault ⊎ Contains (faults_of abstract_sets (load_at rows m at size)) fault
+TellsLoad rows m at size (Err fault) = IsLoadFault rows m at size fault
+
+-- exactly the load's value and no fault, or exactly its fault and no value
+abbrev pub TellsOnly : List FrameShape → Mem abstract_sets → AbstractValue → ℕ → Result Value RunFault → Type 0
+TellsOnly rows m at size (Ok value) =
+    IsSomeAnd (joined_values abstract_sets None (load_at rows m at size)) (λ set. OnlyCovers abstract_sets set value)
+    × ((fault : RunFault) → IsLoadFault rows m at size fault → ⊥)
+TellsOnly rows m at size (Err fault) =
+    (joined_values abstract_sets None (load_at rows m at size) ≡ None)
+    × IsLoadFault rows m at size fault
+    × ((other : RunFault) → IsLoadFault rows m at size other → other ≡ fault)
 
 -- a load through an address that is covered is told
 abbrev pub LoadsAt : Type 0
@@ -87,3 +105,25 @@ abbrev pub FaultsAt : Type 0
 FaultsAt = (rows : List FrameShape) (m : Mem abstract_sets) (history : List RunEvent) (at : AbstractValue) (place value : Value) (fault : RunFault)
     → MemCovers abstract_sets rows m history → Covers at place → store rows history place value ≡ Err fault
     → IsAddressFault rows m.runs at (size_of value) fault
+
+-- a load of a sharp memory through the one address that is covered tells the run's result alone
+abbrev pub LoadsOnly : Type 0
+LoadsOnly = (rows : List FrameShape) (m : Mem abstract_sets) (history : List RunEvent) (at : AbstractValue) (place : Value) (size : ℕ)
+    → MemSized abstract_sets m → MemSharp abstract_sets rows m history → IsCellSize size → IsValue 32 at → OnlyCovers abstract_sets at place
+    → TellsOnly rows m at size (load rows history place size)
+
+-- a store of one value through the one address that is covered keeps a memory sharp, and no fault is told
+abbrev pub StoresOnly : Type 0
+StoresOnly = (rows : List FrameShape) (m : Mem abstract_sets) (history after : List RunEvent) (at set : AbstractValue) (place value : Value)
+    → IsSound history → MemSized abstract_sets m → MemSharp abstract_sets rows m history → IsCellSize (size_of value)
+    → IsValue 32 at → IsValue (size_of value) set → FitsValue (size_of value) value
+    → OnlyCovers abstract_sets at place → OnlyCovers abstract_sets set value
+    → store rows history place value ≡ Ok after
+    → MemSharp abstract_sets rows (stored_at rows m at (size_of value) set) after × ((fault : RunFault) → IsAddressFault rows m.runs at (size_of value) fault → ⊥)
+
+-- where that store has a fault, no cell is possible, and no other fault is told
+abbrev pub FaultsOnly : Type 0
+FaultsOnly = (rows : List FrameShape) (m : Mem abstract_sets) (history : List RunEvent) (at : AbstractValue) (place value : Value) (fault : RunFault)
+    → MemSharp abstract_sets rows m history → IsCellSize (size_of value) → IsValue 32 at → OnlyCovers abstract_sets at place
+    → store rows history place value ≡ Err fault
+    → (cells_of rows m.runs at.places (size_of value) ≡ []) × ((other : RunFault) → IsAddressFault rows m.runs at (size_of value) other → other ≡ fault)

@@ -21,3 +21,4 @@ pub mod MemoryLaws
 pub mod MemoryProofs
 pub mod Addresses
 pub mod AddressLaws
+pub mod AddressSharp

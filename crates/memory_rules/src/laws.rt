@@ -2,6 +2,7 @@
 
 ghost use Rattle.memory_rules.specs.ValueSets.{IsValueSets};
 ghost use Rattle.memory_rules.specs.AbstractSets.{abstract_sets};
+ghost use Rattle.memory_rules.specs.Addresses.{LoadsAt, StoresAt, FaultsAt, LoadsOnly, StoresOnly, FaultsOnly};
 ghost use Rattle.memory_rules.specs.MemoryLaws.{StoreCovers, LoadCovers, LoadsCover, LoadGathers, LoadsGather, JoinCovers, EnterCovers, LeaveCovers, PinCovers, LoadExact, StoreSharp, PinSharp, MemoryStaysSharp, EnterSharp, LeaveSharp, StoreSized, PinSized, JoinSized, EnterSized, LeaveSized};
 
 /// Abstract values, with strided words in bytes, have what a memory needs of its values: joins, bytes
@@ -71,4 +72,22 @@ pub fn each_call_keeps_the_sizes()
     ensures join { JoinSized abstract_sets }
     ensures enter { EnterSized abstract_sets }
     ensures leave { LeaveSized abstract_sets }
+{}
+
+/// A load through an address that is covered has its value in the joined value, or its fault told.
+/// After a store through it, of a value that is covered, the memory covers the history with the store
+/// and some cell was possible; the fault of a store is told.
+pub fn an_address_is_told()
+    ensures load { LoadsAt }
+    ensures store { StoresAt }
+    ensures fault { FaultsAt }
+{}
+
+/// Through an address with one member, in a sharp memory, exactly the run's value or fault is told; a
+/// store of one value keeps it sharp and tells no fault, and where the run's store has a fault, no
+/// cell is possible and no other fault is told.
+pub fn one_address_is_told_alone()
+    ensures load { LoadsOnly }
+    ensures store { StoresOnly }
+    ensures fault { FaultsOnly }
 {}

@@ -19,3 +19,6 @@ pub mod AbstractSets
 pub mod AbstractSetLaws
 pub mod MemoryLaws
 pub mod MemoryProofs
+pub mod Addresses
+pub mod AddressLaws
+pub mod AddressSharp

@@ -1,6 +1,7 @@
 -- The abstract memory of all frames, and when it covers a history or is sharp for it.
 --   Mem                      which functions are entered, and the frames by number
 --   stored m cells size set  after a store to one of these cells: strong where there is one, else weak at each in order
+--   fresh, pinned_at         before each event, and after a cell is pinned
 --   entered, left, both      after an Enter, after a Leave, and two memories joined
 --   load_all m cells size    the results of a load of these cells, in order
 --   joined_values, faults_of the value of a load with these results, joined from the left, and its faults
@@ -11,7 +12,7 @@ use Rattle.alf_ops.specs.declared.history.FrameShape.{FrameShape}
 use Rattle.alf_ops.specs.declared.history.RunEvent.{RunEvent}
 use Rattle.alf_ops.specs.Histories.{origin, is_active, is_owner, fits_in}
 use Rattle.memory_rules.specs.ValueSets.{ValueSets, OnlyCovers}
-use Rattle.memory_rules.specs.Frames.{FrameMem, strong, weak, empty, joined, either, load_results}
+use Rattle.memory_rules.specs.Frames.{FrameMem, strong, weak, empty, joined, pinned, either, load_results}
 use Rattle.memory_rules.specs.Covers.{FrameCovers, FrameSized}
 use Rattle.memory_rules.specs.Sharp.{FrameSharp}
 
@@ -30,6 +31,10 @@ owns None function = false
 owns (Some row) function = is_owner row.owner function
 
 module _ (d : ValueSets) where
+  -- no function runs, and no cell is kept
+  abbrev pub fresh : Mem d
+  fresh = record { runs = λ function. false; frames = λ frame. empty d }
+
   -- one frame changed
   abbrev pub with_frame : Mem d → ℕ → FrameMem d → Mem d
   with_frame m frame changed = record { runs = m.runs; frames = λ f. if f == frame then changed else m.frames f }
@@ -39,6 +44,10 @@ module _ (d : ValueSets) where
 
   abbrev pub weak_at : Mem d → ℕ × ℕ → ℕ → d.Val → Mem d
   weak_at m cell size set = with_frame m cell.0 (weak d (m.frames cell.0) cell.1 size set)
+
+  -- after a cell is pinned to a value
+  abbrev pub pinned_at : Mem d → ℕ × ℕ → ℕ → d.Val → Mem d
+  pinned_at m cell size set = with_frame m cell.0 (pinned d (m.frames cell.0) cell.1 size set)
 
   abbrev pub weak_all : Mem d → List (ℕ × ℕ) → ℕ → d.Val → Mem d
   weak_all m [] size set = m

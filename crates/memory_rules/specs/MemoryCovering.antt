@@ -1,22 +1,22 @@
 -- Each call on a memory keeps covering.
 use Rattle.std.specs.Prelude.{slice_get, Contains, ◌==◌}
-use Rattle.std.proofs.Common.{◌≡◌, ◌≢◌, ◌⊎◌, inl, inr, sym, subst, ◌∙◌, ℕ, suc, zero, true, false, List, [], ◌∷◌, Option, Some, None, refl, arith}
+use Rattle.std.proofs.Common.{◌≡◌, ◌≢◌, ◌⊎◌, inl, inr, sym, subst, ◌∙◌, ℕ, suc, zero, true, false, List, [], ◌∷◌, Option, Some, None, Ok, refl, arith}
 use Rattle.std.proofs.lemmas.Bool.{cases_eq, eq-eqb, ne_eqb, false≢true}
 use Rattle.lists.specs.Tests.{by_test}
 use Rattle.alf_ops.specs.declared.history.Value.{Value}
 use Rattle.alf_ops.specs.declared.history.FrameShape.{FrameShape}
 use Rattle.alf_ops.specs.declared.history.RunEvent.{RunEvent}
 use Rattle.alf_ops.specs.declared.history.RunEvent.TheVariants.{Enter, Leave, Store}
-use Rattle.alf_ops.specs.Histories.{Byte, origin, put, is_active, is_owner, IsSound}
+use Rattle.alf_ops.specs.Histories.{Byte, cell_in, origin, put, is_active, is_owner, IsSound}
 use Rattle.alf_ops.specs.Tables.{origin_stored, origin_elsewhere}
 use Rattle.alf_ops.specs.Values.{FitsValue}
 use Rattle.alf_ops.specs.WholeCells.{origin_is_table}
 use Rattle.memory_rules.specs.ValueSets.{ValueSets, IsValueSets}
-use Rattle.memory_rules.specs.Frames.{FrameMem, strong, weak, empty}
+use Rattle.memory_rules.specs.Frames.{FrameMem, strong, weak, empty, pinned}
 use Rattle.memory_rules.specs.Covers.{IsCellSize}
-use Rattle.memory_rules.specs.Memories.{Mem, is_on, with_frame, strong_at, weak_at, weak_all, stored, owner_at, entered, left, both, MemCovers, MemSized, IsPlaced}
+use Rattle.memory_rules.specs.Memories.{Mem, fresh, pinned_at, is_on, with_frame, strong_at, weak_at, weak_all, stored, owner_at, entered, left, both, MemCovers, MemSized, IsPlaced}
 use Rattle.memory_rules.specs.Holds.{FrameHolds, holds, covers}
-use Rattle.memory_rules.specs.Updates.{strong_holds, weak_holds, weak_stores, joined_holds_left, joined_holds_right, empty_holds, weak_sized, strong_sized, joined_sized, empty_sized}
+use Rattle.memory_rules.specs.Updates.{strong_holds, pinned_holds, pinned_sized, weak_holds, weak_stores, joined_holds_left, joined_holds_right, empty_holds, weak_sized, strong_sized, joined_sized, empty_sized}
 
 pub funext : {A B : Type 0} (f g : A → B) → ((x : A) → f x ≡ g x) → f ≡ g
 funext f g h = λ i x. h x i
@@ -116,6 +116,20 @@ module _ (d : ValueSets) (laws : IsValueSets d) (rows : List FrameShape) where
     mem_stored_sized m (cell ∷ []) sized = strong_at_sized m cell sized
     mem_stored_sized m (cell ∷ other ∷ cells) sized = all_sized m (cell ∷ other ∷ cells) sized
 
+    -- a cell that holds the value is pinned
+    pub mem_pinned_sized : (m : Mem d) (cell : ℕ × ℕ) → MemSized d m → MemSized d (pinned_at d m cell size set)
+    mem_pinned_sized m cell sized frame = by_test (frame == cell.0)
+        (λ here. rw here (pinned_sized d laws (m.frames cell.0) cell.1 size set (sized cell.0) set_sized))
+        (λ there. rw there (sized frame))
+
+    pub pinned_at_holds : (m : Mem d) (history : List RunEvent) (frame offset : ℕ) (value : Value) → (p : IsPlaced rows history frame offset size)
+        → cell_in (origin p.row.owner frame history) offset size ≡ Ok value → d.covers set value
+        → MemHolds d rows m history → MemHolds d rows (pinned_at d m (frame, offset) size set) history
+    pinned_at_holds m history frame offset value p gives in_set h =
+        one_frame m (pinned d (m.frames frame) offset size set) frame p.row history history p.found h (λ owner. refl)
+        (pinned_holds d laws p.row.bits (m.frames frame) (origin p.row.owner frame history) (h.frames frame p.row p.found p.runs) offset size set is set_sized value gives in_set)
+        (λ other own differ held. held)
+
     -- a possible cell in which nothing is stored
     weak_at_holds : (m : Mem d) (history : List RunEvent) (frame offset : ℕ) → MemSized d m → IsPlaced rows history frame offset size
         → MemHolds d rows m history → MemHolds d rows (weak_at d m (frame, offset) size set) history
@@ -180,6 +194,20 @@ module _ (d : ValueSets) (laws : IsValueSets d) (rows : List FrameShape) where
       ]
       stored_holds m history (cell ∷ other ∷ cells) frame offset sized placed among h =
           all_store m history (cell ∷ other ∷ cells) frame offset sized placed among h
+
+  -- before each event
+  pub fresh_holds : MemHolds d rows (fresh d) []
+  fresh_holds = record {
+    active = active;
+    frames = λ frame row found runs. empty_holds d row.bits;
+  }
+    where
+      active : (owner : Option ℕ) → is_active owner [] ≡ is_on (fresh d).runs owner
+      active None = refl
+      active (Some function) = refl
+
+  pub mem_fresh_sized : MemSized d (fresh d)
+  mem_fresh_sized frame = empty_sized d laws
 
   -- two memories: what covers on one side covers after the join, where the same functions run
   pub both_left : (a b : Mem d) (history : List RunEvent) → MemSized d a → MemSized d b → MemHolds d rows a history → MemHolds d rows (both d a b) history

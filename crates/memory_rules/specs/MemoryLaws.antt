@@ -7,6 +7,8 @@
 --   JoinCovers       what covers on a side covers after the join
 --   EnterCovers, LeaveCovers
 --   PinCovers        a cell that holds a value is pinned to a set with it
+--   StartSharp       the memory before each event
+--   MemoryPinCovers, MemoryPinSharp, MemoryPinSized   the pin of a whole memory
 --   LoadExact        a load from a sharp frame is exact
 --   StoreSharp, PinSharp   a store of one value to the one possible cell, and a pin to one value, keep a frame sharp
 --   MemoryStaysSharp       the store of a whole memory
@@ -25,7 +27,7 @@ use Rattle.memory_rules.specs.ValueSets.{ValueSets, OnlyCovers}
 use Rattle.memory_rules.specs.Frames.{FrameMem, load_results, strong, pinned}
 use Rattle.memory_rules.specs.Covers.{IsCellSize, Among, FrameCovers, FrameSized}
 use Rattle.memory_rules.specs.Sharp.{Exactly, FrameSharp}
-use Rattle.memory_rules.specs.Memories.{Mem, MemCovers, MemSharp, MemSized, IsPlaced, stored, entered, left, both, load_all, joined_values, faults_of, Gathers, GathersOnly}
+use Rattle.memory_rules.specs.Memories.{Mem, fresh, pinned_at, MemCovers, MemSharp, MemSized, IsPlaced, stored, entered, left, both, load_all, joined_values, faults_of, Gathers, GathersOnly}
 
 module _ (d : ValueSets) where
   -- after a store to one of several possible cells the memory covers the history with the store
@@ -151,3 +153,27 @@ module _ (d : ValueSets) where
 
   abbrev pub LeaveSized : Type 0
   LeaveSized = (m : Mem d) (function : ℕ) → MemSized d m → MemSized d (left d m function)
+
+  -- before each event the memory is sharp for no history
+  abbrev pub StartSharp : Type 0
+  StartSharp = (rows : List FrameShape) → MemSharp d rows (fresh d) [] × MemSized d (fresh d)
+
+  -- a cell of a whole memory that holds a value is pinned to a set with it
+  abbrev pub MemoryPinCovers : Type 0
+  MemoryPinCovers =
+      (rows : List FrameShape) (m : Mem d) (history : List RunEvent) (frame offset size : ℕ) (set : d.Val) (value : Value)
+      → IsSound history → MemSized d m → MemCovers d rows m history → IsCellSize size → d.val_sized set size
+      → (p : IsPlaced rows history frame offset size) → cell_in (origin p.row.owner frame history) offset size ≡ Ok value → d.covers set value
+      → MemCovers d rows (pinned_at d m (frame, offset) size set) history
+
+  -- and to it alone
+  abbrev pub MemoryPinSharp : Type 0
+  MemoryPinSharp =
+      (rows : List FrameShape) (m : Mem d) (history : List RunEvent) (frame offset size : ℕ) (set : d.Val) (value : Value)
+      → IsSound history → MemSized d m → MemSharp d rows m history → IsCellSize size → d.val_sized set size
+      → (p : IsPlaced rows history frame offset size) → cell_in (origin p.row.owner frame history) offset size ≡ Ok value → OnlyCovers d set value
+      → MemSharp d rows (pinned_at d m (frame, offset) size set) history
+
+  abbrev pub MemoryPinSized : Type 0
+  MemoryPinSized =
+      (m : Mem d) (cell : ℕ × ℕ) (size : ℕ) (set : d.Val) → MemSized d m → IsCellSize size → d.val_sized set size → MemSized d (pinned_at d m cell size set)

@@ -8,10 +8,10 @@ use Rattle.alf_ops.specs.declared.history.RunEvent.TheVariants.{Enter, Leave, St
 use Rattle.alf_ops.specs.WholeCells.{origin_is_table}
 use Rattle.memory_rules.specs.ValueSets.{ValueSets, IsValueSets}
 use Rattle.memory_rules.specs.Frames.{strong, pinned, load_results}
-use Rattle.memory_rules.specs.Memories.{stored, entered, left, both, load_all, Mem, MemCovers, MemSharp, IsPlaced}
-use Rattle.memory_rules.specs.MemoryLaws.{LoadsCover, LoadsGather, EnterSharp, LeaveSharp, StoreSized, PinSized, JoinSized, EnterSized, LeaveSized, StoreCovers, LoadCovers, LoadGathers, JoinCovers, EnterCovers, LeaveCovers, LoadExact, StoreSharp, PinCovers, PinSharp, MemoryStaysSharp}
-use Rattle.memory_rules.specs.MemoryCovering.{mem_holds, mem_covers, stored_holds, both_left, both_right, entered_holds, left_holds, contains_first, contains_none, contains_cases, mem_stored_sized, mem_entered_sized, mem_left_sized, mem_both_sized}
-use Rattle.memory_rules.specs.SharpMemories.{stored_sharp, entered_sharp, left_sharp}
+use Rattle.memory_rules.specs.Memories.{fresh, pinned_at, stored, entered, left, both, load_all, Mem, MemCovers, MemSharp, IsPlaced}
+use Rattle.memory_rules.specs.MemoryLaws.{StartSharp, MemoryPinCovers, MemoryPinSharp, MemoryPinSized, LoadsCover, LoadsGather, EnterSharp, LeaveSharp, StoreSized, PinSized, JoinSized, EnterSized, LeaveSized, StoreCovers, LoadCovers, LoadGathers, JoinCovers, EnterCovers, LeaveCovers, LoadExact, StoreSharp, PinCovers, PinSharp, MemoryStaysSharp}
+use Rattle.memory_rules.specs.MemoryCovering.{mem_fresh_sized, fresh_holds, mem_pinned_sized, pinned_at_holds, mem_holds, mem_covers, stored_holds, both_left, both_right, entered_holds, left_holds, contains_first, contains_none, contains_cases, mem_stored_sized, mem_entered_sized, mem_left_sized, mem_both_sized}
+use Rattle.memory_rules.specs.SharpMemories.{fresh_sharp, pinned_at_sharp, stored_sharp, entered_sharp, left_sharp}
 use Rattle.memory_rules.specs.Holds.{holds, covers}
 use Rattle.memory_rules.specs.Updates.{strong_holds, pinned_holds, strong_sized, pinned_sized}
 use Rattle.memory_rules.specs.Gathered.{results_sized, gathered_all, gathered_all_only, all_among, all_results_sized}
@@ -116,3 +116,21 @@ module _ (d : ValueSets) (laws : IsValueSets d) where
 
   pub leave_sized : LeaveSized d
   leave_sized m function sized = mem_left_sized d laws [] m function sized
+
+  -- before each event
+  pub start_sharp : StartSharp d
+  start_sharp rows = (fresh_sharp d laws rows (mem_covers d laws rows (fresh d) [] (mem_fresh_sized d laws rows) tt (fresh_holds d laws rows)), mem_fresh_sized d laws rows)
+
+  -- the pin of a whole memory
+  pub memory_pin_covers : MemoryPinCovers d
+  memory_pin_covers rows m history frame offset size set value sound sized c is set_sized p gives in_set =
+      mem_covers d laws rows (pinned_at d m (frame, offset) size set) history (mem_pinned_sized d laws rows size set is set_sized m (frame, offset) sized) sound
+      (pinned_at_holds d laws rows size set is set_sized m history frame offset value p gives in_set (mem_holds d laws rows m history c))
+
+  pub memory_pin_sharp : MemoryPinSharp d
+  memory_pin_sharp rows m history frame offset size set value sound sized sharp is set_sized p gives only =
+      pinned_at_sharp d laws rows m history frame offset size set value sharp
+      (memory_pin_covers rows m history frame offset size set value sound sized (sharp_covers rows m history sharp) is set_sized p gives only.0) p gives only
+
+  pub memory_pin_sized : MemoryPinSized d
+  memory_pin_sized m cell size set sized is set_sized = mem_pinned_sized d laws [] size set is set_sized m cell sized

@@ -1,5 +1,5 @@
 -- Each call of a sharp run keeps a memory sharp.
-use Rattle.std.proofs.Common.{◌≡◌, inl, inr, sym, subst, ◌∙◌, ℕ, true, false, List, ◌∷◌, Option, Some, None, refl}
+use Rattle.std.proofs.Common.{◌≡◌, inl, inr, sym, subst, ◌∙◌, ℕ, true, false, List, [], ◌∷◌, Option, Some, None, Ok, refl}
 use Rattle.std.specs.Prelude.{slice_get}
 use Rattle.lists.specs.Tests.{by_test}
 use Rattle.std.proofs.lemmas.Bool.{cases_eq, eq-eqb, ne_eqb, false≢true}
@@ -7,16 +7,16 @@ use Rattle.alf_ops.specs.declared.history.Value.{Value}
 use Rattle.alf_ops.specs.declared.history.FrameShape.{FrameShape}
 use Rattle.alf_ops.specs.declared.history.RunEvent.{RunEvent}
 use Rattle.alf_ops.specs.declared.history.RunEvent.TheVariants.{Enter, Leave, Store}
-use Rattle.alf_ops.specs.Histories.{Byte, origin, put, is_active, is_owner}
+use Rattle.alf_ops.specs.Histories.{Byte, cell_in, origin, put, is_active, is_owner}
 use Rattle.alf_ops.specs.Tables.{origin_stored, origin_elsewhere}
 use Rattle.alf_ops.specs.Values.{FitsValue}
 use Rattle.memory_rules.specs.ValueSets.{ValueSets, IsValueSets, OnlyCovers}
-use Rattle.memory_rules.specs.Frames.{FrameMem, strong, empty}
+use Rattle.memory_rules.specs.Frames.{FrameMem, strong, pinned, empty}
 use Rattle.memory_rules.specs.Covers.{FrameCovers, IsCellSize}
 use Rattle.memory_rules.specs.Sharp.{FrameSharp}
-use Rattle.memory_rules.specs.Memories.{Mem, strong_at, owner_at, entered, left, MemCovers, MemSharp, IsPlaced}
+use Rattle.memory_rules.specs.Memories.{Mem, fresh, pinned_at, strong_at, owner_at, entered, left, MemCovers, MemSharp, IsPlaced}
 use Rattle.memory_rules.specs.MemoryCovering.{funext, active_stored}
-use Rattle.memory_rules.specs.SharpFrames.{strong_sharp, empty_sharp}
+use Rattle.memory_rules.specs.SharpFrames.{strong_sharp, pinned_sharp, empty_sharp}
 
 -- a frame whose table is the same
 same_table : (d : ValueSets) (bits : ℕ) (m : FrameMem d) (f g : ℕ → Option Byte) → ((byte : ℕ) → g byte ≡ f byte) → FrameSharp d bits m f
@@ -55,6 +55,42 @@ module _ (d : ValueSets) (laws : IsValueSets d) (rows : List FrameShape) where
           subst (λ (from : ℕ → Option Byte). FrameSharp d row.bits (strong d (m.frames frame) offset size set) from) (sym table)
           (strong_sharp d laws row.bits (m.frames frame) (origin row.owner frame history) offset size set value h' c'' is set_sized only fits) in
           rw (eq-eqb other frame same) (subst (λ (f : ℕ). FrameSharp d row.bits (strong d (m.frames frame) offset size set) (origin row.owner f (Store frame offset size value ∷ history))) (sym same) done)
+
+  -- before each event
+  pub fresh_sharp : MemCovers d rows (fresh d) [] → MemSharp d rows (fresh d) []
+  fresh_sharp covers = record {
+    active = covers.active;
+    frames = λ frame row found runs. empty_sharp d laws row.bits (covers.frames frame row found runs);
+  }
+
+  -- a cell that holds the value is pinned to it alone
+  pub pinned_at_sharp : (m : Mem d) (history : List RunEvent) (frame offset size : ℕ) (set : d.Val) (value : Value) → MemSharp d rows m history
+      → MemCovers d rows (pinned_at d m (frame, offset) size set) history → (p : IsPlaced rows history frame offset size)
+      → cell_in (origin p.row.owner frame history) offset size ≡ Ok value → OnlyCovers d set value
+      → MemSharp d rows (pinned_at d m (frame, offset) size set) history
+  pinned_at_sharp m history frame offset size set value sharp covers p gives only = record {
+    active = covers.active;
+    frames = λ other row found runs. elim (cases_eq other frame) [
+      | inl same ↦ here other row same found runs
+      | inr differ ↦ rw (ne_eqb other frame differ) (sharp.frames other row found runs)
+    ];
+  }
+    where
+      here : (other : ℕ) (row : FrameShape) → other ≡ frame → slice_get rows other ≡ Some row → is_active row.owner history ≡ true
+          → FrameSharp d row.bits ((pinned_at d m (frame, offset) size set).frames other) (origin row.owner other history)
+      here other row same found runs =
+          let at : slice_get rows frame ≡ Some row = subst (λ (f : ℕ). slice_get rows f ≡ Some row) same found in
+          let own : p.row ≡ row = same_row p.row row p.found at in
+          let c : FrameCovers d row.bits ((pinned_at d m (frame, offset) size set).frames frame) (origin row.owner frame history) = covers.frames frame row at runs in
+          let c' : FrameCovers d row.bits (pinned d (m.frames frame) offset size set) (origin row.owner frame history) = rw (eq-eqb frame frame refl) at c in
+          let held : cell_in (origin row.owner frame history) offset size ≡ Ok value =
+          subst (λ (r : FrameShape). cell_in (origin r.owner frame history) offset size ≡ Ok value) own gives in
+          let done : FrameSharp d row.bits (pinned d (m.frames frame) offset size set) (origin row.owner frame history) =
+          pinned_sharp d laws row.bits (m.frames frame) (origin row.owner frame history) offset size set value (sharp.frames frame row at runs) c' held only in
+          rw (eq-eqb other frame same) (subst (λ (f : ℕ). FrameSharp d row.bits (pinned d (m.frames frame) offset size set) (origin row.owner f history)) (sym same) done)
+        where
+          same_row : (a b : FrameShape) → slice_get rows frame ≡ Some a → slice_get rows frame ≡ Some b → a ≡ b
+          same_row a b one two = cc
 
   -- what is active after a function of others is entered was active
   was_active : (owner : Option ℕ) (function : ℕ) (history : List RunEvent) → is_owner owner function ≡ false

@@ -2,7 +2,8 @@
 
 ghost use Rattle.memory_rules.specs.ValueSets.{IsValueSets};
 ghost use Rattle.memory_rules.specs.AbstractSets.{abstract_sets};
-ghost use Rattle.memory_rules.specs.MemoryLaws.{StoreCovers, LoadCovers, LoadsCover, LoadGathers, LoadsGather, JoinCovers, EnterCovers, LeaveCovers, PinCovers, LoadExact, StoreSharp, PinSharp, MemoryStaysSharp, EnterSharp, LeaveSharp, StoreSized, PinSized, JoinSized, EnterSized, LeaveSized};
+ghost use Rattle.memory_rules.specs.Addresses.{LoadsAt, StoresAt, FaultsAt, LoadsOnly, StoresOnly, FaultsOnly};
+ghost use Rattle.memory_rules.specs.MemoryLaws.{StoreCovers, LoadCovers, LoadsCover, LoadGathers, LoadsGather, JoinCovers, EnterCovers, LeaveCovers, PinCovers, MemoryPinCovers, MemoryPinSharp, MemoryPinSized, StartSharp, LoadExact, StoreSharp, PinSharp, MemoryStaysSharp, EnterSharp, LeaveSharp, StoreSized, PinSized, JoinSized, EnterSized, LeaveSized};
 
 /// Abstract values, with strided words in bytes, have what a memory needs of its values: joins, bytes
 /// and concatenations keep members and sizes, and from single members come single members.
@@ -40,9 +41,15 @@ pub fn calls_keep_covering()
     ensures leave { LeaveCovers abstract_sets }
 {}
 
-/// A cell may be pinned to any set with the value that it holds.
+/// Before each event a memory in which no function runs and no cell is kept is sharp.
+pub fn a_fresh_memory_is_sharp()
+    ensures { StartSharp abstract_sets }
+{}
+
+/// A cell may be pinned to any set with the value that it holds, of a frame and of a whole memory.
 pub fn a_pin_covers()
-    ensures { PinCovers abstract_sets }
+    ensures frame { PinCovers abstract_sets }
+    ensures memory { MemoryPinCovers abstract_sets }
 {}
 
 /// A load from a sharp frame gives exactly the run's value or fault.
@@ -56,10 +63,11 @@ pub fn a_sharp_frame_stays_sharp()
     ensures pin { PinSharp abstract_sets }
 {}
 
-/// A store of one value to one possible cell keeps a whole memory sharp, and so do functions entered
-/// and left.
+/// A store of one value to one possible cell keeps a whole memory sharp, and so do a pin to one value
+/// and functions entered and left.
 pub fn a_sharp_memory_stays_sharp()
     ensures store { MemoryStaysSharp abstract_sets }
+    ensures pin { MemoryPinSharp abstract_sets }
     ensures enter { EnterSharp abstract_sets }
     ensures leave { LeaveSharp abstract_sets }
 {}
@@ -68,7 +76,26 @@ pub fn a_sharp_memory_stays_sharp()
 pub fn each_call_keeps_the_sizes()
     ensures store { StoreSized abstract_sets }
     ensures pin { PinSized abstract_sets }
+    ensures memory_pin { MemoryPinSized abstract_sets }
     ensures join { JoinSized abstract_sets }
     ensures enter { EnterSized abstract_sets }
     ensures leave { LeaveSized abstract_sets }
+{}
+
+/// A load through an address that is covered has its value in the joined value, or its fault told.
+/// After a store through it, of a value that is covered, the memory covers the history with the store
+/// and some cell was possible; the fault of a store is told.
+pub fn an_address_is_told()
+    ensures load { LoadsAt }
+    ensures store { StoresAt }
+    ensures fault { FaultsAt }
+{}
+
+/// Through an address with one member, in a sharp memory, exactly the run's value or fault is told; a
+/// store of one value keeps it sharp and tells no fault, and where the run's store has a fault, no
+/// cell is possible and no other fault is told.
+pub fn one_address_is_told_alone()
+    ensures load { LoadsOnly }
+    ensures store { StoresOnly }
+    ensures fault { FaultsOnly }
 {}

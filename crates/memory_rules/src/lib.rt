@@ -12,8 +12,9 @@
 mod laws;
 
 pub use laws::{
-    a_join_covers_both_sides, a_load_from_a_sharp_frame_is_exact, a_load_gathers_its_results,
-    a_load_is_among_the_results, a_pin_covers, a_sharp_frame_stays_sharp,
-    a_sharp_memory_stays_sharp, a_store_covers, abstract_values_suit_a_memory, calls_keep_covering,
-    each_call_keeps_the_sizes,
+    a_fresh_memory_is_sharp, a_join_covers_both_sides, a_load_from_a_sharp_frame_is_exact,
+    a_load_gathers_its_results, a_load_is_among_the_results, a_pin_covers,
+    a_sharp_frame_stays_sharp, a_sharp_memory_stays_sharp, a_store_covers,
+    abstract_values_suit_a_memory, an_address_is_told, calls_keep_covering,
+    each_call_keeps_the_sizes, one_address_is_told_alone,
 };

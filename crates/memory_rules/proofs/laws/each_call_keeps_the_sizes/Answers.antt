@@ -1,6 +1,6 @@
 use Rattle.memory_rules.specs.AbstractSets.{abstract_sets}
 use Rattle.memory_rules.specs.AbstractSetLaws.{abstract_is_sets}
-use Rattle.memory_rules.specs.MemoryProofs.{store_sized, pin_sized, join_sized, enter_sized, leave_sized}
+use Rattle.memory_rules.specs.MemoryProofs.{store_sized, pin_sized, memory_pin_sized, join_sized, enter_sized, leave_sized}
 use Rattle.memory_rules.proofs.laws.each_call_keeps_the_sizes.Goals as goal
 
 pub returns-clause-store : goal.returns-clause-store
@@ -8,6 +8,9 @@ returns-clause-store c = store_sized abstract_sets abstract_is_sets
 
 pub returns-clause-pin : goal.returns-clause-pin
 returns-clause-pin c = pin_sized abstract_sets abstract_is_sets
+
+pub returns-clause-memory_pin : goal.returns-clause-memory_pin
+returns-clause-memory_pin c = memory_pin_sized abstract_sets abstract_is_sets
 
 pub returns-clause-join : goal.returns-clause-join
 returns-clause-join c = join_sized abstract_sets abstract_is_sets

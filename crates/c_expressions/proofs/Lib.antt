@@ -1,0 +1,2 @@
+-- What expressions are read by at each level.
+pub mod Levels

@@ -1,0 +1,8 @@
+-- Symbols, the words of a type, and the rules.
+pub mod Symbols
+pub mod Words
+pub mod Tokens
+pub mod Expressions
+pub mod Types
+pub mod Statements
+pub mod Units

@@ -1,0 +1,2 @@
+-- Tokens that have been cut.
+pub mod Numbered

@@ -1,0 +1,2 @@
+-- What the reader stands for.
+pub mod Reading

@@ -1,0 +1,99 @@
+//! What is counted while a text is read, and which functions are declared.
+
+ghost use Rattle.std.specs.Prelude.{◌≡◌, map, if◌then◌else◌};
+ghost use Rattle.std.specs.Str.{bytes_eq};
+ghost use Rattle.c_grammar.specs.Tokens.{one_function, some_frames, some_elements, declares, latest_gives, gives_value};
+ghost use Rattle.c_grammar.specs.Expressions.{call_frame};
+ghost use Rattle.c_reader.specs.Reading.{position, known_of, Reads};
+
+use crate::fault::Departure;
+use crate::reader::{Known, Reader};
+use flow_base::Which;
+
+const MOST_FUNCTIONS: u64 = 256;
+
+const MOST_FRAMES: u64 = 256;
+
+const MOST_ELEMENTS: u64 = 8_192;
+
+// What is known of a name after one more declaration.
+fn with_known(known: &Known<'_>, name: &[u8], gives: bool) -> bool
+    ensures { result ≡ (if bytes_eq known.now.name.now name.now then known.now.gives else gives) }
+{
+    if known.name == name {
+        known.gives
+    } else {
+        gives
+    }
+}
+
+// Whether the latest declaration with this name gives a value.
+#[tactic(auto, unfolding(c_grammar::specs::Tokens::gives_value))]
+fn gives_value(name: &[u8], names: &[Known<'_>]) -> bool
+    ensures { result ≡ gives_value name.now (map known_of names.now) }
+{
+    let mut gives = false;
+    for known in names {
+        gives = with_known(known, name, gives);
+    }
+    gives
+}
+
+impl<'a> Reader<'a> {
+    #[tactic(auto, unfolding(c_grammar::specs::Tokens::one_function))]
+    pub fn one_function(&mut self) -> Result<(), Departure>
+        ensures { Reads one_function (λ x. x) result self.old self.new }
+    {
+        if 1 <= self.functions {
+            self.functions -= 1;
+            Ok(())
+        } else {
+            Err(Departure::Limit(Which::Functions, MOST_FUNCTIONS + 1))
+        }
+    }
+
+    #[tactic(auto, unfolding(c_grammar::specs::Tokens::some_frames))]
+    pub fn some_frames(&mut self, count: u64) -> Result<(), Departure>
+        ensures { Reads (some_frames count) (λ x. x) result self.old self.new }
+    {
+        if count <= self.frames {
+            self.frames -= count;
+            Ok(())
+        } else {
+            Err(Departure::Limit(Which::Frames, MOST_FRAMES + 1))
+        }
+    }
+
+    #[tactic(auto, unfolding(c_grammar::specs::Tokens::some_elements))]
+    pub fn some_elements(&mut self, count: u32) -> Result<(), Departure>
+        ensures { Reads (some_elements count) (λ x. x) result self.old self.new }
+    {
+        if u64::from(count) <= self.elements {
+            self.elements -= u64::from(count);
+            Ok(())
+        } else {
+            Err(Departure::Limit(Which::Elements, MOST_ELEMENTS + 1))
+        }
+    }
+
+    /// The function with this name is declared.
+    #[tactic(auto, unfolding(c_grammar::specs::Tokens::declares))]
+    pub fn declares(&mut self, name: &'a [u8], gives: bool) -> Result<(), Departure>
+        ensures { Reads (declares name.now gives) (λ x. x) result self.old self.new }
+    {
+        self.names.push(Known { name, gives })?;
+        Ok(())
+    }
+
+    /// A call of a function that gives a value has a frame.
+    #[tactic(auto, unfolding(c_grammar::specs::Expressions::call_frame))]
+    pub fn call_frame(&mut self, name: &[u8]) -> Result<(), Departure>
+        ensures { Reads (call_frame name.now) (λ x. x) result self.old self.new }
+    {
+        if gives_value(name, self.names.as_slice()) {
+            self.some_frames(1)
+        } else {
+            Ok(())
+        }
+    }
+}

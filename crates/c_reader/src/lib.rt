@@ -1,0 +1,23 @@
+//! A place in a C text, and what is read of tokens and types there.
+//!
+//! A text is cut into tokens once (`cut`), and a `Reader` goes over them. Each function that reads has
+//! the clause that it gives what reading by its rule of `c_grammar` gives. Expressions, statements and
+//! whole texts are read in the crates above.
+#![tactic(auto)]
+
+// Where a text departs from the grammar.
+mod fault;
+
+// Single tokens, and what is counted.
+mod counts;
+mod reader;
+mod tokens;
+
+// Types, constants and arrays.
+mod parts;
+mod types;
+
+pub use fault::{Departure, misfit};
+pub use reader::{Known, Reader, begins_with};
+pub use tokens::{CutToken, Token, cut};
+pub use types::after_constant;

@@ -1,0 +1,52 @@
+//! The tokens of a text, as the grammar sees them.
+
+ghost use Rattle.std.specs.Prelude.{◌≡◌, map, IfOk};
+ghost use Rattle.c_tokens.specs.Tokens.{tokens_of};
+ghost use Rattle.c_reader.specs.Reading.{seen_in, numbered};
+
+use c_grammar::{Symbol, symbol_of};
+use c_tokens::{Cursor, tokens_stand_in_their_texts};
+use c_unit::Span;
+use std::alloc::{AllocError, Global};
+
+/// A token that was taken: what it is to the grammar, its number, and its bytes.
+#[derive(Clone, Copy, Debug)]
+pub struct Token<'a> {
+    pub symbol: Symbol,
+    pub number: u32,
+    pub text: &'a [u8],
+}
+
+/// A token of a text that was cut: its bytes are a range of the text.
+#[derive(Clone, Copy, Debug)]
+pub struct CutToken {
+    pub symbol: Symbol,
+    pub number: u32,
+    pub span: Span,
+}
+
+/// The tokens of a text in order. A text of more tokens than have numbers wants memory.
+pub fn cut(alloc: Global, text: &[u8]) -> Result<Vec<CutToken>, AllocError>
+    ensures { IfOk result (λ tokens. map (seen_in text.now) tokens.items ≡ numbered 0 (tokens_of text.now)) }
+{
+    tokens_stand_in_their_texts();
+    let mut cursor = Cursor::new(text);
+    let mut tokens = Vec::new(alloc);
+    let mut number = 0;
+    while let Some(token) = cursor.next() {
+        if number == u32::MAX {
+            return Err(AllocError);
+        }
+        let span = Span {
+            start: text.len().saturating_sub(token.left),
+            len: token.text.len(),
+        };
+        tokens.push(CutToken {
+            symbol: symbol_of(token.kind, token.text),
+            number,
+            span,
+        })?;
+        number += 1;
+    }
+    Ok(tokens)
+}

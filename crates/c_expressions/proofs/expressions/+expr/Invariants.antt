@@ -1,5 +1,5 @@
 -- Measures of the cycle of expressions, and the loops over operators and indices.
-use Rattle.std.proofs.Common.{◌+◌, ◌*◌, length}
+use Rattle.std.proofs.Common.{◌+◌, ◌*◌}
 use Rattle.grammar.specs.Form.{left}
 use Rattle.grammar_chains.specs.Turns.{ChainSoFar}
 use Rattle.c_unit.specs.Tree.{expression_of}

@@ -119,7 +119,8 @@ module _ (d : ValueSets) (laws : IsValueSets d) where
 
   -- before each event
   pub start_sharp : StartSharp d
-  start_sharp rows = (fresh_sharp d laws rows (mem_covers d laws rows (fresh d) [] (mem_fresh_sized d laws rows) tt (fresh_holds d laws rows)), mem_fresh_sized d laws rows)
+  start_sharp rows =
+      (fresh_sharp d laws rows (mem_covers d laws rows (fresh d) [] (mem_fresh_sized d laws rows) tt (fresh_holds d laws rows)), mem_fresh_sized d laws rows)
 
   -- the pin of a whole memory
   pub memory_pin_covers : MemoryPinCovers d

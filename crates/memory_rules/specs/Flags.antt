@@ -1,4 +1,6 @@
 -- A kept cell covers a load by its value and its flags alone: with covered bytes this is the same as by its results.
+--   FlagCovers d cell r    the value covers the result, or the flag for it is set
+--   to_flags, from_flags   a result is among those of the cell exactly where this holds, over bytes that cover
 use Rattle.std.specs.Prelude.{IsSomeAnd, if◌then◌else◌}
 use Rattle.std.proofs.Common.{◌≡◌, ◌⊎◌, inl, inr, sym, subst, ℕ, Bool, true, false, List, [], ◌∷◌, ◌++◌, map, Option, Some, None, Result, Ok, Err, refl, arith, ◌-◌, ◌*◌, ◌/◌}
 use Rattle.std.specs.List.{list_any}

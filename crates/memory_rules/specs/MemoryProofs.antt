@@ -1,4 +1,5 @@
 -- The promises of an abstract memory, over sets of values that suit it.
+--   store_covers, load_covers, ..   each law of MemoryLaws, under its own name or with the words turned
 use Rattle.std.specs.Prelude.{Contains}
 use Rattle.std.proofs.Common.{List, ℕ, ◌∷◌, inl, inr, sym, subst, []}
 use Rattle.alf_ops.specs.declared.history.FrameShape.{FrameShape}

@@ -1,4 +1,6 @@
 -- Each call on a frame keeps sharpness, and a load from a sharp frame is exact.
+--   load_exact                              a load gives exactly the run's result
+--   strong_sharp, pinned_sharp, empty_sharp   calls
 use Rattle.std.specs.Prelude.{IsSomeAnd}
 use Rattle.std.proofs.Common.{◌≡◌, ◌⊎◌, inl, inr, sym, subst, ◌∙◌, ap, ℕ, zero, suc, true, false, List, map, Option, Some, None, Ok, refl, arith, ◌+◌, ◌-◌, ◌*◌, ◌<◌, ◌≤◌, ◌/◌}
 use Rattle.std.specs.List.{list_all, list_any}

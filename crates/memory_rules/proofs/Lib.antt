@@ -1,1 +1,2 @@
--- No file stands here.
+-- The files of this folder.
+mod WorkedRows

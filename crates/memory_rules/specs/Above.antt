@@ -1,4 +1,9 @@
 -- What knows less covers at least as much: bytes and cells.
+--   either_left, either_right, either_alike   what holds of a side holds of both joined
+--   byte_above, cell_above                    more values and more flags
+--   new_byte_holds                            the byte that a store leaves
+--   weak_old, weak_new, weak_cell_old, weak_cell_new            joined with a new value
+--   join_bytes_left, join_bytes_right, join_cells_left, join_cells_right   two sides
 use Rattle.std.specs.Prelude.{IsSomeAnd, IfSome}
 use Rattle.std.proofs.Common.{◌≡◌, inl, inr, sym, subst, ℕ, true, Option, Some, None, Result, Ok, Err, arith, ◌+◌, ◌*◌, ◌≤◌}
 use Rattle.std.proofs.lemmas.Bool.{or_left, or_right}

@@ -1,4 +1,7 @@
 -- Cells that are the same, share a byte or lie apart; and cells as they stand.
+--   same_is, same_self, apart, shared   cells that are the same, lie apart or share a byte
+--   broken                              after a store no other cell that shares a byte with it is whole
+--   not_kept_holds, stands_holds        a cell as it stands covers what it gives
 use Rattle.std.proofs.Common.{◌≡◌, ◌⊎◌, inl, inr, sym, subst, ◌∙◌, ℕ, max, true, false, map, Option, Some, None, refl, arith, ◌+◌, ◌<◌, ◌≤◌, ◌/◌, ◌&&◌, ◌==◌}
 use Rattle.std.proofs.lemmas.Bool.{and_parts, and_cases, and_from, ltb-true, ltb-false, eqb-true, eq-eqb, false≢true}
 use Rattle.lists.specs.Tests.{by_test}

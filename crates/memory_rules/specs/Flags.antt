@@ -1,4 +1,6 @@
 -- A kept cell covers a load by its value and its flags alone: with covered bytes this is the same as by its results.
+--   FlagCovers d cell r    the value covers the result, or the flag for it is set
+--   to_flags, from_flags   a result is among those of the cell exactly where this holds, over bytes that cover
 use Rattle.std.specs.Prelude.{IsSomeAnd, if◌then◌else◌}
 use Rattle.std.proofs.Common.{◌≡◌, ◌⊎◌, inl, inr, sym, subst, ℕ, Bool, true, false, List, [], ◌∷◌, ◌++◌, map, Option, Some, None, Result, Ok, Err, refl, arith, ◌-◌, ◌*◌, ◌/◌}
 use Rattle.std.specs.List.{list_any}
@@ -56,7 +58,7 @@ module _ (d : ValueSets) (laws : IsValueSets d) where
   value_flag : (bytes : List (AbstractByte d.Word)) (value : Value) (set : Option d.Val) (u x : Bool)
       → Among d (Ok value) (results d bytes (record { value = set; u = u; x = x }))
       → IsSomeAnd set (λ a. d.covers a value) ⊎ ((x ≡ true) × (is_pointer value ≡ false))
-  value_flag bytes value set u x h = elim (among_cases d (Ok value) (value_result d set) _ h) [ inl a ↦ inl (at set a) | inr b ↦ inr (behind u x b) ]
+  value_flag bytes value set u x h = elim (among_cases d (Ok value) (value_result d set) _ h) [ inl a ↦ inl (at set a) | inr b ↦ inr (further u x b) ]
     where
       at : (set : Option d.Val) → Among d (Ok value) (value_result d set) → IsSomeAnd set (λ a. d.covers a value)
       at None h = h
@@ -73,16 +75,16 @@ module _ (d : ValueSets) (laws : IsValueSets d) where
           elim (among_cases d (Ok value) (words_result d (values_in bytes)) _ h) [ inl w ↦ (refl, word_is (values_in bytes) value w) | inr m ↦ absurd (mixed _ m) ]
       read false h = elim h [ ]
 
-      behind : (u x : Bool) → Among d (Ok value) ((if u then Err Uninit ∷ [] else []) ++ (if x then from_bytes d bytes else []))
+      further : (u x : Bool) → Among d (Ok value) ((if u then Err Uninit ∷ [] else []) ++ (if x then from_bytes d bytes else []))
           → (x ≡ true) × (is_pointer value ≡ false)
-      behind true x (inl h) = elim h [ ]
-      behind true x (inr h) = read x h
-      behind false x h = read x h
+      further true x (inl h) = elim h [ ]
+      further true x (inr h) = read x h
+      further false x h = read x h
 
   fault_flag : (bytes : List (AbstractByte d.Word)) (fault : RunFault) (set : Option d.Val) (u x : Bool)
       → Among d (Err fault) (results d bytes (record { value = set; u = u; x = x }))
       → FlagFault {V = d.Val} (record { value = set; u = u; x = x }) fault
-  fault_flag bytes fault set u x h = elim (among_cases d (Err fault) (value_result d set) _ h) [ inl a ↦ absurd (at set a) | inr b ↦ behind u x b ]
+  fault_flag bytes fault set u x h = elim (among_cases d (Err fault) (value_result d set) _ h) [ inl a ↦ absurd (at set a) | inr b ↦ further u x b ]
     where
       at : (set : Option d.Val) → Among d (Err fault) (value_result d set) → ⊥
       at None h = h
@@ -101,11 +103,11 @@ module _ (d : ValueSets) (laws : IsValueSets d) where
       ]
       read u false h = elim h [ ]
 
-      behind : (u x : Bool) → Among d (Err fault) ((if u then Err Uninit ∷ [] else []) ++ (if x then from_bytes d bytes else []))
+      further : (u x : Bool) → Among d (Err fault) ((if u then Err Uninit ∷ [] else []) ++ (if x then from_bytes d bytes else []))
           → FlagFault {V = d.Val} (record { value = set; u = u; x = x }) fault
-      behind true x (inl h) = subst (λ (f : RunFault). FlagFault {V = d.Val} (record { value = set; u = true; x = x }) f) h refl
-      behind true x (inr h) = read true x h
-      behind false x h = read false x h
+      further true x (inl h) = subst (λ (f : RunFault). FlagFault {V = d.Val} (record { value = set; u = true; x = x }) f) h refl
+      further true x (inr h) = read true x h
+      further false x h = read false x h
 
   pub to_flags : (bytes : List (AbstractByte d.Word)) (cell : Cell d.Val) (r : Result Value RunFault) → Among d r (results d bytes cell) → FlagCovers d cell r
   to_flags bytes cell (Ok value) h = value_flag bytes value cell.value cell.u cell.x h

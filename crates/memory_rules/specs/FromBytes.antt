@@ -1,4 +1,9 @@
 -- The results from bytes, where each byte covers what it comes from.
+--   among_left, among_right, among_cases   the results of two lists together
+--   some_u, some_p, all_stored, word_at     flags and values of bytes that cover what they come from
+--   Member, OnlyMember d word size bits     the set is of this size and has the word, or it alone
+--   Concatenates d H bytes size bits        the values of the bytes, concatenated, are in the relation H to this word
+--   bytes_concatenate, one_word, word_among the concatenation has the word of the bytes, and is the one result of words
 use Rattle.std.specs.Prelude.{IsSomeAnd, IfSome, is_some}
 use Rattle.std.proofs.Common.{◌≡◌, ◌⊎◌, inl, inr, sym, subst, ℕ, suc, zero, true, false, List, [], ◌∷◌, ◌++◌, map, Option, Some, None, Result, Ok, refl, arith, ◌+◌, ◌*◌, ◌<◌, ◌≤◌}
 use Rattle.std.specs.List.{list_all, list_any}

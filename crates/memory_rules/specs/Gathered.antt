@@ -1,4 +1,8 @@
 -- A load joins its results: the value covers, the faults are told, and sharp results give one of them.
+--   EachSized d size results            each value has the size
+--   results_sized, all_results_sized    the results of a cell, and of several, do
+--   gathered_all, gathered_all_only     the joined value and the faults tell what is among them, and exact results alone
+--   all_among                           what is among the results of one of the cells is among those of all
 use Rattle.std.specs.Prelude.{IsSomeAnd, IfSome, Contains, if◌then◌else◌}
 use Rattle.std.proofs.Common.{◌≡◌, inl, inr, sym, subst, ◌∙◌, ℕ, suc, zero, Bool, true, false, List, [], ◌∷◌, ◌++◌, map, Option, Some, None, Result, Ok, Err, refl, arith, ◌+◌, ◌*◌, ◌/◌, ◌≤◌}
 use Rattle.alf_ops.specs.declared.history.Value.{Value}

@@ -1,4 +1,6 @@
 -- Covering of a frame, by values and flags in place of results.
+--   FrameHolds      covering with values and flags, without any bytes in a cell
+--   holds, covers   the one from the other
 use Rattle.std.proofs.Common.{◌≡◌, ℕ, true, false, Option, Some, None}
 use Rattle.alf_ops.specs.Histories.{Byte, cell_in, fits_in}
 use Rattle.alf_ops.specs.WholeCells.{IsTable, is_whole}

@@ -22,3 +22,4 @@ pub mod MemoryProofs
 pub mod Addresses
 pub mod AddressLaws
 pub mod AddressSharp
+pub mod Worked

@@ -1,4 +1,5 @@
 -- A load of a cell of a covered frame.
+--   load_covered   it is among the results of the cell
 use Rattle.std.proofs.Common.{◌≡◌, ℕ, true, Option}
 use Rattle.alf_ops.specs.Histories.{Byte, cell_in, fits_in}
 use Rattle.alf_ops.specs.WholeCells.{IsTable}

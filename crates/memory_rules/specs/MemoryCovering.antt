@@ -1,4 +1,8 @@
 -- Each call on a memory keeps covering.
+--   MemHolds                    covering of a memory, with values and flags
+--   mem_holds, mem_covers       the one from the other
+--   stored_holds, both_left, both_right, left_holds, entered_holds, pinned_at_holds, fresh_holds
+--   mem_stored_sized, mem_both_sized, mem_left_sized, mem_entered_sized, mem_pinned_sized, mem_fresh_sized   the values keep their sizes
 use Rattle.std.specs.Prelude.{slice_get, Contains, ◌==◌}
 use Rattle.std.proofs.Common.{◌≡◌, ◌≢◌, ◌⊎◌, inl, inr, sym, subst, ◌∙◌, ℕ, suc, zero, true, false, List, [], ◌∷◌, Option, Some, None, Ok, refl, arith}
 use Rattle.std.proofs.lemmas.Bool.{cases_eq, eq-eqb, ne_eqb, false≢true}

@@ -1,4 +1,5 @@
 -- The promises of an abstract memory, over sets of values that suit it.
+--   store_covers, load_covers, ..   each law of MemoryLaws, under its own name or with the words turned
 use Rattle.std.specs.Prelude.{Contains}
 use Rattle.std.proofs.Common.{List, ℕ, ◌∷◌, inl, inr, sym, subst, []}
 use Rattle.alf_ops.specs.declared.history.FrameShape.{FrameShape}
@@ -119,7 +120,8 @@ module _ (d : ValueSets) (laws : IsValueSets d) where
 
   -- before each event
   pub start_sharp : StartSharp d
-  start_sharp rows = (fresh_sharp d laws rows (mem_covers d laws rows (fresh d) [] (mem_fresh_sized d laws rows) tt (fresh_holds d laws rows)), mem_fresh_sized d laws rows)
+  start_sharp rows =
+      (fresh_sharp d laws rows (mem_covers d laws rows (fresh d) [] (mem_fresh_sized d laws rows) tt (fresh_holds d laws rows)), mem_fresh_sized d laws rows)
 
   -- the pin of a whole memory
   pub memory_pin_covers : MemoryPinCovers d

@@ -1,4 +1,6 @@
 -- Each call on a frame keeps sharpness, and a load from a sharp frame is exact.
+--   load_exact                              a load gives exactly the run's result
+--   strong_sharp, pinned_sharp, empty_sharp   calls
 use Rattle.std.specs.Prelude.{IsSomeAnd}
 use Rattle.std.proofs.Common.{◌≡◌, ◌⊎◌, inl, inr, sym, subst, ◌∙◌, ap, ℕ, zero, suc, true, false, List, map, Option, Some, None, Ok, refl, arith, ◌+◌, ◌-◌, ◌*◌, ◌<◌, ◌≤◌, ◌/◌}
 use Rattle.std.specs.List.{list_all, list_any}
@@ -34,12 +36,12 @@ missing : {W : Type 0} (bytes : ℕ → AbstractByte W) (offset count byte : ℕ
 missing bytes offset zero byte low high none = absurd (omega arith)
 missing {W} bytes offset (suc count) byte low high none = elim (cases_eq byte offset) [
   | inl same ↦ let here : (bytes offset).value ≡ None = subst (λ (b : ℕ). (bytes b).value ≡ None) same none in rw here refl
-  | inr differ ↦ rw (missing bytes (suc offset) count byte (omega arith) (omega arith) none) (behind (bytes offset).value)
+  | inr differ ↦ rw (missing bytes (suc offset) count byte (omega arith) (omega arith) none) (further (bytes offset).value)
 ]
   where
-    behind : (value : Option W) → and_values value None ≡ None
-    behind None = refl
-    behind (Some word) = refl
+    further : (value : Option W) → and_values value None ≡ None
+    further None = refl
+    further (Some word) = refl
 
 module _ (d : ValueSets) (laws : IsValueSets d) where
   sharp_byte : (byte : AbstractByte d.Word) (stored : Option Byte) → ByteCovers d byte stored → ExactlyOne d byte → SharpByte d byte stored

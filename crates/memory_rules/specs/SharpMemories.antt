@@ -1,4 +1,5 @@
 -- Each call of a sharp run keeps a memory sharp.
+--   stored_sharp, entered_sharp, left_sharp, pinned_at_sharp, fresh_sharp   where the memory after the call covers
 use Rattle.std.proofs.Common.{◌≡◌, inl, inr, sym, subst, ◌∙◌, ℕ, true, false, List, [], ◌∷◌, Option, Some, None, Ok, refl}
 use Rattle.std.specs.Prelude.{slice_get}
 use Rattle.lists.specs.Tests.{by_test}

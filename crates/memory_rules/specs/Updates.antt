@@ -1,4 +1,8 @@
 -- Each call on a frame keeps covering.
+--   strong_holds                a store to the one possible cell
+--   weak_stores, weak_holds     to one of several, where it is this one, and where it is another
+--   joined_holds_left, joined_holds_right, pinned_holds, empty_holds
+--   weak_sized, strong_sized, joined_sized, pinned_sized, empty_sized, stands_sized   the values keep their sizes
 use Rattle.std.specs.Prelude.{IfSome, is_some}
 use Rattle.std.proofs.Common.{◌≡◌, ◌⊎◌, inl, inr, sym, subst, ◌∙◌, ap, ℕ, zero, suc, true, false, List, map, Option, Some, None, Result, Ok, Err, refl, arith, ◌+◌, ◌-◌, ◌*◌, ◌<◌, ◌≤◌, ◌/◌, ◌||◌}
 use Rattle.std.specs.List.{list_all, list_any}

@@ -11,6 +11,9 @@
 // What the memory promises.
 mod laws;
 
+// Stores and loads, worked out.
+mod worked;
+
 pub use laws::{
     a_fresh_memory_is_sharp, a_join_covers_both_sides, a_load_from_a_sharp_frame_is_exact,
     a_load_gathers_its_results, a_load_is_among_the_results, a_pin_covers,
@@ -18,3 +21,4 @@ pub use laws::{
     abstract_values_suit_a_memory, an_address_is_told, calls_keep_covering,
     each_call_keeps_the_sizes, one_address_is_told_alone,
 };
+pub use worked::{a_strong_store_is_read_by_bytes, a_weak_store_joins, an_address_means_its_cells};

@@ -1,0 +1,20 @@
+//! Abstract values: words of one size, and pointers by frame.
+//!
+//! Each call gives exactly what the rules of `pointer_rules` say, whose laws hold of it. A value of words
+//! alone takes no memory.
+#![tactic(auto)]
+
+// The values.
+mod part;
+mod places;
+mod value;
+
+// What operators give at values.
+mod choice;
+mod outcome;
+mod rules;
+
+// What the traits ask for.
+mod lattice;
+
+pub use value::AVal;

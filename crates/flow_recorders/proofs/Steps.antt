@@ -1,0 +1,12 @@
+-- Turns of the loops over spans.
+use Rattle.std.proofs.Common.{◌≡◌, ℕ, ◌+◌, List, [], ◌∷◌, ◌++◌, get_or, sym, ap, ◌∙◌, add-one}
+use Rattle.run_recordings.specs.Generated.{generated, generated-suc}
+use Rattle.run_recordings.specs.Spans.{span_of}
+
+-- the spans around those of both, one more
+pub spans_more : (found a b : List (ℕ × ℕ)) (i : ℕ) → found ≡ generated i (λ j. span_of (get_or a j (0, 0)) (get_or b j (0, 0)))
+    → found ++ span_of (get_or a i (0, 0)) (get_or b i (0, 0)) ∷ [] ≡ generated (i + 1) (λ j. span_of (get_or a j (0, 0)) (get_or b j (0, 0)))
+spans_more found a b i so_far =
+    ap (λ (xs : List (ℕ × ℕ)). xs ++ span_of (get_or a i (0, 0)) (get_or b i (0, 0)) ∷ []) so_far
+    ∙ sym (generated-suc i (λ j. span_of (get_or a j (0, 0)) (get_or b j (0, 0))))
+    ∙ ap (λ (n : ℕ). generated n (λ j. span_of (get_or a j (0, 0)) (get_or b j (0, 0)))) (sym (add-one i))

@@ -1,0 +1,8 @@
+-- What the loop over both lists keeps.
+use Rattle.std.proofs.Common.{◌≡◌, get_or}
+use Rattle.run_recordings.specs.Generated.{generated}
+use Rattle.run_recordings.specs.Spans.{span_of}
+use Rattle.flow_recorders.proofs.spans.spans.Given as goal
+
+abbrev pub invariant-loop-i : goal.invariant-loop-i
+invariant-loop-i l = l.found.items ≡ generated l.i (λ j. span_of (get_or l.a j (0, 0)) (get_or l.b j (0, 0)))

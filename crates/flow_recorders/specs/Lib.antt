@@ -1,0 +1,2 @@
+pub mod BothRules
+pub mod BothLaws

@@ -1,0 +1,5 @@
+pub mod Generated
+pub mod Spans
+pub mod SpanLaws
+pub mod TotalRules
+pub mod TotalLaws

@@ -1,5 +1,6 @@
 -- A place put among places that ascend.
 --   put_at       at the frame that stands there already
+--   are_at       each place is one
 --   put_before   before the first greater frame, or after all
 use Rattle.std.proofs.Common.{◌≡◌, ◌≢◌, ℕ, zero, suc, Bool, true, false, List, [], ◌∷◌, ◌++◌, Option, Some, None, length, take, drop, ◌<◌, ◌≤◌, ◌+◌, arith, refl, sym, ap, subst, ◌∙◌, slice_get, slice_set}
 use Rattle.std.specs.Prelude.{◌==◌, nat_lt, slice_index_or}
@@ -7,7 +8,7 @@ use Rattle.std.specs.List.{insert}
 use Rattle.std.proofs.lemmas.Bool.{eqb-true, eqb-false, eq-eqb, ltb-true, ltb-false, lt-ltb}
 use Rattle.lists.specs.Tests.{by_test}
 use Rattle.strided_rules.specs.Strides.{Stride, joined}
-use Rattle.pointer_rules.specs.AbstractValues.{with_place}
+use Rattle.pointer_rules.specs.AbstractValues.{ArePlaces, IsPlace, with_place}
 use Rattle.pointer_domain.specs.Parts.{lower}
 
 -- a place that is lower stays first
@@ -40,3 +41,9 @@ put_before (first ∷ places) new apart = by_test (nat_lt first.0 new.0)
     let no_less = ltb-false first.0 new.0 e in
     let greater : nat_lt new.0 first.0 ≡ true = lt-ltb new.0 first.0 (omega (arith, other, no_less)) in
     by_test (first.0 == new.0) (λ f. absurd (other (eqb-true first.0 new.0 f))) (λ f. rw (e, f, greater) refl))
+
+-- each place is one
+pub are_at : (places : List (ℕ × Stride)) (k : ℕ) (place : ℕ × Stride) → ArePlaces places → slice_get places k ≡ Some place → IsPlace place
+are_at [] k place are there = cc
+are_at (first ∷ places) zero place are there = let same : first ≡ place = cc in subst IsPlace same are.0
+are_at (first ∷ places) (suc k) place are there = are_at places k place are.1 there

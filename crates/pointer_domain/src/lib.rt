@@ -9,12 +9,6 @@ mod part;
 mod places;
 mod value;
 
-// What operators give at values.
-mod choice;
-mod outcome;
-mod rules;
 
-// What the traits ask for.
-mod lattice;
 
 pub use value::AVal;

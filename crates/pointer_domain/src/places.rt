@@ -1,11 +1,12 @@
 //! Offsets by frame.
 
-ghost use Rattle.std.specs.Prelude.{◌≡◌, ◌≤◌, OnOk, length, IfOk};
-ghost use Rattle.pointer_rules.specs.AbstractValues.{ArePlaces, IsPlace, with_place, with_places};
+ghost use Rattle.std.specs.Prelude.{◌≡◌, ◌≢◌, ◌≤◌, ℕ, Some, OnOk, length, IfSome, IfNone, slice_get};
+ghost use Rattle.strided_rules.specs.Strides.{Stride};
+ghost use Rattle.pointer_rules.specs.AbstractValues.{ArePlaces, AreAscending, IsPlace, with_place, with_places};
 ghost use Rattle.pointer_domain.specs.Parts.{lower};
 
 use interval_congruence::Strided;
-use std::alloc::{AllocError, Global};
+use std::alloc::AllocError;
 
 /// How many places stand before the frame.
 fn lower_places(places: &[(u32, Strided)], frame: u32) -> usize
@@ -24,32 +25,46 @@ fn lower_places(places: &[(u32, Strided)], frame: u32) -> usize
     }
 }
 
+/// The offsets at this place, if they are those in the frame.
+fn offsets_at(places: &[(u32, Strided)], place: usize, frame: u32) -> Option<Strided>
+    ensures there { IfSome result (λ offsets. slice_get places.now place ≡ Some (frame, offsets)) }
+    ensures absent { IfNone result ((other : ℕ × Stride) → slice_get places.now place ≡ Some other → other.0 ≢ frame) }
+{
+    if place < places.len() && places[place].0 == frame {
+        Some(places[place].1)
+    } else {
+        None
+    }
+}
+
 /// Puts the offsets to those in the frame.
-#[tactic(auto, using(crate::proofs::Placed::put_at, crate::proofs::Placed::put_before))]
 fn put(places: &mut Vec<(u32, Strided)>, new: (u32, Strided)) -> Result<(), AllocError>
     requires places { ArePlaces places.old.items }
     requires new { IsPlace new }
     ensures { OnOk result (places.new.items ≡ with_place places.old.items new) }
 {
-    let count = lower_places(places, new.0);
-    if count < places.len() && places[count].0 == new.0 {
-        places[count].1 = places[count].1.join(new.1);
-        return Ok(());
+    let (frame, offsets) = new;
+    let place = lower_places(places, frame);
+    match offsets_at(places, place, frame) {
+        Some(old) => places[place] = (frame, old.join(offsets)),
+        None => places.insert(place, new)?,
     }
-    places.insert(count, new)?;
     Ok(())
 }
 
 /// Puts the offsets of all to those in their frames.
-pub fn put_all(places: &mut Vec<(u32, Strided)>, others: &[(u32, Strided)]) -> Result<(), AllocError>
+pub fn put_all(
+    places: &mut Vec<(u32, Strided)>,
+    others: &[(u32, Strided)],
+) -> Result<(), AllocError>
     requires places { ArePlaces places.old.items }
     requires others { ArePlaces others.now }
     ensures { OnOk result (places.new.items ≡ with_places places.old.items others.now) }
 {
     let mut rest = others;
-    while let Some((first, others)) = rest.split_first() {
+    while let Some((first, further)) = rest.split_first() {
         put(places, *first)?;
-        rest = others;
+        rest = further;
     }
     Ok(())
 }

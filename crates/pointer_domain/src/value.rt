@@ -1,9 +1,11 @@
 //! The values.
 
-ghost use Rattle.std.specs.Prelude.{◌≡◌, IfOk};
+ghost use Rattle.std.specs.Prelude.{◌≡◌, IfOk, IfSome};
 ghost use Rattle.strided_rules.specs.Strides.{Stride};
-ghost use Rattle.pointer_rules.specs.AbstractValues.{AbstractValue, IsAbstract, Words, Places, alone};
+ghost use Rattle.pointer_rules.specs.AbstractValues.{AbstractValue, IsAbstract, Words, Places, alone, either_words as either_words_of};
 
+use crate::places::put_all;
+use domain_core::Lattice;
 use interval_congruence::Strided;
 use std::alloc::{AllocError, Global};
 use std::marker::Model;
@@ -63,5 +65,40 @@ impl AVal {
         ensures kept { IsAbstract self.now }
     {
         &self.places
+    }
+}
+
+/// The join of the words where both are there.
+fn either_words(a: Option<Strided>, b: Option<Strided>) -> Option<Strided>
+    requires { IfSome a (λ x. IfSome b (λ y. x.size ≡ y.size)) }
+    ensures { result ≡ either_words_of a b }
+{
+    match (a, b) {
+        (None, b) => b,
+        (Some(a), None) => Some(a),
+        (Some(a), Some(b)) => Some(a.join(b)),
+    }
+}
+
+impl Lattice for AVal {
+    ghost use Rattle.pointer_rules.specs.AbstractValues.{value_order};
+    ghost use Rattle.pointer_rules.specs.ValueLaws.{value_is_order};
+
+    ghost order = { value_order };
+
+    ghost is_order = { value_is_order };
+
+    fn copy(&self, alloc: Global) -> Result<Self, AllocError> {
+        Ok(AVal {
+            words: self.words,
+            places: Vec::from_slice(alloc, &self.places)?,
+        })
+    }
+
+    fn join(&self, alloc: Global, other: &Self) -> Result<Self, AllocError> {
+        let words = either_words(self.words, other.words);
+        let mut places = Vec::from_slice(alloc, &self.places)?;
+        put_all(&mut places, &other.places)?;
+        Ok(AVal { words, places })
     }
 }

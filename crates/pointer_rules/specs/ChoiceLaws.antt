@@ -32,7 +32,7 @@ sized_number : (size : ℕ) (x : Alternative) → SuitsSize size x → IsOfSize 
 sized_number size (Words words) suits = suits
 sized_number size (Places frame offsets) suits = suits.0
 
-sized_numbers : (sizes : List ℕ) (args : List Alternative) → EachSuits sizes args → HaveSizes stride_sets sizes (map numbers_of args)
+pub sized_numbers : (sizes : List ℕ) (args : List Alternative) → EachSuits sizes args → HaveSizes stride_sets sizes (map numbers_of args)
 sized_numbers [] [] suits = tt
 sized_numbers [] (x ∷ args) suits = absurd suits
 sized_numbers (size ∷ sizes) [] suits = absurd suits

@@ -2,7 +2,7 @@
 
 ghost use Rattle.std.specs.Prelude.{◌≡◌, IfSome};
 
-use domain_core::Rel;
+use domain_core::{Domain, Rel};
 use interval_congruence::Strided;
 use progressions::Progression;
 use std::process::Abort;
@@ -684,7 +684,7 @@ fn relation(number: i128) -> Rel {
 /// What is left of the first where it is in relation to the second, if both are.
 fn assumed(rel: Rel, a: Option<Strided>, b: Option<Strided>) -> Option<Strided> {
     match (a, b) {
-        (Some(a), Some(b)) if a.size() == b.size() => a.assume(rel, b),
+        (Some(a), Some(b)) if a.size() == b.size() => a.assume(rel, &b),
         _ => None,
     }
 }

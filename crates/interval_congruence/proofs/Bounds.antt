@@ -1,49 +1,26 @@
 -- Bounds under which the pieces of values fit 128 bits.
---   piece_small       a piece within 2 to the 64 is small
---   between_piece, end_piece   parts of such a piece are such pieces
---   unsigned_far, signed_far   so are the pieces of a value
+--   unsigned_far, signed_far   the pieces of a value lie within 2 to the 64
 --   unsigned_greatest_far, ..   and the greatest and the least of them lie there
+--   lesser_places     the words up to the lesser of two greatest ones can be placed
 use Rattle.std.proofs.Common.{ℕ, ℤ, pos, neg_ℤ, ◌≤◌, ◌^◌, arith, Option, Some, None}
 use Rattle.std.specs.Prelude.{◌-ℤ◌, ◌≤ℤ◌}
+use Rattle.std.specs.Int.{int_min}
 use Rattle.std.proofs.lemmas.Int.{ints, clamps}
 use Rattle.progressions.specs.declared.ends.Progression.{Progression}
 use Rattle.progressions.specs.declared.ends.Pieces.{Pieces}
-use Rattle.progressions.specs.Progressions.{Has, HasSome, IfProgression, full, half}
-use Rattle.progressions.specs.Parts.{IsPiece, IfPiece, ArePieces, between}
-use Rattle.progressions.specs.Limits.{IsSmall}
-use Rattle.progressions.specs.ProgressionLaws.{halves, full_most, step_width, has_lo, has_hi}
+use Rattle.progressions.specs.Progressions.{full, half}
+use Rattle.progressions.specs.Parts.{IsPiece, IfPiece, ArePieces}
+use Rattle.progressions.specs.ProgressionLaws.{halves, full_most}
 use Rattle.strided_rules.specs.Strides.{Stride, IsStride}
-use Rattle.strided_rules.specs.Members.{unsigned_of, signed_of, without_end, greater_end, lesser_end, greatest_of, least_of, unsigned_greatest, unsigned_least, signed_greatest, signed_least}
-use Rattle.strided_rules.specs.MemberLaws.{of_unsigned, of_signed, IsPart, between_part, end_part}
+use Rattle.strided_rules.specs.Members.{unsigned_of, signed_of, greater_end, lesser_end, greatest_of, least_of, unsigned_greatest, unsigned_least, signed_greatest, signed_least}
+use Rattle.strided_rules.specs.MemberLaws.{of_unsigned, of_signed}
+use Rattle.strided_rules.specs.Rules.{span}
+use Rattle.strided_rules.specs.RuleLaws.{span_is}
+use Rattle.strided_operators.specs.Limits.{CanPlace}
 
+-- a piece within 2 to the 64
 abbrev pub IsFar : Progression → Type 0
 IsFar p = IsPiece (neg_ℤ (pos (2 ^ 64))) (pos (2 ^ 64)) p
-
-pub piece_small : (p : Progression) → IsPiece (neg_ℤ (pos (2 ^ 64))) (pos (2 ^ 64)) p → IsSmall p
-piece_small p i = let s = step_width p i.progression in record {
-  low = omega (arith, ints, i.low);
-  high = omega (arith, ints, i.high);
-  order = i.progression.order;
-  rising = i.progression.rising;
-  near = omega (arith, ints, s, i.low, i.high);
-}
-
-inside_piece : (least most : ℤ) (p : Progression) (o : Option Progression) → IsPiece least most p → IfProgression o → ((n : ℤ) → HasSome o n → Has p n) → IfPiece least most o
-inside_piece least most p None piece is inside = tt
-inside_piece least most p (Some q) piece is inside = record {
-  progression = is;
-  low = let h = inside q.lo (has_lo q is) in omega (arith, ints, h.least, piece.low);
-  high = let h = inside q.hi (has_hi q is) in omega (arith, ints, h.most, piece.high);
-}
-
-part_piece : (part : Progression → Option Progression) (p : Progression) → IsPart part → IsFar p → IfPiece (neg_ℤ (pos (2 ^ 64))) (pos (2 ^ 64)) (part p)
-part_piece part p is i = inside_piece (neg_ℤ (pos (2 ^ 64))) (pos (2 ^ 64)) p (part p) i (is.is p i.progression) (λ n. is.inside p n i.progression)
-
-pub between_piece : (least greatest : ℤ) (p : Progression) → IsPiece (neg_ℤ (pos (2 ^ 64))) (pos (2 ^ 64)) p → IfPiece (neg_ℤ (pos (2 ^ 64))) (pos (2 ^ 64)) (between least greatest p)
-between_piece least greatest p i = part_piece (between least greatest) p (between_part least greatest) i
-
-pub end_piece : (n : ℤ) (p : Progression) → IsPiece (neg_ℤ (pos (2 ^ 64))) (pos (2 ^ 64)) p → IfPiece (neg_ℤ (pos (2 ^ 64))) (pos (2 ^ 64)) (without_end n p)
-end_piece n p i = part_piece (without_end n) p (end_part n) i
 
 wider : (least most : ℤ) (o : Option Progression) → neg_ℤ (pos (2 ^ 64)) ≤ℤ least → most ≤ℤ pos (2 ^ 64) → IfPiece least most o → IfPiece (neg_ℤ (pos (2 ^ 64))) (pos (2 ^ 64)) o
 wider least most None low high i = tt
@@ -97,3 +74,22 @@ signed_greatest_far y s = greatest_within (neg_ℤ (pos (2 ^ 64))) (pos (2 ^ 64)
 
 pub signed_least_far : (y : Stride) → IsStride y → Far (signed_least y)
 signed_least_far y s = least_within (neg_ℤ (pos (2 ^ 64))) (pos (2 ^ 64)) (half y.size -ℤ pos 1) (signed_of y) (omega (arith, ints)) (omega (arith, ints, full_most y.size s.size.most, halves y.size s.size.least)) (signed_far y.size (signed_of y) s.size.least s.size.most (of_signed y s))
+
+-- the words from 0 to the lesser of the greatest ones can be placed
+end_rises : (so_far : ℤ) (o : Option Progression) → so_far ≤ℤ greater_end so_far o
+end_rises so_far None = omega (arith, ints)
+end_rises so_far (Some p) = omega (arith, ints, clamps)
+
+greatest_rises : (pieces : Pieces) → pos 0 ≤ℤ greatest_of (pos 0) pieces
+greatest_rises pieces =
+    let a = end_rises (pos 0) pieces.first in
+    let b = end_rises (greater_end (pos 0) pieces.first) pieces.second in
+    let c = end_rises (greater_end (greater_end (pos 0) pieces.first) pieces.second) pieces.third in
+    omega (arith, ints, a, b, c)
+
+pub lesser_places : (a b : Stride) → unsigned_greatest a ≤ℤ pos (2 ^ 64) → CanPlace (span (pos 0) (int_min (unsigned_greatest a) (unsigned_greatest b)))
+lesser_places a b small =
+    let first = greatest_rises (unsigned_of a) in
+    let second = greatest_rises (unsigned_of b) in
+    let least : pos 0 ≤ℤ int_min (unsigned_greatest a) (unsigned_greatest b) = omega (arith, ints, clamps, first, second) in
+    record { progression = span_is (pos 0) (int_min (unsigned_greatest a) (unsigned_greatest b)) least; low = omega (arith, ints); high = omega (arith, ints, clamps, small) }

@@ -1,90 +1,13 @@
 //! Comparisons of values.
 
-ghost use Rattle.std.specs.Prelude.{◌≡◌, ◌≤◌, ◌^◌, pos, neg_ℤ, Bool, Some};
-ghost use Rattle.progressions.specs.declared.ends.Progression.{Progression as Numbers};
-ghost use Rattle.progressions.specs.Parts.{IsPiece, IfPiece, ArePieces};
+ghost use Rattle.std.specs.Prelude.{◌≡◌, ◌≤◌, ◌^◌, pos, neg_ℤ};
+ghost use Rattle.progressions.specs.Parts.{ArePieces};
 ghost use Rattle.strided_rules.specs.Members.{unsigned_of, signed_of};
-ghost use Rattle.strided_rules.specs.Operators.{at_choice as at_choice_of, some_second as some_second_of, some_choice as some_choice_of, truth as truth_of, below as below_of, at_most as at_most_of, less as less_of, less_or_equal as less_or_equal_of};
+ghost use Rattle.strided_rules.specs.Operators.{truth as truth_of, less as less_of, less_or_equal as less_or_equal_of, may_equal as may_equal_of, may_differ as may_differ_of};
 
 use crate::value::Strided;
-use progressions::{Pieces, Progression};
-
-/// What may hold of a number of each of two pieces.
-trait Test {
-    /// Whether it may.
-    ghost may: { Self → Numbers → Numbers → Bool };
-
-    /// It may hold.
-    fn holds(&self, p: &Progression, q: &Progression) -> bool
-        requires first { IsPiece (neg_ℤ (pos (2 ^ 64))) (pos (2 ^ 64)) p.now }
-        requires second { IsPiece (neg_ℤ (pos (2 ^ 64))) (pos (2 ^ 64)) q.now }
-        ensures { result ≡ may self.now p.now q.now };
-}
-
-/// The first is below the second.
-#[derive(Clone, Copy, Drop)]
-struct Below;
-
-impl Test for Below {
-    ghost may = { λ _ p q. below_of p q };
-
-    fn holds(&self, p: &Progression, q: &Progression) -> bool {
-        p.lo.below(q.hi)
-    }
-}
-
-/// The first is at most the second.
-#[derive(Clone, Copy, Drop)]
-struct AtMost;
-
-impl Test for AtMost {
-    ghost may = { λ _ p q. at_most_of p q };
-
-    fn holds(&self, p: &Progression, q: &Progression) -> bool {
-        p.lo.at_most(q.hi)
-    }
-}
-
-/// It may hold of the pieces, if there is a second.
-fn at_choice<T: Test>(test: &T, p: &Progression, q: Option<Progression>) -> bool
-    requires first { IsPiece (neg_ℤ (pos (2 ^ 64))) (pos (2 ^ 64)) p.now }
-    requires second { IfPiece (neg_ℤ (pos (2 ^ 64))) (pos (2 ^ 64)) q }
-    ensures { result ≡ at_choice_of (T.may test.now) (Some p.now) q }
-{
-    match q {
-        None => false,
-        Some(q) => test.holds(p, &q),
-    }
-}
-
-/// It may hold of the piece, if there is one, and one of the others.
-fn some_second<T: Test>(test: &T, p: Option<Progression>, others: &Pieces) -> bool
-    requires first { IfPiece (neg_ℤ (pos (2 ^ 64))) (pos (2 ^ 64)) p }
-    requires others { ArePieces (neg_ℤ (pos (2 ^ 64))) (pos (2 ^ 64)) others.now }
-    ensures { result ≡ some_second_of (T.may test.now) p others.now }
-{
-    match p {
-        None => false,
-        Some(p) => {
-            let first = at_choice(test, &p, others.first);
-            let second = at_choice(test, &p, others.second);
-            let third = at_choice(test, &p, others.third);
-            first || (second || third)
-        }
-    }
-}
-
-/// It may hold of some choice of pieces.
-fn some_choice<T: Test>(test: &T, firsts: &Pieces, others: &Pieces) -> bool
-    requires firsts { ArePieces (neg_ℤ (pos (2 ^ 64))) (pos (2 ^ 64)) firsts.now }
-    requires others { ArePieces (neg_ℤ (pos (2 ^ 64))) (pos (2 ^ 64)) others.now }
-    ensures { result ≡ some_choice_of (T.may test.now) firsts.now others.now }
-{
-    let first = some_second(test, firsts.first, others);
-    let second = some_second(test, firsts.second, others);
-    let third = some_second(test, firsts.third, others);
-    first || (second || third)
-}
+use progressions::Pieces;
+use strided_operators::{AtMost, Below, Meet, some_choice};
 
 /// 1 where it may hold, 0 where it may fail.
 fn truth(holds: bool, fails: bool) -> Strided
@@ -166,5 +89,36 @@ impl Strided {
     {
         let (a, b) = (self.far_signed(), other.far_signed());
         less_or_equal(&a, &b)
+    }
+
+    /// A word of it may be one of the other.
+    fn may_equal(self, other: Strided) -> bool
+        ensures { result ≡ may_equal_of self other }
+    {
+        let (a, b) = (self.far_unsigned(), other.far_unsigned());
+        some_choice(&Meet, &a, &b)
+    }
+
+    /// A word of it may be none of the other.
+    fn may_differ(self, other: Strided) -> bool
+        ensures { result ≡ may_differ_of self other }
+    {
+        !(self.is_one() && (other.is_one() && self.word() == other.word()))
+    }
+
+    /// What the operator `eq` gives by its rule.
+    pub fn equal(self, other: Strided) -> Strided
+        ensures { result ≡ truth_of (may_equal_of self other) (may_differ_of self other) }
+    {
+        let holds = self.may_equal(other);
+        truth(holds, self.may_differ(other))
+    }
+
+    /// What the operator `neq` gives by its rule.
+    pub fn unequal(self, other: Strided) -> Strided
+        ensures { result ≡ truth_of (may_differ_of self other) (may_equal_of self other) }
+    {
+        let holds = self.may_differ(other);
+        truth(holds, self.may_equal(other))
     }
 }

@@ -2,13 +2,13 @@
 
 ghost use Rattle.std.specs.Prelude.{◌≡◌, ◌≤◌, ◌^◌, pos, neg_ℤ, ◌≤ℤ◌};
 ghost use Rattle.domain_core.specs.WordSets.{IsWordSize};
-ghost use Rattle.progressions.specs.Parts.{IsPiece, IfPiece, ArePieces, between as between_of};
+ghost use Rattle.progressions.specs.Parts.{ArePieces, between as between_of};
 ghost use Rattle.strided_rules.specs.Joins.{IfPlaced, kept_value as kept_value_of};
-ghost use Rattle.strided_rules.specs.Members.{part_of, parts_of, rest_of, is_same as is_same_of, without_end as without_end_of, without as without_of, unsigned_between as unsigned_between_of, signed_between as signed_between_of};
+ghost use Rattle.strided_rules.specs.Members.{rest_of, without as without_of, unsigned_between as unsigned_between_of, signed_between as signed_between_of};
 
 use crate::value::Strided;
 use progressions::{Pieces, Progression};
-use strided_operators::{Same, each};
+use strided_operators::{Same, between, each, without_end};
 use whole_numbers::Whole;
 
 /// The value of what was joined, if there was a piece.
@@ -20,19 +20,6 @@ fn kept_value(size: u32, joined: Option<Progression>) -> Option<Strided>
     match joined {
         None => None,
         Some(numbers) => Some(Strided::of(size, numbers)),
-    }
-}
-
-/// The numbers of a piece from `least` to `greatest`.
-#[tactic(auto, using(crate::proofs::Bounds::between_piece))]
-fn between(least: Whole, greatest: Whole, piece: Option<Progression>) -> Option<Progression>
-    requires { IfPiece (neg_ℤ (pos (2 ^ 64))) (pos (2 ^ 64)) piece }
-    ensures value { result ≡ part_of (between_of least greatest) piece }
-    ensures piece { IfPiece (neg_ℤ (pos (2 ^ 64))) (pos (2 ^ 64)) result }
-{
-    match piece {
-        None => None,
-        Some(p) => p.between(least, greatest),
     }
 }
 
@@ -48,40 +35,6 @@ fn pieces_between(size: u32, least: Whole, greatest: Whole, pieces: &Pieces) -> 
         third: between(least, greatest, pieces.third),
     };
     kept_value(size, each(size, &Same, &parts))
-}
-
-/// It is the other.
-fn is_same(n: Whole, m: Whole) -> bool
-    ensures { result ≡ is_same_of n m }
-{
-    n.at_most(m) && m.at_most(n)
-}
-
-/// A progression without a number that stands at an end of it.
-fn end_dropped(number: Whole, p: &Progression) -> Option<Progression>
-    requires { IsPiece (neg_ℤ (pos (2 ^ 64))) (pos (2 ^ 64)) p.now }
-    ensures { result ≡ without_end_of number p.now }
-{
-    if is_same(p.lo, number) {
-        p.without_first()
-    } else if is_same(p.hi, number) {
-        p.without_last()
-    } else {
-        Some(*p)
-    }
-}
-
-/// The same of a piece, if there is one.
-#[tactic(auto, using(crate::proofs::Bounds::end_piece))]
-fn without_end(number: Whole, piece: Option<Progression>) -> Option<Progression>
-    requires { IfPiece (neg_ℤ (pos (2 ^ 64))) (pos (2 ^ 64)) piece }
-    ensures value { result ≡ part_of (without_end_of number) piece }
-    ensures piece { IfPiece (neg_ℤ (pos (2 ^ 64))) (pos (2 ^ 64)) result }
-{
-    match piece {
-        None => None,
-        Some(p) => end_dropped(number, &p),
-    }
 }
 
 impl Strided {

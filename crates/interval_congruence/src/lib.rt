@@ -11,11 +11,21 @@ mod relation;
 mod value;
 
 // What operators give at values.
+mod choices;
 mod comparisons;
+mod conjunctions;
 mod images;
+mod pairs;
+mod parts;
+mod products;
+mod quotients;
+mod rests;
+mod shifts;
 mod sums;
 
-// What the trait of lattices asks for.
+// What the traits ask for.
+mod dispatch;
+mod domain;
 mod lattice;
 
 pub use flat_domain::Flat;

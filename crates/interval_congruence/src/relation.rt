@@ -3,56 +3,17 @@
 ghost use Rattle.std.specs.Prelude.{◌≡◌, ◌≤◌, ◌^◌, pos, neg_ℤ, ◌-ℤ◌, ◌≤ℤ◌};
 ghost use Rattle.progressions.specs.Progressions.{full, half};
 ghost use Rattle.progressions.specs.Parts.{IfPiece, ArePieces};
-ghost use Rattle.strided_rules.specs.Members.{greater_end as greater_end_of, lesser_end as lesser_end_of, greatest_of as greatest_of_all, least_of as least_of_all, unsigned_greatest as unsigned_greatest_of, unsigned_least as unsigned_least_of, signed_greatest as signed_greatest_of, signed_least as signed_least_of, assumed as assumed_of};
-ghost use Rattle.domain_core.specs.declared.relation.Rel.TheVariants.{Eq, Neq, ULt, ULe, UGt, UGe, SLt, SLe, SGt, SGe};
+ghost use Rattle.strided_rules.specs.Members.{unsigned_greatest as unsigned_greatest_of, unsigned_least as unsigned_least_of, signed_greatest as signed_greatest_of, signed_least as signed_least_of, unsigned_between as unsigned_between_of, signed_between as signed_between_of, assumed as assumed_of};
+ghost use Rattle.domain_core.specs.declared.relation.Rel.TheVariants.{Eq, Neq};
 
 use crate::value::Strided;
 use domain_core::Rel;
-use progressions::{Pieces, Progression};
-use strided_operators::power;
+use strided_operators::{greatest_of, least_of, power};
 use whole_numbers::Whole;
-
-/// The greater of a number and the last of a piece.
-fn greater_end(so_far: Whole, piece: Option<Progression>) -> Whole
-    ensures { result ≡ greater_end_of so_far piece }
-{
-    match piece {
-        None => so_far,
-        Some(p) => so_far.greatest(p.hi),
-    }
-}
-
-/// The lesser of a number and the first of a piece.
-fn lesser_end(so_far: Whole, piece: Option<Progression>) -> Whole
-    ensures { result ≡ lesser_end_of so_far piece }
-{
-    match piece {
-        None => so_far,
-        Some(p) => so_far.least(p.lo),
-    }
-}
-
-/// The greatest number of the pieces, or `least` where that is greater.
-fn greatest_of(least: Whole, pieces: &Pieces) -> Whole
-    ensures { result ≡ greatest_of_all least pieces.now }
-{
-    let one = greater_end(least, pieces.first);
-    let two = greater_end(one, pieces.second);
-    greater_end(two, pieces.third)
-}
-
-/// The least number of the pieces, or `greatest` where that is less.
-fn least_of(greatest: Whole, pieces: &Pieces) -> Whole
-    ensures { result ≡ least_of_all greatest pieces.now }
-{
-    let one = lesser_end(greatest, pieces.first);
-    let two = lesser_end(one, pieces.second);
-    lesser_end(two, pieces.third)
-}
 
 impl Strided {
     /// The greatest member, read unsigned.
-    fn unsigned_greatest(self) -> Whole
+    pub(crate) fn unsigned_greatest(self) -> Whole
         ensures value { result ≡ unsigned_greatest_of self }
         ensures low { neg_ℤ (pos (2 ^ 64)) ≤ℤ result }
         ensures high { result ≤ℤ pos (2 ^ 64) }
@@ -113,92 +74,44 @@ impl Strided {
         }
     }
 
-    /// The members that may be below one of the other, read unsigned.
-    fn assume_below(self, other: Strided) -> Option<Strided>
-        ensures { result ≡ assumed_of ULt self other }
+    /// The members from a number on, read unsigned.
+    fn unsigned_from(self, least: Whole) -> Option<Strided>
+        ensures { result ≡ unsigned_between_of self least (full self.size -ℤ pos 1) }
     {
-        let greatest = other.unsigned_greatest() - Whole::of(1);
-        self.unsigned_between(Whole::of(0), greatest)
+        self.unsigned_between(least, power(self.size()) - Whole::of(1))
     }
 
-    /// The members that may be at most one of the other, read unsigned.
-    fn assume_at_most(self, other: Strided) -> Option<Strided>
-        ensures { result ≡ assumed_of ULe self other }
+    /// The members up to a number, read signed.
+    fn signed_up_to(self, greatest: Whole) -> Option<Strided>
+        ensures { result ≡ signed_between_of self (neg_ℤ (half self.size)) greatest }
     {
-        let greatest = other.unsigned_greatest();
-        self.unsigned_between(Whole::of(0), greatest)
+        self.signed_between(-power(self.size() - 1), greatest)
     }
 
-    /// The members that may be above one of the other, read unsigned.
-    fn assume_above(self, other: Strided) -> Option<Strided>
-        ensures { result ≡ assumed_of UGt self other }
+    /// The members from a number on, read signed.
+    fn signed_from(self, least: Whole) -> Option<Strided>
+        ensures { result ≡ signed_between_of self least (half self.size -ℤ pos 1) }
     {
-        let least = other.unsigned_least() + Whole::of(1);
-        let greatest = power(self.size()) - Whole::of(1);
-        self.unsigned_between(least, greatest)
-    }
-
-    /// The members that may be at least one of the other, read unsigned.
-    fn assume_at_least(self, other: Strided) -> Option<Strided>
-        ensures { result ≡ assumed_of UGe self other }
-    {
-        let least = other.unsigned_least();
-        let greatest = power(self.size()) - Whole::of(1);
-        self.unsigned_between(least, greatest)
-    }
-
-    /// The members that may be below one of the other, read signed.
-    fn assume_signed_below(self, other: Strided) -> Option<Strided>
-        ensures { result ≡ assumed_of SLt self other }
-    {
-        let least = -power(self.size() - 1);
-        let greatest = other.signed_greatest() - Whole::of(1);
-        self.signed_between(least, greatest)
-    }
-
-    /// The members that may be at most one of the other, read signed.
-    fn assume_signed_at_most(self, other: Strided) -> Option<Strided>
-        ensures { result ≡ assumed_of SLe self other }
-    {
-        let least = -power(self.size() - 1);
-        let greatest = other.signed_greatest();
-        self.signed_between(least, greatest)
-    }
-
-    /// The members that may be above one of the other, read signed.
-    fn assume_signed_above(self, other: Strided) -> Option<Strided>
-        ensures { result ≡ assumed_of SGt self other }
-    {
-        let least = other.signed_least() + Whole::of(1);
-        let greatest = power(self.size() - 1) - Whole::of(1);
-        self.signed_between(least, greatest)
-    }
-
-    /// The members that may be at least one of the other, read signed.
-    fn assume_signed_at_least(self, other: Strided) -> Option<Strided>
-        ensures { result ≡ assumed_of SGe self other }
-    {
-        let least = other.signed_least();
-        let greatest = power(self.size() - 1) - Whole::of(1);
-        self.signed_between(least, greatest)
+        self.signed_between(least, power(self.size() - 1) - Whole::of(1))
     }
 
     /// The members that may be in the relation to one of the other, of one size.
-    pub fn assume(self, rel: Rel, other: Strided) -> Option<Strided>
+    pub(crate) fn assumed(self, rel: Rel, other: Strided) -> Option<Strided>
         requires { self.size ≡ other.size }
         ensures { result ≡ assumed_of rel self other }
     {
+        let (zero, one) = (Whole::of(0), Whole::of(1));
         match rel {
             Rel::Eq => self.assume_equal(other),
             Rel::Neq => self.assume_unequal(other),
-            Rel::ULt => self.assume_below(other),
-            Rel::ULe => self.assume_at_most(other),
-            Rel::UGt => self.assume_above(other),
-            Rel::UGe => self.assume_at_least(other),
-            Rel::SLt => self.assume_signed_below(other),
-            Rel::SLe => self.assume_signed_at_most(other),
-            Rel::SGt => self.assume_signed_above(other),
-            Rel::SGe => self.assume_signed_at_least(other),
+            Rel::ULt => self.unsigned_between(zero, other.unsigned_greatest() - one),
+            Rel::ULe => self.unsigned_between(zero, other.unsigned_greatest()),
+            Rel::UGt => self.unsigned_from(other.unsigned_least() + one),
+            Rel::UGe => self.unsigned_from(other.unsigned_least()),
+            Rel::SLt => self.signed_up_to(other.signed_greatest() - one),
+            Rel::SLe => self.signed_up_to(other.signed_greatest()),
+            Rel::SGt => self.signed_from(other.signed_least() + one),
+            Rel::SGe => self.signed_from(other.signed_least()),
         }
     }
 }

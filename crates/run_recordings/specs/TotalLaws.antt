@@ -93,6 +93,14 @@ collected_grows b r i =
 one_collected : (t : Option (ℕ × ℕ)) (c : ℕ) (s : ℕ × ℕ) → IsWithin c s → IsWider (Some (c, c)) (collected t s)
 one_collected t c s within = collected_each None t (c, c) s tt within
 
+-- what lies in a span lies in the one around it
+pub within_inside : (c n : ℕ) (r s : List (ℕ × ℕ)) → AllInside r s → IsWithin c (span_at r n) → IsWithin c (span_at s n)
+within_inside c n r s under within =
+    elim (low_or_over n (length r)) [
+      | inl low ↦ (let u = under.each n low in let u0 = u.0 in let u1 = u.1 in let w0 = within.0 in let w1 = within.1 in (omega arith, omega arith))
+      | inr over ↦ subst (λ (t : ℕ × ℕ). IsWithin c t) (past_end r n (0, 0) over ∙ sym (past_end s n (0, 0) (let e = under.same_length in omega arith))) within
+    ]
+
 pub total_is_recording : IsRecording (List (ℕ × ℕ)) (List (Option (ℕ × ℕ))) span_order total_recording
 total_is_recording = record {
   first_is_of = λ o suited. length-set (replicate (length o.nodes) (0, 0)) 0 (1, 1) ∙ length-replicate (length o.nodes) (0, 0);
@@ -110,7 +118,7 @@ total_is_recording = record {
   finished_grows = λ o r b n is low. collected_grows b r;
   covers_grown = λ o r a b past grows covered. covered;
   sums_up_grown = λ o a b past grows summed n low. wider_farther (Some (visits n past, visits n past)) (spread_at a n) (spread_at b n) (summed n low) (grows n);
-  above_covers = λ o r s b past under covered n low. above n r s past under (covered n low);
+  above_covers = λ o r s b past under covered n low. within_inside (visits n past) n r s under (covered n low);
   first_covers = λ o b suited book_is n low. same_within (visits n (0 ∷ [])) _ (start_at (length o.nodes) n (omega arith) low);
   gone_covers = λ o r b n k past is walk covered m low. visited r k m (n ∷ past) (let e = is.recorder in let k_low = node_low o k walk.1 in omega arith) (covered m low);
   finished_covers = λ o r b n past is walk covered m low. subst (λ (t : Option (ℕ × ℕ)). IsWider (Some (visits m (n ∷ past), visits m (n ∷ past))) t) (sym (at_collected b r m (let e = is.book in omega arith))) (one_collected (spread_at b m) (visits m (n ∷ past)) (span_at r m) (covered m low));
@@ -128,10 +136,3 @@ total_is_recording = record {
 
     same_within : (c : ℕ) (s : ℕ × ℕ) → s ≡ (c, c) → IsWithin c s
     same_within c s same = subst (λ (t : ℕ × ℕ). IsWithin c t) (sym same) (omega arith, omega arith)
-
-    above : (n : ℕ) (r s : List (ℕ × ℕ)) (past : List ℕ) → AllInside r s → IsWithin (visits n past) (span_at r n) → IsWithin (visits n past) (span_at s n)
-    above n r s past under within =
-        elim (low_or_over n (length r)) [
-          | inl low ↦ (let u = under.each n low in let u0 = u.0 in let u1 = u.1 in let w0 = within.0 in let w1 = within.1 in (omega arith, omega arith))
-          | inr over ↦ subst (λ (t : ℕ × ℕ). IsWithin (visits n past) t) (past_end r n (0, 0) over ∙ sym (past_end s n (0, 0) (let e = under.same_length in omega arith))) within
-        ]

@@ -1,2 +1,5 @@
 mod Factors
+mod MaskSizes
+mod Parts
 mod Places
+mod Shifted

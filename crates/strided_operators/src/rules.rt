@@ -3,6 +3,7 @@
 ghost use Rattle.std.specs.Prelude.{◌≡◌, ◌≢◌, ◌≤◌, ◌<◌, ◌^◌, pos, neg_ℤ, ◌≤ℤ◌, ◌<ℤ◌};
 ghost use Rattle.progressions.specs.Images.{quotients as quotients_of};
 ghost use Rattle.progressions.specs.Parts.{IsPiece};
+ghost use Rattle.progressions.specs.Progressions.{full};
 ghost use Rattle.strided_rules.specs.Rules.{rests as rests_of, toward_zero as toward_zero_of, signed_rests as signed_rests_of, least_rest as least_rest_of, greatest_rest as greatest_rest_of};
 
 use crate::over::Rule;
@@ -22,18 +23,22 @@ impl Rule for Same {
     }
 }
 
-/// Quotients by a number above 0, rounded down.
+/// Quotients by 2 to a number of bits, rounded down.
 #[derive(Clone, Copy, Drop)]
-pub struct Quotients {
-    pub divisor: Whole,
-    ghost positive: { pos 0 <ℤ divisor },
+pub struct Shifts {
+    pub bits: u64,
 }
 
-impl Rule for Quotients {
-    ghost gives = { λ r p. quotients_of r.divisor p };
+impl Rule for Shifts {
+    ghost gives = { λ r p. quotients_of (full r.bits) p };
 
+    // Past 66 bits nothing but the sign is left of a number within 2 to the 64.
     fn at(&self, p: &Progression) -> Progression {
-        p.quotients(self.divisor)
+        if self.bits < 66 {
+            p.quotients(Whole::power_of_two(self.bits as u32))
+        } else {
+            p.quotients(Whole::power_of_two(66))
+        }
     }
 }
 

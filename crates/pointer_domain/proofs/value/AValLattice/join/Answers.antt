@@ -1,7 +1,11 @@
 use Rattle.std.proofs.Common.{◌≡◌, ap, sym, subst, ◌∙◌}
-use Rattle.pointer_rules.specs.AbstractValues.{IsAbstract, either_words, with_places}
+use Rattle.pointer_rules.specs.AbstractValues.{AbstractValue, IsAbstract, AreAlike, joined}
 use Rattle.pointer_rules.specs.ValueLaws.{joined_is}
 use Rattle.pointer_domain.proofs.value.AValLattice.join.Goals as goal
 
 pub invariant_of-result : goal.invariant_of-result
-invariant_of-result c = let v = c.self.view_is in let w = c.in_ok-places.ensures.items in let d = c.deref.ensures.value in let e = c.deref-2.ensures.value in rw (c.either_words-words.ensures, c.in_ok-put_all.ensures) ?
+invariant_of-result c =
+    let a : AbstractValue = record { words = c.self.inside.words; places = c.self.inside.places.items } in
+    let b : AbstractValue = record { words = c.other.inside.words; places = c.other.inside.places.items } in
+    let alike : AreAlike a b = subst (λ v. AreAlike v b) (sym c.self.view_is) (subst (λ w. AreAlike c.args.self.now w) (sym c.other.view_is) c.requires) in
+    rw (c.either_words-words.ensures, c.in_ok-put_all.ensures, c.in_ok-places.ensures.items, c.deref.ensures.value, c.deref-2.ensures.value) (joined_is a b alike)

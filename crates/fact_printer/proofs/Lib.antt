@@ -1,0 +1,2 @@
+-- What the printer rests on.
+pub mod Printing

@@ -1,0 +1,3 @@
+-- The text of a report, and how it is put together.
+pub mod Canonical
+pub mod Printing

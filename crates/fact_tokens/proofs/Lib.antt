@@ -1,0 +1,3 @@
+-- The first token of a text, and printed texts.
+pub mod Cutting
+pub mod Printed

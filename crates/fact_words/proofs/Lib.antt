@@ -1,0 +1,2 @@
+-- The parts of names.
+pub mod NameParts

@@ -1,0 +1,26 @@
+//! What the definitions promise, as clauses of functions that do nothing.
+
+ghost use Rattle.std.specs.Prelude.{◌≡◌, ◌⊎◌, List, ℕ};
+ghost use Rattle.domain_core.specs.Outlines.{Shape};
+ghost use Rattle.flow_facts.specs.Facts.{IsWider, Meets};
+ghost use Rattle.flow_facts.specs.Writable.{IsBefore};
+
+use crate::Fact;
+
+/// The order of lines tells any two facts apart: so facts that ascend have one order, and no fact
+/// stands among them twice.
+pub fn lines_order_facts(f: Fact, g: Fact, h: Fact)
+    ensures further { IsBefore f g → IsBefore g h → IsBefore f h }
+    ensures once { IsBefore f f → ⊥ }
+    ensures all { (f ≡ g) ⊎ IsBefore f g ⊎ IsBefore g f }
+{
+    let _ = (f, g, h);
+}
+
+/// A fact with a least count that is not greater and a greatest that is not less is met where the
+/// narrower one is.
+pub fn wider_facts_are_met(fact: Fact, wider: Fact)
+    ensures { IsWider fact wider → (o : Shape) (trace : List ℕ) → Meets o trace fact → Meets o trace wider }
+{
+    let _ = (fact, wider);
+}

@@ -1,0 +1,8 @@
+-- What the loop keeps.
+use Rattle.std.proofs.Common.{◌≡◌, ℕ, cond}
+use Rattle.run_recordings.specs.TallyRules.{is_at, key_at}
+use Rattle.run_recordings.specs.Generated.{generated}
+use Rattle.flow_recorders.proofs.begun.begun.Given as goal
+
+abbrev pub invariant-loop-i : goal.invariant-loop-i
+invariant-loop-i l = l.spans.items ≡ generated l.i (λ (k : ℕ). cond (is_at (key_at l.nodes k) 0) (1, 1) (0, 0))

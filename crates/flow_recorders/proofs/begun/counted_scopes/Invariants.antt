@@ -1,0 +1,9 @@
+-- What the loop keeps.
+use Rattle.std.proofs.Common.{◌≡◌}
+use Rattle.domain_core.specs.Outlines.{shape_of}
+use Rattle.run_recordings.specs.LoopRules.{counted_scope}
+use Rattle.run_recordings.specs.Generated.{generated}
+use Rattle.flow_recorders.proofs.begun.counted_scopes.Given as goal
+
+abbrev pub invariant-loop-n : goal.invariant-loop-n
+invariant-loop-n l = l.keys.items ≡ generated l.n (counted_scope (shape_of l.outline))

@@ -1,0 +1,13 @@
+-- What is left to show of `go`.
+use Rattle.std.proofs.Common.{◌∙◌}
+use Rattle.run_recordings.specs.TotalLaws.{node_low}
+use Rattle.run_recordings.specs.LoopRules.{count_tally, count_lengths}
+use Rattle.flow_recorders.proofs.Tallying.{ledger_of}
+use Rattle.flow_recorders.proofs.counts.CountsRecorder.go.Goals as goal
+
+pub go_on-requires-clause-ledger : goal.go_on-requires-clause-ledger
+go_on-requires-clause-ledger c =
+    ledger_of (count_tally c.args.outline.now) c.book.inside.tallies c.args.book.now c.args.self.now c.deref_mut.result.now (count_lengths c.args.outline.now) c.book.view_is (c.deref_mut.ensures.value ∙ c.self.view_is) c.requires.book c.requires.recorder
+
+pub go_on-requires-clause-from : goal.go_on-requires-clause-from
+go_on-requires-clause-from c = node_low c.args.outline.now c.args.from (c.kept.ensures.edges_within c.args.from c.args.to c.requires.edge).0

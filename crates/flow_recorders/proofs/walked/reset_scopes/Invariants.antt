@@ -1,0 +1,10 @@
+-- What the loop over the scopes keeps.
+use Rattle.std.proofs.Common.{◌≡◌, ◌<◌, ℕ, length, drop}
+use Rattle.run_recordings.specs.TotalRules.{span_at}
+use Rattle.run_recordings.specs.TallyRules.{key_at}
+use Rattle.flow_recorders.proofs.Walking.{reset_each}
+use Rattle.flow_recorders.proofs.walked.reset_scopes.Given as goal
+
+abbrev pub invariant-loop-scope : goal.invariant-loop-scope
+invariant-loop-scope l = (j : ℕ) → j < length l.fn.spans
+    → reset_each (key_at l.chains j) (span_at l.spans j) (drop l.scope-index l.scopes) ≡ reset_each (key_at l.chains j) (span_at l.fn.spans j) l.scopes

@@ -1,5 +1,0 @@
-use Rattle.interval_congruence.proofs.Bounds.{IsFar, piece_small}
-use Rattle.interval_congruence.proofs.kept.between.Goals as goal
-
-pub between-requires-clause-small : goal.between-requires-clause-small
-between-requires-clause-small c = let piece : IsFar c.in-Some.p = rw c.in-Some.is at c.requires in piece_small c.in-Some.p piece

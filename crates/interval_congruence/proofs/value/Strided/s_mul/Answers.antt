@@ -1,0 +1,5 @@
+use Rattle.interval_congruence.proofs.Takes.{signed_halves}
+use Rattle.interval_congruence.proofs.value.Strided.s_mul.Goals as goal
+
+pub signed_pair-requires-clause-takes : goal.signed_pair-requires-clause-takes
+signed_pair-requires-clause-takes c s t = signed_halves c.args.self c.args.other s t c.requires

@@ -7,8 +7,13 @@
 // The values.
 mod part;
 mod places;
+mod same;
 mod value;
 
-
+// What operators give at them.
+mod apply;
+mod choice;
+mod choices;
+mod rules;
 
 pub use value::AVal;

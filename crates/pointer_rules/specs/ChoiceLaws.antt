@@ -38,7 +38,7 @@ sized_numbers [] (x ∷ args) suits = absurd suits
 sized_numbers (size ∷ sizes) [] suits = absurd suits
 sized_numbers (size ∷ sizes) (x ∷ args) suits = ((sized_number size x suits.0).size, sized_numbers sizes args suits.1)
 
-kept_numbers : (sizes : List ℕ) (args : List Alternative) → EachSuits sizes args → AreKept stride_sets (map numbers_of args)
+pub kept_numbers : (sizes : List ℕ) (args : List Alternative) → EachSuits sizes args → AreKept stride_sets (map numbers_of args)
 kept_numbers [] [] suits d c = no_member d c
 kept_numbers [] (x ∷ args) suits d c = absurd suits
 kept_numbers (size ∷ sizes) [] suits d c = absurd suits

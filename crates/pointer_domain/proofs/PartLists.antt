@@ -12,7 +12,7 @@ use Rattle.std.specs.declared.alloc.Global.{Global}
 use Rattle.alf_ops.specs.declared.operator.Op.{Op}
 use Rattle.alf_ops.specs.Table.{result_size, size_of_result, operand_sizes}
 use Rattle.strided_rules.specs.Strides.{Stride}
-use Rattle.pointer_rules.specs.AbstractValues.{AbstractValue, Alternative, IsAbstract, HasSize, AreAlike, place_of, alternatives}
+use Rattle.pointer_rules.specs.AbstractValues.{AbstractValue, Alternative, HasSize, AreAlike, place_of, alternatives}
 use Rattle.pointer_rules.specs.Choices.{Outcome, each_after, each_first, choices, at_choice, united, gathered}
 use Rattle.pointer_rules.specs.Covering.{EachSuits, IsValue, IsOutcome}
 use Rattle.pointer_rules.specs.ApplyLaws.{EachOf, suit_choices, suit_operands, either_is, alike, choice_is}

@@ -3,7 +3,7 @@
 --   rule_suits   where an operand is a pointer, the words and the operands suit the rule
 --   place_at     the part at a place
 --   numbers_taken   the words and offsets of their places, as many as there are
-use Rattle.std.proofs.Common.{◌≡◌, ◌≢◌, ℕ, zero, suc, true, List, [], ◌∷◌, map, take, length, Option, None, Some, IsSome, ◌<◌, ◌≤◌, arith, refl, sym, ap, subst, ◌∙◌, get_or}
+use Rattle.std.proofs.Common.{◌≡◌, ◌≢◌, ℕ, zero, suc, true, List, [], ◌∷◌, map, take, length, Option, None, Some, IsSome, ◌<◌, ◌≤◌, arith, refl, ap, ◌∙◌, get_or}
 use Rattle.std.proofs.lemmas.Slice.Zip.{AllZip-long}
 use Rattle.std.proofs.lemmas.List.{length-map}
 use Rattle.flat_domain.specs.OperatorSizes.{few_operands}

@@ -2,10 +2,10 @@
 --   put_at       at the frame that stands there already
 --   are_at       each place is one
 --   put_before   before the first greater frame, or after all
-use Rattle.std.proofs.Common.{◌≡◌, ◌≢◌, ℕ, zero, suc, Bool, true, false, List, [], ◌∷◌, ◌++◌, Option, Some, None, length, take, drop, ◌<◌, ◌≤◌, ◌+◌, arith, refl, sym, ap, subst, ◌∙◌, slice_get, slice_set}
-use Rattle.std.specs.Prelude.{◌==◌, nat_lt, slice_index_or}
+use Rattle.std.proofs.Common.{◌≡◌, ◌≢◌, ℕ, zero, suc, true, List, [], ◌∷◌, Some, ◌<◌, arith, refl, sym, ap, subst, ◌∙◌, slice_get, slice_set}
+use Rattle.std.specs.Prelude.{◌==◌, nat_lt}
 use Rattle.std.specs.List.{insert}
-use Rattle.std.proofs.lemmas.Bool.{eqb-true, eqb-false, eq-eqb, ltb-true, ltb-false, lt-ltb}
+use Rattle.std.proofs.lemmas.Bool.{eqb-true, eq-eqb, ltb-true, ltb-false, lt-ltb}
 use Rattle.lists.specs.Tests.{by_test}
 use Rattle.strided_rules.specs.Strides.{Stride, joined}
 use Rattle.pointer_rules.specs.AbstractValues.{ArePlaces, IsPlace, with_place}

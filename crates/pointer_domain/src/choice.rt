@@ -88,11 +88,7 @@ fn some_place(a: Part, b: Part, c: Part) -> bool
 fn some_pointer(chosen: &[Part]) -> bool
     ensures { result ≡ (is_place_of (alternative_at (map alternative_of chosen.now) 0) || is_place_of (alternative_at (map alternative_of chosen.now) 1) || is_place_of (alternative_at (map alternative_of chosen.now) 2)) }
 {
-    some_place(
-        part_at(chosen, 0),
-        part_at(chosen, 1),
-        part_at(chosen, 2),
-    )
+    some_place(part_at(chosen, 0), part_at(chosen, 1), part_at(chosen, 2))
 }
 
 /// What the operator gives where one of the parts is a pointer.
@@ -117,12 +113,7 @@ fn at_places(
 }
 
 /// What the operator gives at words.
-fn at_words(
-    alloc: Global,
-    op: Op,
-    sizes: &[u32],
-    chosen: &[Part],
-) -> (Option<AVal>, FaultSet)
+fn at_words(alloc: Global, op: Op, sizes: &[u32], chosen: &[Part]) -> (Option<AVal>, FaultSet)
     requires typed { IsSome (result_size op sizes.now) }
     requires suits { EachSuits (operand_sizes op sizes.now) (map alternative_of chosen.now) }
     ensures { outcome_of result ≡ at_words_of op sizes.now (map alternative_of chosen.now) }

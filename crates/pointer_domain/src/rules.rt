@@ -133,12 +133,7 @@ fn equality(
 }
 
 /// Two pointers to one frame compare offsets.
-fn order(
-    alloc: Global,
-    numbers: Option<Strided>,
-    a: Part,
-    b: Part,
-) -> (Option<AVal>, FaultSet)
+fn order(alloc: Global, numbers: Option<Strided>, a: Part, b: Part) -> (Option<AVal>, FaultSet)
     ensures { outcome_of result ≡ order_of numbers (alternative_of a) (alternative_of b) }
 {
     match (a, b) {
@@ -183,12 +178,7 @@ fn chosen(alloc: Global, bit: Strided, a: Part, b: Part) -> Result<AVal, AllocEr
 }
 
 /// Either value may be a pointer, the bit may not.
-fn choice(
-    alloc: Global,
-    c: Part,
-    a: Part,
-    b: Part,
-) -> Result<(Option<AVal>, FaultSet), AllocError>
+fn choice(alloc: Global, c: Part, a: Part, b: Part) -> Result<(Option<AVal>, FaultSet), AllocError>
     requires { AreAlike (alone_of (alternative_of a)) (alone_of (alternative_of b)) }
     ensures { IfOk result (λ r. outcome_of r ≡ choice_of (alternative_of c) (alternative_of a) (alternative_of b)) }
 {

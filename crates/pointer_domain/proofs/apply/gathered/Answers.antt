@@ -1,11 +1,12 @@
-use Rattle.std.proofs.Common.{map, refl}
+use Rattle.std.proofs.Common.{map, ap, None}
+use Rattle.domain_core.specs.declared.fault_set.FaultSet.{FaultSet}
 use Rattle.pointer_rules.specs.Choices.{at_choice, gathered, nothing}
 use Rattle.pointer_domain.specs.Parts.{parts_of, outcome_of}
 use Rattle.pointer_domain.proofs.PartLists.{first_suits, first_alike, first_gathered}
 use Rattle.pointer_domain.proofs.apply.gathered.Goals as goal
 
 pub loop-first-init : goal.loop-first-init
-loop-first-init c = record { same = refl; suits = c.requires.suits; is = tt }
+loop-first-init c = record { same = ap (λ (f : FaultSet). gathered (record { value = None; faults = f }) (map (at_choice c.args.op c.args.sizes.now) (map parts_of c.args.all.now))) c.none.ensures; suits = c.requires.suits; is = tt }
 
 pub at_choice-requires-clause-suits : goal.at_choice-requires-clause-suits
 at_choice-requires-clause-suits c = first_suits c.args.op c.args.sizes.now (outcome_of c.loop-first.so_far) (gathered nothing (map (at_choice c.args.op c.args.sizes.now) (map parts_of c.args.all.now)))

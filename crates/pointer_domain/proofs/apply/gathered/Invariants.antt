@@ -1,4 +1,4 @@
-use Rattle.std.proofs.Common.{map, length, ℕ}
+use Rattle.std.proofs.Common.{map, length}
 use Rattle.pointer_rules.specs.Choices.{at_choice, gathered, nothing}
 use Rattle.pointer_domain.specs.Parts.{parts_of, outcome_of}
 use Rattle.pointer_domain.proofs.PartLists.{Gathers}

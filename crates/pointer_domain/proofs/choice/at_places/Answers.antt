@@ -1,4 +1,4 @@
-use Rattle.std.proofs.Common.{map, sym, ◌∙◌}
+use Rattle.std.proofs.Common.{map, sym}
 use Rattle.pointer_domain.specs.Parts.{alternative_of}
 use Rattle.pointer_domain.proofs.PlaceRules.{rule_suits}
 use Rattle.pointer_domain.proofs.choice.at_places.Goals as goal

@@ -1,4 +1,4 @@
-use Rattle.std.proofs.Common.{sym, ◌∙◌}
+use Rattle.std.proofs.Common.{sym}
 use Rattle.pointer_domain.proofs.choice.some_pointer.Goals as goal
 
 pub returns : goal.returns

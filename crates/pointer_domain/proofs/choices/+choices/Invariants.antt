@@ -1,4 +1,4 @@
-use Rattle.std.proofs.Common.{length, ℕ}
+use Rattle.std.proofs.Common.{length}
 use Rattle.pointer_domain.proofs.choices.+choices.Given as goal
 
 abbrev pub decreases-choices : goal.decreases-choices

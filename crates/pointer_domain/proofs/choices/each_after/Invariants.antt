@@ -1,4 +1,4 @@
-use Rattle.std.proofs.Common.{◌≡◌, ◌++◌, map, length, ℕ}
+use Rattle.std.proofs.Common.{◌≡◌, ◌++◌, map, length}
 use Rattle.pointer_rules.specs.Choices.{each_after}
 use Rattle.pointer_domain.specs.Parts.{alternative_of, parts_of}
 use Rattle.pointer_domain.proofs.choices.each_after.Given as goal

@@ -1,4 +1,3 @@
-use Rattle.std.proofs.Common.{◌≡◌, ap, sym, subst, ◌∙◌}
 use Rattle.pointer_rules.specs.AbstractValues.{alternatives}
 use Rattle.pointer_domain.proofs.PartLists.{more_parts}
 use Rattle.pointer_domain.proofs.choices.parts.Goals as goal

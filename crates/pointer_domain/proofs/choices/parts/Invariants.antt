@@ -1,4 +1,4 @@
-use Rattle.std.proofs.Common.{◌≡◌, ◌++◌, map, length, ℕ}
+use Rattle.std.proofs.Common.{◌≡◌, ◌++◌, map, length}
 use Rattle.pointer_rules.specs.AbstractValues.{place_of, alternatives}
 use Rattle.pointer_domain.specs.Parts.{alternative_of}
 use Rattle.pointer_domain.proofs.choices.parts.Given as goal

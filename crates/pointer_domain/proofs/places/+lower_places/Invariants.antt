@@ -1,4 +1,4 @@
-use Rattle.std.proofs.Common.{length, ℕ}
+use Rattle.std.proofs.Common.{length}
 use Rattle.pointer_domain.proofs.places.+lower_places.Given as goal
 
 abbrev pub decreases-lower_places : goal.decreases-lower_places

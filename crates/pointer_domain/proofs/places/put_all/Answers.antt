@@ -1,4 +1,4 @@
-use Rattle.std.proofs.Common.{◌≡◌, ◌∷◌, ap, sym, subst, ◌∙◌}
+use Rattle.std.proofs.Common.{◌≡◌, ◌∷◌, subst}
 use Rattle.pointer_rules.specs.AbstractValues.{ArePlaces, with_places}
 use Rattle.pointer_rules.specs.ValueLaws.{with_place_are}
 use Rattle.pointer_domain.proofs.places.put_all.Goals as goal

@@ -1,4 +1,4 @@
-use Rattle.std.proofs.Common.{◌≡◌, length, ℕ}
+use Rattle.std.proofs.Common.{◌≡◌, length}
 use Rattle.pointer_rules.specs.AbstractValues.{ArePlaces, with_places}
 use Rattle.pointer_domain.proofs.places.put_all.Given as goal
 

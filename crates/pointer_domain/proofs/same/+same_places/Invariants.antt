@@ -1,4 +1,4 @@
-use Rattle.std.proofs.Common.{length, ℕ}
+use Rattle.std.proofs.Common.{length}
 use Rattle.pointer_domain.proofs.same.+same_places.Given as goal
 
 abbrev pub decreases-same_places : goal.decreases-same_places

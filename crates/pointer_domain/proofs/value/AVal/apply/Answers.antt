@@ -1,4 +1,4 @@
-use Rattle.std.proofs.Common.{◌≡◌, map, ap, subst, ◌∙◌}
+use Rattle.std.proofs.Common.{◌≡◌, map, ap, ◌∙◌}
 use Rattle.alf_ops.specs.Table.{operand_sizes}
 use Rattle.pointer_rules.specs.AbstractValues.{alternatives}
 use Rattle.pointer_rules.specs.Choices.{choices, at_choice, gathered, nothing}

@@ -1,5 +1,5 @@
-use Rattle.std.proofs.Common.{◌≡◌, ap, sym, subst, ◌∙◌}
-use Rattle.pointer_rules.specs.AbstractValues.{AbstractValue, IsAbstract, AreAlike, joined}
+use Rattle.std.proofs.Common.{sym, subst}
+use Rattle.pointer_rules.specs.AbstractValues.{AbstractValue, AreAlike}
 use Rattle.pointer_rules.specs.ValueLaws.{joined_is}
 use Rattle.pointer_domain.proofs.value.AValLattice.join.Goals as goal
 

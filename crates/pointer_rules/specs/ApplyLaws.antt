@@ -33,7 +33,7 @@ abbrev OneOf : {A : Type 0} → (A → Type 0) → List A → Type 0
 OneOf P [] = ⊥
 OneOf P (x ∷ xs) = P x ⊎ OneOf P xs
 
-abbrev EachOf : {A : Type 0} → (A → Type 0) → List A → Type 0
+abbrev pub EachOf : {A : Type 0} → (A → Type 0) → List A → Type 0
 EachOf P [] = Unit {0}
 EachOf P (x ∷ xs) = P x × EachOf P xs
 
@@ -99,7 +99,7 @@ one_choice [] (value ∷ values) each = absurd each
 one_choice (operand ∷ operands) [] each = absurd each
 one_choice (operand ∷ operands) (value ∷ values) each = one_first operand value values (choices operands) each.0 (one_choice operands values each.1)
 
-suit_choices : (sizes : List ℕ) (operands : List (List Alternative)) → AllZip (λ size alternatives. EachOf (SuitsSize size) alternatives) sizes operands
+pub suit_choices : (sizes : List ℕ) (operands : List (List Alternative)) → AllZip (λ size alternatives. EachOf (SuitsSize size) alternatives) sizes operands
     → EachOf (EachSuits sizes) (choices operands)
 suit_choices [] [] each = (tt, tt)
 suit_choices [] (operand ∷ operands) each = absurd each
@@ -139,7 +139,7 @@ one_alternative : (v : AbstractValue) (value : Value) → Covers v value → One
 one_alternative v (Int size bits) there = one_left (λ x. IsOf x (Int size bits)) (words_first v.words) (map place_of v.places) (one_word_of v.words size bits there)
 one_alternative v (Ptr frame offset) there = one_right (λ x. IsOf x (Ptr frame offset)) (words_first v.words) (map place_of v.places) (one_place_of v.places frame offset there)
 
-suit_operands : (sizes : List ℕ) (args : List AbstractValue) → AllZip IsValue sizes args → AllZip (λ size alternatives. EachOf (SuitsSize size) alternatives) sizes (map alternatives args)
+pub suit_operands : (sizes : List ℕ) (args : List AbstractValue) → AllZip IsValue sizes args → AllZip (λ size alternatives. EachOf (SuitsSize size) alternatives) sizes (map alternatives args)
 suit_operands [] [] each = tt
 suit_operands [] (v ∷ args) each = absurd each
 suit_operands (size ∷ sizes) [] each = absurd each
@@ -159,10 +159,10 @@ joined_value size a b is_a is_b =
     let both : AreAlike a b = record { size = size; first = (is_a.is, is_a.sized); second = (is_b.is, is_b.sized) } in
     record { is = joined_is a b both; sized = joined_size a b both }
 
-alike : (size : ℕ) (a b : AbstractValue) → IsValue size a → IsValue size b → AreAlike a b
+pub alike : (size : ℕ) (a b : AbstractValue) → IsValue size a → IsValue size b → AreAlike a b
 alike size a b is_a is_b = record { size = size; first = (is_a.is, is_a.sized); second = (is_b.is, is_b.sized) }
 
-either_is : (size : ℕ) (a b : Option AbstractValue) → IfSome a (IsValue size) → IfSome b (IsValue size) → IfSome (either_value a b) (IsValue size)
+pub either_is : (size : ℕ) (a b : Option AbstractValue) → IfSome a (IsValue size) → IfSome b (IsValue size) → IfSome (either_value a b) (IsValue size)
 either_is size None b is_a is_b = is_b
 either_is size (Some a) None is_a is_b = is_a
 either_is size (Some a) (Some b) is_a is_b =
@@ -237,16 +237,16 @@ alone_of None (place ∷ other ∷ places) value is are ascending there one =
 pub value_alone : (size : ℕ) (v : AbstractValue) (value : Value) → IsValue size v → OnlyCovers v value → (x : Alternative) × (v ≡ alone x) × OnlyOf x value
 value_alone size v value is only = alone_of v.words v.places value is.is.words is.is.places is.is.ascending only.is only.one
 
-alone_alternatives : (x : Alternative) → alternatives (alone x) ≡ x ∷ []
+pub alone_alternatives : (x : Alternative) → alternatives (alone x) ≡ x ∷ []
 alone_alternatives (Words words) = refl
 alone_alternatives (Places frame offsets) = refl
 
 -- each operand has this one alternative
-abbrev singles : List Alternative → List (List Alternative)
+abbrev pub singles : List Alternative → List (List Alternative)
 singles [] = []
 singles (x ∷ args) = (x ∷ []) ∷ singles args
 
-only_choice : (args : List Alternative) → choices (singles args) ≡ args ∷ []
+pub only_choice : (args : List Alternative) → choices (singles args) ≡ args ∷ []
 only_choice [] = refl
 only_choice (x ∷ args) = rw (only_choice args) refl
 
@@ -267,7 +267,7 @@ all_alone (size ∷ sizes) (v ∷ args) (value ∷ values) each only =
 is_chosen : (op : Op) (sizes : List ℕ) (args : List Alternative) (values : List Value) → IsSome (result_size op sizes) → EachIsOf args values × EachSuits (operand_sizes op sizes) args → Chosen op sizes args values
 is_chosen op sizes args values typed both = record { typed = typed; suits = both.1; is = both.0 }
 
-choice_is : (op : Op) (sizes : List ℕ) (args : List Alternative) → IsSome (result_size op sizes) → EachSuits (operand_sizes op sizes) args → IsOutcome (size_of_result op sizes) (at_choice op sizes args)
+pub choice_is : (op : Op) (sizes : List ℕ) (args : List Alternative) → IsSome (result_size op sizes) → EachSuits (operand_sizes op sizes) args → IsOutcome (size_of_result op sizes) (at_choice op sizes args)
 choice_is op sizes args typed suits = let values = some_values (operand_sizes op sizes) args suits in
     (choice_answers op sizes args values.0 (record { typed = typed; suits = suits; is = values.1 })).is
   where

@@ -32,13 +32,13 @@ sized_number : (size : ℕ) (x : Alternative) → SuitsSize size x → IsOfSize 
 sized_number size (Words words) suits = suits
 sized_number size (Places frame offsets) suits = suits.0
 
-sized_numbers : (sizes : List ℕ) (args : List Alternative) → EachSuits sizes args → HaveSizes stride_sets sizes (map numbers_of args)
+pub sized_numbers : (sizes : List ℕ) (args : List Alternative) → EachSuits sizes args → HaveSizes stride_sets sizes (map numbers_of args)
 sized_numbers [] [] suits = tt
 sized_numbers [] (x ∷ args) suits = absurd suits
 sized_numbers (size ∷ sizes) [] suits = absurd suits
 sized_numbers (size ∷ sizes) (x ∷ args) suits = ((sized_number size x suits.0).size, sized_numbers sizes args suits.1)
 
-kept_numbers : (sizes : List ℕ) (args : List Alternative) → EachSuits sizes args → AreKept stride_sets (map numbers_of args)
+pub kept_numbers : (sizes : List ℕ) (args : List Alternative) → EachSuits sizes args → AreKept stride_sets (map numbers_of args)
 kept_numbers [] [] suits d c = no_member d c
 kept_numbers [] (x ∷ args) suits d c = absurd suits
 kept_numbers (size ∷ sizes) [] suits d c = absurd suits

@@ -64,7 +64,7 @@ now_there (place ∷ places) new offset are is there = by_test (place.0 == new.0
     (λ g. rw (e, g, eq-eqb new.0 new.0 refl) there)
     (λ g. rw (e, g, e) (now_there places new offset are.1 is there)))
 
-with_place_are : (places : List (ℕ × Stride)) (new : ℕ × Stride) → ArePlaces places → IsPlace new → ArePlaces (with_place places new)
+pub with_place_are : (places : List (ℕ × Stride)) (new : ℕ × Stride) → ArePlaces places → IsPlace new → ArePlaces (with_place places new)
 with_place_are [] new are is = (is, tt)
 with_place_are (place ∷ places) new are is = by_test (place.0 == new.0)
     (λ e. rw e (let size = stride_is_sets.joined_size place.1 new.1 are.0.offsets is.offsets (are.0.size ∙ sym is.size) in

@@ -1,0 +1,3 @@
+mod PartLists
+mod PlaceRules
+mod Placed

@@ -135,12 +135,7 @@ fn with_bit(
 }
 
 /// What an operator gives at two operands.
-fn at_two(
-    alloc: Global,
-    op: Op,
-    a: AVal,
-    b: AVal,
-) -> Result<(Option<AVal>, FaultSet), AllocError>
+fn at_two(alloc: Global, op: Op, a: AVal, b: AVal) -> Result<(Option<AVal>, FaultSet), AllocError>
     requires a { HasSize a 32 }
     requires b { HasSize b 32 }
 {

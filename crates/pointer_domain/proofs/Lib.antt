@@ -1,3 +1,4 @@
 mod PartLists
 mod PlaceRules
 mod Placed
+mod WordLists

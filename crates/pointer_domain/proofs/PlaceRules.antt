@@ -1,40 +1,23 @@
 -- What the rules for pointers ask, and what the other operators give.
---   other_kind   an operator without a rule for pointers gives the fault kind
 --   rule_suits   where an operand is a pointer, the words and the operands suit the rule
---   place_at     the part at a place
 --   numbers_taken   the words and offsets of their places, as many as there are
-use Rattle.std.proofs.Common.{◌≡◌, ◌≢◌, ℕ, zero, suc, true, List, [], ◌∷◌, map, take, length, Option, None, Some, IsSome, ◌<◌, ◌≤◌, arith, refl, ap, ◌∙◌, get_or}
+use Rattle.std.proofs.Common.{◌≡◌, ℕ, true, List, [], ◌∷◌, map, take, length, Option, None, Some, IsSome, ◌≤◌, arith, refl, ◌∙◌}
 use Rattle.std.proofs.lemmas.Slice.Zip.{AllZip-long}
 use Rattle.std.proofs.lemmas.List.{length-map}
 use Rattle.flat_domain.specs.OperatorSizes.{few_operands}
 use Rattle.std.specs.Prelude.{IfSome, ◌||◌, slice_index}
 use Rattle.alf_ops.specs.declared.operator.Op.{Op}
-use Rattle.alf_ops.specs.declared.operator.Op.TheVariants.{Add, Sub, Eq, Neq, ULt, ULe, UGt, UGe, If}
-use Rattle.alf_ops.specs.declared.history.RunFault.TheVariants.{Kind}
+use Rattle.alf_ops.specs.declared.operator.Op.TheVariants.{Add, Sub, If}
 use Rattle.alf_ops.specs.Table.{result_size, size_of_result, operand_sizes}
-use Rattle.strided_rules.specs.Strides.{Stride, one_word}
+use Rattle.strided_rules.specs.Strides.{Stride}
 use Rattle.strided_rules.specs.StrideLaws.{stride_is_sets}
 use Rattle.pointer_rules.specs.AbstractValues.{Alternative, Words, Places, AreAlike, alone, numbers_of}
-use Rattle.pointer_rules.specs.Choices.{tells, is_place, numbers, by_rule, alternative_at}
+use Rattle.pointer_rules.specs.Choices.{is_place, numbers, alternative_at}
 use Rattle.pointer_rules.specs.Covering.{SuitsSize, EachSuits}
 use Rattle.pointer_rules.specs.RuleLaws.{alone_is}
 use Rattle.pointer_rules.specs.ChoiceLaws.{sized_numbers, kept_numbers}
 use Rattle.pointer_domain.specs.declared.part.Part.{Part}
 use Rattle.pointer_domain.specs.Parts.{alternative_of, SuitsRule}
-
--- an operator without a rule for pointers gives the fault kind
-pub other_kind : (op : Op) (result : Option Stride) (a b c : Alternative) → op ≢ Add → op ≢ Sub → op ≢ Eq → op ≢ Neq → op ≢ ULt → op ≢ ULe → op ≢ UGt → op ≢ UGe → op ≢ If
-    → by_rule op result a b c ≡ tells Kind
-other_kind Add result a b c add sub eq neq lt le gt ge choose = absurd (add refl)
-other_kind Sub result a b c add sub eq neq lt le gt ge choose = absurd (sub refl)
-other_kind Eq result a b c add sub eq neq lt le gt ge choose = absurd (eq refl)
-other_kind Neq result a b c add sub eq neq lt le gt ge choose = absurd (neq refl)
-other_kind ULt result a b c add sub eq neq lt le gt ge choose = absurd (lt refl)
-other_kind ULe result a b c add sub eq neq lt le gt ge choose = absurd (le refl)
-other_kind UGt result a b c add sub eq neq lt le gt ge choose = absurd (gt refl)
-other_kind UGe result a b c add sub eq neq lt le gt ge choose = absurd (ge refl)
-other_kind If result a b c add sub eq neq lt le gt ge choose = absurd (choose refl)
-other_kind op result a b c add sub eq neq lt le gt ge choose = refl
 
 -- ---- where an operand is a pointer
 
@@ -85,17 +68,6 @@ rule_suits If sizes args typed suits some = alike_members (slice_index sizes 0) 
 rule_suits op sizes args typed suits some = tt
 
 -- ---- parts by their places
-
-pub place_at : (chosen : List Part) (i : ℕ) (x : Part) → i < length chosen → x ≡ get_or chosen i x → alternative_of x ≡ alternative_at (map alternative_of chosen) i
-place_at [] i x within is = absurd (omega (arith, within))
-place_at (first ∷ chosen) zero x within is = ap alternative_of is
-place_at (first ∷ chosen) (suc i) x within is = place_at chosen i x (omega (arith, within)) is
-
-pub place_past : (chosen : List Part) (i : ℕ) → length chosen ≤ i → alternative_at (map alternative_of chosen) i ≡ Words (one_word 1 0)
-place_past [] zero past = refl
-place_past [] (suc i) past = refl
-place_past (first ∷ chosen) zero past = absurd (omega (arith, past))
-place_past (first ∷ chosen) (suc i) past = place_past chosen i (omega (arith, past))
 
 pub numbers_taken : (chosen : List Part) → length chosen ≤ 3
     → take (length chosen) (numbers_of (alternative_at (map alternative_of chosen) 0) ∷ numbers_of (alternative_at (map alternative_of chosen) 1) ∷ numbers_of (alternative_at (map alternative_of chosen) 2) ∷ [])

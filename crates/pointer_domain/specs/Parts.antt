@@ -2,6 +2,7 @@
 --   alternative_of part    the part as an alternative
 --   parts_of parts         the parts as alternatives
 --   outcome_of answer      the value, if there is one, and the faults as an outcome
+--   AreWords args words    each value is of words alone, and these are they
 --   AreAbstract args       each is an abstract value
 --   lower places frame     how many places stand before the frame
 --   SuitsRule op numbers a b   the words that the operator gives, and its last operands, suit its rule for pointers
@@ -28,6 +29,13 @@ parts_of parts = map alternative_of parts.items
 -- the value, if there is one, and the faults as an outcome
 abbrev pub outcome_of : Option AbstractValue × FaultSet → Outcome
 outcome_of answer = record { value = answer.0; faults = answer.1 }
+
+-- each value is of words alone, and these are they
+abbrev pub AreWords : List AbstractValue → List Stride → Type 0
+AreWords [] [] = Unit {0}
+AreWords [] (x ∷ words) = ⊥
+AreWords (v ∷ args) [] = ⊥
+AreWords (v ∷ args) (x ∷ words) = (v ≡ alone (Words x)) × AreWords args words
 
 -- each is an abstract value
 abbrev pub AreAbstract : List AbstractValue → Type 0

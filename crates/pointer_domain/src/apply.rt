@@ -13,6 +13,7 @@ use crate::choice::at_choice;
 use crate::choices::choices;
 use crate::part::Part;
 use crate::value::AVal;
+use crate::words::at_only_words;
 use alf_ops::Op;
 use domain_core::{FaultSet, Lattice};
 use std::alloc::{AllocError, Global};
@@ -72,7 +73,7 @@ fn gathered(
 impl AVal {
     /// What the operator gives at each choice of one part for each operand: the join of the values, and
     /// the faults. There is no value exactly where no choice gives one. Choices go by the order of the
-    /// parts, the first operand slowest.
+    /// parts, the first operand slowest. At words alone it takes no memory.
     pub fn apply(
         alloc: Global,
         op: Op,
@@ -83,6 +84,9 @@ impl AVal {
         requires sized { AllZip (λ size v. HasSize v size) (operand_sizes op sizes.now) args.now }
         ensures { IfOk result (λ r. outcome_of r ≡ applied op sizes.now args.now) }
     {
+        if let Some(answer) = at_only_words(alloc, op, sizes, args) {
+            return Ok(answer);
+        }
         let all = choices(alloc, args)?;
         let answer = gathered(alloc, op, sizes, &all)?;
         Ok(answer)

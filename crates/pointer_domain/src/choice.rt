@@ -71,7 +71,7 @@ fn divided(divides: bool) -> FaultSet
 }
 
 /// What an operator gives at words.
-fn words_outcome(alloc: Global, answer: Applied<Strided>) -> (Option<AVal>, FaultSet)
+pub fn words_outcome(alloc: Global, answer: Applied<Strided>) -> (Option<AVal>, FaultSet)
     ensures { outcome_of result ≡ words_outcome_of answer }
 {
     (only_words(alloc, answer.value), divided(answer.divide))

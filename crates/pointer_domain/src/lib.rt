@@ -15,5 +15,6 @@ mod apply;
 mod choice;
 mod choices;
 mod rules;
+mod words;
 
 pub use value::AVal;

@@ -1,12 +1,16 @@
 // Goes through calls on strided values, for bench/values, which takes the time.
 #![tactic(auto)]
 
+ghost use Rattle.std.specs.Prelude.{◌≡◌};
+
 use alf_ops::{Op, find, operand, rows, shape};
 use domain_core::Domain;
 use flow_base::{Sink, StdSink};
 use interval_congruence::Strided;
 use operands::fit;
+use pointer_domain::AVal;
 use progressions::Progression;
+use std::alloc::{AllocError, Global};
 use std::env;
 use std::process::ExitCode;
 use whole_numbers::Whole;
@@ -37,7 +41,15 @@ fn main(rt: HostRuntime) -> ExitCode {
     if 3 < written {
         return ExitCode::from(1);
     }
-    let sum = sum_of(count, kinds.as_bytes(), &name, &sizes[..written]);
+    let Ok(sum) = sum_of(
+        rt.alloc(),
+        count,
+        kinds.as_bytes(),
+        &name,
+        &sizes[..written],
+    ) else {
+        return ExitCode::from(1);
+    };
     let Ok(line) = format!(in rt.alloc(); "{sum}\n") else {
         return ExitCode::from(1);
     };
@@ -48,15 +60,22 @@ fn main(rt: HostRuntime) -> ExitCode {
 }
 
 // What so many calls give, told as a number.
-fn sum_of(count: u32, kinds: &[u8], name: &str, sizes: &[u32]) -> u64 {
+fn sum_of(
+    alloc: Global,
+    count: u32,
+    kinds: &[u8],
+    name: &str,
+    sizes: &[u32],
+) -> Result<u64, AllocError> {
     let size = if sizes.is_empty() { 64 } else { sizes[0] };
     match name {
-        "norm" => norms(count, kinds, size, false),
-        "norm_tests" => norms(count, kinds, size, true),
-        "join" => joins(count, kinds, size),
+        "norm" => Ok(norms(count, kinds, size, false)),
+        "norm_tests" => Ok(norms(count, kinds, size, true)),
+        "join" => Ok(joins(count, kinds, size)),
+        "value_add" => sums_of_values(alloc, count, kinds),
         _ => match find(rows(), name) {
-            None => 0,
-            Some(op) => applied(count, kinds, op, sizes),
+            None => Ok(0),
+            Some(op) => Ok(applied(count, kinds, op, sizes)),
         },
     }
 }
@@ -191,4 +210,54 @@ fn applied(count: u32, kinds: &[u8], op: Op, sizes: &[u32]) -> u64 {
         sum = sum.wrapping_add(answer(op, sizes, &given[..many], tests));
     }
     sum
+}
+
+// The sum of abstract values of words alone, of 64 bits and a carry.
+fn sum_of_values(
+    alloc: Global,
+    a: Strided,
+    b: Strided,
+    carry: Strided,
+) -> Result<Option<AVal>, AllocError>
+    requires a { a.size ≡ 64 }
+    requires b { b.size ≡ 64 }
+    requires carry { carry.size ≡ 1 }
+{
+    let args = [
+        AVal::word(alloc, a),
+        AVal::word(alloc, b),
+        AVal::word(alloc, carry),
+    ];
+    let (value, _) = AVal::apply(alloc, Op::Add, &[64], &args)?;
+    Ok(value)
+}
+
+// What all of a value counts for.
+fn mark_of(value: Option<AVal>) -> u64 {
+    match value {
+        None => 0,
+        Some(value) => match value.int() {
+            None => 0,
+            Some(words) => mark(words),
+        },
+    }
+}
+
+// Sums of abstract values of words alone.
+fn sums_of_values(alloc: Global, count: u32, kinds: &[u8]) -> Result<u64, AllocError> {
+    let (a, b, c) = (
+        values(kinds, 0, 64),
+        values(kinds, 1, 64),
+        values(kinds, 2, 1),
+    );
+    let mut sum: u64 = 0;
+    for i in 0..count {
+        let (n, m) = (i as usize % MANY, i as usize / MANY % MANY);
+        let (x, y, carry) = (a[n], b[m], c[n]);
+        if x.size() == 64 && y.size() == 64 && carry.size() == 1 {
+            let value = sum_of_values(alloc, x, y, carry)?;
+            sum = sum.wrapping_add(mark_of(value));
+        }
+    }
+    Ok(sum)
 }

@@ -1,0 +1,2 @@
+-- What the texts of reports promise.
+pub mod Laws

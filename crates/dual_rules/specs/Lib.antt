@@ -1,0 +1,13 @@
+pub mod Firsts
+pub mod Fractions
+pub mod Duals
+pub mod Verdicts
+pub mod Bounds
+pub mod SumLaws
+pub mod Duality
+pub mod FirstLaws
+pub mod RowLaws
+pub mod PointLaws
+pub mod VerdictLaws
+pub mod Sparse
+pub mod SparseLaws

@@ -2,9 +2,9 @@
 --   whole_of point     the product of the denominators
 --   part_of point e    column e over that product
 --   IsPoint, IsFeasible, worth
-use Rattle.std.specs.Prelude.{◌≡◌, ℕ, zero, suc, ℤ, pos, ◌*ℤ◌, ◌≤ℤ◌, Bool, true, false, List, [], ◌∷◌, length, ◌<◌}
-use Rattle.path_rows.specs.Sums.{total, value_at}
-use Rattle.path_rows.specs.Programs.{Row, Program, row_at, cost_at}
+use Rattle.std.specs.Prelude.{◌≡◌, ℕ, zero, suc, ℤ, pos, ◌*ℤ◌, ◌≤ℤ◌, List, [], ◌∷◌, length, ◌<◌}
+use Rattle.path_rows.specs.Points.{Meets}
+use Rattle.path_rows.specs.Programs.{Program, row_at}
 
 -- the product of the denominators
 abbrev pub whole_of : List (ℤ × ℤ) → ℤ

@@ -9,3 +9,5 @@ pub mod FirstLaws
 pub mod RowLaws
 pub mod PointLaws
 pub mod VerdictLaws
+pub mod Sparse
+pub mod SparseLaws

@@ -1,0 +1,20 @@
+-- The files here, each after those that it cites.
+pub mod Remains
+pub mod AddressFaults
+pub mod RemainsLaws
+pub mod AddressFaultLaws
+pub mod Evaluating
+pub mod Doing
+pub mod Filling
+pub mod Refining
+pub mod Stepping
+pub mod Standing
+pub mod EvaluatingLaws
+pub mod DoingLaws
+pub mod FillingLaws
+pub mod PlaceLaws
+pub mod PlaceReading
+pub mod ComparisonLaws
+pub mod RefiningLaws
+pub mod SwitchLaws
+pub mod Machines

@@ -1,0 +1,2 @@
+//! The transfer.
+#![tactic(auto)]

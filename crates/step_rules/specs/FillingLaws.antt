@@ -144,7 +144,7 @@ active_on None frame offset size value history active = refl
 active_on (Some f) frame offset size value history active = active
 
 module _ (table : List FrameRow) (owner : Option ℕ) where
-  inits_told : (Sharp : Type 0) (inits : List InitRow) (m : Mem abstract_sets) (history : List RunEvent) → is_active owner history ≡ true → All (InitFits table owner) inits
+  pub inits_told : (Sharp : Type 0) (inits : List InitRow) (m : Mem abstract_sets) (history : List RunEvent) → is_active owner history ≡ true → All (InitFits table owner) inits
       → Stands Sharp (shapes_of table) m history → Stands Sharp (shapes_of table) (with_inits inits m) (runs.with_inits inits history)
   inits_told Sharp [] m history active fit stands = stands
   inits_told Sharp (init ∷ inits) m history active fit stands =
@@ -166,7 +166,7 @@ module _ (table : List FrameRow) (owner : Option ℕ) where
       inits_run inits (Store init.frame init.offset init.num.size (Int init.num.size init.num.bits) ∷ history)
       (active_on owner init.frame init.offset init.num.size (Int init.num.size init.num.bits) history active)
 
-  inits_kept : (inits : List InitRow) (m : Mem abstract_sets) → All (InitFits table owner) inits → MemSized abstract_sets m → Kept m (with_inits inits m)
+  pub inits_kept : (inits : List InitRow) (m : Mem abstract_sets) → All (InitFits table owner) inits → MemSized abstract_sets m → Kept m (with_inits inits m)
   inits_kept [] m fit sized = unchanged m sized
   inits_kept (init ∷ inits) m fit sized =
       let own = All-head (InitFits table owner) init inits fit in
@@ -226,3 +226,27 @@ module _ (program : NumberedProgram) (keeps : IsKept program) (f : ℕ) (functio
       let first = arguments_kept program.frames k f function.args vs inside is (enter_sized abstract_sets abstract_is_sets (frames_of program) m f sized) in
       kept_on inside (with_arguments function.args vs inside) (with_inits function.inits (with_arguments function.args vs inside)) first
       (inits_kept program.frames (Some f) function.inits (with_arguments function.args vs inside) ((keeps.functions f function at).inits) first.sized))
+
+  -- the same without arguments, as the root is entered
+  no_arguments : (args : List ℕ) (m : Mem abstract_sets) → with_arguments args [] m ≡ m
+  no_arguments [] m = refl
+  no_arguments (frame ∷ args) m = refl
+
+  no_arguments_run : (args : List ℕ) (history : List RunEvent) → runs.with_arguments args [] history ≡ history
+  no_arguments_run [] history = refl
+  no_arguments_run (frame ∷ args) history = refl
+
+  pub entered_inits : (Sharp : Type 0) (m : Mem abstract_sets) (history : List RunEvent) → Stands Sharp (frames_of program) m history
+      → Stands Sharp (frames_of program) (entered_with program f [] m) (runs.entered program f [] history) × (is_running (runs.entered program f [] history) f ≡ true)
+  entered_inits Sharp m history stands =
+      rw (args_are, inits_are, no_arguments function.args (entered abstract_sets (frames_of program) m f), no_arguments_run function.args (Enter f ∷ history)) (
+        inits_told program.frames (Some f) Sharp function.inits (entered abstract_sets (frames_of program) m f) (Enter f ∷ history) (running_in history) ((keeps.functions f function at).inits)
+            (entered_stands Sharp (frames_of program) m history f stands),
+        inits_run program.frames (Some f) function.inits (Enter f ∷ history) (running_in history),
+      )
+
+  pub entered_inits_kept : (m : Mem abstract_sets) → MemSized abstract_sets m → Kept (entered abstract_sets (frames_of program) m f) (entered_with program f [] m)
+  entered_inits_kept m sized =
+      rw (args_are, inits_are, no_arguments function.args (entered abstract_sets (frames_of program) m f))
+      (inits_kept program.frames (Some f) function.inits (entered abstract_sets (frames_of program) m f) ((keeps.functions f function at).inits)
+      (enter_sized abstract_sets abstract_is_sets (frames_of program) m f sized))

@@ -12,9 +12,12 @@ pub mod Standing
 pub mod EvaluatingLaws
 pub mod DoingLaws
 pub mod FillingLaws
+pub mod StartLaws
 pub mod PlaceLaws
 pub mod PlaceReading
 pub mod ComparisonLaws
 pub mod RefiningLaws
 pub mod SwitchLaws
 pub mod Machines
+pub mod SteppingLaws
+pub mod StepLaws

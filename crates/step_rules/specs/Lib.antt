@@ -12,6 +12,8 @@ pub mod Standing
 pub mod EvaluatingLaws
 pub mod DoingLaws
 pub mod FillingLaws
+pub mod CellStores
+pub mod FaultForms
 pub mod StartLaws
 pub mod PlaceLaws
 pub mod PlaceReading
@@ -21,3 +23,7 @@ pub mod SwitchLaws
 pub mod Machines
 pub mod SteppingLaws
 pub mod StepLaws
+pub mod MachineLaws
+pub mod MachinesOver
+pub mod TransferLaws
+pub mod Worked

@@ -18,8 +18,6 @@ use Rattle.flow_graph.specs.Expansions.{node_number}
 use Rattle.alf_runs.specs.Steps.{frames_of}
 use Rattle.alf_runs.specs.Places.{IsOwnedAlong}
 use Rattle.alf_runs.specs.SizeLaws.{ValueHasSize}
-use Rattle.alf_runs.specs.StoreLaws.{ArgumentsFit}
-use Rattle.alf_runs.specs.PlaceLaws.{StepKeepsPlace, StartIsPlace}
 use Rattle.run_points.specs.NodeNumbers.{goal_number}
 use Rattle.run_points.specs.Points.{run_system}
 use Rattle.run_points.specs.PointLaws.{Promises}
@@ -76,10 +74,7 @@ numbered_goal graph goal = (goal_number graph goal.0, goal.1)
 -- what the crates below promise of runs
 pub record StepPromises : Type 0 where
   pub points : Promises
-  pub start : StartIsPlace
-  pub place : StepKeepsPlace
   pub sizes : ValueHasSize
-  pub arguments : ArgumentsFit
 
 -- what the machine keeps: the program is a checked one, the graph is its graph, and the rows are rows of it
 pub record KeepsMachine (program : NumberedProgram) (graph : GraphParts) (rows : List InputRow) : Type 0 where

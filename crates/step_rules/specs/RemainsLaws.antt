@@ -98,7 +98,7 @@ same_faults a b same =
     ∙ ap (λ (x : Bool). set_of b.divide b.uninit b.mixed b.bounds b.dead x a.pointers) (same Kind)
     ∙ ap (λ (x : Bool). set_of b.divide b.uninit b.mixed b.bounds b.dead b.kind x) (same Pointers)
 
-truth : (a b : Bool) → (a ≡ true → b ≡ true) → (b ≡ true → a ≡ true) → a ≡ b
+pub truth : (a b : Bool) → (a ≡ true → b ≡ true) → (b ≡ true → a ≡ true) → a ≡ b
 truth true true to from = refl
 truth true false to from = sym (to refl)
 truth false true to from = from refl

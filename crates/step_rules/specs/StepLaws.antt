@@ -112,8 +112,8 @@ module _ (Sharp : Type 0) (rows : List FrameShape) (m : Mem abstract_sets) (hist
   }
     where
       no_pointer : (places : List (ℕ × Stride)) → ArePlaces places → OnlyCovers abstract_sets (record { words = Some words; places = places }) (Int own w) → HasNone (pointer_fault places)
-      no_pointer [] of_places only kind e = no_fault kind e
-      no_pointer (place ∷ places) of_places only kind e =
+      no_pointer [] of_places only fault e = no_fault fault e
+      no_pointer (place ∷ places) of_places only fault e =
           let o = some_word place.1 of_places.0.offsets in
           let is : Ptr place.0 o.0 ≡ Int own w = only.1 (Ptr place.0 o.0) (rw (eq-eqb place.0 place.0 refl) o.1) in
           word_or_pointer own w place.0 o.0 (sym is)

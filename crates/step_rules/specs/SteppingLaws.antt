@@ -60,7 +60,7 @@ same_functions program (b ∷ path) = ap (λ (fs : List ℕ). function_at progra
 -- ---- active frames
 
 -- memories in which the same functions run
-same_along : (program : NumberedProgram) (path : List ℕ) (m n : Mem abstract_sets) → n.runs ≡ m.runs → RunsAlong program path m → RunsAlong program path n
+pub same_along : (program : NumberedProgram) (path : List ℕ) (m n : Mem abstract_sets) → n.runs ≡ m.runs → RunsAlong program path m → RunsAlong program path n
 same_along program path m n same along = subst (λ (runs : ℕ → Bool). (owner : Option ℕ) → (is_on runs owner ≡ true) ↔ IsOwnedAlong program path owner) (sym same) along
 
 -- a function entered

@@ -1,8 +1,8 @@
 -- What holds of the numbers of nodes.
 --   same_node      nodes that are tested to be one are one, and the other way round
 --   numbered       a node of a graph without repeated nodes has its number
-use Rattle.std.specs.Prelude.{slice_index_or, ◌==◌, ◌&&◌, if◌then◌else◌}
-use Rattle.std.proofs.Common.{◌≡◌, ◌<◌, ℕ, zero, suc, Bool, true, false, List, [], ◌∷◌, length, Option, None, Some, refl, ap, sym, ◌∙◌, arith}
+use Rattle.std.specs.Prelude.{slice_index_or, ◌==◌}
+use Rattle.std.proofs.Common.{◌≡◌, ◌<◌, ℕ, zero, suc, true, false, List, [], ◌∷◌, length, Option, None, Some, refl, ap, ◌∙◌, arith}
 use Rattle.std.proofs.lemmas.Bool.{eqb-true, eq-eqb, and_parts, and_from, false≢true}
 use Rattle.lists.specs.Tests.{by_test}
 use Rattle.flow_graph.specs.Nodes.{Node, first_node}

@@ -3,8 +3,7 @@
 --   GoesAlong, EndsAlong   a next point lies along an edge of the graph, and so does an end
 --   RunIsRun               a run of the program from a start inside the ranges is a run of its system
 --   HasOneWay              each point has one next point, or it is an end, or it has one fault
-use Rattle.std.specs.Prelude.{slice_get, slice_index_or}
-use Rattle.std.proofs.Common.{◌≡◌, ◌≢◌, ◌⊎◌, inl, inr, ◌<◌, ◌+◌, ℕ, zero, suc, List, length, Option, None, Some, refl, ap, sym, subst, ◌∙◌, arith}
+use Rattle.std.proofs.Common.{◌≡◌, ◌≢◌, inl, inr, ◌<◌, ℕ, zero, suc, List, length, None, Some, refl, ap, sym, subst, ◌∙◌}
 use Rattle.std.proofs.lemmas.Option.{get_or_from_slice_get, same_Some}
 use Rattle.lists.specs.Members.{placed}
 use Rattle.alf_ops.specs.declared.history.RunEvent.{RunEvent}
@@ -18,13 +17,13 @@ use Rattle.flow_graph.specs.Expansions.{IsExpansion, HasEdge, node_number}
 use Rattle.alf_runs.specs.Outcomes.{Outcome, Outputs, Ended, Faulted, Lost}
 use Rattle.alf_runs.specs.Steps.{Moment, At, Over, step}
 use Rattle.alf_runs.specs.Runs.{after}
-use Rattle.alf_runs.specs.Starts.{IsStart, start, start_history, words_of}
+use Rattle.alf_runs.specs.Starts.{IsStart, start_history, words_of}
 use Rattle.alf_runs.specs.LeadLaws.{LeadsTo, StepsGoAlong, StandsAtKeptNodes}
 use Rattle.alf_runs.specs.PlaceLaws.{NeverLost, InputsAreWords}
-use Rattle.domain_core.specs.Machines.{System}
+use Rattle.pool_events.specs.Runs.{IsRun, GoesOn as GoesFrom}
 use Rattle.run_points.specs.NodeNumbers.{number_of}
 use Rattle.run_points.specs.NumberLaws.{numbered}
-use Rattle.run_points.specs.Points.{moment_at, GoesOn, EndsAt, FailsAt, run_system, point_of, points, GoesOnOrEnds, IsPointRun, IsOneWay}
+use Rattle.run_points.specs.Points.{moment_at, run_system, point_of, points, IsOneWay}
 
 abbrev pub GraphsExpand : Type 0
 GraphsExpand = (program : NumberedProgram) (graph : GraphParts) → IsKept program → IsGraph program graph → IsExpansion program graph
@@ -55,7 +54,7 @@ EndsAlong = (program : NumberedProgram) (graph : GraphParts) (rows : List InputR
 abbrev pub RunIsRun : Type 0
 RunIsRun = (program : NumberedProgram) (graph : GraphParts) (rows : List InputRow) (moment : Moment)
     → IsKept program → IsGraph program graph → IsStart program rows moment
-    → IsPointRun (run_system program graph rows) (points program graph moment)
+    → IsRun (run_system program graph rows) (points program graph moment)
 
 -- each point has one next point, or it is an end, or it has one fault
 abbrev pub HasOneWay : Type 0
@@ -155,7 +154,7 @@ module _ (promises : Promises) (program : NumberedProgram) (graph : GraphParts) 
 
     -- how the run goes on from a node
     on_from : (t : ℕ) (node : Node) (history : List RunEvent) (result : Moment) → after program t moment ≡ At node history → step program (At node history) ≡ result
-        → GoesOnOrEnds (run_system program graph rows) (points program graph moment) t (number_of graph.nodes node) history
+        → GoesFrom (run_system program graph rows) (points program graph moment) t (number_of graph.nodes node) history
     on_from t node history (At next later) e steps =
         let here = stands_at node (at_kept t node history e) in
         let then : after program (suc t) moment ≡ At next later = after_step program t moment ∙ ap (step program) e ∙ steps in
@@ -178,16 +177,16 @@ module _ (promises : Promises) (program : NumberedProgram) (graph : GraphParts) 
         let then : after program (suc t) moment ≡ Over Lost = after_step program t moment ∙ ap (step program) e ∙ steps in
         absurd (not_lost (suc t) then)
 
-    on : (t n : ℕ) (c : List RunEvent) → points program graph moment t ≡ Some (n, c) → GoesOnOrEnds (run_system program graph rows) (points program graph moment) t n c
+    on : (t n : ℕ) (c : List RunEvent) → points program graph moment t ≡ Some (n, c) → GoesFrom (run_system program graph rows) (points program graph moment) t n c
     on t n c e = go (after program t moment) refl e
       where
-        go : (result : Moment) → after program t moment ≡ result → point_of graph result ≡ Some (n, c) → GoesOnOrEnds (run_system program graph rows) (points program graph moment) t n c
+        go : (result : Moment) → after program t moment ≡ result → point_of graph result ≡ Some (n, c) → GoesFrom (run_system program graph rows) (points program graph moment) t n c
         go (At node history) there is_point =
             let parts = same_point (number_of graph.nodes node, history) (n, c) is_point in
             let number : number_of graph.nodes node ≡ n = ap (λ (p : ℕ × List RunEvent). p.0) parts in
             let same : history ≡ c = ap (λ (p : ℕ × List RunEvent). p.1) parts in
-            subst (λ (k : ℕ). GoesOnOrEnds (run_system program graph rows) (points program graph moment) t k c) number
-            (subst (λ (h : List RunEvent). GoesOnOrEnds (run_system program graph rows) (points program graph moment) t (number_of graph.nodes node) h) same
+            subst (λ (k : ℕ). GoesFrom (run_system program graph rows) (points program graph moment) t k c) number
+            (subst (λ (h : List RunEvent). GoesFrom (run_system program graph rows) (points program graph moment) t (number_of graph.nodes node) h) same
             (on_from t node history (step program (At node history)) there refl))
         go (Over outcome) there is_point = absurd (no_point (n, c) is_point)
 
@@ -201,7 +200,7 @@ module _ (promises : Promises) (program : NumberedProgram) (graph : GraphParts) 
           record { numbers = from.numbers; within = from.within; starts = refl },
         )
 
-    pub point_run : IsPointRun (run_system program graph rows) (points program graph moment)
+    pub point_run : IsRun (run_system program graph rows) (points program graph moment)
     point_run = record { first = first_point; on = on }
 
 pub run_is_run : Promises → RunIsRun

@@ -4,9 +4,8 @@
 --   run_system program graph rows      where runs start, their next points, their ends and their faults
 --   point_of graph moment              the point where a run stands; none once it is over
 --   points program graph moment t      the point of a run after t steps
---   IsPointRun system run              a run of a system: its point at each moment, and none once it is over
 --   IsOneWay system n c                a point has one next point, or it is an end, or it has one fault
-use Rattle.std.specs.Prelude.{◌≡◌, ◌⊎◌, ◌<◌, ℕ, suc, List, length, Option, Some, None}
+use Rattle.std.specs.Prelude.{◌≡◌, ◌<◌, ℕ, List, length, Option, Some, None}
 use Rattle.alf_ops.specs.declared.history.RunEvent.{RunEvent}
 use Rattle.alf_ops.specs.declared.history.RunFault.{RunFault}
 use Rattle.alf_check.specs.declared.rows.InputRow.{InputRow}
@@ -61,17 +60,6 @@ point_of graph (Over outcome) = None
 -- the point of a run after t steps
 abbrev pub points : NumberedProgram → GraphParts → Moment → ℕ → Option (ℕ × List RunEvent)
 points program graph moment t = point_of graph (after program t moment)
-
--- the run goes on from the point of moment t, or is over there
-abbrev pub GoesOnOrEnds : {C : Type 0} → System C → (ℕ → Option (ℕ × C)) → ℕ → ℕ → C → Type 0
-GoesOnOrEnds {C} system run t n c =
-    ((k : ℕ) × (d : C) × system.goes n c k d × (run (suc t) ≡ Some (k, d)))
-    ⊎ ((system.ends n c ⊎ ((kind : RunFault) × system.fails n c kind)) × (run (suc t) ≡ None))
-
--- a run of a system: its point at each moment, and none once it is over
-pub record IsPointRun {C : Type 0} (system : System C) (run : ℕ → Option (ℕ × C)) : Type 0 where
-  pub first : (c : C) × (run 0 ≡ Some (0, c)) × system.starts c
-  pub on : (t n : ℕ) (c : C) → run t ≡ Some (n, c) → GoesOnOrEnds system run t n c
 
 -- a point has one next point, or it is an end, or it has one fault
 pub record IsOneWay {C : Type 0} (system : System C) (n : ℕ) (c : C) : Type 0 where

@@ -1,5 +1,5 @@
 -- Steps of small programs, by computing.
-use Rattle.std.proofs.Common.{◌≡◌, pos, Some, None, [], ◌∷◌, refl}
+use Rattle.std.proofs.Common.{◌≡◌, pos, Some, [], ◌∷◌, refl}
 use Rattle.alf_ops.specs.declared.operator.Op.TheVariants.{SLt}
 use Rattle.alf_ops.specs.declared.history.RunFault.TheVariants.{Kind, Uninit}
 use Rattle.alf_program.specs.Tree.{Address}
@@ -35,9 +35,12 @@ unfolding norm join hull gcd_nat each each_pair from_least up_to
 decided = refl
 
 pub targets : stepped (one_block content ((0, 1) ∷ (2, 1) ∷ []) 2) (ranged (pos 0) (pos 2))
-    ≡ ((Some (block_node [] 1), Some (words_alone (record { size = 8; numbers = from_to (pos 0) (pos 0) (pos 1) })))
-    ∷ (Some (block_node [] 1), Some (words_alone (record { size = 8; numbers = from_to (pos 2) (pos 2) (pos 1) })))
-    ∷ (Some (block_node [] 2), Some (words_alone (record { size = 8; numbers = from_to (pos 1) (pos 1) (pos 1) }))) ∷ [], no_faults)
+    ≡ (
+      (Some (block_node [] 1), Some (words_alone (record { size = 8; numbers = from_to (pos 0) (pos 0) (pos 1) })))
+          ∷ (Some (block_node [] 1), Some (words_alone (record { size = 8; numbers = from_to (pos 2) (pos 2) (pos 1) })))
+          ∷ (Some (block_node [] 2), Some (words_alone (record { size = 8; numbers = from_to (pos 1) (pos 1) (pos 1) }))) ∷ [],
+      no_faults,
+    )
 unfolding norm join hull gcd_nat each each_pair from_least up_to without_first without_last
 targets = refl
 

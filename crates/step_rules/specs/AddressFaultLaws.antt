@@ -2,30 +2,29 @@
 --   greatest_above, greatest_covers   the greatest offset is one of the offsets, and no other is greater
 --   address_told, address_from        a fault is one of the address exactly where some covered address has it
 use Rattle.std.specs.Prelude.{slice_get, IsSomeAnd, IfSome, ◌==◌, ◌≤ℤ◌, ◌<ℤ◌, ◌+ℤ◌, ◌-ℤ◌, int_le, unsigned_abs}
-use Rattle.std.proofs.Common.{◌≡◌, ◌≢◌, ◌⊎◌, inl, inr, ℕ, ℤ, pos, Bool, true, false, List, [], ◌∷◌, Option, Some, None, Result, Ok, Err, ◌<◌, ◌≤◌, ◌+◌, ◌*◌, ◌^◌, refl, sym, ap, subst, ◌∙◌, arith}
+use Rattle.std.proofs.Common.{◌≡◌, ◌⊎◌, inl, inr, ℕ, ℤ, pos, Bool, true, false, List, [], ◌∷◌, Option, Some, None, Result, Ok, Err, ◌<◌, ◌≤◌, ◌+◌, ◌*◌, ◌^◌, refl, sym, ap, subst, ◌∙◌, arith}
 use Rattle.std.proofs.lemmas.Int.{ints, clamps}
 use Rattle.std.proofs.lemmas.Bool.{eqb-true, eq-eqb, false≢true, leb-true, le-leb}
 use Rattle.lists.specs.Tests.{by_test}
 use Rattle.whole_numbers.specs.Numbers.{Divides}
 use Rattle.whole_numbers.specs.MultipleLaws.{divides_same, divides_difference, divides_zero, divides_itself}
-use Rattle.alf_ops.specs.declared.history.Value.{Value}
 use Rattle.alf_ops.specs.declared.history.Value.TheVariants.{Int, Ptr}
 use Rattle.alf_ops.specs.declared.history.RunFault.{RunFault}
 use Rattle.alf_ops.specs.declared.history.RunFault.TheVariants.{Kind, Dead, Bounds}
 use Rattle.alf_ops.specs.declared.history.FrameShape.{FrameShape}
 use Rattle.alf_ops.specs.Histories.{fits_in}
-use Rattle.domain_core.specs.FaultSets.{has_fault, no_faults, with_fault, either}
+use Rattle.domain_core.specs.FaultSets.{has_fault, no_faults, with_fault}
 use Rattle.progressions.specs.declared.ends.Progression.{Progression}
 use Rattle.progressions.specs.declared.ends.Pieces.{Pieces}
-use Rattle.progressions.specs.Progressions.{Has, HasSome, IfProgression, IsProgression, full}
-use Rattle.progressions.specs.Parts.{SomeHas, IsPiece, IfPiece, ArePieces}
+use Rattle.progressions.specs.Progressions.{Has, HasSome, IfProgression, full}
+use Rattle.progressions.specs.Parts.{SomeHas, IfPiece, ArePieces}
 use Rattle.progressions.specs.ProgressionLaws.{has_hi}
 use Rattle.progressions.specs.PartLaws.{unsigned_has}
-use Rattle.strided_rules.specs.Strides.{Stride, IsStride, IsMember, Covers as CoversWord}
+use Rattle.strided_rules.specs.Strides.{Stride, IsStride, Covers as CoversWord}
 use Rattle.strided_rules.specs.Members.{unsigned_of, unsigned_greatest, greater_end, greatest_of}
 use Rattle.strided_rules.specs.MemberLaws.{unsigned_some, of_unsigned, greatest_above as above_all, some_word}
 use Rattle.strided_rules.specs.PlacedLaws.{member_other}
-use Rattle.pointer_rules.specs.AbstractValues.{AbstractValue, Covers, offsets_in, ArePlaces, Ascends, AreAscending}
+use Rattle.pointer_rules.specs.AbstractValues.{AbstractValue, offsets_in, ArePlaces, Ascends, AreAscending}
 use Rattle.pointer_rules.specs.Covering.{IsValue}
 use Rattle.memory_rules.specs.Memories.{is_on}
 use Rattle.memory_rules.specs.Addresses.{tested, tested_in, IsAddressFault}

@@ -2,7 +2,7 @@
 --   IsCellAt rows runs frame offset size   the cell lies in its frame, which is active
 --   stored_in_cell                         the store through the pointer fills the cell
 use Rattle.std.specs.Prelude.{slice_get}
-use Rattle.std.proofs.Common.{◌≡◌, ℕ, Bool, true, List, [], ◌∷◌, Option, Some, Result, Ok, Err, ◌<◌, ◌^◌, refl, sym, ap, subst, ◌∙◌}
+use Rattle.std.proofs.Common.{◌≡◌, ℕ, Bool, true, List, [], ◌∷◌, Some, Result, Ok, Err, ◌<◌, ◌^◌, refl, sym, ap, ◌∙◌}
 use Rattle.alf_ops.specs.declared.history.Value.{Value}
 use Rattle.alf_ops.specs.declared.history.Value.TheVariants.{Ptr}
 use Rattle.alf_ops.specs.declared.history.RunFault.{RunFault}
@@ -14,17 +14,17 @@ use Rattle.pointer_rules.specs.AbstractValues.{AbstractValue}
 use Rattle.memory_rules.specs.ValueSets.{OnlyCovers}
 use Rattle.memory_rules.specs.Covers.{IsCellSize}
 use Rattle.memory_rules.specs.Memories.{Mem, is_on, stored}
-use Rattle.memory_rules.specs.Addresses.{tested, cells_of, IsAddressFault}
+use Rattle.memory_rules.specs.Addresses.{tested, cells_of}
 use Rattle.memory_rules.specs.AddressSharp.{one_cell, cells_told}
 use Rattle.memory_rules.specs.AbstractSets.{abstract_sets}
-use Rattle.step_rules.specs.Remains.{Remains, all_left}
+use Rattle.step_rules.specs.Remains.{all_left}
 use Rattle.step_rules.specs.AddressFaults.{address_faults}
-use Rattle.step_rules.specs.Evaluating.{pointer_value, width_of}
-use Rattle.step_rules.specs.Doing.{where_possible, stored_by, stored_through}
+use Rattle.step_rules.specs.Evaluating.{pointer_value}
+use Rattle.step_rules.specs.Doing.{where_possible, stored_by}
 use Rattle.step_rules.specs.Filling.{filled}
 use Rattle.step_rules.specs.RemainsLaws.{none_is_empty}
 use Rattle.step_rules.specs.AddressFaultLaws.{address_from}
-use Rattle.step_rules.specs.Standing.{pointer_is, pointer_told, ValueTold}
+use Rattle.step_rules.specs.Standing.{pointer_is, pointer_told}
 
 -- the cell lies in its frame, which is active
 pub record IsCellAt (rows : List FrameShape) (runs : ℕ → Bool) (frame offset size : ℕ) : Type 0 where

@@ -2,19 +2,17 @@
 --   opposite_holds, swapped_holds   where a relation does not hold its opposite does, and with changed sides the swapped one
 --   relation_is                     the operator of a relation
 --   rel_holds                       what holds where a comparison gives this bit
-use Rattle.std.specs.Prelude.{slice_index, nat_lt, nat_le, int_lt, int_le, ◌==◌, not, if◌then◌else◌}
-use Rattle.std.proofs.Common.{◌≡◌, ◌⊎◌, inl, inr, ℕ, ℤ, Bool, true, false, List, [], ◌∷◌, Option, Some, None, Result, Ok, Err, ◌<◌, ◌≤◌, refl, sym, ap, subst, ◌∙◌, arith}
+use Rattle.std.specs.Prelude.{slice_index, nat_lt, nat_le, int_lt, int_le, ◌==◌, not}
+use Rattle.std.proofs.Common.{◌≡◌, ◌⊎◌, inl, inr, ℕ, ℤ, Bool, true, false, List, [], ◌∷◌, Some, Ok, refl, sym, ap, ◌∙◌, arith}
 use Rattle.std.proofs.lemmas.Int.{ints}
 use Rattle.std.proofs.lemmas.Option.{none-some, same_Some}
-use Rattle.std.proofs.lemmas.Bool.{eqb-true, eq-eqb, ltb-false, le-leb, leb-true, false≢true}
+use Rattle.std.proofs.lemmas.Bool.{eqb-true, eq-eqb, ltb-false, le-leb, false≢true}
 use Rattle.lists.specs.Tests.{by_test}
 use Rattle.alf_ops.specs.declared.operator.Op.{Op}
 use Rattle.alf_ops.specs.declared.operator.Op.TheVariants as ops
-use Rattle.alf_ops.specs.declared.history.Value.{Value}
 use Rattle.alf_ops.specs.declared.history.Value.TheVariants.{Int}
-use Rattle.alf_ops.specs.declared.history.RunFault.{RunFault}
 use Rattle.alf_ops.specs.TwosComplement.{word, signed}
-use Rattle.alf_ops.specs.Table.{bit, operand_sizes, size_of_result}
+use Rattle.alf_ops.specs.Table.{bit, operand_sizes}
 use Rattle.alf_ops.specs.Words.{value}
 use Rattle.alf_ops.specs.Pointers.{outcome}
 use Rattle.domain_core.specs.declared.relation.Rel.{Rel}

@@ -5,7 +5,7 @@
 --   store_told                 a store through an address that is covered is told
 --   statement_told, statements_told   the history after is covered, or the fault told
 use Rattle.std.specs.Prelude.{IfSome, ◌++◌, All}
-use Rattle.std.proofs.Common.{◌≡◌, ◌≢◌, ℕ, Bool, List, [], ◌∷◌, map, Option, Some, None, Result, Ok, Err, ◌<◌, ◌^◌, refl, sym, ap, subst, ◌∙◌}
+use Rattle.std.proofs.Common.{◌≡◌, ◌≢◌, ℕ, List, [], ◌∷◌, map, Option, Some, None, Result, Ok, Err, ◌<◌, ◌^◌, refl, sym, ap, subst, ◌∙◌}
 use Rattle.std.proofs.lemmas.List.Elements.{All-head, All-tail}
 use Rattle.alf_ops.specs.declared.history.Value.{Value}
 use Rattle.alf_ops.specs.declared.history.Value.TheVariants.{Int, Ptr}
@@ -17,7 +17,7 @@ use Rattle.alf_ops.specs.Histories.{Address, address_of, store, stored as stored
 use Rattle.alf_program.specs.Tree.{NumberedExpression}
 use Rattle.alf_check.specs.declared.rows.FrameRow.{FrameRow}
 use Rattle.alf_check.specs.CheckedPrograms.{NumberedStatement, Null, Store}
-use Rattle.alf_check.specs.Kept.{HasSize, KeepsStatement, HasCellSize}
+use Rattle.alf_check.specs.Kept.{HasSize, KeepsStatement}
 use Rattle.alf_runs.specs.Expressions.{value_of}
 use Rattle.alf_runs.specs.Statements as runs
 use Rattle.alf_runs.specs.SizeLaws.{ValueHasSize}
@@ -32,10 +32,10 @@ use Rattle.memory_rules.specs.AbstractSetLaws.{abstract_is_sets}
 use Rattle.memory_rules.specs.AddressLaws.{stores_at, faults_at}
 use Rattle.memory_rules.specs.AddressSharp.{stores_only, faults_only}
 use Rattle.memory_rules.specs.MemoryProofs.{store_sized}
-use Rattle.step_rules.specs.Remains.{Remains, all_left, goes_on}
+use Rattle.step_rules.specs.Remains.{Remains, goes_on}
 use Rattle.step_rules.specs.Evaluating.{words_width, width_of, value_at}
 use Rattle.step_rules.specs.Doing.{where_possible, stored_by, stored_through, after_statement, after_statements}
-use Rattle.step_rules.specs.RemainsLaws.{LeftTold, FaultTold, Answers, IfLeft, all_told, answers_on, fault_stops, keeps_on}
+use Rattle.step_rules.specs.RemainsLaws.{Answers, IfLeft, all_told, answers_on, fault_stops, keeps_on}
 use Rattle.step_rules.specs.AddressFaultLaws.{address_told, address_from}
 use Rattle.step_rules.specs.Standing.{Stands, ValueTold}
 use Rattle.step_rules.specs.EvaluatingLaws.{cell_size, value_sized, value_told}

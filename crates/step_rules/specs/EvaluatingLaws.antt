@@ -3,8 +3,8 @@
 --   value_sized, values_sized, arguments_sized   what is left has its size
 --   load_told                  a load through an address that is covered is told
 --   value_told, values_told, arguments_told      the value of the run is covered, or its fault told
-use Rattle.std.specs.Prelude.{IsSomeAnd, IfSome, ◌/◌, ◌%◌, if◌then◌else◌, IsSome, Contains}
-use Rattle.std.proofs.Common.{◌≡◌, ℕ, Bool, true, false, List, [], ◌∷◌, map, Option, Some, None, Result, Ok, Err, ◌<◌, ◌≤◌, ◌^◌, inl, inr, refl, sym, ap, subst, ◌∙◌, arith}
+use Rattle.std.specs.Prelude.{IsSomeAnd, IfSome, if◌then◌else◌, IsSome}
+use Rattle.std.proofs.Common.{◌≡◌, ℕ, Bool, true, List, [], ◌∷◌, map, Option, Some, None, Result, Ok, Err, ◌<◌, ◌^◌, inl, inr, refl, sym, subst, arith}
 use Rattle.std.specs.List.{AllZip}
 use Rattle.lists.specs.Tests.{by_test}
 use Rattle.alf_ops.specs.declared.operator.Op.{Op}
@@ -20,7 +20,7 @@ use Rattle.alf_program.specs.Tree.{NumberedExpression, NumberedExpressions, Numb
 use Rattle.alf_check.specs.declared.rows.FrameRow.{FrameRow}
 use Rattle.alf_check.specs.Kept.{IsSize, IsCellSize, HasSize, HaveSizes, ArgumentKeeps}
 use Rattle.alf_runs.specs.Expressions.{load_from, value_of, results_of}
-use Rattle.domain_core.specs.FaultSets.{has_fault, either}
+use Rattle.domain_core.specs.FaultSets.{has_fault}
 use Rattle.domain_core.specs.WordSets.{IsWordSize}
 use Rattle.pointer_rules.specs.AbstractValues.{AbstractValue, Covers, OnlyCovers as OneCovers}
 use Rattle.pointer_rules.specs.Covering.{IsValue, Tells, OnlyTells}
@@ -31,7 +31,7 @@ use Rattle.memory_rules.specs.Covers.{IsCellSize as IsCell}
 use Rattle.memory_rules.specs.Memories.{Mem, joined_values, faults_of, MemSized}
 use Rattle.memory_rules.specs.Frames.{either as either_value}
 use Rattle.memory_rules.specs.Above.{either_alike}
-use Rattle.memory_rules.specs.Addresses.{cells_of, load_at, IsAddressFault, IsLoadFault, TellsLoad, TellsOnly}
+use Rattle.memory_rules.specs.Addresses.{cells_of, load_at, IsLoadFault, TellsLoad, TellsOnly}
 use Rattle.memory_rules.specs.AbstractSets.{abstract_sets}
 use Rattle.memory_rules.specs.AbstractSetLaws.{abstract_is_sets}
 use Rattle.memory_rules.specs.AddressLaws.{loads_at}
@@ -40,7 +40,7 @@ use Rattle.memory_rules.specs.Gathered.{EachSized, all_results_sized}
 use Rattle.step_rules.specs.Remains.{Remains, all_left, goes_on}
 use Rattle.step_rules.specs.AddressFaults.{fault_set, address_faults}
 use Rattle.step_rules.specs.Evaluating.{word_value, pointer_value, loaded, remains_of, operated, before, value_at, values_at, arguments_at}
-use Rattle.step_rules.specs.RemainsLaws.{HasNone, HasOnly, LeftTold, FaultTold, Answers, IfLeft, no_fault, one_alone, in_either, in_first, in_second, in_set, from_set, all_told, left_on, fault_on, fault_stops, answers_on, keeps_on}
+use Rattle.step_rules.specs.RemainsLaws.{HasNone, HasOnly, LeftTold, Answers, IfLeft, no_fault, one_alone, in_either, in_first, in_second, in_set, from_set, all_told, left_on, fault_on, fault_stops, answers_on, keeps_on}
 use Rattle.step_rules.specs.AddressFaultLaws.{address_told, address_from}
 use Rattle.step_rules.specs.Standing.{Stands, ValueTold, AllTold, one_of, as_one, word_is, word_told, pointer_is, pointer_told}
 

@@ -1,8 +1,8 @@
 -- Sets of faults that are known by what is in them.
 --   loaded_faults     the set of a load's faults is the transfer's
 --   stored_faults     so is the set of a store's
-use Rattle.std.specs.Prelude.{◌↔◌, Contains}
-use Rattle.std.proofs.Common.{◌≡◌, ℕ, Bool, true, List, inl, inr, sym, ◌∙◌}
+use Rattle.std.specs.Prelude.{◌↔◌}
+use Rattle.std.proofs.Common.{◌≡◌, ℕ, Bool, true, List, inl, inr}
 use Rattle.alf_ops.specs.declared.history.RunFault.{RunFault}
 use Rattle.alf_ops.specs.declared.history.FrameShape.{FrameShape}
 use Rattle.domain_core.specs.declared.fault_set.FaultSet.{FaultSet}

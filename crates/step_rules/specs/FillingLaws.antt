@@ -4,14 +4,13 @@
 --   ArgumentFits                a value of a run for the frame of an argument
 --   entered_told, entered_kept  a function entered with its arguments
 --   OnlyInput, start_told       the start with inputs inside the ranges
-use Rattle.std.specs.Prelude.{slice_get, ◌==◌, ◌||◌, ◌++◌, ◌/◌, ◌%◌, ◌⊎◌, ◌≤ℤ◌, ◌-ℤ◌, All, Contains}
+use Rattle.std.specs.Prelude.{slice_get, All, Contains}
 use Rattle.std.specs.List.{AllZip}
 use Rattle.std.specs.Option.{option_map, option_map_or}
-use Rattle.std.proofs.Common.{◌≡◌, ℕ, ℤ, pos, Bool, true, false, List, [], ◌∷◌, Option, Some, None, ◌<◌, ◌≤◌, ◌+◌, ◌*◌, ◌^◌, inl, inr, refl, sym, ap, subst, ◌∙◌, arith}
+use Rattle.std.proofs.Common.{◌≡◌, ℕ, true, List, [], ◌∷◌, Option, Some, None, ◌≤◌, ◌+◌, ◌*◌, refl, sym, ap, subst, ◌∙◌, arith}
 use Rattle.std.proofs.lemmas.Option.{slice_get-map, same_Some}
-use Rattle.std.proofs.lemmas.Bool.{le-leb, eqb-true, eq-eqb, false≢true}
+use Rattle.std.proofs.lemmas.Bool.{le-leb, eq-eqb}
 use Rattle.std.proofs.lemmas.List.Elements.{All-head, All-tail, All-contains, Contains-append_left}
-use Rattle.lists.specs.Tests.{by_test}
 use Rattle.lists.specs.Members.{first_member, further_member, first_or_further, no_member}
 use Rattle.alf_ops.specs.declared.history.Value.{Value}
 use Rattle.alf_ops.specs.declared.history.Value.TheVariants.{Int}
@@ -20,38 +19,26 @@ use Rattle.alf_ops.specs.declared.history.RunEvent.{RunEvent}
 use Rattle.alf_ops.specs.declared.history.RunEvent.TheVariants.{Enter, Store}
 use Rattle.alf_ops.specs.TwosComplement.{word}
 use Rattle.alf_ops.specs.Values.{FitsValue, size_of}
-use Rattle.alf_ops.specs.Histories.{is_active, is_running, fits_in, IsSound}
+use Rattle.alf_ops.specs.Histories.{is_active, is_running}
 use Rattle.alf_program.specs.Tree.{NumberedExpression}
-use Rattle.alf_faults.specs.Sizes.{is_export_size}
 use Rattle.alf_check.specs.declared.rows.FrameRow.{FrameRow}
 use Rattle.alf_check.specs.declared.rows.InitRow.{InitRow}
-use Rattle.alf_check.specs.declared.rows.InputRow.{InputRow}
 use Rattle.alf_check.specs.CheckedPrograms.{NumberedFunction, NumberedProgram}
-use Rattle.alf_check.specs.Kept.{IsKept, IsFrameOf, InitFits, ArgumentKeeps, KeepsFunction}
-use Rattle.alf_check.specs.Inputs.{KeepsInput, KeepInputs}
+use Rattle.alf_check.specs.Kept.{IsKept, IsFrameOf, InitFits, ArgumentKeeps}
 use Rattle.alf_check.specs.Shapes.{shapes_of}
 use Rattle.alf_runs.specs.Steps.{frames_of}
 use Rattle.alf_runs.specs.Entering as runs
 use Rattle.alf_runs.specs.Entering.{args_at, inits_at}
-use Rattle.alf_runs.specs.Starts.{start_history, with_inputs as with_inputs_run, IsWithin, AreWithin, words_of}
-use Rattle.domain_core.specs.WordSets.{IsOnly, IsWordSize}
-use Rattle.whole_numbers.specs.Numbers.{Divides}
-use Rattle.progressions.specs.Progressions.{Has, IsProgression, from_to}
-use Rattle.progressions.specs.ProgressionLaws.{is_from_to, has_from_to}
-use Rattle.strided_rules.specs.Strides.{Stride, IsStride}
-use Rattle.strided_rules.specs.Domains.{stride_sets}
-use Rattle.strided_rules.specs.PlacedLaws.{norm_placed, norm_member}
-use Rattle.pointer_rules.specs.AbstractValues.{AbstractValue, Words, alone}
+use Rattle.pointer_rules.specs.AbstractValues.{AbstractValue}
 use Rattle.pointer_rules.specs.Covering.{IsValue}
-use Rattle.pointer_rules.specs.RuleLaws.{alone_is, alone_covers, alone_only}
 use Rattle.memory_rules.specs.Covers.{IsCellSize as IsCell}
-use Rattle.memory_rules.specs.Memories.{Mem, fresh, entered, MemSized, IsPlaced}
+use Rattle.memory_rules.specs.Memories.{Mem, entered, MemSized, IsPlaced}
 use Rattle.memory_rules.specs.AbstractSets.{abstract_sets}
 use Rattle.memory_rules.specs.AbstractSetLaws.{abstract_is_sets}
-use Rattle.memory_rules.specs.MemoryProofs.{store_covers, memory_stays_sharp, store_sized, enter_covers, sharp_enter, enter_sized, start_sharp}
+use Rattle.memory_rules.specs.MemoryProofs.{store_covers, memory_stays_sharp, store_sized, enter_covers, sharp_enter, enter_sized}
 use Rattle.step_rules.specs.Evaluating.{width_of, word_value}
-use Rattle.step_rules.specs.Filling.{filled, with_arguments, with_inits, entered_with, range_of, with_inputs, first_memory}
-use Rattle.step_rules.specs.Standing.{Stands, ValueTold, AllTold, one_of, word_is, word_told}
+use Rattle.step_rules.specs.Filling.{filled, with_arguments, with_inits, entered_with}
+use Rattle.step_rules.specs.Standing.{Stands, ValueTold, AllTold, word_is, word_told}
 use Rattle.step_rules.specs.EvaluatingLaws.{cell_size, word_size, ArgumentIs}
 use Rattle.step_rules.specs.DoingLaws.{width_is, own_size, own_fits, Kept, unchanged, kept_on}
 

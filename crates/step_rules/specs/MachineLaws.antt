@@ -4,8 +4,8 @@
 --   own_order_suits              the order of this crate is one
 --   is_machine                   the laws of a stepper
 --   is_along                     each step, abstract or concrete, lies along an edge
-use Rattle.std.specs.Prelude.{slice_get, Contains, ◌↔◌, IfSome, ◌==◌}
-use Rattle.std.proofs.Common.{◌≡◌, ◌≢◌, ℕ, Bool, true, false, List, [], ◌∷◌, map, length, Option, Some, None, ◌<◌, inl, inr, refl, sym, ap, subst, ◌∙◌}
+use Rattle.std.specs.Prelude.{Contains, IfSome, ◌==◌}
+use Rattle.std.proofs.Common.{◌≡◌, ◌≢◌, ℕ, true, false, List, [], ◌∷◌, map, length, Option, Some, None, ◌<◌, refl, sym, ap, subst, ◌∙◌}
 use Rattle.std.proofs.lemmas.Bool.{eqb-true, eq-eqb, false≢true}
 use Rattle.lists.specs.Tests.{by_test}
 use Rattle.lists.specs.Members.{first_member, first_or_further, no_member}
@@ -14,32 +14,29 @@ use Rattle.alf_ops.specs.declared.history.RunFault.{RunFault}
 use Rattle.alf_ops.specs.declared.history.RunEvent.{RunEvent}
 use Rattle.alf_check.specs.declared.rows.InputRow.{InputRow}
 use Rattle.alf_check.specs.CheckedPrograms.{NumberedProgram}
-use Rattle.alf_check.specs.Kept.{IsKept}
 use Rattle.flow_graph.specs.Nodes.{Node, Goal, Leads, first_node}
 use Rattle.flow_graph.specs.Numbering.{GraphParts}
 use Rattle.flow_graph.specs.Expansions.{IsExpansion, HasEdge, node_number}
-use Rattle.alf_runs.specs.Outcomes.{Ended, Faulted}
-use Rattle.alf_runs.specs.Steps.{Moment, At, Over, frames_of, step}
-use Rattle.alf_runs.specs.Starts.{IsStart, start_history, words_of, AreWithin}
+use Rattle.alf_runs.specs.Steps.{At, frames_of, step}
+use Rattle.alf_runs.specs.Starts.{IsStart, start_history, words_of}
 use Rattle.run_points.specs.NodeNumbers.{number_of, goal_number}
 use Rattle.run_points.specs.NumberLaws.{numbered}
-use Rattle.run_points.specs.Points.{GoesOn, EndsAt, FailsAt, run_system}
+use Rattle.run_points.specs.Points.{GoesOn, EndsAt, FailsAt}
 use Rattle.run_points.specs.PointLaws.{goes_along, ends_along}
 use Rattle.domain_core.specs.FaultSets.{has_fault, no_faults, with_fault}
 use Rattle.domain_core.specs.Orders.{Order, IsOrder}
-use Rattle.domain_core.specs.Machines.{Machine, IsMachine, IsAlong}
+use Rattle.domain_core.specs.Machines.{IsMachine, IsAlong}
 use Rattle.domain_core.specs.Outlines.{Shape}
 use Rattle.domain_core.specs.Reducible.{IsEdge}
-use Rattle.memory_rules.specs.Memories.{Mem, is_on, both, entered, fresh, MemCovers, MemSharp, MemSized}
+use Rattle.memory_rules.specs.Memories.{Mem, both, entered, fresh}
 use Rattle.memory_rules.specs.AbstractSets.{abstract_sets}
 use Rattle.memory_rules.specs.AbstractSetLaws.{abstract_is_sets}
 use Rattle.memory_rules.specs.MemoryProofs.{join_covers, join_sized}
-use Rattle.step_rules.specs.Remains.{Remains}
 use Rattle.step_rules.specs.Filling.{first_memory}
-use Rattle.step_rules.specs.Stepping.{Goals, step_at, goals_left}
+use Rattle.step_rules.specs.Stepping.{Goals, goals_left}
 use Rattle.step_rules.specs.Machines.{CoversHistory, SharpFor, RunsAlong, Fits, AreAlike, memory_order, goals_from, numbered_goal, KeepsMachine, run_machine}
 use Rattle.step_rules.specs.Standing.{Stands}
-use Rattle.step_rules.specs.RemainsLaws.{LeftTold, FaultTold, HasNone, none_is_empty, only_is_one, truth}
+use Rattle.step_rules.specs.RemainsLaws.{LeftTold, FaultTold, none_is_empty, only_is_one, truth}
 use Rattle.step_rules.specs.SwitchLaws.{GoesTold, EachGoal, each_member}
 use Rattle.step_rules.specs.SteppingLaws.{GoalIs, GoalFits, goals_are, same_along}
 use Rattle.step_rules.specs.StepLaws.{EndTold, Says, step_told}

@@ -4,9 +4,8 @@
 --   over_is_machine            it keeps the laws of a stepper
 --   over_is_along              and its steps lie along the same edges
 use Rattle.std.specs.Prelude.{Contains}
-use Rattle.std.proofs.Common.{◌≡◌, ◌≢◌, ℕ, true, List, [], ◌∷◌, map, length, refl, sym, ap, subst, ◌∙◌}
+use Rattle.std.proofs.Common.{◌≡◌, ℕ, map, sym, ap, subst, ◌∙◌}
 use Rattle.lists.specs.Images.{mapped, image}
-use Rattle.alf_ops.specs.declared.history.RunFault.{RunFault}
 use Rattle.domain_core.specs.Orders.{Order}
 use Rattle.domain_core.specs.Machines.{Machine, IsMachine, IsAlong}
 use Rattle.domain_core.specs.Outlines.{Shape}

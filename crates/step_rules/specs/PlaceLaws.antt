@@ -4,16 +4,13 @@
 --   PlaceReads rows history place w     where the expression gives the word w, the cell holds the word that it is read from
 --   place_fits, place_reads             a place fits, and reads its cell
 --   pin_kept, pin_told                  a pin of a place to words that the expression's word is one of
-use Rattle.std.specs.Prelude.{slice_get, slice_index, IsSomeAnd, IfSome, ◌==◌, ◌&&◌, IsSome, length, ◌-ℤ◌, nat_le, if◌then◌else◌}
-use Rattle.std.specs.Option.{option_map}
-use Rattle.std.specs.Result.{result_ok}
-use Rattle.std.proofs.Common.{◌≡◌, ◌⊎◌, inl, inr, ℕ, ℤ, pos, Bool, true, false, List, [], ◌∷◌, Option, Some, None, Result, Ok, Err, ◌<◌, ◌≤◌, ◌+◌, ◌-◌, ◌*◌, ◌^◌, ◌/◌, refl, sym, ap, subst, ◌∙◌, arith}
+use Rattle.std.specs.Prelude.{slice_index, ◌==◌, ◌&&◌, IsSome, length, ◌-ℤ◌, nat_le, if◌then◌else◌}
+use Rattle.std.proofs.Common.{◌≡◌, ℕ, ℤ, pos, Bool, true, false, List, [], ◌∷◌, Option, Some, None, Ok, Err, ◌<◌, ◌≤◌, ◌+◌, ◌-◌, ◌^◌, refl, sym, ap, subst, ◌∙◌, arith}
 use Rattle.std.proofs.lemmas.Nat.{pow-add}
 use Rattle.std.proofs.lemmas.Option.{none-some, same_Some}
-use Rattle.std.proofs.lemmas.Bool.{eqb-true, le-leb, leb-true, and_parts, false≢true}
+use Rattle.std.proofs.lemmas.Bool.{le-leb, leb-true, and_parts, false≢true}
 use Rattle.lists.specs.Tests.{by_test}
 use Rattle.lists.specs.Members.{no_member, first_or_further}
-use Rattle.lists.specs.Images.{some_image}
 use Rattle.whole_numbers.specs.Numbers.{Divides}
 use Rattle.whole_numbers.specs.MultipleLaws.{divides_through}
 use Rattle.alf_ops.specs.declared.operator.Op.{Op}
@@ -22,43 +19,32 @@ use Rattle.alf_ops.specs.declared.layout.Layout.{Layout}
 use Rattle.alf_ops.specs.declared.layout.Layout.TheVariants.{Extension}
 use Rattle.alf_ops.specs.declared.history.Value.{Value}
 use Rattle.alf_ops.specs.declared.history.Value.TheVariants.{Int, Ptr}
-use Rattle.alf_ops.specs.declared.history.RunFault.{RunFault}
 use Rattle.alf_ops.specs.declared.history.RunFault.TheVariants.{Kind}
 use Rattle.alf_ops.specs.declared.history.FrameShape.{FrameShape}
 use Rattle.alf_ops.specs.declared.history.RunEvent.{RunEvent}
 use Rattle.alf_ops.specs.TwosComplement.{word, signed}
 use Rattle.alf_ops.specs.Table.{result_size, size_of_result, operand_sizes, layout_of, is_written_so, is_typed, is_size, operands_by_layout, result_by_layout}
 use Rattle.alf_ops.specs.Words.{value}
-use Rattle.alf_ops.specs.Values.{FitsValue}
-use Rattle.alf_ops.specs.Pointers.{outcome, operands, outcome_of_operands}
-use Rattle.alf_ops.specs.Histories.{origin, cell_in, load, loaded as loaded_run, address_in, fits_in, is_active}
-use Rattle.alf_program.specs.Tree.{NumberedExpression, NumberedExpressions, Number, Address, Load, Apply, Empty, With}
-use Rattle.alf_check.specs.declared.rows.FrameRow.{FrameRow}
-use Rattle.alf_check.specs.Kept.{HasSize, HaveSizes}
-use Rattle.alf_runs.specs.Expressions.{load_from, value_of}
-use Rattle.alf_runs.specs.SizeLaws.{ValueHasSize}
+use Rattle.alf_ops.specs.Pointers.{outcome}
+use Rattle.alf_ops.specs.Histories.{origin, cell_in}
 use Rattle.domain_core.specs.WordSets.{IsWordSize, IsOnly, IsOfSize, IsApplied, AreKept, Gives, GivesOnly, GivesSize}
 use Rattle.progressions.specs.Progressions.{full}
 use Rattle.strided_rules.specs.Strides.{Stride, IsStride, Covers as CoversWord}
-use Rattle.strided_rules.specs.Members.{is_one, word_of}
-use Rattle.strided_rules.specs.MemberLaws.{one_word_alone, some_word}
+use Rattle.strided_rules.specs.MemberLaws.{some_word}
 use Rattle.strided_rules.specs.PlacedLaws.{same_word, from_word, word_itself, word_signed}
 use Rattle.strided_rules.specs.Domains.{operand_of, applied, stride_sets}
 use Rattle.strided_rules.specs.StrideLaws.{stride_is_sets}
-use Rattle.pointer_rules.specs.AbstractValues.{AbstractValue, Words, alone, Covers}
+use Rattle.pointer_rules.specs.AbstractValues.{Words, alone}
 use Rattle.pointer_rules.specs.Covering.{IsValue}
 use Rattle.pointer_rules.specs.RuleLaws.{alone_is, alone_covers, alone_only}
 use Rattle.memory_rules.specs.Covers.{IsCellSize as IsCell}
-use Rattle.memory_rules.specs.Memories.{Mem, MemSized, MemCovers, IsPlaced, is_on}
-use Rattle.memory_rules.specs.Addresses.{tested, tested_in}
+use Rattle.memory_rules.specs.Memories.{Mem, MemSized, IsPlaced}
 use Rattle.memory_rules.specs.AbstractSets.{abstract_sets}
 use Rattle.memory_rules.specs.AbstractSetLaws.{abstract_is_sets}
 use Rattle.memory_rules.specs.MemoryProofs.{memory_pin_covers, memory_pin_sharp, memory_pin_sized}
-use Rattle.step_rules.specs.Evaluating.{loaded, value_at}
-use Rattle.step_rules.specs.RemainsLaws.{LeftTold, Answers}
-use Rattle.step_rules.specs.Refining.{Place, cell_of, words_alone, cell_where, loaded_cell, load_place, is_extension, place_in, operand_place, place_of, cut, for_cell, pinned_to}
-use Rattle.step_rules.specs.Standing.{Stands, ValueTold, one_of}
-use Rattle.step_rules.specs.EvaluatingLaws.{cell_size, result_has, value_told}
+use Rattle.step_rules.specs.Refining.{Place, is_extension, cut, for_cell, pinned_to}
+use Rattle.step_rules.specs.Standing.{Stands, one_of}
+use Rattle.step_rules.specs.EvaluatingLaws.{result_has}
 use Rattle.step_rules.specs.DoingLaws.{Kept}
 
 -- ---- words cut to a size

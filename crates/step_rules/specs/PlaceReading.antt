@@ -1,10 +1,9 @@
 -- Places read their cells.
 --   CellReads, LoadReads     the cell of an address, and of a load
 --   place_fits, place_reads  a place fits the expression's size, and its cell holds the word that the expression's word is read from
-use Rattle.std.specs.Prelude.{slice_get, slice_index, IsSomeAnd, IfSome, ◌==◌}
-use Rattle.std.specs.Option.{option_map}
+use Rattle.std.specs.Prelude.{slice_get, slice_index, ◌==◌}
 use Rattle.std.specs.Result.{result_ok}
-use Rattle.std.proofs.Common.{◌≡◌, ℕ, Bool, true, false, List, [], ◌∷◌, Option, Some, None, Result, Ok, Err, ◌<◌, ◌≤◌, ◌^◌, pos, refl, sym, ap, subst, ◌∙◌, arith}
+use Rattle.std.proofs.Common.{◌≡◌, ℕ, Bool, true, false, List, [], ◌∷◌, Option, Some, None, Result, Ok, Err, ◌≤◌, pos, refl, sym, ap, subst, ◌∙◌, arith}
 use Rattle.std.proofs.lemmas.Option.{none-some, same_Some}
 use Rattle.std.proofs.lemmas.Bool.{eqb-true}
 use Rattle.lists.specs.Tests.{by_test}
@@ -20,7 +19,7 @@ use Rattle.alf_ops.specs.TwosComplement.{word}
 use Rattle.alf_ops.specs.Table.{result_size, size_of_result, operand_sizes}
 use Rattle.alf_ops.specs.Words.{value}
 use Rattle.alf_ops.specs.Values.{FitsValue}
-use Rattle.alf_ops.specs.Pointers.{outcome, operands, outcome_of_operands}
+use Rattle.alf_ops.specs.Pointers.{operands, outcome_of_operands}
 use Rattle.alf_ops.specs.Histories.{origin, cell_in, load, loaded as loaded_run, address_in, fits_in, is_active}
 use Rattle.alf_program.specs.Tree.{NumberedExpression, NumberedExpressions, Number, Address, Load, Apply, Empty, With}
 use Rattle.alf_check.specs.declared.rows.FrameRow.{FrameRow}
@@ -36,8 +35,8 @@ use Rattle.memory_rules.specs.Memories.{Mem, IsPlaced, is_on}
 use Rattle.memory_rules.specs.Addresses.{tested, tested_in}
 use Rattle.memory_rules.specs.AbstractSets.{abstract_sets}
 use Rattle.step_rules.specs.Evaluating.{loaded, value_at}
-use Rattle.step_rules.specs.RemainsLaws.{LeftTold, Answers}
-use Rattle.step_rules.specs.Refining.{Place, cell_of, words_alone, cell_where, loaded_cell, load_place, is_extension, place_in, operand_place, place_of}
+use Rattle.step_rules.specs.RemainsLaws.{Answers}
+use Rattle.step_rules.specs.Refining.{Place, cell_of, words_alone, cell_where, loaded_cell, load_place, is_extension, operand_place, place_of}
 use Rattle.step_rules.specs.Standing.{Stands, ValueTold}
 use Rattle.step_rules.specs.EvaluatingLaws.{cell_size, value_told}
 use Rattle.step_rules.specs.PlaceLaws.{PlaceFits, PlaceReads, ExtensionSizes, ext_sizes, ext_back, ext_outcome, ext_pointer}

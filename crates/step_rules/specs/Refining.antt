@@ -6,7 +6,7 @@
 --   comparison_of e           the relation of a comparison and its sides
 --   pinned_to m place words   the memory with the place pinned to these words
 --   refined rows m e arm      the memory of an arm with these words of the switch's expression; none where the arm is absent
-use Rattle.std.specs.Prelude.{ℕ, Bool, true, false, not, List, [], ◌∷◌, Option, Some, None, ◌==◌, if◌then◌else◌}
+use Rattle.std.specs.Prelude.{ℕ, Bool, true, false, List, [], ◌∷◌, Option, Some, None, ◌==◌, if◌then◌else◌}
 use Rattle.std.specs.Option.{option_map, option_and_then}
 use Rattle.std.specs.Result.{result_ok}
 use Rattle.alf_ops.specs.declared.operator.Op.{Op}
@@ -23,7 +23,6 @@ use Rattle.pointer_rules.specs.AbstractValues.{AbstractValue, Words, alone}
 use Rattle.memory_rules.specs.Memories.{Mem, pinned_at}
 use Rattle.memory_rules.specs.Addresses.{tested}
 use Rattle.memory_rules.specs.AbstractSets.{abstract_sets, has_pointer}
-use Rattle.step_rules.specs.Remains.{Remains}
 use Rattle.step_rules.specs.Evaluating.{loaded, value_at}
 
 -- ---- places

@@ -4,9 +4,8 @@
 --   RefinedTold, refined_told   where the expression gives a word of the arm, the arm is there, and its memory stands for the history
 use Rattle.std.specs.Prelude.{slice_index, IfSome, if◌then◌else◌}
 use Rattle.std.specs.Option.{option_and_then}
-use Rattle.std.proofs.Common.{◌≡◌, ℕ, Bool, true, false, List, [], ◌∷◌, Option, Some, None, Result, Ok, Err, refl, sym, ap, subst, ◌∙◌}
+use Rattle.std.proofs.Common.{◌≡◌, ℕ, List, [], ◌∷◌, Option, Some, None, Result, Ok, Err, refl, sym, ap, subst, ◌∙◌}
 use Rattle.std.proofs.lemmas.Option.{none-some, same_Some}
-use Rattle.std.specs.Prelude.{IsSomeAnd}
 use Rattle.lists.specs.Tests.{by_test}
 use Rattle.alf_ops.specs.declared.operator.Op.{Op}
 use Rattle.alf_ops.specs.declared.history.Value.{Value}
@@ -15,7 +14,6 @@ use Rattle.alf_ops.specs.declared.history.RunFault.{RunFault}
 use Rattle.alf_ops.specs.declared.history.FrameShape.{FrameShape}
 use Rattle.alf_ops.specs.declared.history.RunEvent.{RunEvent}
 use Rattle.alf_ops.specs.Values.{bits_of}
-use Rattle.alf_ops.specs.Table.{operand_sizes}
 use Rattle.alf_ops.specs.Words.{value}
 use Rattle.alf_ops.specs.Pointers.{outcome, operands, outcome_of_operands}
 use Rattle.alf_program.specs.Tree.{NumberedExpression, NumberedExpressions, Number, Address, Load, Apply, Empty, With}
@@ -36,10 +34,9 @@ use Rattle.pointer_rules.specs.Covering.{IsValue}
 use Rattle.memory_rules.specs.ValueSets.{OnlyCovers}
 use Rattle.memory_rules.specs.Memories.{Mem, MemSized}
 use Rattle.memory_rules.specs.AbstractSets.{abstract_sets, some_place}
-use Rattle.step_rules.specs.Remains.{Remains}
 use Rattle.step_rules.specs.Evaluating.{value_at}
-use Rattle.step_rules.specs.RemainsLaws.{LeftTold, Answers, IfLeft}
-use Rattle.step_rules.specs.Refining.{Place, Comparison, place_of, words_alone, relation_of, swapped, sides_of, comparison_of, pinned_to, pinned_side, pinned_sides, rel_at, compared, if_compared, by_form, refined}
+use Rattle.step_rules.specs.RemainsLaws.{LeftTold, Answers}
+use Rattle.step_rules.specs.Refining.{Place, Comparison, place_of, words_alone, relation_of, swapped, sides_of, comparison_of, pinned_to, pinned_side, pinned_sides, rel_at, compared, by_form, refined}
 use Rattle.step_rules.specs.Standing.{Stands, ValueTold}
 use Rattle.step_rules.specs.EvaluatingLaws.{value_sized, value_told}
 use Rattle.step_rules.specs.DoingLaws.{Kept, unchanged, kept_on}

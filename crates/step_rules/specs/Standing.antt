@@ -4,7 +4,7 @@
 --   AllTold Sharp vs values         the same of values in a row
 --   word_told, pointer_told         a word and a pointer
 use Rattle.std.specs.Prelude.{◌<◌, ◌^◌, ℕ, List}
-use Rattle.std.proofs.Common.{◌≡◌, refl, arith}
+use Rattle.std.proofs.Common.{refl, arith}
 use Rattle.std.specs.List.{AllZip}
 use Rattle.alf_ops.specs.declared.history.Value.{Value}
 use Rattle.alf_ops.specs.declared.history.Value.TheVariants.{Int, Ptr}
@@ -12,10 +12,10 @@ use Rattle.alf_ops.specs.declared.history.FrameShape.{FrameShape}
 use Rattle.alf_ops.specs.declared.history.RunEvent.{RunEvent}
 use Rattle.alf_ops.specs.Histories.{IsSound}
 use Rattle.domain_core.specs.WordSets.{IsWordSize, IsOnly, IsOfSize}
-use Rattle.strided_rules.specs.Strides.{Stride, one_word}
+use Rattle.strided_rules.specs.Strides.{one_word}
 use Rattle.strided_rules.specs.Domains.{stride_sets}
 use Rattle.strided_rules.specs.StrideLaws.{stride_is_sets}
-use Rattle.pointer_rules.specs.AbstractValues.{AbstractValue, Words, Places, alone, Covers, OnlyCovers as OneCovers}
+use Rattle.pointer_rules.specs.AbstractValues.{AbstractValue, Words, Places, Covers, OnlyCovers as OneCovers}
 use Rattle.pointer_rules.specs.Covering.{IsValue}
 use Rattle.pointer_rules.specs.RuleLaws.{alone_is, alone_covers, alone_only}
 use Rattle.memory_rules.specs.ValueSets.{OnlyCovers}

@@ -4,24 +4,23 @@
 --   first_told                  the memory at the start
 --   only_inputs                 where there is one start alone, each range has one word alone
 --   first_kept                  its sizes, and the functions that run
-use Rattle.std.specs.Prelude.{slice_get, ◌==◌, ◌/◌, ◌%◌, ◌+ℤ◌, ◌-ℤ◌, ◌*ℤ◌, ◌≤ℤ◌, ◌<ℤ◌, All, Contains, if◌then◌else◌}
+use Rattle.std.specs.Prelude.{◌==◌, ◌-ℤ◌, ◌≤ℤ◌, All, if◌then◌else◌}
 use Rattle.std.specs.List.{AllZip}
-use Rattle.std.proofs.Common.{◌≡◌, ℕ, ℤ, pos, Bool, true, false, List, [], ◌∷◌, Option, Some, None, ◌<◌, ◌≤◌, ◌+◌, ◌*◌, ◌^◌, inl, inr, refl, sym, ap, subst, ◌∙◌, arith}
+use Rattle.std.proofs.Common.{◌≡◌, ℕ, ℤ, pos, Bool, true, false, List, [], ◌∷◌, Option, None, ◌<◌, ◌^◌, inl, inr, refl, sym, ap, subst, ◌∙◌, arith}
 use Rattle.std.proofs.lemmas.Int.{ints}
 use Rattle.std.proofs.lemmas.Option.{same_Some}
-use Rattle.std.proofs.lemmas.Bool.{eqb-true, eq-eqb, false≢true}
+use Rattle.std.proofs.lemmas.Bool.{eqb-true, false≢true}
 use Rattle.std.proofs.lemmas.List.Elements.{All-head, All-tail}
 use Rattle.lists.specs.Tests.{by_test}
-use Rattle.alf_ops.specs.declared.history.Value.{Value}
 use Rattle.alf_ops.specs.declared.history.Value.TheVariants.{Int}
 use Rattle.alf_ops.specs.declared.history.RunEvent.{RunEvent}
-use Rattle.alf_ops.specs.declared.history.RunEvent.TheVariants.{Enter, Store}
+use Rattle.alf_ops.specs.declared.history.RunEvent.TheVariants.{Store}
 use Rattle.alf_ops.specs.TwosComplement.{word}
-use Rattle.alf_ops.specs.Histories.{is_active, is_running, IsSound}
+use Rattle.alf_ops.specs.Histories.{is_active, is_running}
 use Rattle.alf_faults.specs.Sizes.{is_export_size}
 use Rattle.alf_check.specs.declared.rows.FrameRow.{FrameRow}
 use Rattle.alf_check.specs.declared.rows.InputRow.{InputRow}
-use Rattle.alf_check.specs.CheckedPrograms.{NumberedFunction, NumberedProgram}
+use Rattle.alf_check.specs.CheckedPrograms.{NumberedProgram}
 use Rattle.alf_check.specs.Kept.{IsKept}
 use Rattle.alf_check.specs.Inputs.{KeepsInput, KeepInputs}
 use Rattle.alf_runs.specs.Steps.{frames_of}
@@ -34,18 +33,17 @@ use Rattle.progressions.specs.Progressions.{Has, IsProgression, full, from_to}
 use Rattle.progressions.specs.Images.{moved}
 use Rattle.progressions.specs.ProgressionLaws.{is_from_to, has_from_to}
 use Rattle.progressions.specs.PartLaws.{moved_has}
-use Rattle.strided_rules.specs.Strides.{Stride, IsStride, IsMember, norm, centered, Covers as CoversWord}
+use Rattle.strided_rules.specs.Strides.{norm, centered, Covers as CoversWord}
 use Rattle.strided_rules.specs.Domains.{stride_sets}
 use Rattle.strided_rules.specs.PlacedLaws.{same_word, norm_once, norm_placed, norm_member, member_below, centered_same}
 use Rattle.pointer_rules.specs.AbstractValues.{Words, alone}
-use Rattle.pointer_rules.specs.Covering.{IsValue}
 use Rattle.pointer_rules.specs.RuleLaws.{alone_is, alone_covers, alone_only}
 use Rattle.memory_rules.specs.Covers.{IsCellSize as IsCell}
 use Rattle.memory_rules.specs.Memories.{Mem, fresh, entered, MemSized}
 use Rattle.memory_rules.specs.AbstractSets.{abstract_sets}
 use Rattle.memory_rules.specs.AbstractSetLaws.{abstract_is_sets}
 use Rattle.memory_rules.specs.MemoryProofs.{start_sharp}
-use Rattle.step_rules.specs.Filling.{filled, with_arguments, with_inits, entered_with, range_of, with_inputs, first_memory}
+use Rattle.step_rules.specs.Filling.{filled, with_inits, entered_with, range_of, with_inputs, first_memory}
 use Rattle.step_rules.specs.Standing.{Stands, ValueTold, one_of}
 use Rattle.step_rules.specs.DoingLaws.{Kept, unchanged, kept_on}
 use Rattle.step_rules.specs.FillingLaws.{placed, filled_told, filled_kept, args_of, inits_told, inits_kept, entered_inits, entered_inits_kept}

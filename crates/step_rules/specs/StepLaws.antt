@@ -2,11 +2,9 @@
 --   EndTold              the goals have the end
 --   Says Sharp rows r moment   the moment after a step of a run is one of the goals, or its fault is told
 --   step_told            a step from a memory that stands for the history
-use Rattle.std.specs.Prelude.{slice_get, IsSomeAnd, IfSome, All, AllPairs, Contains}
+use Rattle.std.specs.Prelude.{slice_get, IfSome, AllPairs, Contains}
 use Rattle.std.specs.List.{AllZip}
-use Rattle.std.specs.Option.{option_map}
-use Rattle.std.proofs.Common.{◌≡◌, ◌≢◌, ℕ, Bool, true, false, List, [], ◌∷◌, map, Option, Some, None, Result, Ok, Err, ◌<◌, ◌^◌, refl, sym, ap, subst, ◌∙◌}
-use Rattle.std.proofs.lemmas.Option.{none-some, same_Some}
+use Rattle.std.proofs.Common.{◌≡◌, ◌≢◌, ℕ, List, [], ◌∷◌, map, Option, Some, None, Result, Ok, Err, refl, sym, ap, subst, ◌∙◌}
 use Rattle.std.proofs.lemmas.Bool.{eq-eqb}
 use Rattle.std.proofs.lemmas.List.Elements.{All-contains}
 use Rattle.lists.specs.Members.{first_member}
@@ -23,8 +21,8 @@ use Rattle.alf_ops.specs.Pointers.{operands, before as before_run}
 use Rattle.alf_program.specs.Tree.{NumberedExpression}
 use Rattle.alf_check.specs.declared.rows.FrameRow.{FrameRow}
 use Rattle.alf_check.specs.CheckedPrograms.{NumberedProgram, NumberedBlock, BlockEnding, Fall, Jump, Switch, Call, Return, blocks_at}
-use Rattle.alf_check.specs.Kept.{IsKept, HasSize, TargetKeeps, SwitchKeeps, CallKeeps, KeepsEnding, KeepsResult, ResultKeeps, Gives, HasCellSize, ArgumentKeeps}
-use Rattle.flow_graph.specs.Nodes.{Node, Goal, entry_node, block_node, ending_at, function_at}
+use Rattle.alf_check.specs.Kept.{IsKept, HasSize, TargetKeeps, CallKeeps, KeepsEnding, KeepsResult, Gives, HasCellSize, ArgumentKeeps}
+use Rattle.flow_graph.specs.Nodes.{Node, entry_node, block_node, function_at}
 use Rattle.flow_graph.specs.Paths.{IsCallPath, IsPlaced}
 use Rattle.flow_graph.specs.PathLaws.{path_low}
 use Rattle.alf_runs.specs.Expressions.{value_of}
@@ -32,9 +30,8 @@ use Rattle.alf_runs.specs.Statements as runs
 use Rattle.alf_runs.specs.Outcomes.{Ended, Faulted, Lost}
 use Rattle.alf_runs.specs.Steps.{Moment, At, Over, frames_of, target_of, switch_step, call_step, move_on, result_step, go_back, leave, return_step, ending_step, then_ending, block_step, node_step, step}
 use Rattle.alf_runs.specs.SizeLaws.{ValueHasSize}
-use Rattle.domain_core.specs.FaultSets.{has_fault}
-use Rattle.domain_core.specs.WordSets.{IsOnly, IsOfSize}
-use Rattle.strided_rules.specs.Strides.{Stride, IsStride, Covers as CoversWord}
+use Rattle.domain_core.specs.WordSets.{IsOfSize}
+use Rattle.strided_rules.specs.Strides.{Stride}
 use Rattle.strided_rules.specs.MemberLaws.{some_word}
 use Rattle.strided_rules.specs.Domains.{stride_sets}
 use Rattle.pointer_rules.specs.AbstractValues.{AbstractValue, Covers, ArePlaces}
@@ -45,13 +42,13 @@ use Rattle.memory_rules.specs.Memories.{Mem, left}
 use Rattle.memory_rules.specs.AbstractSets.{abstract_sets}
 use Rattle.memory_rules.specs.AbstractSetLaws.{abstract_is_sets}
 use Rattle.memory_rules.specs.MemoryProofs.{leave_covers, sharp_leave, leave_sized}
-use Rattle.step_rules.specs.Remains.{Remains, all_left, nothing_left, goes_on}
+use Rattle.step_rules.specs.Remains.{Remains, goes_on}
 use Rattle.step_rules.specs.Evaluating.{pointer_value, value_at, arguments_at}
 use Rattle.step_rules.specs.Doing.{stored_through, after_statements}
 use Rattle.step_rules.specs.Filling.{entered_with}
 use Rattle.step_rules.specs.Stepping.{Goals, to_goal, arms, arms_of, pointer_fault, switched, result_to, back_to, leave_to, call_to, end_at, block_at, step_at}
 use Rattle.step_rules.specs.Standing.{Stands, ValueTold, AllTold, pointer_is, pointer_told}
-use Rattle.step_rules.specs.RemainsLaws.{HasNone, HasOnly, LeftTold, FaultTold, Answers, IfLeft, no_fault, one_alone, all_told, left_on, fault_on, fault_stops}
+use Rattle.step_rules.specs.RemainsLaws.{HasNone, LeftTold, FaultTold, Answers, IfLeft, no_fault, one_alone, all_told, left_on, fault_on, fault_stops}
 use Rattle.step_rules.specs.EvaluatingLaws.{cell_size, value_sized, value_told, arguments_told, ArgumentIs, arguments_sized}
 use Rattle.step_rules.specs.DoingLaws.{store_told, statements_told}
 use Rattle.step_rules.specs.FillingLaws.{ArgumentFits, entered_told}

@@ -1,12 +1,12 @@
 -- Each goal of a step is one of the node, and its memory is one for it.
 --   GoalIs program node goal     the node leads to the goal, whose memory has the sizes and the active frames of its path
 --   goals_are                    of each goal of a step
-use Rattle.std.specs.Prelude.{slice_get, ◌==◌, ◌↔◌, All, AllPairs, Contains, IfSome, if◌then◌else◌}
+use Rattle.std.specs.Prelude.{slice_get, ◌==◌, ◌↔◌, Contains, IfSome}
 use Rattle.std.specs.List.{AllZip}
 use Rattle.std.specs.Option.{option_map, option_map_or}
-use Rattle.std.proofs.Common.{◌≡◌, ◌≢◌, inl, inr, ℕ, suc, length, Bool, true, false, List, [], ◌∷◌, map, Option, Some, None, ◌<◌, refl, sym, ap, subst, ◌∙◌, arith}
+use Rattle.std.proofs.Common.{◌≡◌, inr, ℕ, suc, length, Bool, true, false, List, [], ◌∷◌, Option, Some, None, ◌<◌, refl, sym, ap, subst, ◌∙◌, arith}
 use Rattle.std.proofs.lemmas.Option.{none-some, same_Some}
-use Rattle.std.proofs.lemmas.Bool.{eqb-true, eqb-false, eq-eqb, false≢true}
+use Rattle.std.proofs.lemmas.Bool.{eqb-true, eqb-false, false≢true}
 use Rattle.std.proofs.lemmas.List.Elements.{All-contains}
 use Rattle.lists.specs.Tests.{by_test}
 use Rattle.lists.specs.Members.{first_member, further_member, first_or_further}
@@ -15,7 +15,7 @@ use Rattle.walks.specs.Walks.{IsDistinct}
 use Rattle.alf_program.specs.Tree.{NumberedExpression, Number, Address, Load, Apply}
 use Rattle.alf_check.specs.declared.rows.FrameRow.{FrameRow}
 use Rattle.alf_check.specs.CheckedPrograms.{NumberedProgram, NumberedFunction, NumberedBlock, BlockEnding, Fall, Jump, Switch, Call, Return, blocks_at}
-use Rattle.alf_check.specs.Kept.{IsKept, HasSize, TargetKeeps, CallKeeps, KeepsEnding, KeepsBlock, Gives, HasCellSize, ReturnKeeps}
+use Rattle.alf_check.specs.Kept.{IsKept, HasSize, TargetKeeps, CallKeeps, KeepsEnding, KeepsBlock, Gives, HasCellSize}
 use Rattle.flow_graph.specs.Nodes.{Node, Goal, entry_node, block_node, ending_at, callee_of, function_at, IsTarget, BackLeads, ReturnLeads, EndLeads, Leads}
 use Rattle.flow_graph.specs.Paths.{IsCall, IsCallPath, IsPlaced, functions_on}
 use Rattle.flow_graph.specs.PathLaws.{function_there, ending_keeps, path_low}
@@ -30,8 +30,7 @@ use Rattle.memory_rules.specs.Covers.{IsCellSize as IsCell}
 use Rattle.memory_rules.specs.Memories.{Mem, is_on, entered, left, MemSized}
 use Rattle.memory_rules.specs.AbstractSets.{abstract_sets}
 use Rattle.memory_rules.specs.AbstractSetLaws.{abstract_is_sets}
-use Rattle.memory_rules.specs.MemoryProofs.{leave_sized, enter_sized}
-use Rattle.step_rules.specs.Remains.{Remains, goes_on}
+use Rattle.memory_rules.specs.MemoryProofs.{leave_sized}
 use Rattle.step_rules.specs.Evaluating.{pointer_value, value_at, arguments_at}
 use Rattle.step_rules.specs.Doing.{stored_through, after_statements}
 use Rattle.step_rules.specs.Filling.{entered_with}
@@ -255,9 +254,13 @@ module _ (program : NumberedProgram) (keeps : IsKept program) where
         keeps_on (AllZip (ArgumentIs program.frames k) keep.function.args) (EachGoal (GoalIs program (block_node path b))) (arguments_at (frames_of program) m args) (call_to program path b f m)
         (arguments_sized program.frames (frames_of program) m sized k keep.function.args args keep.args_keep)
         (λ vs are.
-        let kept = entered_kept program keeps f keep.function keep.at k vs m are sized in
-        ((leads_by (Call f args result next) is (Some (entry_node (b ∷ path))) refl,
-        (kept.sized, same_along program (b ∷ path) (entered abstract_sets (frames_of program) m f) (entered_with program f vs m) kept.runs (enter_along program path b f m enters along))), tt))
+        let kept = entered_kept program keeps f keep.function keep.at k vs m are sized in (
+          (
+            leads_by (Call f args result next) is (Some (entry_node (b ∷ path))) refl,
+            (kept.sized, same_along program (b ∷ path) (entered abstract_sets (frames_of program) m f) (entered_with program f vs m) kept.runs (enter_along program path b f m enters along)),
+          ),
+          tt,
+        ))
     end_goals (Return None) is keep m sized along =
         leave_goals path (block_node path b) None None m 0 calls distinct sized along (λ goal leads. leads_by (Return None) is goal leads)
         (λ c rest same back to w r_is v_is. absurd (none-some w v_is))

@@ -3,16 +3,14 @@
 --   arm_kept, arms_kept         each arm leads to a block of the switch, with a memory that keeps sizes and what runs
 --   GoesTold                    the goals have this node, with a memory that stands for the history
 --   arms_told                   the arm that a run takes is there, and where Sharp holds it is the only one
-use Rattle.std.specs.Prelude.{IsSomeAnd, IfSome, ◌==◌, ◌++◌, All, AllPairs, Contains, if◌then◌else◌, not}
-use Rattle.std.proofs.Common.{◌≡◌, ◌≢◌, ◌⊎◌, inl, inr, ℕ, suc, length, Bool, true, false, List, [], ◌∷◌, map, Option, Some, None, Result, Ok, Err, ◌<◌, ◌^◌, refl, sym, ap, subst, ◌∙◌, arith}
-use Rattle.std.proofs.lemmas.Option.{none-some, same_Some}
+use Rattle.std.specs.Prelude.{IfSome, ◌==◌, ◌++◌, AllPairs, Contains, if◌then◌else◌}
+use Rattle.std.proofs.Common.{◌≡◌, ◌≢◌, inl, ℕ, suc, length, Bool, true, false, List, [], ◌∷◌, Option, Some, None, Ok, ◌<◌, ◌^◌, refl, sym, ap, subst, ◌∙◌, arith}
+use Rattle.std.proofs.lemmas.Option.{same_Some}
 use Rattle.std.proofs.lemmas.Bool.{eqb-true, eqb-false, eq-eqb, ne_eqb, false≢true}
-use Rattle.std.proofs.lemmas.List.Elements.{All-head, All-tail, Contains-append_left, Contains-append_right, Contains-append_cases}
+use Rattle.std.proofs.lemmas.List.Elements.{Contains-append_left, Contains-append_right}
 use Rattle.lists.specs.Tests.{by_test}
 use Rattle.lists.specs.Members.{first_member, further_member, first_or_further, no_member}
-use Rattle.alf_ops.specs.declared.history.Value.{Value}
-use Rattle.alf_ops.specs.declared.history.Value.TheVariants.{Int, Ptr}
-use Rattle.alf_ops.specs.declared.history.RunFault.{RunFault}
+use Rattle.alf_ops.specs.declared.history.Value.TheVariants.{Int}
 use Rattle.alf_ops.specs.declared.history.FrameShape.{FrameShape}
 use Rattle.alf_ops.specs.declared.history.RunEvent.{RunEvent}
 use Rattle.alf_program.specs.Tree.{NumberedExpression}
@@ -24,7 +22,7 @@ use Rattle.alf_runs.specs.Steps.{target_of}
 use Rattle.alf_runs.specs.SizeLaws.{ValueHasSize}
 use Rattle.domain_core.specs.declared.relation.Rel.TheVariants.{Neq}
 use Rattle.domain_core.specs.Relations.{Related}
-use Rattle.domain_core.specs.WordSets.{IsWordSize, IsOnly, IsOfSize, IsAssumed, Gives, GivesOnly, GivesSize}
+use Rattle.domain_core.specs.WordSets.{IsWordSize, IsOnly, IsOfSize, IsAssumed, GivesSize}
 use Rattle.strided_rules.specs.Strides.{Stride, one_word, Covers as CoversWord}
 use Rattle.strided_rules.specs.Members.{is_one, word_of, only, without, assumed}
 use Rattle.strided_rules.specs.MemberLaws.{one_word_alone, sharp_one}
@@ -36,7 +34,7 @@ use Rattle.step_rules.specs.Refining.{refined}
 use Rattle.step_rules.specs.Stepping.{Goals, without_all, arm_to, arm, target_arms, arms}
 use Rattle.step_rules.specs.Standing.{Stands}
 use Rattle.step_rules.specs.DoingLaws.{Kept}
-use Rattle.step_rules.specs.RefiningLaws.{ArmTold, refined_kept, refined_told}
+use Rattle.step_rules.specs.RefiningLaws.{refined_kept, refined_told}
 
 -- ---- the words without one
 

@@ -4,8 +4,8 @@
 --   ExpressionsTell, ExpressionsTellOnly
 --   TransferIsMachine             the transfer is an abstract machine for the points of runs
 --   TransferGoesAlong             its steps lie along the edges of the graph's outline
-use Rattle.std.specs.Prelude.{◌≡◌, ◌↔◌, ℕ, Bool, true, List, length, Option, Some, None, Result, Ok, Err, IsSomeAnd}
-use Rattle.std.proofs.Common.{refl, sym, ap, subst}
+use Rattle.std.specs.Prelude.{◌≡◌, ◌↔◌, ℕ, Bool, true, List, length, Option, None, Result, Ok, Err, IsSomeAnd}
+use Rattle.std.proofs.Common.{sym, subst}
 use Rattle.alf_ops.specs.declared.history.Value.{Value}
 use Rattle.alf_ops.specs.declared.history.RunFault.{RunFault}
 use Rattle.alf_ops.specs.declared.history.FrameShape.{FrameShape}
@@ -34,7 +34,7 @@ use Rattle.step_rules.specs.Evaluating.{value_at}
 use Rattle.step_rules.specs.Machines.{memory_order, KeepsMachine, StepPromises, run_machine}
 use Rattle.step_rules.specs.RemainsLaws.{Answers, none_is_empty, only_is_one}
 use Rattle.step_rules.specs.AddressFaultLaws.{address_told, address_from}
-use Rattle.step_rules.specs.Standing.{Stands, ValueTold}
+use Rattle.step_rules.specs.Standing.{ValueTold}
 use Rattle.step_rules.specs.EvaluatingLaws.{value_told}
 use Rattle.step_rules.specs.MachineLaws.{own_order_suits, is_machine, is_along}
 

@@ -3,7 +3,7 @@
 --   ranged low high              an input in this frame
 --   stepped program rows         the goals of a step from block 0 at the start, each with what the frame holds there, and the faults
 --   cut_to e low high bit        what the frame holds where the comparison gives this bit
-use Rattle.std.specs.Prelude.{ℕ, ℤ, true, false, List, [], ◌∷◌, map, Option, Some, None}
+use Rattle.std.specs.Prelude.{ℕ, ℤ, false, List, [], ◌∷◌, map, Option, Some, None}
 use Rattle.std.specs.Option.{option_and_then}
 use Rattle.alf_ops.specs.declared.operator.Op.{Op}
 use Rattle.alf_program.specs.Tree.{NumberedExpression, Number, Address, Load, Apply, Empty, With}
@@ -16,11 +16,10 @@ use Rattle.domain_core.specs.declared.fault_set.FaultSet.{FaultSet}
 use Rattle.pointer_rules.specs.AbstractValues.{AbstractValue}
 use Rattle.memory_rules.specs.Memories.{Mem}
 use Rattle.memory_rules.specs.AbstractSets.{abstract_sets}
-use Rattle.step_rules.specs.Remains.{Remains}
 use Rattle.step_rules.specs.Evaluating.{value_at}
 use Rattle.step_rules.specs.Filling.{first_memory}
 use Rattle.step_rules.specs.Refining.{refined}
-use Rattle.step_rules.specs.Stepping.{Goals, step_at, goals_left}
+use Rattle.step_rules.specs.Stepping.{step_at, goals_left}
 
 abbrev block : BlockEnding → NumberedBlock
 block ending = record { statements = []; ending = ending }

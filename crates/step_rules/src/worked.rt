@@ -25,9 +25,12 @@ pub fn a_comparison_cuts_its_place()
 /// pointer is the fault kind, and one on a frame without a store is uninitialised.
 pub fn a_switch_takes_words_alone()
     ensures targets { stepped (one_block content ((0, 1) ∷ (2, 1) ∷ []) 2) (ranged (pos 0) (pos 2))
-        ≡ ((Some (block_node [] 1), Some (words_alone (record { size = 8; numbers = from_to (pos 0) (pos 0) (pos 1) })))
-        ∷ (Some (block_node [] 1), Some (words_alone (record { size = 8; numbers = from_to (pos 2) (pos 2) (pos 1) })))
-        ∷ (Some (block_node [] 2), Some (words_alone (record { size = 8; numbers = from_to (pos 1) (pos 1) (pos 1) }))) ∷ [], no_faults) }
+        ≡ (
+          (Some (block_node [] 1), Some (words_alone (record { size = 8; numbers = from_to (pos 0) (pos 0) (pos 1) })))
+              ∷ (Some (block_node [] 1), Some (words_alone (record { size = 8; numbers = from_to (pos 2) (pos 2) (pos 1) })))
+              ∷ (Some (block_node [] 2), Some (words_alone (record { size = 8; numbers = from_to (pos 1) (pos 1) (pos 1) }))) ∷ [],
+          no_faults,
+        ) }
     ensures pointer { stepped (one_block (Address 0 0) ((0, 1) ∷ []) 2) (ranged (pos 0) (pos 2)) ≡ ([], with_fault no_faults Kind) }
     ensures uninitialised { stepped (one_block content ((0, 1) ∷ []) 2) [] ≡ ([], with_fault no_faults Uninit) }
 {}

@@ -3,3 +3,4 @@ pub mod NodeNumbers
 pub mod Points
 pub mod NumberLaws
 pub mod PointLaws
+pub mod TraceLaws

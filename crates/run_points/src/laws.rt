@@ -1,6 +1,7 @@
 //! What is true of the points of runs, as clauses of functions that do nothing.
 
 ghost use Rattle.run_points.specs.PointLaws.{GoesAlong, EndsAlong, RunIsRun, HasOneWay};
+ghost use Rattle.run_points.specs.TraceLaws.{TraceIsTrace};
 
 use alf_runs::{a_step_leads_along_an_edge, active_frames_follow_the_call_path};
 use flow_graph::graphs_are_expansions;
@@ -15,9 +16,11 @@ pub fn points_go_along_edges()
     graphs_are_expansions();
 }
 
-/// Each run of the program from a start inside the ranges is a run of its system.
+/// Each run of the program from a start inside the ranges is a run of its system, and its nodes are
+/// those of the program's run, by their numbers.
 pub fn runs_are_runs_of_points()
-    ensures { RunIsRun }
+    ensures run { RunIsRun }
+    ensures trace { TraceIsTrace }
 {
     a_step_leads_along_an_edge();
     active_frames_follow_the_call_path();

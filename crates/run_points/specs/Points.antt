@@ -1,4 +1,5 @@
--- The concrete system of a program: the points that its runs pass, from inputs inside given ranges. A point is the number of a
+-- The concrete system of a program: the points that its runs pass, from inputs inside given ranges. A point
+-- is the number of a
 -- node and a history.
 --   moment_at graph n history          where a run stands at the point
 --   run_system program graph rows      where runs start, their next points, their ends and their faults

@@ -1,5 +1,6 @@
 -- The nodes of a run, by their numbers.
---   TraceIsTrace     the nodes of the first t moments, the newest first, are the nodes of the run's first t steps turned round
+--   TraceIsTrace     the nodes of the first t moments, the newest first, are the nodes of the run's first t
+--       steps turned round
 use Rattle.std.specs.Prelude.{reverse}
 use Rattle.std.proofs.Common.{◌≡◌, ℕ, zero, suc, List, ◌∷◌, ◌++◌, map, refl, ap, sym, ◌∙◌}
 use Rattle.std.proofs.lemmas.List.{reverse-append, map-append}

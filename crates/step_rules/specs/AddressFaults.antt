@@ -2,7 +2,8 @@
 --   fault_set faults                    the set of these faults
 --   greatest_offset offsets             the greatest of the offsets
 --   word_fault words                    a word is no address
---   place_fault row runs offsets size   an inactive frame is dead; an offset past the last at which the cell fits is out of bounds
+--   place_fault row runs offsets size   an inactive frame is dead; an offset past the last at which the cell
+--       fits is out of bounds
 --   address_faults rows runs at size    those of all alternatives
 use Rattle.std.specs.Prelude.{ℕ, Bool, List, [], ◌∷◌, Option, Some, None, unsigned_abs, if◌then◌else◌, slice_get}
 use Rattle.alf_ops.specs.declared.history.RunFault.{RunFault}

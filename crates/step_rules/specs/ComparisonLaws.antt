@@ -1,5 +1,6 @@
 -- Relations of comparisons.
---   opposite_holds, swapped_holds   where a relation does not hold its opposite does, and with changed sides the swapped one
+--   opposite_holds, swapped_holds   where a relation does not hold its opposite does, and with changed sides
+--       the swapped one
 --   relation_is                     the operator of a relation
 --   rel_holds                       what holds where a comparison gives this bit
 use Rattle.std.specs.Prelude.{slice_index, nat_lt, nat_le, int_lt, int_le, ◌==◌, not}

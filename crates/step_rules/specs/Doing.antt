@@ -1,5 +1,6 @@
 -- What statements make of an abstract memory.
---   stored_by rows m at v size      the memory after a store of the value through the address, where some cell is possible
+--   stored_by rows m at v size      the memory after a store of the value through the address, where some
+--       cell is possible
 --   stored_through rows m at v      the same at the value's own size
 --   after_statement rows s m        the memory after the statement
 --   after_statements rows ss m      the memory after the statements in order

@@ -1,4 +1,5 @@
--- What abstract memories hold where functions are entered and where runs start tells what histories have there.
+-- What abstract memories hold where functions are entered and where runs start tells what histories have
+-- there.
 --   placed                      a cell of an active frame
 --   filled_told, filled_kept    a value stored in such a cell
 --   ArgumentFits                a value of a run for the frame of an argument

@@ -1,6 +1,8 @@
 -- The abstract machine of a program: memories for its points.
---   CoversHistory program m history, SharpFor program m history   the memory stands for the history, and for it alone
---   Fits program graph n m          the memory is one for the node: sizes, and the active frames of its call path
+--   CoversHistory program m history, SharpFor program m history   the memory stands for the history, and for
+--       it alone
+--   Fits program graph n m          the memory is one for the node: sizes, and the active frames of its call
+--       path
 --   AreAlike a b                    two memories with the same active frames
 --   memory_order program            memories as a lattice
 --   goals_from program graph n m    the goals of a step from the node

@@ -1,5 +1,7 @@
--- A machine over values that are seen as those of another machine, and may carry more, as the program that a memory was made for.
---   over value made Own m      the machine: value sees a value, made makes one of the stepper's own, which Own tells
+-- A machine over values that are seen as those of another machine, and may carry more, as the program that a
+-- memory was made for.
+--   over value made Own m      the machine: value sees a value, made makes one of the stepper's own, which
+--       Own tells
 --   IsSeen                     what the order of such values keeps
 --   over_is_machine            it keeps the laws of a stepper
 --   over_is_along              and its steps lie along the same edges

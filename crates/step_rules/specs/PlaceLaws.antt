@@ -1,7 +1,9 @@
 -- Places that a switch's expression tells of.
 --   cut_sized, cut_covers, cut_only     words cut to a size
---   PlaceFits place size                the place's load has a cell's size, at most the size of the expression
---   PlaceReads rows history place w     where the expression gives the word w, the cell holds the word that it is read from
+--   PlaceFits place size                the place's load has a cell's size, at most the size of the
+--       expression
+--   PlaceReads rows history place w     where the expression gives the word w, the cell holds the word that
+--       it is read from
 --   place_fits, place_reads             a place fits, and reads its cell
 --   pin_kept, pin_told                  a pin of a place to words that the expression's word is one of
 use Rattle.std.specs.Prelude.{slice_index, ◌==◌, ◌&&◌, IsSome, length, ◌-ℤ◌, nat_le, if◌then◌else◌}

@@ -1,6 +1,7 @@
 -- Places read their cells.
 --   CellReads, LoadReads     the cell of an address, and of a load
---   place_fits, place_reads  a place fits the expression's size, and its cell holds the word that the expression's word is read from
+--   place_fits, place_reads  a place fits the expression's size, and its cell holds the word that the
+--       expression's word is read from
 use Rattle.std.specs.Prelude.{slice_get, slice_index, ◌==◌}
 use Rattle.std.specs.Result.{result_ok}
 use Rattle.std.proofs.Common.{◌≡◌, ℕ, Bool, true, false, List, [], ◌∷◌, Option, Some, None, Result, Ok, Err, ◌≤◌, pos, refl, sym, ap, subst, ◌∙◌, arith}

@@ -5,7 +5,8 @@
 --   opposite rel, swapped rel   where rel does not hold, and with its sides changed
 --   comparison_of e           the relation of a comparison and its sides
 --   pinned_to m place words   the memory with the place pinned to these words
---   refined rows m e arm      the memory of an arm with these words of the switch's expression; none where the arm is absent
+--   refined rows m e arm      the memory of an arm with these words of the switch's expression; none where
+--       the arm is absent
 use Rattle.std.specs.Prelude.{ℕ, Bool, true, false, List, [], ◌∷◌, Option, Some, None, ◌==◌, if◌then◌else◌}
 use Rattle.std.specs.Option.{option_map, option_and_then}
 use Rattle.std.specs.Result.{result_ok}
@@ -33,7 +34,8 @@ pub record Place : Type 0 where
   pub size : ℕ
   pub extended : Bool
 
--- the one cell of an address: it has one alternative, which is a pointer with one member, and the cell fits its active frame
+-- the one cell of an address: it has one alternative, which is a pointer with one member, and the cell fits
+-- its active frame
 abbrev pub cell_of : List FrameShape → (ℕ → Bool) → ℕ → Option Stride → List (ℕ × Stride) → Option (ℕ × ℕ)
 cell_of rows runs size (Some words) places = None
 cell_of rows runs size None [] = None

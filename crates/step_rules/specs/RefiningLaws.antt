@@ -1,7 +1,8 @@
 -- An arm that is taken keeps its memory, refined.
 --   WordsTold               the words of a side of a comparison, and the run's word
 --   refined_kept            a refined memory keeps sizes, and the functions that run
---   RefinedTold, refined_told   where the expression gives a word of the arm, the arm is there, and its memory stands for the history
+--   ArmTold, refined_told   where the expression gives a word of the arm, the arm is there, and its memory
+--       stands for the history
 use Rattle.std.specs.Prelude.{slice_index, IfSome, if◌then◌else◌}
 use Rattle.std.specs.Option.{option_and_then}
 use Rattle.std.proofs.Common.{◌≡◌, ℕ, List, [], ◌∷◌, Option, Some, None, Result, Ok, Err, refl, sym, ap, subst, ◌∙◌}

@@ -1,7 +1,9 @@
 -- What is left tells the results of runs.
 --   HasNone set, HasOnly set fault       no fault is in the set; no other fault is
---   LeftTold Sharp P r                   something is left, of which P holds; where Sharp holds there is no fault
---   FaultTold Sharp r fault              the fault is told; where Sharp holds nothing is left, and no other fault is told
+--   LeftTold Sharp P r                   something is left, of which P holds; where Sharp holds there is no
+--       fault
+--   FaultTold Sharp r fault              the fault is told; where Sharp holds nothing is left, and no other
+--       fault is told
 --   Answers Sharp P r result             the one or the other, by the result of a run
 --   IfLeft P r                           P holds of what is left
 --   left_on, fault_on, fault_stops, answers_on, keeps_on   of what goes on

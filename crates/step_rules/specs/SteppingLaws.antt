@@ -1,5 +1,6 @@
 -- Each goal of a step is one of the node, and its memory is one for it.
---   GoalIs program node goal     the node leads to the goal, whose memory has the sizes and the active frames of its path
+--   GoalIs program node goal     the node leads to the goal, whose memory has the sizes and the active
+--       frames of its path
 --   goals_are                    of each goal of a step
 use Rattle.std.specs.Prelude.{slice_get, ◌==◌, ◌↔◌, Contains, IfSome}
 use Rattle.std.specs.List.{AllZip}

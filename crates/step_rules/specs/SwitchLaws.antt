@@ -1,6 +1,7 @@
 -- The arms of a switch.
 --   without_law                 the words without one
---   arm_kept, arms_kept         each arm leads to a block of the switch, with a memory that keeps sizes and what runs
+--   arm_kept, arms_kept         each arm leads to a block of the switch, with a memory that keeps sizes and
+--       what runs
 --   GoesTold                    the goals have this node, with a memory that stands for the history
 --   arms_told                   the arm that a run takes is there, and where Sharp holds it is the only one
 use Rattle.std.specs.Prelude.{IfSome, ◌==◌, ◌++◌, AllPairs, Contains, if◌then◌else◌}

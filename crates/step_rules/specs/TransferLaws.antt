@@ -1,6 +1,8 @@
 -- What the transfer promises, for functions whose clauses are the laws.
---   AddressFaultsTold             a fault is told of an address exactly where some address that it covers has it
---   Tells, OnlyTells              of an expression: the run's value is covered, or its fault told; exactly these
+--   AddressFaultsTold             a fault is told of an address exactly where some address that it covers
+--       has it
+--   Tells, OnlyTells              of an expression: the run's value is covered, or its fault told; exactly
+--       these
 --   ExpressionsTell, ExpressionsTellOnly
 --   TransferIsMachine             the transfer is an abstract machine for the points of runs
 --   TransferGoesAlong             its steps lie along the edges of the graph's outline

@@ -1,7 +1,9 @@
 -- Steps of small programs, to be worked out.
---   one_block e targets others   a program with a global frame of 8 bits, whose block 0 switches on the expression
+--   one_block e targets others   a program with a global frame of 8 bits, whose block 0 switches on the
+--       expression
 --   ranged low high              an input in this frame
---   stepped program rows         the goals of a step from block 0 at the start, each with what the frame holds there, and the faults
+--   stepped program rows         the goals of a step from block 0 at the start, each with what the frame
+--       holds there, and the faults
 --   cut_to e low high bit        what the frame holds where the comparison gives this bit
 use Rattle.std.specs.Prelude.{ℕ, ℤ, false, List, [], ◌∷◌, map, Option, Some, None}
 use Rattle.std.specs.Option.{option_and_then}

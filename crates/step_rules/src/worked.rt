@@ -10,7 +10,8 @@ ghost use Rattle.progressions.specs.Progressions.{from_to};
 ghost use Rattle.memory_rules.specs.Worked.{words_alone};
 ghost use Rattle.step_rules.specs.Worked.{one_block, content, number, both_of, ranged, stepped, cut_to};
 
-/// What a place holds is cut by what a comparison gives, on either side of it. A comparison that is decided has one
+/// What a place holds is cut by what a comparison gives, on either side of it. A comparison that is decided
+/// has one
 /// successor.
 pub fn a_comparison_cuts_its_place()
     ensures first { cut_to (both_of SLt content (number 8 5)) (pos 0) (pos 10) 1 ≡ Some (words_alone (record { size = 8; numbers = from_to (pos 0) (pos 4) (pos 1) })) }

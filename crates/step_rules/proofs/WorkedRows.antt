@@ -1,8 +1,8 @@
 -- Steps of small programs, by computing.
 use Rattle.std.proofs.Common.{◌≡◌, pos, Some, [], ◌∷◌, refl}
-use Rattle.alf_ops.specs.declared.operator.Op.TheVariants.{SLt}
+use Rattle.alf_ops.specs.declared.operator.Op.TheVariants.{SLt, ZExt}
 use Rattle.alf_ops.specs.declared.history.RunFault.TheVariants.{Kind, Uninit}
-use Rattle.alf_program.specs.Tree.{Address}
+use Rattle.alf_program.specs.Tree.{Address, Apply, Empty, With}
 use Rattle.flow_graph.specs.Nodes.{block_node}
 use Rattle.domain_core.specs.FaultSets.{no_faults, with_fault}
 use Rattle.whole_numbers.specs.Numbers.{gcd_nat}
@@ -43,6 +43,12 @@ pub targets : stepped (one_block content ((0, 1) ∷ (2, 1) ∷ []) 2) (ranged (
     )
 unfolding norm join hull gcd_nat each each_pair from_least up_to without_first without_last
 targets = refl
+
+pub extended : stepped (one_block (Apply ZExt (8 ∷ 32 ∷ []) (With content Empty)) ((0, 1) ∷ []) 2) (ranged (pos 0) (pos 2))
+    ≡ ((Some (block_node [] 1), Some (words_alone (record { size = 8; numbers = from_to (pos 0) (pos 0) (pos 1) })))
+    ∷ (Some (block_node [] 2), Some (words_alone (record { size = 8; numbers = from_to (pos 1) (pos 2) (pos 1) }))) ∷ [], no_faults)
+unfolding norm join hull gcd_nat each each_pair from_least up_to without_first without_last
+extended = refl
 
 pub pointer : stepped (one_block (Address 0 0) ((0, 1) ∷ []) 2) (ranged (pos 0) (pos 2)) ≡ ([], with_fault no_faults Kind)
 unfolding norm join hull gcd_nat each from_least up_to

@@ -1,9 +1,9 @@
 //! Steps of small programs, worked out apart from the definitions: a switch on what an input holds.
 
 ghost use Rattle.std.specs.Prelude.{◌≡◌, Some, [], ◌∷◌, pos};
-ghost use Rattle.alf_ops.specs.declared.operator.Op.TheVariants.{SLt};
+ghost use Rattle.alf_ops.specs.declared.operator.Op.TheVariants.{SLt, ZExt};
 ghost use Rattle.alf_ops.specs.declared.history.RunFault.TheVariants.{Kind, Uninit};
-ghost use Rattle.alf_program.specs.Tree.{Address};
+ghost use Rattle.alf_program.specs.Tree.{Address, Apply, Empty, With};
 ghost use Rattle.flow_graph.specs.Nodes.{block_node};
 ghost use Rattle.domain_core.specs.FaultSets.{no_faults, with_fault};
 ghost use Rattle.progressions.specs.Progressions.{from_to};
@@ -32,6 +32,9 @@ pub fn a_switch_takes_words_alone()
               ∷ (Some (block_node [] 2), Some (words_alone (record { size = 8; numbers = from_to (pos 1) (pos 1) (pos 1) }))) ∷ [],
           no_faults,
         ) }
+    ensures extended { stepped (one_block (Apply ZExt (8 ∷ 32 ∷ []) (With content Empty)) ((0, 1) ∷ []) 2) (ranged (pos 0) (pos 2))
+        ≡ ((Some (block_node [] 1), Some (words_alone (record { size = 8; numbers = from_to (pos 0) (pos 0) (pos 1) })))
+        ∷ (Some (block_node [] 2), Some (words_alone (record { size = 8; numbers = from_to (pos 1) (pos 2) (pos 1) }))) ∷ [], no_faults) }
     ensures pointer { stepped (one_block (Address 0 0) ((0, 1) ∷ []) 2) (ranged (pos 0) (pos 2)) ≡ ([], with_fault no_faults Kind) }
     ensures uninitialised { stepped (one_block content ((0, 1) ∷ []) 2) [] ≡ ([], with_fault no_faults Uninit) }
 {}

@@ -167,7 +167,7 @@ module _ (program : NumberedProgram) (graph : GraphParts) (rows : List InputRow)
 
   fails_says : (Sharp : Type 0) (n : ℕ) (t : Mem abstract_sets) (c : List RunEvent) (kind : RunFault) → Fits program graph n t → Stands Sharp (frames_of program) t c → FailsAt program graph n c kind
       → FaultTold Sharp (goals_from program graph n t) kind
-  fails_says Sharp n t c kind fits stands fails = subst (Says Sharp (frames_of program) (goals_from program graph n t)) fails.steps (says Sharp n t c fits stands)
+  fails_says Sharp n t c fault fits stands fails = subst (Says Sharp (frames_of program) (goals_from program graph n t)) fails.steps (says Sharp n t c fits stands)
 
   node_at : (k : ℕ) → k < length graph.nodes → goal_number graph (Some (node_number graph k)) ≡ k
   node_at k low = numbered program graph expansion k low

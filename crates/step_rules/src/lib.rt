@@ -20,4 +20,6 @@ pub use laws::{
     expressions_are_told, memories_are_a_lattice, the_faults_of_an_address_are_told,
     the_transfer_is_a_machine,
 };
-pub use worked::{a_comparison_cuts_its_place, a_switch_takes_words_alone};
+pub use worked::{
+    a_call_enters_and_returns, a_comparison_cuts_its_place, a_switch_takes_words_alone,
+};

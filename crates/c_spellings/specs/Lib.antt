@@ -1,0 +1,2 @@
+-- What tokens that spell a unit promise.
+pub mod Laws

@@ -7,6 +7,10 @@ mod flat;
 
 // Strided values.
 #[cfg(test)]
+mod further_rows;
+#[cfg(test)]
 mod operators;
+#[cfg(test)]
+mod rows;
 #[cfg(test)]
 mod strided;

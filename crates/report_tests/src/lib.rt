@@ -7,6 +7,10 @@ mod edits;
 
 // Lines, and whole texts.
 #[cfg(test)]
+mod further_lines;
+#[cfg(test)]
 mod lines;
+#[cfg(test)]
+mod swaps;
 #[cfg(test)]
 mod texts;

@@ -1,0 +1,2 @@
+mod PageLists
+mod SlotCells

@@ -1,0 +1,37 @@
+-- The slots of a frame, page by page.
+--   slots_on page        the slots of a page
+--   pages_of pages       those of each page
+--   page_at lists n      the page of this number, or none
+--   joined lists         the lists in their order, as one
+--   ArePages lists       each has 64 members, but the last, which has at most 64
+use Rattle.std.specs.Prelude.{◌≡◌, ◌≤◌, ℕ, List, [], ◌∷◌, ◌++◌, length, map, Option, Some, None, slice_get}
+use Rattle.std.specs.declared.rc.Rc.{Rc}
+use Rattle.memory_pages.specs.declared.page.Page.{Page}
+use Rattle.memory_pages.specs.Slots.{HeldSlot}
+
+-- the slots of a page
+abbrev pub slots_on : {Z : Type 0} → Rc Page Z → List HeldSlot
+slots_on page = page.value.slots.items
+
+-- those of each page
+abbrev pub pages_of : {Z : Type 0} → List (Rc Page Z) → List (List HeldSlot)
+pages_of pages = map slots_on pages
+
+abbrev pub list_or : {A : Type 0} → Option (List A) → List A
+list_or None = []
+list_or (Some xs) = xs
+
+-- the page of this number, or none
+abbrev pub page_at : {A : Type 0} → List (List A) → ℕ → List A
+page_at lists n = list_or (slice_get lists n)
+
+-- the lists in their order, as one
+abbrev pub joined : {A : Type 0} → List (List A) → List A
+joined [] = []
+joined (xs ∷ lists) = xs ++ joined lists
+
+-- each has 64 members, but the last, which has at most 64
+abbrev pub ArePages : {A : Type 0} → List (List A) → Type 0
+ArePages [] = Unit {0}
+ArePages (xs ∷ []) = length xs ≤ 64
+ArePages (xs ∷ ys ∷ lists) = (length xs ≡ 64) × ArePages (ys ∷ lists)

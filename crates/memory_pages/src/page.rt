@@ -1,0 +1,118 @@
+//! Slots that copies share.
+
+ghost use Rattle.std.specs.Prelude.{◌≡◌, ◌<◌, ◌%◌, ◌/◌, ◌++◌, IsTrue, IfOk, OnOk, OnErr, length, replicate, slice_set};
+ghost use Rattle.memory_pages.specs.Slots.{bare};
+ghost use Rattle.memory_pages.specs.Pages.{pages_of, page_at, slots_on};
+
+use crate::byte::Byte;
+use crate::slot::Slot;
+use std::alloc::{AllocError, Global};
+use std::rc::Rc;
+
+/// Slots that follow one another.
+#[derive(Drop)]
+pub(crate) struct Page {
+    pub slots: Vec<Slot>,
+}
+
+impl Clone for Page {
+    ghost is_clone = { λ a b. a.slots.items ≡ b.slots.items };
+
+    fn clone(&self) -> Result<Self, AllocError> {
+        Ok(Page {
+            slots: copied_slots(*self.slots.allocator(), &self.slots)?,
+        })
+    }
+}
+
+/// Copies of slots.
+fn copied_slots(alloc: Global, slots: &[Slot]) -> Result<Vec<Slot>, AllocError>
+    ensures { IfOk result (λ copy. copy.items ≡ slots.now) }
+{
+    let mut copy = Vec::new(alloc);
+    for slot in slots {
+        copy.push(slot.copy(alloc)?)?;
+    }
+    Ok(copy)
+}
+
+/// So many slots with this byte, at which no cell begins.
+fn bare_slots(alloc: Global, byte: &Byte, count: usize) -> Result<Vec<Slot>, AllocError>
+    ensures { IfOk result (λ slots. slots.items ≡ replicate count (bare byte.now)) }
+{
+    let mut slots = Vec::new(alloc);
+    for _number in 0..count {
+        slots.push(Slot::bare(alloc, byte))?;
+    }
+    Ok(slots)
+}
+
+/// A page of so many slots with this byte, at which no cell begins.
+pub(crate) fn bare_page(alloc: Global, byte: &Byte, count: usize) -> Result<Rc<Page>, AllocError>
+    ensures { IfOk result (λ page. slots_on page ≡ replicate count (bare byte.now)) }
+{
+    let slots = bare_slots(alloc, byte, count)?;
+    match Rc::new(alloc, Page { slots }) {
+        Ok(page) => Ok(page),
+        Err(_) => Err(AllocError),
+    }
+}
+
+/// Adds the page so many times.
+pub(crate) fn share_page(
+    pages: &mut Vec<Rc<Page>>,
+    page: &Rc<Page>,
+    count: usize,
+) -> Result<(), AllocError>
+    ensures { OnOk result (pages_of pages.new.items ≡ pages_of pages.old.items ++ replicate count (slots_on page.now)) }
+{
+    for _number in 0..count {
+        pages.push(page.clone()?)?;
+    }
+    Ok(())
+}
+
+/// The same pages, shared.
+pub(crate) fn shared_pages(alloc: Global, pages: &[Rc<Page>]) -> Result<Vec<Rc<Page>>, AllocError>
+    ensures { IfOk result (λ shared. pages_of shared.items ≡ pages_of pages.now) }
+{
+    let mut shared = Vec::new(alloc);
+    for page in pages {
+        shared.push(page.clone()?)?;
+    }
+    Ok(shared)
+}
+
+/// True only where both are the same slots.
+pub(crate) fn same_slots(a: &[Slot], b: &[Slot]) -> bool
+    ensures { IsTrue result → a.now ≡ b.now }
+{
+    let Some((first, others)) = a.split_first() else {
+        return b.is_empty();
+    };
+    let Some((slot, slots)) = b.split_first() else {
+        return false;
+    };
+    first.is_same(slot) && same_slots(others, slots)
+}
+
+/// Puts a slot on a page, which is made its own first.
+fn put_on(page: &mut Rc<Page>, at: usize, slot: Slot) -> Result<(), AllocError>
+    requires { at < length (slots_on page.old) }
+    ensures put { OnOk result (slots_on page.new ≡ slice_set (slots_on page.old) at slot) }
+    ensures refused { OnErr result (slots_on page.new ≡ slots_on page.old) }
+{
+    let own = Rc::make_mut(page)?;
+    own.slots[at] = slot;
+    Ok(())
+}
+
+/// Puts a slot on the page of its place.
+pub(crate) fn put_in(pages: &mut [Rc<Page>], at: usize, slot: Slot) -> Result<(), AllocError>
+    requires page { at / 64 < length pages.old }
+    requires slot { at % 64 < length (page_at (pages_of pages.old) (at / 64)) }
+    ensures put { OnOk result (pages_of pages.new ≡ slice_set (pages_of pages.old) (at / 64) (slice_set (page_at (pages_of pages.old) (at / 64)) (at % 64) slot)) }
+    ensures refused { OnErr result (pages_of pages.new ≡ pages_of pages.old) }
+{
+    put_on(&mut pages[at / 64], at % 64, slot)
+}

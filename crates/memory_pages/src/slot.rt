@@ -1,0 +1,211 @@
+//! What is kept at one offset of a frame.
+
+ghost use Rattle.std.specs.Prelude.{◌≡◌, IsTrue, IfOk, OnOk, map, ◌==◌, ◌++◌, ◌∷◌, [], nat_lt};
+ghost use Rattle.std.specs.Option.{option_map};
+ghost use Rattle.memory_pages.specs.Slots.{kept_in, bare, with_byte, with_cell, without_wider, with_wider_marked, marked_kept, cell_of, IsCellSize};
+
+use crate::byte::{Byte, same_byte};
+use crate::held::Held;
+use std::alloc::{AllocError, Global};
+use std::marker::Model;
+
+/// A cell and its size in bits.
+#[derive(Debug, Drop)]
+pub(crate) struct Kept {
+    size: u32,
+    cell: Held,
+}
+
+/// One byte of a frame, and the cells that begin at it.
+#[derive(Debug, Drop)]
+pub struct Slot {
+    byte: Byte,
+    cells: Vec<Kept>,
+}
+
+impl Model for Slot {
+    ghost use Rattle.memory_pages.specs.Slots.{HeldSlot, slot_of};
+
+    ghost Value = { HeldSlot };
+
+    ghost view = { λ slot. slot_of slot.byte slot.cells.items };
+}
+
+/// The cell of this size.
+fn find_cell(cells: &[Kept], size: u32) -> Option<&Held>
+    ensures { option_map (λ cell. cell.now) result ≡ kept_in cells.now size }
+{
+    match cells.split_first() {
+        None => None,
+        Some((first, others)) => {
+            if first.size == size {
+                Some(&first.cell)
+            } else {
+                find_cell(others, size)
+            }
+        }
+    }
+}
+
+/// A copy of a cell with its size.
+fn copied_kept(alloc: Global, kept: &Kept) -> Result<Kept, AllocError>
+    ensures { IfOk result (λ copy. copy ≡ kept.now) }
+{
+    Ok(Kept {
+        size: kept.size,
+        cell: kept.cell.copy(alloc)?,
+    })
+}
+
+/// Copies of cells with their sizes.
+fn copied_cells(alloc: Global, cells: &[Kept]) -> Result<Vec<Kept>, AllocError>
+    ensures { IfOk result (λ copy. copy.items ≡ cells.now) }
+{
+    let mut copy = Vec::new(alloc);
+    for kept in cells {
+        copy.push(copied_kept(alloc, kept)?)?;
+    }
+    Ok(copy)
+}
+
+/// True only where both are the same cell, of the same size.
+fn same_kept(a: &Kept, b: &Kept) -> bool
+    ensures { IsTrue result → a.now ≡ b.now }
+{
+    a.size == b.size && a.cell.is_same(&b.cell)
+}
+
+/// True only where both are the same cells in the same order.
+fn same_cells(a: &[Kept], b: &[Kept]) -> bool
+    ensures { IsTrue result → a.now ≡ b.now }
+{
+    let Some((first, others)) = a.split_first() else {
+        return b.is_empty();
+    };
+    let Some((cell, cells)) = b.split_first() else {
+        return false;
+    };
+    same_kept(first, cell) && same_cells(others, cells)
+}
+
+/// A copy of a cell with its size, with `x` where it has more bits.
+fn marked_copy(alloc: Global, kept: &Kept, than: u32) -> Result<Kept, AllocError>
+    ensures { IfOk result (λ copy. copy ≡ marked_kept than kept.now) }
+{
+    let mut copy = copied_kept(alloc, kept)?;
+    if than < copy.size {
+        copy.cell.x = true;
+    }
+    Ok(copy)
+}
+
+/// Copies of cells with their sizes, with `x` where they have more bits.
+fn marked_copies(alloc: Global, cells: &[Kept], than: u32) -> Result<Vec<Kept>, AllocError>
+    ensures { IfOk result (λ copy. copy.items ≡ map (marked_kept than) cells.now) }
+{
+    let mut copy = Vec::new(alloc);
+    for kept in cells {
+        copy.push(marked_copy(alloc, kept, than)?)?;
+    }
+    Ok(copy)
+}
+
+/// Adds a cell with its size.
+fn push_kept(cells: &mut Vec<Kept>, kept: Kept) -> Result<(), AllocError>
+    ensures { OnOk result (cells.new.items ≡ cells.old.items ++ kept ∷ []) }
+{
+    match cells.push(kept) {
+        Ok(()) => Ok(()),
+        Err(_) => Err(AllocError),
+    }
+}
+
+/// The cell has this size.
+fn has_size(kept: &Kept, size: u32) -> bool
+    ensures { result ≡ (kept.now.size == size) }
+{
+    kept.size == size
+}
+
+/// The cell has more bits.
+fn is_wider(kept: &Kept, than: u32) -> bool
+    ensures { result ≡ nat_lt than kept.now.size }
+{
+    than < kept.size
+}
+
+impl Slot {
+    /// A slot at which no cell begins. Takes no memory.
+    pub fn bare(alloc: Global, byte: &Byte) -> Slot
+        ensures { result ≡ bare byte.now }
+    {
+        Slot {
+            byte: *byte,
+            cells: Vec::new(alloc),
+        }
+    }
+
+    /// Its byte.
+    pub fn byte(&self) -> Byte
+        ensures { result ≡ self.now.byte }
+    {
+        self.byte
+    }
+
+    /// The cell of this size in bits that begins here, if it is kept.
+    pub fn cell(&self, size: u32) -> Option<&Held>
+        requires { IsCellSize size }
+        ensures { option_map (λ cell. cell.now) result ≡ cell_of self.now size }
+    {
+        find_cell(&self.cells, size)
+    }
+
+    /// A copy of the slot.
+    pub fn copy(&self, alloc: Global) -> Result<Slot, AllocError>
+        ensures { IfOk result (λ copy. copy ≡ self.now) }
+    {
+        Ok(Slot {
+            byte: self.byte,
+            cells: copied_cells(alloc, &self.cells)?,
+        })
+    }
+
+    /// True only where both are the same slot.
+    pub fn is_same(&self, other: &Slot) -> bool
+        ensures { IsTrue result → self.now ≡ other.now }
+    {
+        same_byte(self.byte, other.byte) && same_cells(&self.cells, &other.cells)
+    }
+
+    /// Sets its byte.
+    pub fn set_byte(&mut self, byte: Byte)
+        ensures { self.new ≡ with_byte self.old byte }
+    {
+        self.byte = byte;
+    }
+
+    /// Keeps the cell of this size in bits. After want of memory the slot is given up.
+    pub fn keep(&mut self, size: u32, cell: Held) -> Result<(), AllocError>
+        ensures { OnOk result (self.new ≡ with_cell self.old size cell) }
+    {
+        self.cells.retain(|kept| !has_size(kept, size));
+        push_kept(&mut self.cells, Kept { size, cell })
+    }
+
+    /// Drops the cells that have more bits.
+    pub fn drop_wider(&mut self, than: u32)
+        ensures { self.new ≡ without_wider self.old than }
+    {
+        self.cells.retain(|kept| !is_wider(kept, than));
+    }
+
+    /// A copy with `x` of the cells that have more bits.
+    pub fn marked_wider(&self, alloc: Global, than: u32) -> Result<Slot, AllocError>
+        ensures { IfOk result (λ copy. copy ≡ with_wider_marked self.now than) }
+    {
+        Ok(Slot {
+            byte: self.byte,
+            cells: marked_copies(alloc, &self.cells, than)?,
+        })
+    }
+}

@@ -1,0 +1,6 @@
+mod Placing
+mod Spreading
+mod Joining
+mod Choosing
+mod Exits
+mod Stepping

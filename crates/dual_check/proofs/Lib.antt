@@ -1,0 +1,4 @@
+mod ByColumns
+mod Fitting
+mod Made
+mod Kept

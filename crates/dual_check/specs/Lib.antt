@@ -1,0 +1,5 @@
+pub mod Systems
+pub mod Fitting
+pub mod Constraints
+pub mod Terms
+pub mod Openings

@@ -1,0 +1,35 @@
+//! The linear program of an outline and a report's facts, by terms, and the test of multipliers on it.
+//!
+//! `rows` makes the program that `path_rows` defines; `verify` gives the verdict that `dual_rules`
+//! defines. What a verdict promises, and that a run's counts are a point of the program, are laws of
+//! those two crates.
+#![tactic(auto)]
+
+// Rows by terms.
+mod row;
+mod system;
+
+// Columns and what rows weigh.
+mod column;
+mod constraint;
+mod group;
+mod inside;
+mod outline_columns;
+
+// The program of an outline and facts.
+mod made_terms;
+mod system_made;
+
+// The test of multipliers, part by part.
+mod columns;
+mod duals;
+mod products;
+mod right_sides;
+mod signs;
+
+pub use column::Column;
+pub use constraint::Constraint;
+pub use dual_rules::Verdict;
+pub use duals::{Duals, verify};
+pub use system::Rows;
+pub use system_made::rows;

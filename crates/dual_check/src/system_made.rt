@@ -1,0 +1,232 @@
+//! The program that an outline and a report's facts make.
+
+ghost use Rattle.std.specs.Prelude.{◌≡◌, ◌==◌, ◌<◌, ◌++◌, ◌^◌, ◌↔◌, IsTrue, map, All, OnOk, IfOk, length};
+ghost use Rattle.std.specs.List.{flat_map, range_with_len};
+ghost use Rattle.domain_core.specs.Outlines.{shape_of};
+ghost use Rattle.flow_facts.specs.Facts.{IsAbout};
+ghost use Rattle.path_rows.specs.Rows.{row_of, cost_of};
+ghost use Rattle.dual_check.specs.Constraints.{weighing_of, is_limit_of};
+ghost use Rattle.dual_check.specs.Terms.{weights_at, AreFrom};
+ghost use Rattle.dual_check.specs.Openings.{place_of, opening_of, openings_of, costs_of, system_from, system_of};
+
+use crate::column::Column;
+use crate::constraint::Constraint;
+use crate::group::constraints;
+use crate::made_terms::{row_terms, terms_at};
+use crate::outline_columns::columns;
+use crate::row::{ColumnTerms, RowTerms};
+use crate::system::Rows;
+use domain_core::Outline;
+use flow_facts::{Fact, Report};
+use std::alloc::{AllocError, Global};
+
+/// The row of a constraint.
+fn row(
+    alloc: Global,
+    outline: &Outline,
+    constraint: Constraint,
+    columns: &[Column],
+) -> Result<RowTerms, AllocError>
+    requires few { length columns.now < 2 ^ 32 }
+    requires nodes { AreFrom (length outline.now.nodes) columns.now }
+    ensures { IfOk result (λ row. row ≡ row_of columns.now (weighing_of (shape_of outline.now) constraint)) }
+{
+    let terms = row_terms(alloc, outline, constraint, columns)?;
+    Ok(RowTerms {
+        equation: constraint.is_equation(outline),
+        terms,
+        right: constraint.right_side(outline),
+    })
+}
+
+/// The rows of the constraints.
+fn row_list(
+    alloc: Global,
+    outline: &Outline,
+    constraints: &[Constraint],
+    columns: &[Column],
+) -> Result<Vec<RowTerms>, AllocError>
+    requires few { length columns.now < 2 ^ 32 }
+    requires nodes { AreFrom (length outline.now.nodes) columns.now }
+    ensures { IfOk result (λ rows. rows.items ≡ map (λ k. row_of columns.now (weighing_of (shape_of outline.now) k)) constraints.now) }
+{
+    let mut rows = Vec::new(alloc);
+    for constraint in constraints {
+        rows.push(row(alloc, outline, *constraint, columns)?)?;
+    }
+    Ok(rows)
+}
+
+/// The same terms by columns.
+fn column_list(
+    alloc: Global,
+    outline: &Outline,
+    constraints: &[Constraint],
+    columns: &[Column],
+) -> Result<Vec<ColumnTerms>, AllocError>
+    requires few { length constraints.now < 2 ^ 32 }
+    requires nodes { AreFrom (length outline.now.nodes) columns.now }
+    ensures { IfOk result (λ lists. lists.items ≡ map (λ c. weights_at (shape_of outline.now) c 0 constraints.now) columns.now) }
+{
+    let mut lists = Vec::new(alloc);
+    let mut rest = columns;
+    while let Some((column, others)) = rest.split_first() {
+        let terms = terms_at(alloc, outline, *column, constraints)?;
+        lists.push(ColumnTerms { terms })?;
+        rest = others;
+    }
+    Ok(lists)
+}
+
+/// What a column costs: what its node does.
+#[tactic(auto, using(crate::proofs::Made::cost_made))]
+fn cost(outline: &Outline, column: Column) -> u32
+    requires { column.from < length outline.now.nodes }
+    ensures { result ≡ cost_of (costs_of outline.now) column }
+{
+    outline.node(column.from()).cost
+}
+
+/// What the columns cost.
+fn cost_list(alloc: Global, outline: &Outline, columns: &[Column]) -> Result<Vec<u32>, AllocError>
+    requires { AreFrom (length outline.now.nodes) columns.now }
+    ensures { IfOk result (λ costs. costs.items ≡ map (λ c. cost_of (costs_of outline.now) c) columns.now) }
+{
+    let mut costs = Vec::new(alloc);
+    let mut rest = columns;
+    while let Some((column, others)) = rest.split_first() {
+        costs.push(cost(outline, *column))?;
+        rest = others;
+    }
+    Ok(costs)
+}
+
+/// The first row that says how often a run leaves the node at most.
+fn first_limit(constraints: &[Constraint], node: u32) -> Option<u32>
+    requires { length constraints.now < 2 ^ 32 }
+    ensures { result ≡ place_of (λ k. is_limit_of node k) 0 constraints.now }
+{
+    let mut rest = constraints;
+    let mut number: u32 = 0;
+    while let Some((constraint, others)) = rest.split_first() {
+        if constraint.is_limit(node) {
+            return Some(number);
+        }
+        number += 1;
+        rest = others;
+    }
+    None
+}
+
+/// The first column that leads from the node.
+fn first_column(columns: &[Column], node: u32) -> Option<u32>
+    requires { length columns.now < 2 ^ 32 }
+    ensures { result ≡ place_of (λ c. node == c.from) 0 columns.now }
+{
+    let mut rest = columns;
+    let mut number: u32 = 0;
+    while let Some((column, others)) = rest.split_first() {
+        if node == column.from() {
+            return Some(number);
+        }
+        number += 1;
+        rest = others;
+    }
+    None
+}
+
+/// Appends the opening of a node, if there is one.
+fn push_opening(
+    out: &mut Vec<(u32, u32)>,
+    columns: &[Column],
+    constraints: &[Constraint],
+    node: u32,
+) -> Result<(), AllocError>
+    requires columns { length columns.now < 2 ^ 32 }
+    requires constraints { length constraints.now < 2 ^ 32 }
+    ensures { OnOk result (out.new.items ≡ out.old.items ++ opening_of columns.now constraints.now node) }
+{
+    match (first_limit(constraints, node), first_column(columns, node)) {
+        (Some(row), Some(column)) => out.push((row, column))?,
+        _ => {}
+    }
+    Ok(())
+}
+
+/// The openings of the nodes that some column leaves.
+#[tactic(auto, using(crate::proofs::Made::opening_more))]
+fn opening_list(
+    alloc: Global,
+    nodes: u32,
+    columns: &[Column],
+    constraints: &[Constraint],
+) -> Result<Vec<(u32, u32)>, AllocError>
+    requires columns { length columns.now < 2 ^ 32 }
+    requires constraints { length constraints.now < 2 ^ 32 }
+    ensures { IfOk result (λ out. out.items ≡ openings_of columns.now constraints.now nodes) }
+{
+    let mut out = Vec::new(alloc);
+    for node in 0..nodes {
+        push_opening(&mut out, columns, constraints, node)?;
+    }
+    Ok(out)
+}
+
+/// The program of these columns and constraints.
+#[tactic(auto, using(crate::proofs::Kept::system_parts))]
+fn system(
+    alloc: Global,
+    outline: &Outline,
+    columns: &[Column],
+    constraints: &[Constraint],
+) -> Result<Rows, AllocError>
+    requires columns { length columns.now < 2 ^ 32 }
+    requires constraints { length constraints.now < 2 ^ 32 }
+    requires nodes { AreFrom (length outline.now.nodes) columns.now }
+    ensures { IfOk result (λ rows. rows ≡ system_from outline.now columns.now constraints.now) }
+{
+    let costs = cost_list(alloc, outline, columns)?;
+    let rows = row_list(alloc, outline, constraints, columns)?;
+    let lists = column_list(alloc, outline, constraints, columns)?;
+    let openings = opening_list(alloc, outline.node_count(), columns, constraints)?;
+    Ok(Rows {
+        costs,
+        rows,
+        columns: lists,
+        openings,
+    })
+}
+
+/// Whether 32 bits number so many.
+fn is_few(count: usize) -> bool
+    ensures { IsTrue result ↔ count < 2 ^ 32 }
+{
+    count <= u32::MAX as usize
+}
+
+/// The program of an outline and facts.
+#[tactic(auto, using(crate::proofs::Made::system_made, crate::proofs::Made::columns_from_nodes))]
+fn rows_of(alloc: Global, outline: &Outline, facts: &[Fact]) -> Result<Rows, AllocError>
+    requires { All (λ f. IsAbout (shape_of outline.now) f) facts.now }
+    ensures { IfOk result (λ rows. rows ≡ system_of outline.now facts.now) }
+{
+    outline.kept();
+    let columns = columns(alloc, outline, facts)?;
+    let constraints = constraints(alloc, outline, facts)?;
+    if !is_few(columns.len()) || !is_few(constraints.len()) {
+        return Err(AllocError);
+    }
+    system(alloc, outline, &columns, &constraints)
+}
+
+/// The linear program that an outline and a report's facts make: a cost for each column, the rows in
+/// their order, and the openings. The costs are those of the outline's nodes.
+///
+/// It takes memory by its terms, twice: by rows, and by columns. Where 32 bits do not number its rows
+/// or its columns, memory is said to be wanting.
+pub fn rows(alloc: Global, outline: &Outline, report: &Report) -> Result<Rows, AllocError>
+    requires { All (λ f. IsAbout (shape_of outline.now) f) report.now.facts.items }
+    ensures { IfOk result (λ rows. rows ≡ system_of outline.now report.now.facts.items) }
+{
+    rows_of(alloc, outline, &report.facts)
+}

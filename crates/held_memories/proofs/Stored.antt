@@ -3,7 +3,7 @@
 --   slots_stored   the frame of slots that were changed is the frame after the store
 use Rattle.std.specs.Prelude.{slice_get, if◌then◌else◌}
 use Rattle.std.specs.Option.{option_map}
-use Rattle.std.proofs.Common.{◌≡◌, inl, inr, sym, subst, ◌∙◌, ap, ℕ, suc, zero, true, false, List, [], ◌∷◌, Option, Some, None, refl, arith, ◌+◌, ◌/◌, ◌%◌, ◌<◌, ◌≤◌, length}
+use Rattle.std.proofs.Common.{Bool, ◌≡◌, inl, inr, sym, subst, ◌∙◌, ap, ℕ, suc, zero, true, false, List, [], ◌∷◌, Option, Some, None, refl, arith, ◌+◌, ◌/◌, ◌%◌, ◌<◌, ◌≤◌, length}
 use Rattle.std.proofs.lemmas.Bool.{cases_eq, and_parts, eqb-true, ltb-true, leb-true, false≢true}
 use Rattle.lists.specs.Tests.{by_test}
 use Rattle.alf_ops.specs.Histories.{is_byte_of}
@@ -14,7 +14,7 @@ use Rattle.memory_pages.specs.declared.held.Held.{Held}
 use Rattle.memory_pages.specs.Slots.{HeldSlot, table, cell_of}
 use Rattle.memory_rules.specs.Frames.{Cell, is_same, share_byte}
 use Rattle.held_memories.specs.HeldFrames.{is_cell_size, cell_seen, cell_held, byte_in, cell_in, frame_of}
-use Rattle.held_memories.specs.SlotStores.{CellChange, ByteChange, stored_frame, cell_stored, slot_stored, changed, SlotsStored}
+use Rattle.held_memories.specs.SlotStores.{CellChange, ByteChange, stored_frame, cell_stored, slot_stored, changed, SlotsStored, PinIsStored}
 
 abbrev slot_at : Byte → (ℕ → Option Held) → HeldSlot
 slot_at byte f = record { byte = byte; cells = table f }
@@ -128,3 +128,16 @@ module _ (slots : List HeldSlot) (offset size : ℕ) (new : Cell AbstractValue) 
 
 pub slots_stored : SlotsStored
 slots_stored slots offset size new others byte sized inside keeps = after slots offset size new others byte sized inside keeps
+
+either_way : {A : Type 0} (v : Bool) (x : A) → x ≡ (if v then x else x)
+either_way true x = refl
+either_way false x = refl
+
+pub pin_is_stored : PinIsStored
+pin_is_stored m offset size value =
+    λ i. record {
+      bytes = λ b. either_way (is_byte_of offset size b) (m.bytes b) i;
+      cells = λ place width.
+          if is_same offset size place width then Some (record { value = Some value; u = false; x = false })
+          else either_way (share_byte offset size place width) (m.cells place width) i;
+    }

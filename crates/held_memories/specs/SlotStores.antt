@@ -3,13 +3,13 @@
 --   slot_stored offset size new others byte place slot   the slot at this place after it
 --   changed f at slots      each slot changed by its place, from this one on
 --   SlotsStored             the frame of slots that were changed so is the frame after the store
---   StrongIsStored, WeakIsStored   strong and weak stores are such stores
+--   StrongIsStored, WeakIsStored, PinIsStored   strong and weak stores and pins are such stores
 use Rattle.std.specs.Prelude.{◌≡◌, ℕ, suc, true, false, List, [], ◌∷◌, length, Option, Some, None, ◌+◌, ◌-◌, ◌/◌, ◌≤◌, if◌then◌else◌}
 use Rattle.alf_ops.specs.Histories.{is_byte_of}
 use Rattle.strided_rules.specs.Strides.{Stride}
 use Rattle.pointer_rules.specs.AbstractValues.{AbstractValue}
 use Rattle.memory_pages.specs.Slots.{HeldSlot, table, cell_of}
-use Rattle.memory_rules.specs.Frames.{AbstractByte, Cell, FrameMem, is_same, share_byte, stands, strong, weak, weak_byte, weak_cell, with_x, new_byte}
+use Rattle.memory_rules.specs.Frames.{AbstractByte, Cell, FrameMem, is_same, pinned, share_byte, stands, strong, weak, weak_byte, weak_cell, with_x, new_byte}
 use Rattle.memory_rules.specs.AbstractSets.{abstract_sets}
 use Rattle.held_memories.specs.HeldFrames.{is_cell_size, byte_seen, byte_held, cell_seen, cell_held, frame_of}
 
@@ -63,3 +63,9 @@ WeakIsStored = (m : FrameMem abstract_sets) (offset size : ℕ) (value : Abstrac
     → weak abstract_sets m offset size value
     ≡ stored_frame m offset size (weak_cell abstract_sets (stands abstract_sets m offset size) value) (with_x abstract_sets)
     (λ b old. weak_byte abstract_sets old (new_byte abstract_sets value (b - offset)))
+
+-- and so is a pin: other cells and the bytes stay
+abbrev pub PinIsStored : Type 0
+PinIsStored = (m : FrameMem abstract_sets) (offset size : ℕ) (value : AbstractValue)
+    → pinned abstract_sets m offset size value
+    ≡ stored_frame m offset size (record { value = Some value; u = false; x = false }) (λ cell. cell) (λ b old. old)

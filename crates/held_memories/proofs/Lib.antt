@@ -1,0 +1,2 @@
+mod Lattice
+mod Stored

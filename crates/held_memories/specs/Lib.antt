@@ -1,0 +1,4 @@
+-- The files here, each after those that it cites.
+pub mod HeldFrames
+pub mod SlotStores
+pub mod MemoryOrders

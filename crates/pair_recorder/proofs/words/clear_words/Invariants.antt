@@ -1,0 +1,8 @@
+-- What the loop over the words keeps.
+use Rattle.std.proofs.Common.{◌+◌, ◌-◌, bit_or, bit_and, get_or}
+use Rattle.std.specs.Int.{bit_not, w64}
+use Rattle.pair_bits.specs.Marks.{AreInRange}
+use Rattle.pair_recorder.proofs.words.clear_words.Given as goal
+
+abbrev pub invariant-loop-j : goal.invariant-loop-j
+invariant-loop-j l = AreInRange l.at l.j (λ i. 0) l.fn.words l.words

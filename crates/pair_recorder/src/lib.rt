@@ -7,6 +7,7 @@ mod tables;
 mod words;
 
 // A step of a run.
+mod advance;
 mod ending;
 mod stepping;
 

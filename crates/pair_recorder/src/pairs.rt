@@ -3,9 +3,9 @@
 ghost use Rattle.std.specs.Prelude.{◌≡◌, ◌<◌, length};
 ghost use Rattle.pair_recordings.specs.PairRules.{together};
 
-use crate::stepping::{enter, leave};
-use crate::tables::{both, owned_bits};
+use crate::advance::advance;
 use crate::marked::add_marked;
+use crate::tables::{both, owned_bits};
 use crate::words::{is_marked_at, mark, words};
 use domain_core::{Lattice, Outline, Recorder};
 use std::alloc::{AllocError, Global};
@@ -130,7 +130,7 @@ impl Recorder for Pairs {
         to: u32,
     ) -> Result<(), AllocError> {
         outline.kept();
-        leave(
+        advance(
             alloc,
             outline,
             &book.owned,
@@ -139,8 +139,7 @@ impl Recorder for Pairs {
             &mut book.rows,
             from,
             to,
-        )?;
-        enter(alloc, outline, &book.owned, &mut self.seen, &mut self.rows, to)
+        )
     }
 
     fn finish(

@@ -7,6 +7,7 @@ ghost use Rattle.pair_bits.specs.Seen.{AreLeft, AreLeftRows, AreCollectedRows, A
 
 use crate::ending::ended_nodes;
 use crate::marked::{add_marked, clear_marked};
+use crate::tables::own_scope;
 use crate::words::{add_words, clear_marks, keep_words, mark};
 use domain_core::Outline;
 use std::alloc::{AllocError, Global};
@@ -60,11 +61,11 @@ pub fn enter(
     ensures seen { OnOk result (AreEntered (length outline.now.nodes) node seen.old seen.new) }
     ensures rows { OnOk result (AreEnteredRows (shape_of outline.now) (length outline.now.nodes) (length seen.old) node seen.new rows.old rows.new) }
 {
-    outline.kept();
     let width = seen.len();
+    let own = own_scope(outline, node);
     mark(seen, 0, node);
     let mut met = Vec::from_slice(alloc, seen)?;
-    keep_words(&mut met, owned, outline.node(node).scope as usize * width);
+    keep_words(&mut met, owned, own as usize * width);
     add_words(rows, node as usize * width, &met, 0, width);
     Ok(())
 }

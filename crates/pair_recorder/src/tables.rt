@@ -1,12 +1,23 @@
 //! Tables of bits.
 
-ghost use Rattle.std.specs.Prelude.{◌≡◌, ◌*◌, ◌||◌, ℕ, length, IfOk};
+ghost use Rattle.std.specs.Prelude.{◌≡◌, ◌*◌, ◌<◌, ◌||◌, ℕ, length, IfOk};
 ghost use Rattle.domain_core.specs.Outlines.{shape_of};
+ghost use Rattle.run_recordings.specs.LoopRules.{own_of};
 ghost use Rattle.pair_bits.specs.Marks.{words_for, is_marked, AreOwned};
 
 use crate::words::{add_words, mark, words};
 use domain_core::Outline;
 use std::alloc::{AllocError, Global};
+
+/// The scope of a node.
+pub fn own_scope(outline: &Outline, node: u32) -> u32
+    requires { node < length outline.now.nodes }
+    ensures own { result ≡ own_of (shape_of outline.now) node }
+    ensures low { result < length outline.now.scopes }
+{
+    outline.kept();
+    outline.node(node).scope
+}
 
 /// The bits that are set in either.
 pub fn both(alloc: Global, a: &[u64], b: &[u64]) -> Result<Vec<u64>, AllocError>
@@ -28,7 +39,7 @@ pub fn owned_bits(alloc: Global, outline: &Outline) -> Result<Vec<u64>, AllocErr
     let width = words(outline.node_count());
     let mut owned = vec![in alloc; 0u64; outline.scope_count() as usize * width]?;
     for node in 0..outline.node_count() {
-        mark(&mut owned, outline.node(node).scope as usize * width, node);
+        mark(&mut owned, own_scope(outline, node) as usize * width, node);
     }
     Ok(owned)
 }

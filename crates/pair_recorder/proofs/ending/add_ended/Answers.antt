@@ -10,8 +10,8 @@ with_not : (x g : Bool) → g ≡ false → x ≡ (x && not g)
 with_not true g clear = ap not (sym clear)
 with_not false g clear = refl
 
-pub returns-else-goes_on : goal.returns-else-goes_on
-returns-else-goes_on c b low =
+pub returns : goal.returns
+returns c b low =
     range_bits (length c.args.marks.now) (c.args.scope * length c.args.marks.now) c.args.owned.now c.args.marks.now c.add_words.new.into c.add_words.ensures b low
     ∙ ap (λ (x : Bool). is_marked c.args.marks.now 0 b || x)
     (with_not (is_marked c.args.owned.now (c.args.scope * length c.args.marks.now) b) (goes_on_at (shape_of c.args.outline.now) c.args.scope c.args.node) (sym c.goes_on.ensures ∙ c.if-goes_on.false))

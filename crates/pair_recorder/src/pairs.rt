@@ -82,11 +82,10 @@ impl Lattice for Pairs {
     }
 
     fn join(&self, alloc: Global, other: &Self) -> Result<Self, AllocError> {
-        Ok(Pairs {
-            count: self.count,
-            seen: both(alloc, &self.seen, &other.seen)?,
-            rows: both(alloc, &self.rows, &other.rows)?,
-        })
+        let count = self.count;
+        let seen = both(alloc, &self.seen, &other.seen)?;
+        let rows = both(alloc, &self.rows, &other.rows)?;
+        Ok(Pairs { count, seen, rows })
     }
 }
 
@@ -103,19 +102,24 @@ impl Recorder for Pairs {
     fn book(alloc: Global, outline: &Outline) -> Result<PairsBook, AllocError> {
         outline.kept();
         let count = outline.node_count();
+        let scopes = outline.scope_count();
+        let width = words(count);
+        let owned = owned_bits(alloc, outline)?;
+        let rows = vec![in alloc; 0u64; count as usize * width]?;
         Ok(PairsBook {
             count,
-            scopes: outline.scope_count(),
-            owned: owned_bits(alloc, outline)?,
-            rows: vec![in alloc; 0u64; count as usize * words(count)]?,
+            scopes,
+            owned,
+            rows,
         })
     }
 
     fn start(alloc: Global, outline: &Outline) -> Result<Self, AllocError> {
         outline.kept();
         let count = outline.node_count();
-        let mut seen = vec![in alloc; 0u64; words(count)]?;
-        let mut rows = vec![in alloc; 0u64; count as usize * words(count)]?;
+        let width = words(count);
+        let mut seen = vec![in alloc; 0u64; width]?;
+        let mut rows = vec![in alloc; 0u64; count as usize * width]?;
         mark(&mut seen, 0, 0);
         mark(&mut rows, 0, 0);
         Ok(Pairs { count, seen, rows })
@@ -139,7 +143,8 @@ impl Recorder for Pairs {
             &mut book.rows,
             from,
             to,
-        )
+        )?;
+        Ok(())
     }
 
     fn finish(

@@ -36,10 +36,12 @@ pub fn owned_bits(alloc: Global, outline: &Outline) -> Result<Vec<u64>, AllocErr
     ensures owned { IfOk result (λ words. AreOwned (shape_of outline.now) (length outline.now.scopes) (length outline.now.nodes) (words_for (length outline.now.nodes)) words.items) }
 {
     outline.kept();
-    let width = words(outline.node_count());
+    let count = outline.node_count();
+    let width = words(count);
     let mut owned = vec![in alloc; 0u64; outline.scope_count() as usize * width]?;
-    for node in 0..outline.node_count() {
-        mark(&mut owned, own_scope(outline, node) as usize * width, node);
+    for node in 0..count {
+        let own = own_scope(outline, node);
+        mark(&mut owned, own as usize * width, node);
     }
     Ok(owned)
 }

@@ -41,7 +41,8 @@ pub fn add_words(into: &mut [u64], at: usize, from: &[u64], start: usize, count:
 /// Keeps of the bits those that are set in `from`, from the word `start` on.
 pub fn keep_words(into: &mut [u64], from: &[u64], start: usize)
     requires { start + length into.old ≤ length from.now }
-    ensures { AreInRange 0 (length into.old) (λ i. bit_and (slice_index into.old i) (slice_index from.now (start + i))) into.old into.new }
+    ensures words { AreInRange 0 (length into.old) (λ i. bit_and (slice_index into.old i) (slice_index from.now (start + i))) into.old into.new }
+    ensures small { (i : ℕ) → slice_index into.new i < 2 ^ 64 }
 {
     for j in 0..into.len() {
         into[j] &= from[start + j];

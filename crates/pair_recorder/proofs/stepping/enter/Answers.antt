@@ -27,7 +27,7 @@ returns-clause-rows c a b low within =
     let met = c.keep_words.new.into in
     entered_rows (shape_of c.args.outline.now) (length c.args.outline.now.nodes) (length c.args.outline.now.scopes) w c.args.node c.requires.seen c.requires.node
     c.own_scope-own.result c.mark.new.words c.args.owned.now met c.args.rows.now c.add_words.new.into c.own_scope-own.ensures.own c.own_scope-own.ensures.low c.requires.owned
-    (kept_by c.args.owned.now met c.deref_mut.result.now c.mark.new.words (c.own_scope-own.result * w) w (c.deref_mut.ensures.value ∙ c.in_ok-met.ensures.items) c.mark.auto.words c.keep_words.ensures)
+    (kept_by c.args.owned.now met c.deref_mut.result.now c.mark.new.words (c.own_scope-own.result * w) w (c.deref_mut.ensures.value ∙ c.in_ok-met.ensures.items) c.mark.auto.words c.keep_words.ensures.words)
     (added_by (c.args.node * w) w c.deref.result.now met c.args.rows.now c.add_words.new.into
     (c.deref.ensures.value ∙ with_items_is c.in_ok-met.met met (c.keep_words.auto.into ∙ c.deref_mut.ensures.len)) c.add_words.ensures)
     a b low within

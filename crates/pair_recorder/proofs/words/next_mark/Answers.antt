@@ -14,6 +14,8 @@ returns-then-rest-ne0 c =
 pub loop-place-preserved : goal.loop-place-preserved
 loop-place-preserved c =
     let p = c.loop-place.place in
-    let within = c.loop-place-test.true in
-    (let e = c.loop-place.invariant.0 in omega arith, omega arith,
-    rest_clear c.args.marks.now c.args.start p c.loop-place.invariant.0 c.loop-place.invariant.2 c.if-rest-ne0.false)
+    let within = c.loop-place-test.true in (
+      let e = c.loop-place.invariant.0 in omega arith,
+      omega arith,
+      rest_clear c.args.marks.now c.args.start p c.loop-place.invariant.0 c.loop-place.invariant.2 c.if-rest-ne0.false,
+    )

@@ -3,7 +3,7 @@
 --   kept_by, rows_by, cleared_by, added_by   what a call ensures of one list, of an equal one
 --   gone_recorder, gone_collected, finished_collected   a recorder and a book, with the number of nodes that they keep
 --   told_first, told_second   what a book tells
-use Rattle.std.proofs.Common.{◌≡◌, ◌+◌, ◌-◌, ◌*◌, ◌/◌, ◌^◌, ◌<◌, ◌≤◌, ◌||◌, ℕ, zero, suc, List, [], ◌∷◌, Some, None, Bool, true, false, cond, inl, inr, bit_or, bit_and, map, length, get_or, slice_get, refl, sym, ap, ◌∙◌, subst, arith}
+use Rattle.std.proofs.Common.{◌≡◌, ◌+◌, ◌-◌, ◌*◌, ◌/◌, ◌^◌, ◌<◌, ◌≤◌, ◌||◌, ℕ, zero, suc, List, [], ◌∷◌, Some, None, Bool, true, false, cond, inl, inr, bit_or, bit_and, map, length, get_or, slice_get, sym, ap, ◌∙◌, subst, arith}
 use Rattle.std.specs.Int.{bit_not, w64}
 use Rattle.std.proofs.lemmas.Bool.{cases_lt}
 use Rattle.std.proofs.lemmas.List.{length-map}

@@ -1,7 +1,7 @@
 -- What is left to show of `advance`.
-use Rattle.std.proofs.Common.{◌≡◌, ◌*◌, ℕ, List, length, refl, sym, ap, subst, ◌∙◌, arith}
+use Rattle.std.proofs.Common.{◌*◌, ℕ, length, refl, sym, ap, subst, ◌∙◌, arith}
 use Rattle.domain_core.specs.Outlines.{shape_of}
-use Rattle.pair_bits.specs.Marks.{words_for, AreOwned}
+use Rattle.pair_bits.specs.Marks.{AreOwned}
 use Rattle.pair_bits.specs.Seen.{AreLeftRows, AreCollectedRows, AreEnteredRows}
 use Rattle.pair_bits.specs.PairBits.{stepped, stepped_book}
 use Rattle.pair_recorder.proofs.advance.advance.Goals as goal

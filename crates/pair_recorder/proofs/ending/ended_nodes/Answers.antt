@@ -1,9 +1,9 @@
 -- What is left to show of `ended_nodes`.
-use Rattle.std.proofs.Common.{◌≡◌, ◌<◌, ◌*◌, ◌&&◌, ◌||◌, not, ℕ, Bool, List, Contains, length, refl, ap, sym, subst, ◌∙◌, arith}
+use Rattle.std.proofs.Common.{◌≡◌, ◌<◌, ◌*◌, ◌&&◌, ◌||◌, not, ℕ, Bool, List, Contains, length, refl, ap, subst, ◌∙◌, arith}
 use Rattle.std.specs.List.{list_any}
 use Rattle.std.proofs.lemmas.List.{with_items_is, length-replicate}
 use Rattle.lists.specs.Members.{all_members}
-use Rattle.domain_core.specs.Outlines.{shape_of, scopes_around}
+use Rattle.domain_core.specs.Outlines.{shape_of}
 use Rattle.domain_core.specs.Executions.{goes_on_at}
 use Rattle.pair_bits.specs.Marks.{is_marked}
 use Rattle.pair_bits.specs.EndedNodes.{around_low, ended_is}

@@ -1,5 +1,5 @@
 -- What the walk along the rows keeps.
-use Rattle.std.proofs.Common.{◌-◌, ◌*◌, length, bit_or, get_or}
+use Rattle.std.proofs.Common.{◌-◌, length, bit_or, get_or}
 use Rattle.pair_bits.specs.Marks.{IsRowwise}
 use Rattle.pair_recorder.proofs.marked.add_marked.Given as goal
 

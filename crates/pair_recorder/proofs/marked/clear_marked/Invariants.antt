@@ -1,5 +1,5 @@
 -- What the walk along the rows keeps.
-use Rattle.std.proofs.Common.{◌-◌, ◌*◌, length}
+use Rattle.std.proofs.Common.{◌-◌, length}
 use Rattle.pair_bits.specs.Marks.{IsRowwise}
 use Rattle.pair_recorder.proofs.marked.clear_marked.Given as goal
 

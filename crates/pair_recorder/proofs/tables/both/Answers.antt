@@ -1,5 +1,5 @@
 -- What is left to show of `both`.
-use Rattle.std.proofs.Common.{◌≡◌, ◌+◌, ◌-◌, ℕ, List, bit_or, length, get_or, subst, ap, ◌∙◌}
+use Rattle.std.proofs.Common.{◌+◌, ◌-◌, ℕ, List, bit_or, length, get_or, subst, ap, ◌∙◌}
 use Rattle.std.proofs.lemmas.List.{with_items_is}
 use Rattle.pair_bits.specs.Marks.{is_marked, AreInRange}
 use Rattle.pair_bits.specs.StepBits.{both_bits}

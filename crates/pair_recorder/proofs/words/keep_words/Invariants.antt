@@ -1,6 +1,5 @@
 -- What the loop over the words keeps.
-use Rattle.std.proofs.Common.{◌+◌, ◌-◌, bit_or, bit_and, get_or}
-use Rattle.std.specs.Int.{bit_not, w64}
+use Rattle.std.proofs.Common.{◌+◌, bit_and, get_or}
 use Rattle.pair_bits.specs.Marks.{AreInRange}
 use Rattle.pair_recorder.proofs.words.keep_words.Given as goal
 

@@ -1,5 +1,5 @@
 -- What is left to show of `next_mark`.
-use Rattle.std.proofs.Common.{◌<◌, ◌/◌, ◌%◌, ◌^◌, ◌≡◌, get_or, arith}
+use Rattle.std.proofs.Common.{◌<◌, ◌/◌, ◌%◌, ◌^◌, get_or, arith}
 use Rattle.std.proofs.lemmas.Nat.{shr_le}
 use Rattle.pair_bits.specs.Walks.{mark_found, rest_clear}
 use Rattle.pair_recorder.proofs.words.next_mark.Goals as goal

@@ -1,5 +1,5 @@
 -- What is left to show of `join`.
-use Rattle.std.proofs.Common.{◌≡◌, ◌*◌, ◌||◌, ℕ, Bool, List, length, sym, ap, ◌∙◌}
+use Rattle.std.proofs.Common.{◌≡◌, ◌*◌, ◌||◌, ℕ, List, length, sym, ap, ◌∙◌}
 use Rattle.pair_recordings.specs.PairRules.{Sightings, both_seen}
 use Rattle.pair_bits.specs.Marks.{words_for, is_marked}
 use Rattle.pair_bits.specs.Seen.{sightings}

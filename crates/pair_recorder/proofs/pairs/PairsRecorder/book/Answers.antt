@@ -1,6 +1,6 @@
 -- What is left to show of `book`.
-use Rattle.std.proofs.Common.{◌*◌, ◌∙◌, sym, ap, ℕ}
-use Rattle.pair_bits.specs.Marks.{words_for, is_marked}
+use Rattle.std.proofs.Common.{◌*◌}
+use Rattle.pair_bits.specs.Marks.{words_for}
 use Rattle.pair_bits.specs.StepBits.{none_marked}
 use Rattle.pair_bits.specs.PairBits.{begun_book}
 use Rattle.pair_recorder.proofs.pairs.PairsRecorder.book.Goals as goal

@@ -1,5 +1,5 @@
 -- What is left to show of `finish`.
-use Rattle.std.proofs.Common.{◌≡◌, ◌*◌, ℕ, List, length, sym, ap, ◌∙◌}
+use Rattle.std.proofs.Common.{◌*◌, ℕ, List, length, sym, ap, ◌∙◌}
 use Rattle.std.proofs.lemmas.List.{with_items_is}
 use Rattle.pair_bits.specs.Marks.{words_for}
 use Rattle.pair_bits.specs.Seen.{pair_book}

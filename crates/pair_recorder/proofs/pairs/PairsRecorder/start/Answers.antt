@@ -1,9 +1,8 @@
 -- What is left to show of `start`.
-use Rattle.std.proofs.Common.{◌≡◌, ◌+◌, ◌*◌, ◌<◌, ◌==◌, ◌||◌, ℕ, Bool, List, length, replicate, sym, ap, subst, ◌∙◌, arith}
+use Rattle.std.proofs.Common.{◌≡◌, ◌*◌, ◌<◌, ◌==◌, ◌||◌, ℕ, Bool, List, length, sym, ap, ◌∙◌, arith}
 use Rattle.std.proofs.lemmas.List.{with_items_is, length-replicate}
 use Rattle.run_recordings.specs.TotalLaws.{node_low}
-use Rattle.pair_bits.specs.Marks.{words_for, is_marked}
-use Rattle.pair_bits.specs.Seen.{sightings}
+use Rattle.pair_bits.specs.Marks.{is_marked}
 use Rattle.pair_bits.specs.Rows.{row_low}
 use Rattle.pair_bits.specs.StepBits.{none_marked, first_set, first_marked}
 use Rattle.pair_bits.specs.PairBits.{begun}

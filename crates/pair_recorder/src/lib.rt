@@ -1,0 +1,17 @@
+//! The recorder of pairs: which nodes of a scope a run visits in one iteration of it.
+#![tactic(auto)]
+
+// Bits in words, and rows of them.
+mod marked;
+mod tables;
+mod words;
+
+// A step of a run.
+mod advance;
+mod ending;
+mod stepping;
+
+// The recorder.
+mod pairs;
+
+pub use pairs::{Pairs, PairsBook};

@@ -1,0 +1,5 @@
+pub mod Tables
+pub mod PairRules
+pub mod PairSteps
+pub mod PairLaws
+pub mod PairBookLaws

@@ -2,3 +2,4 @@ mod ByColumns
 mod Fitting
 mod Made
 mod Kept
+mod RunsBounded

@@ -27,9 +27,13 @@ mod products;
 mod right_sides;
 mod signs;
 
+// What a verdict promises of runs.
+mod laws;
+
 pub use column::Column;
 pub use constraint::Constraint;
 pub use dual_rules::Verdict;
 pub use duals::{Duals, verify};
+pub use laws::verdicts_bound_each_run;
 pub use system::Rows;
 pub use system_made::rows;

@@ -9,13 +9,13 @@
 --   turn_less     each event leaves less to do
 --   turn_steps    and not more steps than turns
 --   finished      where places are left or not, the run is that of the policy
-use Rattle.std.proofs.Common.{◌≡◌, ◌≢◌, ◌<◌, ◌≤◌, ◌+◌, ◌-◌, ◌*◌, ◌^◌, ℕ, zero, suc, List, [], ◌∷◌, Bool, length, get_or, slice_get, slice_set, Some, Vec, inl, inr, refl, ap, sym, ◌∙◌, subst, arith, length-set}
+use Rattle.std.proofs.Common.{◌≡◌, ◌<◌, ◌≤◌, ◌+◌, ◌-◌, ◌*◌, ◌^◌, ℕ, zero, suc, List, [], ◌∷◌, Bool, length, get_or, slice_get, slice_set, Some, inl, inr, refl, ap, sym, ◌∙◌, subst, arith, length-set}
 use Rattle.std.specs.List.{remove}
 use Rattle.std.proofs.lemmas.Bool.{cases_lt}
 use Rattle.std.proofs.lemmas.List.{length-map, get_or-map}
 use Rattle.std.proofs.lemmas.List.Edits.{length-remove}
 use Rattle.std.proofs.lemmas.Option.{slice_get_within, slice_get-get_or, get_or_from_slice_get, same_Some}
-use Rattle.least_lists.specs.Least.{key_at, IsFirstLeast, IsNextSame}
+use Rattle.least_lists.specs.Least.{key_at}
 use Rattle.domain_core.specs.declared.event.Event.{Event}
 use Rattle.domain_core.specs.declared.event.Event.TheVariants.{Step, Merge}
 use Rattle.domain_core.specs.declared.fault_set.FaultSet.{FaultSet}

@@ -4,7 +4,7 @@
 --   IsEnded w events explored   this tells how an exploration by these events ended
 --   IsExplored .. policy turns old new explored   the policy's run of so many turns led from the old pool to the new
 --                         one, and this tells how it ended
-use Rattle.std.specs.Prelude.{◌≡◌, ◌<◌, ◌^◌, ℕ, List, [], length, slice_index, slice_get, Some, Vec}
+use Rattle.std.specs.Prelude.{◌≡◌, ◌<◌, ◌^◌, ℕ, List, [], length, slice_index, slice_get, Some}
 use Rattle.domain_core.specs.declared.event.Event.{Event}
 use Rattle.domain_core.specs.Orders.{Order}
 use Rattle.domain_core.specs.Outlines.{shape_of}

@@ -1,15 +1,21 @@
 //! Pools.
 
-ghost use Rattle.std.specs.Prelude.{◌≡◌, ◌<◌, length, map, slice_get, Some, IfOk};
+ghost use Rattle.std.specs.Prelude.{◌≡◌, ◌<◌, ◌≤◌, ◌-◌, ◌^◌, Err, length, map, slice_get, Some, IfOk, OnOk};
 ghost use Rattle.domain_core.specs.Outlines.{shape_of};
 ghost use Rattle.domain_core.specs.Machines.{IsAlong};
-ghost use Rattle.pool_events.specs.Pools.{alarm_at};
-ghost use Rattle.pool_events.specs.Events.{opened};
-ghost use Rattle.abstract_exec.specs.Explorations.{IsPool};
+ghost use Rattle.pool_events.specs.Pools.{Pooled, alarm_at};
+ghost use Rattle.pool_events.specs.Events.{opened, Happens, IsOneOn};
+ghost use Rattle.pool_events.specs.Policies.{IsChoice};
+ghost use Rattle.pool_places.specs.Points.{AreMergePoints};
+ghost use Rattle.abstract_exec.specs.Explorations.{IsPool, IsEnded, IsExplored};
 
-use domain_core::{FaultSet, Outline, Recorder, Stepper};
+use crate::{ExecFault, Explored};
+use domain_core::{Event, FaultSet, Outline, Recorder, Stepper};
 use least_lists::Line;
-use pool_places::{Place, first_place};
+use pool_events::Policy;
+use pool_places::{
+    Place, are_one_position, first_place, merge_places, merge_points, next_event, step_place,
+};
 use std::alloc::{AllocError, Global};
 use std::marker::Model;
 
@@ -76,6 +82,113 @@ impl<'a, S: Stepper, R: Recorder> Pool<'a, S, R> {
             stepped,
             steps: 0,
         })
+    }
+
+    /// Applies an event.
+    pub fn apply(&mut self, alloc: Global, event: Event) -> Result<(), ExecFault>
+        requires kept { IsPool S.machine R.recording self.old }
+        requires room { self.old.steps < 2 ^ 32 - 2 }
+        ensures happens { OnOk result (Happens S.machine S.State.order R.order R.recording self.old event self.new) }
+        ensures kept { OnOk result (IsPool S.machine R.recording self.new) }
+        ensures going_on { OnOk result (IsOneOn self.old self.new) }
+        ensures bad { result ≡ Err ExecFault.BadEvent → (w : Pooled S S.State R R.Book) → Happens S.machine S.State.order R.order R.recording self.old event w → ⊥ }
+        ensures unchanged { result ≡ Err ExecFault.BadEvent → self.new ≡ self.old }
+    {
+        match event {
+            Event::Step(place) => self.step(alloc, place as usize),
+            Event::Merge(i, j) => self.merge(alloc, i as usize, j as usize),
+        }
+    }
+
+    /// Replaces a place by its successors.
+    fn step(&mut self, alloc: Global, place: usize) -> Result<(), ExecFault>
+        requires kept { IsPool S.machine R.recording self.old }
+        requires room { self.old.steps < 2 ^ 32 - 2 }
+        ensures happens { OnOk result (Happens S.machine S.State.order R.order R.recording self.old (Event.Step place) self.new × (length self.new.spots < 2 ^ 32)) }
+        ensures bad { result ≡ Err ExecFault.BadEvent → length self.old.spots ≤ place }
+        ensures unchanged { result ≡ Err ExecFault.BadEvent → self.new ≡ self.old }
+    {
+        if place >= self.places.len() {
+            return Err(ExecFault::BadEvent);
+        }
+        let (node, faults) = step_place(
+            alloc,
+            self.stepper,
+            self.outline,
+            &mut self.places,
+            &mut self.book,
+            place,
+        )?;
+        self.alarms[node as usize] = self.alarms[node as usize].union(faults);
+        self.stepped[node as usize] = true;
+        self.steps += 1;
+        Ok(())
+    }
+
+    /// Joins two places of one position.
+    fn merge(&mut self, alloc: Global, i: usize, j: usize) -> Result<(), ExecFault>
+        requires kept { IsPool S.machine R.recording self.old }
+        ensures happens { OnOk result (Happens S.machine S.State.order R.order R.recording self.old (Event.Merge i j) self.new) }
+        ensures bad { result ≡ Err ExecFault.BadEvent → (w : Pooled S S.State R R.Book) → Happens S.machine S.State.order R.order R.recording self.old (Event.Merge i j) w → ⊥ }
+        ensures unchanged { result ≡ Err ExecFault.BadEvent → self.new ≡ self.old }
+    {
+        if !are_one_position(&self.places, i, j) {
+            return Err(ExecFault::BadEvent);
+        }
+        merge_places(alloc, &mut self.places, i, j)?;
+        Ok(())
+    }
+
+    /// Applies the events of the policy, until no place is left or so many places were stepped.
+    pub fn explore(
+        &mut self,
+        alloc: Global,
+        policy: Policy,
+        turns: u32,
+    ) -> Result<Explored, AllocError>
+        requires kept { IsPool S.machine R.recording self.old }
+        requires begun { self.old.steps ≤ turns }
+        requires room { turns < 2 ^ 32 - 1 }
+        ensures explored { IfOk result (λ explored. IsExplored S.machine S.State.order R.order R.recording policy turns self.old self.new explored) }
+        ensures kept { OnOk result (IsPool S.machine R.recording self.new) }
+    {
+        let points = merge_points(alloc, self.outline, policy)?;
+        let mut events = Vec::new(alloc);
+        while self.places.len() > 0 && self.steps < turns {
+            let event = self.turn(alloc, policy, &points)?;
+            events.push(event)?;
+        }
+        Ok(self.ended(events))
+    }
+
+    /// Applies the policy's next event.
+    fn turn(&mut self, alloc: Global, policy: Policy, points: &[bool]) -> Result<Event, AllocError>
+        requires kept { IsPool S.machine R.recording self.old }
+        requires room { self.old.steps < 2 ^ 32 - 2 }
+        requires some { 0 < length self.old.spots }
+        requires points { AreMergePoints (shape_of self.old.outline) policy points.now }
+        ensures choice { IfOk result (λ event. IsChoice (shape_of self.old.outline) policy self.old.spots event) }
+        ensures happens { IfOk result (λ event. Happens S.machine S.State.order R.order R.recording self.old event self.new) }
+        ensures kept { OnOk result (IsPool S.machine R.recording self.new) }
+    {
+        let event = next_event(&mut self.places, points)?;
+        match self.apply(alloc, event) {
+            Ok(()) => Ok(event),
+            Err(ExecFault::Memory) => Err(AllocError),
+            Err(ExecFault::BadEvent) => unreachable!(),
+        }
+    }
+
+    /// How an exploration by these events went.
+    fn ended(&self, events: Vec<Event>) -> Explored
+        requires { IsPool S.machine R.recording self.now }
+        ensures { IsEnded self.now events.items result }
+    {
+        if self.places.len() == 0 {
+            return Explored::Closed(events);
+        }
+        let node = self.places.at(0).node;
+        Explored::Left(self.outline.node(node).scope)
     }
 
     /// How many places there are.

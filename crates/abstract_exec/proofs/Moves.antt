@@ -1,0 +1,152 @@
+-- Pools after events.
+--   pooled_is     pools are the same where their parts are
+--   merged_fewer  a merge leaves one place less
+--   element_at    an element at a place within
+--   pool_opened, pool_kept   what every pool keeps, at the start and after an event
+--   placed_at     a place that is stepped meets the conditions
+--   alike_all     places that may be merged may be joined
+--   can_happen    the policy's choice is allowed
+--   turn_less     each event leaves less to do
+--   turn_steps    and not more steps than turns
+--   finished      where places are left or not, the run is that of the policy
+use Rattle.std.proofs.Common.{◌≡◌, ◌<◌, ◌≤◌, ◌+◌, ◌-◌, ◌*◌, ◌^◌, ℕ, zero, suc, List, [], ◌∷◌, Bool, length, get_or, slice_get, slice_set, Some, inl, inr, refl, ap, sym, ◌∙◌, subst, arith, length-set}
+use Rattle.std.specs.List.{remove}
+use Rattle.std.proofs.lemmas.Bool.{cases_lt}
+use Rattle.std.proofs.lemmas.List.{length-map, get_or-map}
+use Rattle.std.proofs.lemmas.List.Edits.{length-remove}
+use Rattle.std.proofs.lemmas.Option.{slice_get_within, slice_get-get_or, get_or_from_slice_get, same_Some}
+use Rattle.least_lists.specs.Least.{key_at}
+use Rattle.domain_core.specs.declared.event.Event.{Event}
+use Rattle.domain_core.specs.declared.event.Event.TheVariants.{Step, Merge}
+use Rattle.domain_core.specs.declared.fault_set.FaultSet.{FaultSet}
+use Rattle.lists.specs.Members.{contained}
+use Rattle.domain_core.specs.Orders.{Order, IsOrder}
+use Rattle.domain_core.specs.Outlines.{Outlined, shape_of}
+use Rattle.domain_core.specs.Machines.{Machine, IsMachine, IsAlong}
+use Rattle.domain_core.specs.Recordings.{Recording, IsRecording, IsSuited}
+use Rattle.pool_events.specs.declared.policy.Policy.{Policy}
+use Rattle.pool_events.specs.Pools.{Spot, Pooled, positions_of}
+use Rattle.pool_events.specs.Events.{opened, Happens, met, stepped_at, merged_at}
+use Rattle.pool_events.specs.Policies.{IsChoice, merges, steps, IsPolicyRun}
+use Rattle.pool_events.specs.Kept.{IsPlaced, IsKept}
+use Rattle.pool_events.specs.MergeLaws.{alike_at}
+use Rattle.pool_events.specs.EventLaws.{start_kept, event_kept}
+use Rattle.pool_events.specs.PolicyLaws.{IsPolicyStart, start_done}
+use Rattle.abstract_exec.specs.declared.explored.Explored.{Explored}
+use Rattle.abstract_exec.specs.declared.explored.Explored.TheVariants.{Closed, Left}
+use Rattle.abstract_exec.specs.Explorations.{IsPool, IsEnded, IsExplored}
+
+-- pools are the same where their parts are
+pub pooled_is : {S T R B : Type 0} (stepper : S) (o : Outlined) (count : ℕ) (spots others : List (Spot T R)) (book other_book : B) (alarms others_told : List FaultSet) (stepped others_stepped : List Bool)
+    → spots ≡ others → book ≡ other_book → alarms ≡ others_told → stepped ≡ others_stepped
+    → (let w : Pooled S T R B = record { stepper = stepper; outline = o; spots = spots; book = book; alarms = alarms; stepped = stepped; steps = count } in w)
+    ≡ record { stepper = stepper; outline = o; spots = others; book = other_book; alarms = others_told; stepped = others_stepped; steps = count }
+pooled_is stepper o count spots others book other_book alarms others_told stepped others_stepped a b c d = rw (a, b, c, d) refl
+
+-- a merge leaves one place less
+pub merged_fewer : {X : Type 0} (xs : List X) (i j : ℕ) (x y : X) → slice_get xs j ≡ Some y → length (remove (slice_set xs i x) j) + 1 ≡ length xs
+merged_fewer xs i j x y at =
+    let low = slice_get_within xs j y at in
+    let same = length-set xs i x in
+    length-remove (slice_set xs i x) j (omega arith) ∙ same
+
+-- the key at a place is the position there
+key_at_spot : {T R : Type 0} (spots : List (Spot T R)) (i : ℕ) (spot : Spot T R) → slice_get spots i ≡ Some spot → key_at (positions_of spots) i ≡ spot.position
+key_at_spot {T = T} {R = R} spots i spot at =
+    get_or-map (λ (s : Spot T R). s.position) spots i spot [] (slice_get_within spots i spot at)
+    ∙ ap (λ (s : Spot T R). s.position) (get_or_from_slice_get spots i spot spot at)
+
+-- an element at a place within
+pub element_at : {X : Type 0} (xs : List X) (i : ℕ) → i < length xs → (x : X) × (slice_get xs i ≡ Some x)
+element_at [] i low = absurd (omega arith)
+element_at (x ∷ xs) zero low = (x, refl)
+element_at (x ∷ xs) (suc i) low = element_at xs i (omega arith)
+
+-- what meets the conditions after so many steps meets them after more
+pub placed_later : {T C R B : Type 0} (o : Outlined) (m : Machine T C) (z : Recording R B) (early later : ℕ) (spot : Spot T R) → early ≤ later → IsPlaced o m z early spot → IsPlaced o m z later spot
+placed_later o m z early later spot more placed =
+    let long = placed.long in
+    record {
+      in_range = placed.in_range;
+      fits = placed.fits;
+      is_of = placed.is_of;
+      long = omega arith;
+      ends = placed.ends;
+      low = λ t. let low = placed.low t in omega arith;
+    }
+
+module _ {S T C R B : Type 0} (machine : S → Machine T C) (states : Order T) (recorders : Order R) (z : Recording R B) where
+  -- how much there is left to do
+  abbrev pub left_to_do : ℕ → Pooled S T R B → ℕ
+  left_to_do turns w = (turns - w.steps) * 2 ^ 32 + length w.spots
+
+  -- each event leaves less
+  pub turn_less : (turns : ℕ) (old new : Pooled S T R B) (event : Event) → Happens machine states recorders z old event new → length new.spots < 2 ^ 32 → old.steps < turns → left_to_do turns new < left_to_do turns old
+  turn_less turns old new (Step i) (spot, found, is) few low =
+      let e : new.steps ≡ old.steps + 1 = ap (λ (w : Pooled S T R B). w.steps) is in
+      omega arith
+  turn_less turns old new (Merge i j) (a, b, before, first, second, same, is) few low =
+      let e : new.steps ≡ old.steps = ap (λ (w : Pooled S T R B). w.steps) is in
+      let less = merged_fewer old.spots i j (met states recorders a b) b second in
+      let f : length new.spots ≡ length (remove (slice_set old.spots i (met states recorders a b)) j) = ap (λ (w : Pooled S T R B). length w.spots) is in
+      omega arith
+
+  -- and not more steps than turns
+  pub turn_steps : (turns : ℕ) (old new : Pooled S T R B) (event : Event) → Happens machine states recorders z old event new → old.steps < turns → new.steps ≤ turns
+  turn_steps turns old new (Step i) (spot, found, is) low =
+      let e : new.steps ≡ old.steps + 1 = ap (λ (w : Pooled S T R B). w.steps) is in
+      omega arith
+  turn_steps turns old new (Merge i j) (a, b, before, first, second, same, is) low =
+      let e : new.steps ≡ old.steps = ap (λ (w : Pooled S T R B). w.steps) is in
+      omega arith
+
+  -- a pool at its start has what every pool keeps
+  pub pool_opened : (stepper : S) (o : Outlined) → IsMachine T C states (machine stepper) → IsRecording R B recorders z → (machine stepper).kept → IsSuited z o → IsAlong T C (shape_of o) (machine stepper)
+      → IsPool machine z (opened machine z stepper o)
+  pool_opened stepper o machine_laws laws kept suited along = record { kept = start_kept machine states recorders z stepper o machine_laws laws kept suited along; few = omega arith }
+
+  -- a place that is stepped meets the conditions
+  pub placed_at : (w : Pooled S T R B) (i : ℕ) (spot : Spot T R) → IsKept machine z w → w.steps < 2 ^ 32 - 2 → slice_get w.spots i ≡ Some spot → IsPlaced w.outline (machine w.stepper) z (2 ^ 32 - 3) spot
+  placed_at w i spot kept room found = placed_later w.outline (machine w.stepper) z w.steps (2 ^ 32 - 3) spot (omega arith) (kept.placed spot (contained w.spots i spot found))
+
+  -- places that may be merged may be joined
+  pub alike_all : (w : Pooled S T R B) (i j : ℕ) → IsMachine T C states (machine w.stepper) → IsRecording R B recorders z → IsKept machine z w
+      → ((a b : Spot T R) × (i < j) × (slice_get w.spots i ≡ Some a) × (slice_get w.spots j ≡ Some b) × (a.position ≡ b.position))
+      → (a b : Spot T R) → slice_get w.spots i ≡ Some a → slice_get w.spots j ≡ Some b → states.alike a.state b.state × recorders.alike a.recorder b.recorder
+  alike_all w i j machine_laws laws kept (c, d, before, at_c, at_d, same) a b at_a at_b =
+      let first : a ≡ c = same_Some a c (sym at_a ∙ at_c) in
+      let second : b ≡ d = same_Some b d (sym at_b ∙ at_d) in
+      alike_at machine states recorders z w i j a b machine_laws laws kept at_a at_b (ap (λ (s : Spot T R). s.position) first ∙ same ∙ ap (λ (s : Spot T R). s.position) (sym second))
+
+  -- what every pool keeps, after an event that leaves few places
+  pub pool_kept : (old new : Pooled S T R B) (event : Event) → IsOrder T states → IsMachine T C states (machine old.stepper) → IsOrder R recorders → IsRecording R B recorders z
+      → IsPool machine z old → Happens machine states recorders z old event new → length new.spots < 2 ^ 32 → IsPool machine z new
+  pool_kept old new event states_laws machine_laws recorders_laws laws pool happens few =
+      record { kept = event_kept machine states recorders z old new event states_laws machine_laws recorders_laws laws pool.kept happens; few = few }
+
+  -- a merge leaves few places
+  pub merge_few : (old new : Pooled S T R B) (i j : ℕ) → Happens machine states recorders z old (Merge i j) new → length old.spots < 2 ^ 32 → length new.spots < 2 ^ 32
+  merge_few old new i j (a, b, before, first, second, same, is) few =
+      let less = merged_fewer old.spots i j (met states recorders a b) b second in
+      let f : length new.spots ≡ length (remove (slice_set old.spots i (met states recorders a b)) j) = ap (λ (w : Pooled S T R B). length w.spots) is in
+      omega arith
+
+  -- the policy's choice is allowed
+  pub can_happen : (policy : Policy) (w : Pooled S T R B) (event : Event) → IsChoice (shape_of w.outline) policy w.spots event → (new : Pooled S T R B) × Happens machine states recorders z w event new
+  can_happen policy w event (steps {i = i} spot least found none) = (stepped_at machine z w i spot, (spot, found, refl))
+  can_happen policy w event (merges {i = i} {j = j} spot least found point next) =
+      let within : j < length w.spots = (let low = next.within in let long = length-map w.spots (λ (s : Spot T R). s.position) in omega arith) in
+      let b : Spot T R = get_or w.spots j spot in
+      let second : slice_get w.spots j ≡ Some b = slice_get-get_or w.spots j spot within in
+      (merged_at states recorders w i j spot b, (spot, b, next.later, found, second, sym (key_at_spot w.spots i spot found) ∙ sym next.same ∙ key_at_spot w.spots j b second, refl))
+
+  module _ (policy : Policy) (turns : ℕ) where
+    -- the run is that of the policy
+    pub finished : (events : List Event) (old w : Pooled S T R B) (explored : Explored) → IsPolicyStart machine states recorders z policy turns old events w → w.steps ≤ turns → (0 < length w.spots → w.steps < turns → ⊥)
+        → IsEnded w events explored → IsExplored machine states recorders z policy turns old w explored
+    finished events old w (Closed told) start low over (is, none) =
+        (subst (λ (es : List Event). IsPolicyRun machine states recorders z policy turns old es w) (sym is) (start_done machine states recorders z policy turns events old w start (inl none)), none)
+    finished events old w (Left scope) start low over (spot, found, is) =
+        let some : 0 < length w.spots = slice_get_within w.spots 0 spot found in
+        let used : w.steps ≡ turns = elim (cases_lt w.steps turns) [ inl less ↦ absurd (over some less) | inr most ↦ omega arith ] in
+        (events, start_done machine states recorders z policy turns events old w start (inr used), (spot, found, is))

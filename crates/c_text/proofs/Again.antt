@@ -9,7 +9,7 @@ use Rattle.c_printer.specs.Texts.{texts_of}
 use Rattle.c_grammar.specs.Tokens.{Seen, Place}
 use Rattle.c_grammar.specs.Units.{unit}
 use Rattle.c_spellings.specs.Laws.{text_of, EachSpelledTokenCanBePrinted, NumberedByTheirTexts}
-use Rattle.c_text.specs.Language.{full_room, start, words_of, SpellsUnit, IsSpelled}
+use Rattle.c_text.specs.Language.{full_room, start, words_of, SpellsUnit}
 use Rattle.c_text.specs.Laws.{SameButPlaces, IsReadBack, start_of_texts, IsReadable, EachSpelledUnitCanBePrinted, PrintedUnitsAreReadBack, SpelledWhereReadable}
 
 abbrev text_of_word : Word → List ℕ

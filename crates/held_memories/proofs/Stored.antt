@@ -16,7 +16,7 @@ use Rattle.memory_rules.specs.Frames.{Cell, is_same, share_byte}
 use Rattle.held_memories.specs.HeldFrames.{is_cell_size, cell_seen, cell_held, byte_in, cell_in, frame_of}
 use Rattle.held_memories.specs.SlotStores.{CellChange, ByteChange, stored_frame, cell_stored, slot_stored, changed, SlotsStored, PinIsStored}
 
-abbrev slot_at : Byte → (ℕ → Option Held) → HeldSlot
+abbrev pub slot_at : Byte → (ℕ → Option Held) → HeldSlot
 slot_at byte f = record { byte = byte; cells = table f }
 
 -- the sizes of cells, one by one
@@ -48,14 +48,14 @@ by_size P size whole some most a b c d e f g h = elim (cases_eq size 8) [
 ]
 
 -- a table at the size of a cell
-table_at : (byte : Byte) (f : ℕ → Option Held) (size : ℕ) → is_cell_size size ≡ true → cell_of (slot_at byte f) size ≡ f size
+pub table_at : (byte : Byte) (f : ℕ → Option Held) (size : ℕ) → is_cell_size size ≡ true → cell_of (slot_at byte f) size ≡ f size
 table_at byte f size is =
     let parts = and_parts _ _ is in
     let bounds = and_parts _ _ parts.1 in
     by_size (λ (n : ℕ). cell_of (slot_at byte f) n ≡ f n) size (eqb-true (size % 8) 0 parts.0) (ltb-true 0 size bounds.0) (leb-true size 64 bounds.1)
     refl refl refl refl refl refl refl refl
 
-seen_held : (cell : Option (Cell AbstractValue)) → cell_seen (cell_held cell) ≡ cell
+pub seen_held : (cell : Option (Cell AbstractValue)) → cell_seen (cell_held cell) ≡ cell
 seen_held None = refl
 seen_held (Some cell) = refl
 

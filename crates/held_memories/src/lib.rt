@@ -9,4 +9,6 @@
 // What the definitions promise.
 mod laws;
 
-pub use laws::{memories_are_a_lattice, slots_change_as_their_frame_does};
+pub use laws::{
+    held_memories_are_those_of_the_rules, memories_are_a_lattice, slots_change_as_their_frame_does,
+};

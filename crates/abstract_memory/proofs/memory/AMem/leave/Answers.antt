@@ -1,0 +1,16 @@
+-- What is left to show of `leave`: facts of the proof files, applied.
+use Rattle.std.proofs.Common.{◌∙◌, sym, subst, ap, ◌<◌, length, false}
+use Rattle.memory_rules.specs.AbstractSets.{abstract_sets}
+use Rattle.memory_rules.specs.Memories.{left}
+use Rattle.abstract_memory.specs.Parts.{MemoryParts, memory_in, IsMemory}
+use Rattle.abstract_memory.proofs.Started.{kept_after}
+use Rattle.abstract_memory.proofs.memory.AMem.leave.Goals as goal
+
+pub returns-clause-kept : goal.returns-clause-kept
+returns-clause-kept c = λ is. kept_after _ c.args.func false (subst (λ (m : MemoryParts). IsMemory m) (sym c.self.view_is) is)
+
+pub returns-clause-left : goal.returns-clause-left
+returns-clause-left c =
+    c.held_memories_are_those_of_the_rules.ensures.left c.self.inside.running.items c.self.inside.frames.items c.args.func
+    (subst (λ (m : MemoryParts). c.args.func < length m.running) (sym c.self.view_is) c.requires)
+    ∙ ap (λ m. left abstract_sets (memory_in m) c.args.func) c.self.view_is

@@ -1,0 +1,2 @@
+-- What statements are read by at each level.
+pub mod Levels

@@ -1,0 +1,3 @@
+-- Meanings, and what is printed.
+pub mod Meaning
+pub mod Again

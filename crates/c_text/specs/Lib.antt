@@ -1,0 +1,3 @@
+-- What texts mean, and what that promises.
+pub mod Language
+pub mod Laws

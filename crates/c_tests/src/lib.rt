@@ -1,4 +1,5 @@
-//! Tests of `c_tokens`, `c_constants`, `c_unit` and `c_printer`. Without tests this library is empty.
+//! Tests of `c_tokens`, `c_constants`, `c_unit`, `c_printer` and `c_text`. Without tests this library is
+//! empty.
 #![tactic(auto)]
 
 // Tokens and their places.
@@ -12,3 +13,7 @@ mod constants;
 // Ranges and trees.
 #[cfg(test)]
 mod units;
+
+// Texts, and what is read of them.
+#[cfg(test)]
+mod readings;

@@ -1,5 +1,6 @@
 //! Values from outside: each is computed by hand or by the rules' own words.
 
+use crate::values::part;
 use alf_ops::{
     Divide, FrameShape, OPS, Op, OpRow, RunEvent, RunFault, Value, apply, apply_to_values, find,
     fits, load_after, operand, rows, shape, values_fit,
@@ -17,66 +18,75 @@ pub(crate) fn word_of(rt: &impl Abort, op: Op, sizes: &[u32], args: &[u64]) -> O
     apply(op, sizes, args).ok()
 }
 
-/// An operator, how many sizes are written and which, the size of its result, and of
-/// its operands, 0 where there is none.
-type Row = (Op, usize, [u32; 4], u32, [u32; 4]);
+/// An operator with the sizes that are written, the size of its result, and of its operands, or `none`.
+static SHAPES: &str = "\
+u_mul 32 32 = 64 | 32 32
+u_mul 40 40 = none
+s_mul 64 1 = none
+s_mul 63 1 = 64 | 63 1
+conc 8 16 = 24 | 8 16
+neg 1 = 1 | 1
+neg 64 = 64 | 64
+neg 0 = none
+neg 65 = none
+neg = none
+neg 8 8 = none
+add 32 = 32 | 32 32 1
+c_sub 32 = 1 | 32 32 1
+u_div 8 16 = 8 | 8 16
+s_mod 8 16 = 16 | 8 16
+s_mod 8 65 = none
+l_shift 8 64 = 8 | 8 64
+rot_r 31 7 = 31 | 31 7
+xor 7 = 7 | 7 7
+s_le 7 = 1 | 7 7
+s_ext 8 32 = 32 | 8
+s_ext 32 8 = none
+z_ext 8 8 = 8 | 8
+trunc 32 8 = 8 | 32
+trunc 8 32 = none
+select 32 8 15 = 8 | 32
+select 32 15 8 = none
+select 32 0 32 = none
+select 32 0 31 = 32 | 32
+select 32 0 = none
+select 32 0 31 0 = none
+if 16 = 16 | 1 16 16
+u_min 8 = 8 | 8 8
+u_max 8 8 = none
+s_min 64 = 64 | 64 64
+s_min 65 = none
+s_max 1 = 1 | 1 1
+";
 
-static SHAPES: [Row; 37] = [
-    (Op::UMul, 2, [32, 32, 0, 0], 64, [32, 32, 0, 0]),
-    (Op::UMul, 2, [40, 40, 0, 0], 0, [0, 0, 0, 0]),
-    (Op::SMul, 2, [64, 1, 0, 0], 0, [0, 0, 0, 0]),
-    (Op::SMul, 2, [63, 1, 0, 0], 64, [63, 1, 0, 0]),
-    (Op::Conc, 2, [8, 16, 0, 0], 24, [8, 16, 0, 0]),
-    (Op::Neg, 1, [1, 0, 0, 0], 1, [1, 0, 0, 0]),
-    (Op::Neg, 1, [64, 0, 0, 0], 64, [64, 0, 0, 0]),
-    (Op::Neg, 1, [0, 0, 0, 0], 0, [0, 0, 0, 0]),
-    (Op::Neg, 1, [65, 0, 0, 0], 0, [0, 0, 0, 0]),
-    (Op::Neg, 0, [8, 0, 0, 0], 0, [0, 0, 0, 0]),
-    (Op::Neg, 2, [8, 8, 0, 0], 0, [0, 0, 0, 0]),
-    (Op::Add, 1, [32, 0, 0, 0], 32, [32, 32, 1, 0]),
-    (Op::CSub, 1, [32, 0, 0, 0], 1, [32, 32, 1, 0]),
-    (Op::UDiv, 2, [8, 16, 0, 0], 8, [8, 16, 0, 0]),
-    (Op::SMod, 2, [8, 16, 0, 0], 16, [8, 16, 0, 0]),
-    (Op::SMod, 2, [8, 65, 0, 0], 0, [0, 0, 0, 0]),
-    (Op::LShift, 2, [8, 64, 0, 0], 8, [8, 64, 0, 0]),
-    (Op::RotR, 2, [31, 7, 0, 0], 31, [31, 7, 0, 0]),
-    (Op::Xor, 1, [7, 0, 0, 0], 7, [7, 7, 0, 0]),
-    (Op::SLe, 1, [7, 0, 0, 0], 1, [7, 7, 0, 0]),
-    (Op::SExt, 2, [8, 32, 0, 0], 32, [8, 0, 0, 0]),
-    (Op::SExt, 2, [32, 8, 0, 0], 0, [0, 0, 0, 0]),
-    (Op::ZExt, 2, [8, 8, 0, 0], 8, [8, 0, 0, 0]),
-    (Op::Trunc, 2, [32, 8, 0, 0], 8, [32, 0, 0, 0]),
-    (Op::Trunc, 2, [8, 32, 0, 0], 0, [0, 0, 0, 0]),
-    (Op::Select, 3, [32, 8, 15, 0], 8, [32, 0, 0, 0]),
-    (Op::Select, 3, [32, 15, 8, 0], 0, [0, 0, 0, 0]),
-    (Op::Select, 3, [32, 0, 32, 0], 0, [0, 0, 0, 0]),
-    (Op::Select, 3, [32, 0, 31, 0], 32, [32, 0, 0, 0]),
-    (Op::Select, 2, [32, 0, 0, 0], 0, [0, 0, 0, 0]),
-    (Op::Select, 4, [32, 0, 31, 0], 0, [0, 0, 0, 0]),
-    (Op::If, 1, [16, 0, 0, 0], 16, [1, 16, 16, 0]),
-    (Op::UMin, 1, [8, 0, 0, 0], 8, [8, 8, 0, 0]),
-    (Op::UMax, 2, [8, 8, 0, 0], 0, [0, 0, 0, 0]),
-    (Op::SMin, 1, [64, 0, 0, 0], 64, [64, 64, 0, 0]),
-    (Op::SMin, 1, [65, 0, 0, 0], 0, [0, 0, 0, 0]),
-    (Op::SMax, 1, [1, 0, 0, 0], 1, [1, 1, 0, 0]),
-];
+/// The sizes of the words from this one on, and how many there are, at most four.
+fn some_sizes(rt: &impl Abort, words: &str, from: usize) -> ([u32; 4], usize) {
+    let (mut sizes, mut count) = ([0u32; 4], 0);
+    for word in words.split_whitespace().skip(from) {
+        assert!(rt; count < 4, "{words}");
+        sizes[count] = word.parse::<u32>().unwrap_or(0);
+        count += 1;
+    }
+    (sizes, count)
+}
 
 #[test]
 fn each_row_has_its_sizes(rt: HostRuntime) -> Result<(), Fail> {
-    for (op, sizes_written, sizes, result_size, operands) in &SHAPES {
-        assert!(rt; *sizes_written <= 4);
-        let sizes = &sizes[..*sizes_written];
-        assert_eq!(rt;
-            shape(*op, sizes).unwrap_or(0),
-            *result_size,
-            "the result of {op:?} {sizes:?}"
-        );
+    for line in SHAPES.lines() {
+        let (row, due) = (part(line, " = ", 0), part(line, " = ", 1));
+        let op = find(rows(), part(row, " ", 0)).unwrap_or(Op::Neg);
+        let (sizes, written) = some_sizes(&rt, row, 1);
+        let (operands, _) = some_sizes(&rt, part(due, " | ", 1), 0);
+        assert!(rt; written <= 4);
+        let sizes = &sizes[..written];
+        let result_size = part(due, " | ", 0).parse::<u32>().unwrap_or(0);
+        assert_eq!(rt; shape(op, sizes).unwrap_or(0), result_size, "{line}");
         for (i, size) in operands.iter().enumerate() {
             assert!(rt; i < 4);
             assert_eq!(rt;
-                operand(*op, sizes, i as u32).unwrap_or(0),
+                operand(op, sizes, i as u32).unwrap_or(0),
                 *size,
-                "operand {i} of {op:?} {sizes:?}"
+                "{line}: {i}"
             );
         }
     }
@@ -202,81 +212,110 @@ const OVERLAPS: [RunEvent; 6] = [
 
 /// How many of the newest events have not happened yet, the cell's frame, offset and size, what a
 /// load of it gives, and why.
-type LoadCase = (usize, u32, u32, u32, Result<Value, RunFault>, &'static str);
+static LOADS: &str = "\
+0 3 0 32 = dead | there is no such frame
+0 2 0 32 = dead | the function was left
+0 2 8 32 = dead | dead comes before bounds
+3 2 0 32 = uninit | the function was entered, and nothing stored
+4 1 0 32 = dead | the newest event of the function is that it was left
+5 1 0 32 = 5 | the newest store of the cell
+0 1 0 32 = 6 | a store after the function was entered again
+1 1 0 32 = uninit | what was stored before it was entered again is gone
+0 0 4 32 = 4 | the newest of two stores
+9 0 4 32 = 2 | the older of them, before the newer
+0 0 0 32 = 589827 | 3 with 9 in its third byte
+8 0 0 32 = 3 | before that store
+0 0 2 8 = 9 | the narrow cell
+8 0 0 64 = 17179869187 | 4 above 3
+8 0 0 16 = 3 | the low half of 3
+0 0 5 32 = bounds | one byte too far
+0 0 4 64 = bounds | four bytes too far
+0 0 4294967295 8 = bounds | the greatest offset
+11 0 0 32 = uninit | before any event
+11 0 5 32 = bounds | bounds comes before uninit
+";
 
-macro_rules! load {
-    ($skipped:literal [$frame:literal $offset:literal $size:literal] gives $bits:literal, $why:literal) => {
-        ($skipped, $frame, $offset, $size, Ok(Value::Int { size: $size, bits: $bits }), $why)
-    };
-    ($skipped:literal [$frame:literal $offset:literal $size:literal] is $value:ident, $why:literal) => {
-        ($skipped, $frame, $offset, $size, Ok($value), $why)
-    };
-    ($skipped:literal [$frame:literal $offset:literal $size:literal] faults $fault:ident, $why:literal) => {
-        ($skipped, $frame, $offset, $size, Err(RunFault::$fault), $why)
-    };
+static OVERLAP_LOADS: &str = "\
+0 0 0 64 = 13758222721588855297 | eight bytes of three stores
+0 0 2 16 = 52483 | two bytes of two stores
+0 0 3 16 = 43981 | the very cell of a store
+0 0 4 16 = 1707 | the high byte of one store below a byte of an older one
+0 0 7 8 = 190 | the high byte of a store
+0 0 6 8 = 239 | the low byte of a store
+3 0 2 16 = 52483 | before the newer of two stores
+4 0 0 64 = 578437695752307201 | the whole store
+4 0 1 32 = 84148994 | bytes within one store
+1 0 8 32 = near | the pointer
+1 0 8 8 = mixed | a byte of a pointer
+1 0 6 32 = mixed | bytes of a word and of a pointer
+1 0 8 64 = uninit | uninit comes before mixed
+0 0 8 32 = mixed | a pointer with a byte of a word in it
+0 0 8 8 = 17 | that byte
+0 0 8 16 = mixed | that byte and one of the pointer
+0 0 11 16 = uninit | a byte of the pointer and one without a store
+0 1 0 32 = uninit | one byte of four has a store
+0 1 0 8 = 5 | the byte that has it
+";
+
+/// The value of a word: a name of one of the values below, or a number at the size.
+fn value_of(word: &str, size: u32) -> Value {
+    match word {
+        "one" => ONE,
+        "zero" => ZERO,
+        "near" => NEAR,
+        "far" => FAR,
+        "other" => OTHER,
+        "four" => FOUR,
+        "nothing" => NOTHING,
+        number => Value::Int {
+            size,
+            bits: number.parse::<u64>().unwrap_or(0),
+        },
+    }
 }
 
-const LOADS: [LoadCase; 20] = [
-    load!(0 [3 0 32] faults Dead, "there is no such frame"),
-    load!(0 [2 0 32] faults Dead, "the function was left"),
-    load!(0 [2 8 32] faults Dead, "dead comes before bounds"),
-    load!(3 [2 0 32] faults Uninit, "the function was entered, and nothing stored"),
-    load!(4 [1 0 32] faults Dead, "the newest event of the function is that it was left"),
-    load!(5 [1 0 32] gives 5, "the newest store of the cell"),
-    load!(0 [1 0 32] gives 6, "a store after the function was entered again"),
-    load!(1 [1 0 32] faults Uninit, "what was stored before it was entered again is gone"),
-    load!(0 [0 4 32] gives 4, "the newest of two stores"),
-    load!(9 [0 4 32] gives 2, "the older of them, before the newer"),
-    load!(0 [0 0 32] gives 589827, "3 with 9 in its third byte"),
-    load!(8 [0 0 32] gives 3, "before that store"),
-    load!(0 [0 2 8] gives 9, "the narrow cell"),
-    load!(8 [0 0 64] gives 17179869187, "4 above 3"),
-    load!(8 [0 0 16] gives 3, "the low half of 3"),
-    load!(0 [0 5 32] faults Bounds, "one byte too far"),
-    load!(0 [0 4 64] faults Bounds, "four bytes too far"),
-    load!(0 [0 4294967295 8] faults Bounds, "the greatest offset"),
-    load!(11 [0 0 32] faults Uninit, "before any event"),
-    load!(11 [0 5 32] faults Bounds, "bounds comes before uninit"),
-];
+/// The outcome of a word: a fault, or a value.
+fn outcome(word: &str, size: u32) -> Result<Value, RunFault> {
+    match word {
+        "divide" => Err(RunFault::Divide),
+        "uninit" => Err(RunFault::Uninit),
+        "mixed" => Err(RunFault::Mixed),
+        "bounds" => Err(RunFault::Bounds),
+        "dead" => Err(RunFault::Dead),
+        "kind" => Err(RunFault::Kind),
+        "pointers" => Err(RunFault::Pointers),
+        word => Ok(value_of(word, size)),
+    }
+}
 
-const OVERLAP_LOADS: [LoadCase; 19] = [
-    load!(0 [0 0 64] gives 0xbeef06abcd030201, "eight bytes of three stores"),
-    load!(0 [0 2 16] gives 0xcd03, "two bytes of two stores"),
-    load!(0 [0 3 16] gives 0xabcd, "the very cell of a store"),
-    load!(0 [0 4 16] gives 0x06ab, "the high byte of one store below a byte of an older one"),
-    load!(0 [0 7 8] gives 0xbe, "the high byte of a store"),
-    load!(0 [0 6 8] gives 0xef, "the low byte of a store"),
-    load!(3 [0 2 16] gives 0xcd03, "before the newer of two stores"),
-    load!(4 [0 0 64] gives 0x0807060504030201, "the whole store"),
-    load!(4 [0 1 32] gives 0x05040302, "bytes within one store"),
-    load!(1 [0 8 32] is NEAR, "the pointer"),
-    load!(1 [0 8 8] faults Mixed, "a byte of a pointer"),
-    load!(1 [0 6 32] faults Mixed, "bytes of a word and of a pointer"),
-    load!(1 [0 8 64] faults Uninit, "uninit comes before mixed"),
-    load!(0 [0 8 32] faults Mixed, "a pointer with a byte of a word in it"),
-    load!(0 [0 8 8] gives 0x11, "that byte"),
-    load!(0 [0 8 16] faults Mixed, "that byte and one of the pointer"),
-    load!(0 [0 11 16] faults Uninit, "a byte of the pointer and one without a store"),
-    load!(0 [1 0 32] faults Uninit, "one byte of four has a store"),
-    load!(0 [1 0 8] gives 5, "the byte that has it"),
-];
+/// The number at this place of a row.
+fn number_at(row: &str, place: usize) -> u32 {
+    part(row, " ", place).parse::<u32>().unwrap_or(0)
+}
 
 /// Loads after events answer as these cases say.
-fn check_loads(rt: &impl Abort, frames: &[FrameShape], events: &[RunEvent], cases: &[LoadCase]) {
-    for (skipped, frame, offset, size, expected, why) in cases {
-        assert!(rt; *skipped <= events.len() && 8 <= *size && *size <= 64);
-        let place = Value::Ptr {
-            frame: *frame,
-            offset: *offset,
-        };
-        let answer = load_after(frames, &events[*skipped..], place, *size);
-        assert_eq!(rt; answer, *expected, "{why}");
+fn check_loads(rt: &impl Abort, frames: &[FrameShape], events: &[RunEvent], cases: &str) {
+    for line in cases.lines() {
+        let (row, due) = (part(line, " = ", 0), part(line, " = ", 1));
+        let (skipped, frame) = (number_at(row, 0) as usize, number_at(row, 1));
+        let (offset, size) = (number_at(row, 2), number_at(row, 3));
+        assert!(rt;
+            skipped <= events.len() && 8 <= size && size <= 64,
+            "{line}"
+        );
+        let answer = load_after(
+            frames,
+            &events[skipped..],
+            Value::Ptr { frame, offset },
+            size,
+        );
+        assert_eq!(rt; answer, outcome(part(due, " | ", 0), size), "{line}");
     }
 }
 
 #[test]
 fn a_load_answers_by_the_events(rt: HostRuntime) -> Result<(), Fail> {
-    check_loads(&rt, &FRAMES, &EVENTS, &LOADS);
+    check_loads(&rt, &FRAMES, &EVENTS, LOADS);
     let (frames, events) = (FRAMES, EVENTS);
     assert_eq!(rt;
         load_after(&frames, &events, FOUR, 32),
@@ -288,7 +327,7 @@ fn a_load_answers_by_the_events(rt: HostRuntime) -> Result<(), Fail> {
 
 #[test]
 fn a_load_reads_the_bytes_of_several_stores(rt: HostRuntime) -> Result<(), Fail> {
-    check_loads(&rt, &WIDE_FRAMES, &OVERLAPS, &OVERLAP_LOADS);
+    check_loads(&rt, &WIDE_FRAMES, &OVERLAPS, OVERLAP_LOADS);
     Ok(())
 }
 
@@ -316,56 +355,65 @@ const FOUR: Value = Value::Int { size: 32, bits: 4 };
 
 const NOTHING: Value = Value::Int { size: 32, bits: 0 };
 
-/// An operator at one or two sizes of 32, its operands and how many there are, and the outcome.
-type PointerCase = (Op, usize, [Value; 3], usize, Result<Value, RunFault>);
+/// An operator at sizes of 32, its operands, and the outcome.
+static POINTERS: &str = "\
+add 32 | near four zero = far
+add 32 | four near zero = far
+add 32 | near far zero = kind
+sub 32 | far four one = near
+sub 32 | far near one = four
+sub 32 | far other one = pointers
+sub 32 | four near one = kind
+eq 32 | near near = one
+eq 32 | near far = zero
+eq 32 | near other = zero
+neq 32 | near other = one
+eq 32 | near nothing = kind
+u_lt 32 | near far = one
+u_ge 32 | near other = pointers
+s_lt 32 | near far = kind
+u_div 32 32 | near nothing = kind
+u_div 32 32 | four nothing = divide
+if 32 | one near four = near
+if 32 | zero near four = four
+neg 32 | near = kind
+neg 32 | nothing = nothing
+eq 32 | nothing near = kind
+neq 32 | near near = zero
+neq 32 | near far = one
+neq 32 | near nothing = kind
+neq 32 | nothing near = kind
+u_lt 32 | far near = zero
+u_lt 32 | near four = kind
+u_lt 32 | four near = kind
+u_lt 32 | near other = pointers
+u_le 32 | near near = one
+u_le 32 | near four = kind
+u_le 32 | four near = kind
+u_gt 32 | far near = one
+u_gt 32 | near four = kind
+u_gt 32 | four near = kind
+u_ge 32 | near far = zero
+u_ge 32 | near four = kind
+u_ge 32 | four near = kind
+u_min 32 | near far = kind
+u_max 32 | near four = kind
+s_min 32 | four near = kind
+s_max 32 | near near = kind
+if 32 | one four near = four
+if 32 | zero four near = near
+";
 
-const POINTERS: [PointerCase; 45] = [
-    (Op::Add, 1, [NEAR, FOUR, ZERO], 3, Ok(FAR)),
-    (Op::Add, 1, [FOUR, NEAR, ZERO], 3, Ok(FAR)),
-    (Op::Add, 1, [NEAR, FAR, ZERO], 3, Err(RunFault::Kind)),
-    (Op::Sub, 1, [FAR, FOUR, ONE], 3, Ok(NEAR)),
-    (Op::Sub, 1, [FAR, NEAR, ONE], 3, Ok(FOUR)),
-    (Op::Sub, 1, [FAR, OTHER, ONE], 3, Err(RunFault::Pointers)),
-    (Op::Sub, 1, [FOUR, NEAR, ONE], 3, Err(RunFault::Kind)),
-    (Op::Eq, 1, [NEAR, NEAR, ZERO], 2, Ok(ONE)),
-    (Op::Eq, 1, [NEAR, FAR, ZERO], 2, Ok(ZERO)),
-    (Op::Eq, 1, [NEAR, OTHER, ZERO], 2, Ok(ZERO)),
-    (Op::Neq, 1, [NEAR, OTHER, ZERO], 2, Ok(ONE)),
-    (Op::Eq, 1, [NEAR, NOTHING, ZERO], 2, Err(RunFault::Kind)),
-    (Op::ULt, 1, [NEAR, FAR, ZERO], 2, Ok(ONE)),
-    (Op::UGe, 1, [NEAR, OTHER, ZERO], 2, Err(RunFault::Pointers)),
-    (Op::SLt, 1, [NEAR, FAR, ZERO], 2, Err(RunFault::Kind)),
-    (Op::UDiv, 2, [NEAR, NOTHING, ZERO], 2, Err(RunFault::Kind)),
-    (Op::UDiv, 2, [FOUR, NOTHING, ZERO], 2, Err(RunFault::Divide)),
-    (Op::If, 1, [ONE, NEAR, FOUR], 3, Ok(NEAR)),
-    (Op::If, 1, [ZERO, NEAR, FOUR], 3, Ok(FOUR)),
-    (Op::Neg, 1, [NEAR, ZERO, ZERO], 1, Err(RunFault::Kind)),
-    (Op::Neg, 1, [NOTHING, ZERO, ZERO], 1, Ok(NOTHING)),
-    (Op::Eq, 1, [NOTHING, NEAR, ZERO], 2, Err(RunFault::Kind)),
-    (Op::Neq, 1, [NEAR, NEAR, ZERO], 2, Ok(ZERO)),
-    (Op::Neq, 1, [NEAR, FAR, ZERO], 2, Ok(ONE)),
-    (Op::Neq, 1, [NEAR, NOTHING, ZERO], 2, Err(RunFault::Kind)),
-    (Op::Neq, 1, [NOTHING, NEAR, ZERO], 2, Err(RunFault::Kind)),
-    (Op::ULt, 1, [FAR, NEAR, ZERO], 2, Ok(ZERO)),
-    (Op::ULt, 1, [NEAR, FOUR, ZERO], 2, Err(RunFault::Kind)),
-    (Op::ULt, 1, [FOUR, NEAR, ZERO], 2, Err(RunFault::Kind)),
-    (Op::ULt, 1, [NEAR, OTHER, ZERO], 2, Err(RunFault::Pointers)),
-    (Op::ULe, 1, [NEAR, NEAR, ZERO], 2, Ok(ONE)),
-    (Op::ULe, 1, [NEAR, FOUR, ZERO], 2, Err(RunFault::Kind)),
-    (Op::ULe, 1, [FOUR, NEAR, ZERO], 2, Err(RunFault::Kind)),
-    (Op::UGt, 1, [FAR, NEAR, ZERO], 2, Ok(ONE)),
-    (Op::UGt, 1, [NEAR, FOUR, ZERO], 2, Err(RunFault::Kind)),
-    (Op::UGt, 1, [FOUR, NEAR, ZERO], 2, Err(RunFault::Kind)),
-    (Op::UGe, 1, [NEAR, FAR, ZERO], 2, Ok(ZERO)),
-    (Op::UGe, 1, [NEAR, FOUR, ZERO], 2, Err(RunFault::Kind)),
-    (Op::UGe, 1, [FOUR, NEAR, ZERO], 2, Err(RunFault::Kind)),
-    (Op::UMin, 1, [NEAR, FAR, ZERO], 2, Err(RunFault::Kind)),
-    (Op::UMax, 1, [NEAR, FOUR, ZERO], 2, Err(RunFault::Kind)),
-    (Op::SMin, 1, [FOUR, NEAR, ZERO], 2, Err(RunFault::Kind)),
-    (Op::SMax, 1, [NEAR, NEAR, ZERO], 2, Err(RunFault::Kind)),
-    (Op::If, 1, [ONE, FOUR, NEAR], 3, Ok(FOUR)),
-    (Op::If, 1, [ZERO, FOUR, NEAR], 3, Ok(NEAR)),
-];
+/// The values of the words, and how many there are, at most three.
+fn values_of(rt: &impl Abort, words: &str) -> ([Value; 3], usize) {
+    let (mut values, mut count) = ([ZERO, ZERO, ZERO], 0);
+    for word in words.split_whitespace() {
+        assert!(rt; count < 3, "{words}");
+        values[count] = value_of(word, 32);
+        count += 1;
+    }
+    (values, count)
+}
 
 /// The operator's outcome at these values.
 fn outcome_of(rt: &impl Abort, op: Op, sizes: &[u32], values: &[Value]) -> Result<Value, RunFault> {
@@ -382,15 +430,15 @@ fn outcome_of(rt: &impl Abort, op: Op, sizes: &[u32], values: &[Value]) -> Resul
 
 #[test]
 fn pointers_follow_their_rules(rt: HostRuntime) -> Result<(), Fail> {
-    let cases = POINTERS;
-    for (op, sizes_written, values, operands, expected) in &cases {
-        assert!(rt; *sizes_written <= 2 && *operands <= 3);
-        let (sizes, values) = (&[32, 32][..*sizes_written], &values[..*operands]);
-        assert_eq!(rt;
-            outcome_of(&rt, *op, sizes, values),
-            *expected,
-            "{op:?} at {values:?}"
-        );
+    for line in POINTERS.lines() {
+        let (asked, due) = (part(line, " = ", 0), part(line, " = ", 1));
+        let row = part(asked, " | ", 0);
+        let op = find(rows(), part(row, " ", 0)).unwrap_or(Op::Neg);
+        let (sizes, written) = some_sizes(&rt, row, 1);
+        let (values, operands) = values_of(&rt, part(asked, " | ", 1));
+        assert!(rt; written <= 4 && operands <= 3, "{line}");
+        let answer = outcome_of(&rt, op, &sizes[..written], &values[..operands]);
+        assert_eq!(rt; answer, outcome(due, 32), "{line}");
     }
     Ok(())
 }

@@ -463,7 +463,7 @@ fn sizes_of(rt: &impl Abort, words: &str) -> ([u32; 3], usize) {
 }
 
 /// The part of a line at this place.
-fn part<'a>(line: &'a str, mark: &str, place: usize) -> &'a str {
+pub(crate) fn part<'a>(line: &'a str, mark: &str, place: usize) -> &'a str {
     line.split(mark).nth(place).unwrap_or("")
 }
 

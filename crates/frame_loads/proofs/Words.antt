@@ -5,8 +5,8 @@
 --   bytes_more     the lowest byte and the others
 --   no_word, one_word, word_more   the word of bytes from their lowest and the others
 use Rattle.std.specs.Prelude.{IfSome}
-use Rattle.std.proofs.Common.{◌≡◌, ◌≢◌, sym, subst, ◌∙◌, ap, ℕ, suc, zero, true, List, [], ◌∷◌, map, Option, Some, None, IsSome, refl, arith, ◌+◌, ◌-◌, ◌*◌, ◌/◌, ◌<◌, ◌≤◌}
-use Rattle.std.proofs.lemmas.Bool.{le-leb, and_parts, eqb-true, ltb-true, leb-true}
+use Rattle.std.proofs.Common.{◌≡◌, ◌≢◌, subst, ◌∙◌, ap, ℕ, suc, zero, List, [], ◌∷◌, map, Option, Some, None, IsSome, refl, arith, ◌+◌, ◌-◌, ◌*◌, ◌≤◌}
+use Rattle.std.proofs.lemmas.Bool.{le-leb}
 use Rattle.alf_ops.specs.declared.operator.Op.TheVariants.{Conc}
 use Rattle.alf_ops.specs.Table.{result_size}
 use Rattle.alf_ops.specs.Histories.{offsets}

@@ -1,6 +1,5 @@
 -- What is left to show of `word_of_bytes`: facts of the proof files, applied.
-use Rattle.std.specs.Prelude.{map}
-use Rattle.std.proofs.Common.{◌≡◌, ◌≢◌, sym, subst, ◌∙◌, ap, ℕ, Some, IfSome, arith, ◌-◌, ◌*◌}
+use Rattle.std.proofs.Common.{◌≡◌, ◌≢◌, sym, subst, ◌∙◌, ap, Some, IfSome, arith, ◌-◌, ◌*◌}
 use Rattle.domain_core.specs.WordSets.{IsOfSize}
 use Rattle.strided_rules.specs.Strides.{Stride}
 use Rattle.strided_rules.specs.Domains.{stride_sets}

@@ -4,7 +4,7 @@
 --   columns_from_nodes    each leads from a node
 --   weighings_made        the constraints weigh what the rows weigh
 --   system_made           so the program is that of the facts
-use Rattle.std.proofs.Common.{◌≡◌, ◌<◌, ◌≤◌, ◌+◌, ℕ, zero, suc, ℤ, Bool, List, [], ◌∷◌, ◌++◌, map, take, length, Contains, Some, refl, ap, sym, ◌∙◌, subst, arith, add-one}
+use Rattle.std.proofs.Common.{◌≡◌, ◌<◌, ◌≤◌, ◌+◌, ℕ, zero, suc, Bool, List, [], ◌∷◌, ◌++◌, map, take, length, Contains, Some, refl, ap, sym, ◌∙◌, subst, arith, add-one}
 use Rattle.std.specs.Prelude.{filter, slice_get, slice_index}
 use Rattle.std.specs.List.{flat_map, range_with_len}
 use Rattle.std.proofs.lemmas.List.{append-nil, append_assoc, map-append, length-map}
@@ -17,13 +17,13 @@ use Rattle.flow_facts.specs.declared.fact.Fact.{Fact}
 use Rattle.flow_facts.specs.declared.fact.Fact.TheVariants.{Loop, Count, Dead, Total, Pair, Alarm}
 use Rattle.path_rows.specs.Columns.{Column, edge_column, fault_column, has_alarm, nodes_of, columns_of}
 use Rattle.path_rows.specs.Weights.{Weighing, flow_row, loop_rows, dead_rows, total_rows, pair_rows, count_rows, most_pairs, weighings}
-use Rattle.path_rows.specs.Rows.{vanishes, terms_from, row_of, cost_of}
+use Rattle.path_rows.specs.Rows.{row_of, cost_of}
 use Rattle.dual_check.specs.declared.constraint.Constraint.{Constraint}
 use Rattle.dual_check.specs.declared.constraint.Constraint.TheVariants.{Flow}
 use Rattle.dual_check.specs.declared.group.Group.TheVariants.{Loops, Deads, Totals, Pairs, Counts}
 use Rattle.dual_check.specs.Systems.{System}
 use Rattle.dual_check.specs.Constraints.{weighing_of, group_of, constraints_of}
-use Rattle.dual_check.specs.Terms.{term_if, fault_if, weights_at, AreFrom}
+use Rattle.dual_check.specs.Terms.{fault_if, AreFrom}
 use Rattle.dual_check.specs.Openings.{opening_of, openings_of, costs_of, system_from, system_of}
 
 -- ---- one more
@@ -65,21 +65,6 @@ edges_more es k e there = rw add-one (next_edge es k e there)
     next_edge (d ∷ es) zero e there = let same : d ≡ e = cc in rw same refl
     next_edge (d ∷ es) (suc k) e there = ap (λ xs. edge_column d ∷ xs) (next_edge es k e there)
 
--- one term more
-pub term_step : (f : Column → ℤ) (e : ℕ) (c : Column) (cs : List Column) → term_if e (f c) ++ terms_from f (e + 1) cs ≡ terms_from f e (c ∷ cs)
-term_step f e c cs = by_test (vanishes (f c)) (λ none. rw none refl) (λ some. rw some refl)
-
-pub made_more : (f : Column → ℤ) (old more : List (ℕ × ℤ)) (e : ℕ) (c : Column) (cs all : List Column) → old ++ terms_from f e (c ∷ cs) ≡ terms_from f 0 all → more ≡ old ++ term_if e (f c)
-    → more ++ terms_from f (e + 1) cs ≡ terms_from f 0 all
-made_more f old more e c cs all is next = ap (λ xs. xs ++ terms_from f (e + 1) cs) next ∙ append_assoc old (term_if e (f c)) (terms_from f (e + 1) cs) ∙ ap (λ xs. old ++ xs) (term_step f e c cs) ∙ is
-
-pub weight_step : (o : Shape) (c : Column) (b : ℕ) (k : Constraint) (ks : List Constraint) → term_if b ((weighing_of o k).weight c) ++ weights_at o c (b + 1) ks ≡ weights_at o c b (k ∷ ks)
-weight_step o c b k ks = by_test (vanishes ((weighing_of o k).weight c)) (λ none. rw none refl) (λ some. rw some refl)
-
-pub weighed_more : (o : Shape) (c : Column) (old more : List (ℕ × ℤ)) (b : ℕ) (k : Constraint) (ks all : List Constraint) → old ++ weights_at o c b (k ∷ ks) ≡ weights_at o c 0 all → more ≡ old ++ term_if b ((weighing_of o k).weight c)
-    → more ++ weights_at o c (b + 1) ks ≡ weights_at o c 0 all
-weighed_more o c old more b k ks all is next = ap (λ xs. xs ++ weights_at o c (b + 1) ks) next ∙ append_assoc old (term_if b ((weighing_of o k).weight c)) (weights_at o c (b + 1) ks) ∙ ap (λ xs. old ++ xs) (weight_step o c b k ks) ∙ is
-
 -- ---- columns
 
 faults_flat : (o : Shape) (p : ℕ → Bool) (xs : List ℕ) → flat_map (λ n. fault_if (length o.own) n (p n)) xs ≡ map (λ n. fault_column o n) (filter p xs)
@@ -98,17 +83,17 @@ columns_made o facts out is =
 
 from_append : (n : ℕ) (xs ys : List Column) → AreFrom n xs → AreFrom n ys → AreFrom n (xs ++ ys)
 from_append n [] ys a b = b
-from_append n (x ∷ xs) ys a b = (a.0, from_append n xs ys a.1 b)
+from_append n (x ∷ xs) ys a b = (a.0, a.1, from_append n xs ys a.2 b)
 
-from_edges : (n : ℕ) (es : List (ℕ × ℕ)) → ((u v : ℕ) → Contains es (u, v) → u < n) → AreFrom n (map edge_column es)
+from_edges : (n : ℕ) (es : List (ℕ × ℕ)) → ((u v : ℕ) → Contains es (u, v) → (u < n) × (v ≤ n)) → AreFrom n (map edge_column es)
 from_edges n [] within = tt
-from_edges n (e ∷ es) within = (within e.0 e.1 (first_member e es), from_edges n es (λ u v there. within u v (further_member e es (u, v) there)))
+from_edges n (e ∷ es) within = ((within e.0 e.1 (first_member e es)).0, (within e.0 e.1 (first_member e es)).1, from_edges n es (λ u v there. within u v (further_member e es (u, v) there)))
 
-from_faults : (o : Shape) (p : ℕ → Bool) (b k n : ℕ) → b + k ≤ n → AreFrom n (map (λ m. fault_column o m) (filter p (range_with_len b k)))
-from_faults o p b zero n low = tt
-from_faults o p b (suc k) n low =
-    let later = from_faults o p (b + 1) k n (omega arith) in
-    by_test (p b) (λ is. rw is (omega arith, later)) (λ clear. rw clear later)
+from_faults : (o : Shape) (p : ℕ → Bool) (b k n : ℕ) → b + k ≤ n → length o.own ≤ n → AreFrom n (map (λ m. fault_column o m) (filter p (range_with_len b k)))
+from_faults o p b zero n low end = tt
+from_faults o p b (suc k) n low end =
+    let later = from_faults o p (b + 1) k n (omega arith) end in
+    by_test (p b) (λ is. rw is (omega arith, end, later)) (λ clear. rw clear later)
 
 -- each leads from a node
 pub columns_from_nodes : (o : Outlined) (facts : List Fact) (columns : List Column) → IsOutline (shape_of o) → columns ≡ columns_of (shape_of o) facts → AreFrom (length o.nodes) columns
@@ -116,8 +101,8 @@ columns_from_nodes o facts columns ok is =
     let long : length (shape_of o).own ≡ length o.nodes = length-map o.nodes (λ (row : NodeRow). row.scope) in
     subst (λ (cs : List Column). AreFrom (length o.nodes) cs) (sym is)
     (subst (λ (n : ℕ). AreFrom n (columns_of (shape_of o) facts)) long
-    (from_append (length (shape_of o).own) (map edge_column o.edges) _ (from_edges (length (shape_of o).own) o.edges (λ u v there. (ok.edges_within u v there).0))
-    (from_faults (shape_of o) (λ n. has_alarm facts n) 0 (length (shape_of o).own) (length (shape_of o).own) (omega arith))))
+    (from_append (length (shape_of o).own) (map edge_column o.edges) _ (from_edges (length (shape_of o).own) o.edges (λ u v there. ok.edges_within u v there))
+    (from_faults (shape_of o) (λ n. has_alarm facts n) 0 (length (shape_of o).own) (length (shape_of o).own) (omega arith) (omega arith))))
 
 -- ---- constraints
 

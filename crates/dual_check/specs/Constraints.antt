@@ -3,6 +3,7 @@
 --   group_of o g fact    the constraints of a fact in a group
 --   constraints_of o facts   the constraints of all rows in their order
 --   is_limit_of n k      the constraint says how often a run leaves the node at most
+--   node_of, second_node_of, third_node_of   the nodes that a constraint names
 use Rattle.std.specs.Prelude.{◌==◌, ◌&&◌, not, ℕ, ℤ, pos, ◌+ℤ◌, ◌-ℤ◌, ◌*ℤ◌, Bool, false, List, [], ◌∷◌, ◌++◌, map, take}
 use Rattle.std.specs.List.{flat_map}
 use Rattle.domain_core.specs.Outlines.{Shape, header_of, is_held}
@@ -55,3 +56,28 @@ constraints_of o facts =
 abbrev pub is_limit_of : ℕ → Constraint → Bool
 is_limit_of n (Limit m high) = n == m
 is_limit_of n _ = false
+
+-- the nodes that it names
+abbrev pub node_of : Constraint → ℕ
+node_of (Flow n) = n
+node_of (Most s header n high) = n
+node_of (Least s header n low) = n
+node_of (Limit n high) = n
+node_of (Demand n low) = n
+node_of (Apart header a b) = a
+
+abbrev pub second_node_of : Constraint → ℕ
+second_node_of (Flow n) = n
+second_node_of (Most s header n high) = header
+second_node_of (Least s header n low) = header
+second_node_of (Limit n high) = n
+second_node_of (Demand n low) = n
+second_node_of (Apart header a b) = b
+
+abbrev pub third_node_of : Constraint → ℕ
+third_node_of (Flow n) = n
+third_node_of (Most s header n high) = n
+third_node_of (Least s header n low) = n
+third_node_of (Limit n high) = n
+third_node_of (Demand n low) = n
+third_node_of (Apart header a b) = header

@@ -2,4 +2,5 @@ pub mod Systems
 pub mod Fitting
 pub mod Constraints
 pub mod Terms
+pub mod Places
 pub mod Openings

@@ -1,11 +1,13 @@
 -- A linear program with its openings, as contracts see it, and what every one keeps.
 --   System              the program, and for each opening a row and a column
 --   IsSystem s          the numbers fit 32 bits, terms are of the columns and ascend
+--   AreOf n rows        each row's terms are of the first n columns, ascend, and none is 0
 --   columns_from n e rows     the terms of columns e to e + n - 1, by column
 --   AreColumns n rows columns   the lists are the terms of columns 0 to n - 1
 use Rattle.std.specs.Prelude.{◌≡◌, ◌<◌, ◌^◌, ◌+◌, ℕ, zero, suc, ℤ, List, [], ◌∷◌, length}
 use Rattle.path_rows.specs.Sums.{IsAscending}
-use Rattle.path_rows.specs.Programs.{Row, Program, IsProgram, row_at}
+use Rattle.path_rows.specs.Programs.{Row, Program, IsProgram, IsWithin, row_at}
+use Rattle.path_rows.specs.SparseLaws.{AreSome}
 use Rattle.dual_rules.specs.Sparse.{column_terms}
 
 -- the program, and for each opening a row and a column
@@ -24,6 +26,11 @@ pub record IsSystem (s : System) : Type 0 where
   pub few_openings : length s.openings < 2 ^ 32
   pub within : IsProgram s.program
   pub ascending : AreAscending s.program.rows
+
+-- each row's terms are of the first n columns, ascend, and none is 0
+abbrev pub AreOf : ℕ → List Row → Type 0
+AreOf n [] = Unit {0}
+AreOf n (r ∷ rows) = IsWithin n r.terms × IsAscending r.terms × AreSome r.terms × AreOf n rows
 
 -- the terms of n columns from column e on
 abbrev pub columns_from : ℕ → ℕ → List Row → List (List (ℕ × ℤ))

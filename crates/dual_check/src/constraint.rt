@@ -3,7 +3,7 @@
 ghost use Rattle.std.specs.Prelude.{◌≡◌, ◌<◌, ◌==◌, ◌^◌, ◌*ℤ◌, ◌≤ℤ◌, ◌<ℤ◌, pos, length};
 ghost use Rattle.domain_core.specs.Outlines.{shape_of, is_held};
 ghost use Rattle.path_rows.specs.Weights.{one_if, leaves as leaves_of, enters as enters_of};
-ghost use Rattle.dual_check.specs.Constraints.{weighing_of, begins_at, is_limit_of};
+ghost use Rattle.dual_check.specs.Constraints.{weighing_of, begins_at, is_limit_of, node_of, second_node_of, third_node_of};
 
 use crate::column::Column;
 use crate::inside::is_inside;
@@ -98,6 +98,42 @@ impl Constraint {
             Constraint::Apart(header, first, second) => {
                 leaves(first, column) + leaves(second, column) - leaves(header, column)
             }
+        }
+    }
+
+    /// A node that it names.
+    pub fn node(self) -> u32
+        ensures { result ≡ node_of self }
+    {
+        match self {
+            Constraint::Flow(node) => node,
+            Constraint::Most(_, _, node, _) => node,
+            Constraint::Least(_, _, node, _) => node,
+            Constraint::Limit(node, _) => node,
+            Constraint::Demand(node, _) => node,
+            Constraint::Apart(_, node, _) => node,
+        }
+    }
+
+    /// A second one, where it names two.
+    pub fn second_node(self) -> u32
+        ensures { result ≡ second_node_of self }
+    {
+        match self {
+            Constraint::Most(_, header, _, _) => header,
+            Constraint::Least(_, header, _, _) => header,
+            Constraint::Apart(_, _, node) => node,
+            _ => self.node(),
+        }
+    }
+
+    /// A third one, where it names three.
+    pub fn third_node(self) -> u32
+        ensures { result ≡ third_node_of self }
+    {
+        match self {
+            Constraint::Apart(header, _, _) => header,
+            _ => self.node(),
         }
     }
 

@@ -16,9 +16,13 @@ mod group;
 mod inside;
 mod outline_columns;
 
-// The program of an outline and facts.
+// The program of an outline and facts: a row looks at the columns that touch its nodes, and the
+// terms by columns are made from those of the rows.
+mod by_columns;
 mod made_terms;
+mod places;
 mod system_made;
+mod touching;
 
 // The test of multipliers, part by part.
 mod columns;

@@ -1,9 +1,10 @@
 //! A row by its terms.
 
-ghost use Rattle.std.specs.Prelude.{◌≡◌, ℕ, ℤ, List};
+ghost use Rattle.std.specs.Prelude.{◌≡◌, ◌++◌, ◌∷◌, [], ℕ, ℤ, List, OnOk};
 ghost use Rattle.path_rows.specs.Programs.{Row};
 ghost use Rattle.path_rows.specs.Sums.{coefficient, IsAscending};
 
+use std::alloc::{AllocError, Global};
 use std::marker::Model;
 
 /// An equation or an at-most row: its coefficients other than 0, each with its column, by ascending
@@ -36,6 +37,23 @@ impl Model for ColumnTerms {
 }
 
 impl ColumnTerms {
+    /// No numbers.
+    pub fn new(alloc: Global) -> ColumnTerms
+        ensures { result ≡ [] }
+    {
+        ColumnTerms {
+            terms: Vec::new(alloc),
+        }
+    }
+
+    /// Appends a number with its row.
+    pub fn push(&mut self, row: u32, number: i128) -> Result<(), AllocError>
+        ensures { OnOk result (self.new ≡ self.old ++ (row, number) ∷ []) }
+    {
+        self.terms.push((row, number))?;
+        Ok(())
+    }
+
     /// The numbers, each with its row.
     pub fn terms(&self) -> &[(u32, i128)]
         ensures { result.now ≡ self.now }

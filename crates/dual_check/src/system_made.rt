@@ -6,16 +6,20 @@ ghost use Rattle.domain_core.specs.Outlines.{shape_of};
 ghost use Rattle.flow_facts.specs.Facts.{IsAbout};
 ghost use Rattle.path_rows.specs.Rows.{row_of, cost_of};
 ghost use Rattle.dual_check.specs.Constraints.{weighing_of, is_limit_of};
-ghost use Rattle.dual_check.specs.Terms.{weights_at, AreFrom};
+ghost use Rattle.dual_check.specs.Places.{AreTouching};
+ghost use Rattle.dual_check.specs.Terms.{AreFrom};
 ghost use Rattle.dual_check.specs.Openings.{place_of, opening_of, openings_of, costs_of, system_from, system_of};
 
+use crate::by_columns::by_columns;
 use crate::column::Column;
 use crate::constraint::Constraint;
 use crate::group::constraints;
-use crate::made_terms::{row_terms, terms_at};
+use crate::made_terms::row_terms;
 use crate::outline_columns::columns;
-use crate::row::{ColumnTerms, RowTerms};
+use crate::places::Places;
+use crate::row::RowTerms;
 use crate::system::Rows;
+use crate::touching::touching;
 use domain_core::Outline;
 use flow_facts::{Fact, Report};
 use std::alloc::{AllocError, Global};
@@ -26,12 +30,14 @@ fn row(
     outline: &Outline,
     constraint: Constraint,
     columns: &[Column],
+    touching: &[Places],
 ) -> Result<RowTerms, AllocError>
     requires few { length columns.now < 2 ^ 32 }
     requires nodes { AreFrom (length outline.now.nodes) columns.now }
+    requires touching { AreTouching columns.now touching.now }
     ensures { IfOk result (λ row. row ≡ row_of columns.now (weighing_of (shape_of outline.now) constraint)) }
 {
-    let terms = row_terms(alloc, outline, constraint, columns)?;
+    let terms = row_terms(alloc, outline, constraint, columns, touching)?;
     Ok(RowTerms {
         equation: constraint.is_equation(outline),
         terms,
@@ -50,32 +56,12 @@ fn row_list(
     requires nodes { AreFrom (length outline.now.nodes) columns.now }
     ensures { IfOk result (λ rows. rows.items ≡ map (λ k. row_of columns.now (weighing_of (shape_of outline.now) k)) constraints.now) }
 {
+    let touching = touching(alloc, outline.node_count(), columns)?;
     let mut rows = Vec::new(alloc);
     for constraint in constraints {
-        rows.push(row(alloc, outline, *constraint, columns)?)?;
+        rows.push(row(alloc, outline, *constraint, columns, &touching)?)?;
     }
     Ok(rows)
-}
-
-/// The same terms by columns.
-fn column_list(
-    alloc: Global,
-    outline: &Outline,
-    constraints: &[Constraint],
-    columns: &[Column],
-) -> Result<Vec<ColumnTerms>, AllocError>
-    requires few { length constraints.now < 2 ^ 32 }
-    requires nodes { AreFrom (length outline.now.nodes) columns.now }
-    ensures { IfOk result (λ lists. lists.items ≡ map (λ c. weights_at (shape_of outline.now) c 0 constraints.now) columns.now) }
-{
-    let mut lists = Vec::new(alloc);
-    let mut rest = columns;
-    while let Some((column, others)) = rest.split_first() {
-        let terms = terms_at(alloc, outline, *column, constraints)?;
-        lists.push(ColumnTerms { terms })?;
-        rest = others;
-    }
-    Ok(lists)
 }
 
 /// What a column costs: what its node does.
@@ -187,7 +173,7 @@ fn system(
 {
     let costs = cost_list(alloc, outline, columns)?;
     let rows = row_list(alloc, outline, constraints, columns)?;
-    let lists = column_list(alloc, outline, constraints, columns)?;
+    let lists = by_columns(alloc, columns.len() as u32, &rows)?;
     let openings = opening_list(alloc, outline.node_count(), columns, constraints)?;
     Ok(Rows {
         costs,

@@ -1,17 +1,13 @@
--- The terms that were made and those of the rest are those of all.
-use Rattle.std.proofs.Common.{◌≡◌, ◌+◌, ◌++◌, length}
+-- Up to the place that comes next, all terms are made.
+use Rattle.std.proofs.Common.{◌-◌}
 use Rattle.domain_core.specs.Outlines.{shape_of}
-use Rattle.path_rows.specs.Rows.{terms_from}
+use Rattle.path_rows.specs.SparseLaws.{weight_at}
 use Rattle.dual_check.specs.Constraints.{weighing_of}
-use Rattle.dual_check.specs.Terms.{AreFrom}
+use Rattle.dual_check.proofs.Sought.{IsSought}
 use Rattle.dual_check.proofs.made_terms.row_terms.Given as goal
 
-abbrev pub invariant-loop-column : goal.invariant-loop-column
-invariant-loop-column l = record {
-  count : l.number + length l.rest ≡ length l.columns;
-  nodes : AreFrom (length l.outline.nodes) l.rest;
-  made : l.terms.items ++ terms_from (weighing_of (shape_of l.outline) l.constraint).weight l.number l.rest ≡ terms_from (weighing_of (shape_of l.outline) l.constraint).weight 0 l.columns;
-}
+abbrev pub invariant-loop-place : goal.invariant-loop-place
+invariant-loop-place l = IsSought (weight_at (weighing_of (shape_of l.outline) l.constraint).weight l.columns) l.end l.place l.first l.second l.third l.terms.items
 
-abbrev pub decreases-loop-column : goal.decreases-loop-column
-decreases-loop-column l = length l.rest
+abbrev pub decreases-loop-place : goal.decreases-loop-place
+decreases-loop-place l = l.end - l.place

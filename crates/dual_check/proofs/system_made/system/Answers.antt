@@ -1,12 +1,21 @@
 -- What was made keeps what every program keeps.
-use Rattle.std.proofs.Common.{rules, ◌∙◌, ◌<◌, ◌^◌, ℕ, ap, arith}
+use Rattle.std.proofs.Common.{rules, ◌∙◌, ◌<◌, ◌^◌, ℕ, List, ap, refl, subst, arith, length}
+use Rattle.domain_core.specs.Outlines.{shape_of}
+use Rattle.path_rows.specs.Programs.{Row}
+use Rattle.dual_check.specs.Systems.{AreColumns}
 use Rattle.dual_check.specs.Openings.{openings_of}
-use Rattle.dual_check.proofs.Kept.{system_kept}
+use Rattle.dual_check.proofs.Kept.{rows_of_columns, system_kept}
 use Rattle.dual_check.proofs.system_made.system.Goals as goal
+
+pub by_columns-requires-clause-rows : goal.by_columns-requires-clause-rows
+by_columns-requires-clause-rows c =
+    rows_of_columns (shape_of c.args.outline.now) c.args.columns.now c.args.constraints.now c.deref.result.now (length c.args.columns.now) (c.deref.ensures.value ∙ c.in_ok-rows.ensures) refl
 
 pub invariant_of-result : goal.invariant_of-result
 invariant_of-result c =
     let few : c.node_count.result < 2 ^ 32 = search rules in
     let openings = c.in_ok-openings.ensures ∙ ap (λ (n : ℕ). openings_of c.args.columns.now c.args.constraints.now n) c.node_count.ensures in
+    let lists : AreColumns (length c.args.columns.now) c.in_ok-rows.rows.items c.in_ok-lists.lists.items =
+    subst (λ (rs : List Row). AreColumns (length c.args.columns.now) rs c.in_ok-lists.lists.items) c.deref.ensures.value c.in_ok-lists.ensures in
     system_kept c.args.outline.now c.args.columns.now c.args.constraints.now c.in_ok-costs.costs.items c.in_ok-rows.rows.items c.in_ok-openings.openings.items c.in_ok-lists.lists.items
-    c.in_ok-costs.ensures c.in_ok-rows.ensures openings c.in_ok-lists.ensures c.requires.columns c.requires.constraints (omega (arith, few, c.node_count.ensures))
+    c.in_ok-costs.ensures c.in_ok-rows.ensures openings lists c.requires.columns c.requires.constraints (omega (arith, few, c.node_count.ensures))

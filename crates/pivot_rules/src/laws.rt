@@ -1,0 +1,33 @@
+//! What the definitions promise, as clauses of functions that do nothing.
+
+ghost use Rattle.std.specs.Prelude.{◌≡◌, ◌<◌, ◌≤ℤ◌, ◌<ℤ◌, ◌*ℤ◌, ℕ, ℤ, List, None, length, pos};
+ghost use Rattle.path_rows.specs.Sums.{total};
+ghost use Rattle.path_rows.specs.Programs.{Program, IsProgram, row_at, cost_at};
+ghost use Rattle.path_rows.specs.Points.{MeetsAll, worth};
+ghost use Rattle.dual_rules.specs.Firsts.{entry};
+ghost use Rattle.dual_rules.specs.Duals.{dual_sum};
+ghost use Rattle.pivot_rules.specs.Tableaus.{Tableau, held_at, number_at};
+ghost use Rattle.pivot_rules.specs.PivotRule.{Least, entering, opening_at, variables_of};
+ghost use Rattle.pivot_rules.specs.Promise.{Answers, basic_point, point_whole, handed};
+ghost use Rattle.pivot_rules.specs.Runs.{IsRight};
+ghost use Rattle.pivot_rules.specs.OpeningPlaces.{OpensRows, started, ended};
+ghost use Rattle.pivot_rules.specs.ReadOff.{IsReadOff, IsLeastPoint};
+
+/// From rows and their openings, after any number of pivots: the multipliers handed out are a dual point,
+/// and where no right side is negative the point read off meets the rows and has the dual value. That
+/// value is at most the sum over the openings.
+pub fn rule_answers()
+    ensures answers { (p : Program) (os : List (ℕ × ℕ)) (n : ℕ) → IsProgram p → OpensRows p os → Answers p (ended p os n) }
+    ensures point { (p : Program) (os : List (ℕ × ℕ)) (n : ℕ) (point : List (ℤ × ℤ)) → IsProgram p → OpensRows p os → (ended p os n).end ≡ Least → IsReadOff p (ended p os n).tableau point → IsLeastPoint p (ended p os n) point }
+    ensures most { (p : Program) (os : List (ℕ × ℕ)) (n : ℕ) → IsProgram p → OpensRows p os
+        → dual_sum p (handed p (ended p os n).tableau) ≤ℤ (total (length os) (λ i. pos (cost_at p.costs (opening_at os i).1) *ℤ (row_at p.rows (opening_at os i).0).right) *ℤ entry (ended p os n).tableau.objective 1) }
+{}
+
+/// No point that meets the rows is worth more than the point of a tableau that the rule comes to. Where
+/// some point meets the rows, a row with a negative right side has a column that can enter.
+pub fn points_of_rule()
+    ensures right { (p : Program) (os : List (ℕ × ℕ)) → IsProgram p → OpensRows p os → IsRight p (started p os) }
+    ensures greatest { (p : Program) (t : Tableau) (x : ℕ → ℤ) (w : ℤ) → IsProgram p → IsRight p t → pos 1 ≤ℤ w → MeetsAll p x w → (worth p x *ℤ point_whole t) ≤ℤ (worth p (basic_point t) *ℤ w) }
+    ensures enters { (p : Program) (t : Tableau) (r : ℕ) (x : ℕ → ℤ) (w : ℤ) → IsProgram p → IsRight p t → r < length t.rows → number_at t r 0 <ℤ pos 0 → pos 1 ≤ℤ w → MeetsAll p x w
+        → entering (held_at t.rows r).line t.objective (variables_of p) ≡ None → ⊥ }
+{}

@@ -1,0 +1,4 @@
+-- The files here, each after those that it cites.
+pub mod Charts
+pub mod ChartLaws
+pub mod Silence

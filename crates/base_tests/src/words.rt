@@ -24,6 +24,7 @@ fn told(alloc: Global, words: &[String]) -> Result<String, AllocError> {
             Ok(format!(in alloc; "analyse {file} {root} {costs} {turns}")?)
         }
         Ok(Command::Print(file)) => Ok(format!(in alloc; "print {file}")?),
+        Ok(Command::PrintC(file)) => Ok(format!(in alloc; "print of C {file}")?),
         Ok(Command::Run(given)) => {
             let file = given.file;
             let root = given.root;
@@ -105,6 +106,10 @@ fn words_are_commands_in_any_order(rt: HostRuntime) -> Result<(), Fail> {
         ("print,", "print "),
         ("print,a b.alf", "print a b.alf"),
         ("print,c", "print c"),
+        ("print,a.C", "print a.C"),
+        ("print,a.c", "print of C a.c"),
+        ("print,.c", "print of C .c"),
+        ("print,--,-a.c", "print of C -a.c"),
     ];
     for (line, wanted) in cases {
         let words = words_of(rt.alloc(), line)?;
@@ -188,7 +193,9 @@ fn other_words_are_no_command(rt: HostRuntime) -> Result<(), Fail> {
         "analyse,a.alf,--merge,all",
         "analyse,a.alf,--pivots,5",
         "analyse,a.alf,--cert",
-        "print,a.c",
+        "print,a.c,b.c",
+        "print,a.c,--root,f",
+        "print,-a.c",
         "print,-a.alf",
         "print,a.alf,b.alf",
         "print,a.alf,--turns,5",

@@ -16,4 +16,10 @@ mod units;
 
 // Texts, and what is read of them.
 #[cfg(test)]
+mod answers;
+#[cfg(test)]
+mod edits;
+#[cfg(test)]
+mod limits;
+#[cfg(test)]
 mod readings;

@@ -7,6 +7,7 @@ pub mod RanksTables
 pub mod Judged
 pub mod JudgedGraph
 pub mod JudgedTables
+pub mod JudgedUnit
 pub mod JudgedScopes
 pub mod Uptos
 pub mod Numbers

@@ -26,7 +26,10 @@ use Rattle.sweet_cli.specs.Tables.{inputs_in, inputs_told, costs_in, costs_told,
 use Rattle.sweet_cli.specs.Scopes.{IsScoped, ScopedProgram, scoped_in}
 use Rattle.sweet_cli.specs.ReportText.{report_text}
 use Rattle.sweet_cli.specs.Analyse.{analysing, costs_of, expanded_program, scoped_program, IsSoundReport}
+use Rattle.c_text.specs.Laws.{PrintedUnitsAreReadBack}
 use Rattle.sweet_cli.specs.Print.{printing, IsSameProgram}
+use Rattle.sweet_cli.specs.Units.{unit_in}
+use Rattle.sweet_cli.specs.PrintC.{printing_c, IsSameUnit}
 use Rattle.sweet_cli.specs.Run.{running, IsRunText, TellsRun}
 use Rattle.sweet_cli.proofs.Reported.{report_is_sound}
 
@@ -148,6 +151,14 @@ pub prints_same : CanonicalTextsSpell → (file : List ℕ) (told : Option Files
 unfolding printing program_in
 prints_same back file None before text after g = tt
 prints_same back file (Some files) before text after (whole, mid, (bytes, log, read, (spelled, same)), (shown, over)) =
+    record { bytes = bytes; whole = whole; told = read.2; spelled = spelled.means; again = rw shown (back whole (bytes, spelled.means)) }
+
+-- and so does a text of C, but for places
+pub prints_same_unit : PrintedUnitsAreReadBack → (file : List ℕ) (told : Option Files) (before : Log) (text : List ℕ) (after : Log)
+    → (printing_c file).steps.Gives told before text after → IfSome told (λ files. IsSameUnit file files text)
+unfolding printing_c unit_in
+prints_same_unit back file None before text after g = tt
+prints_same_unit back file (Some files) before text after (whole, mid, (bytes, log, read, (spelled, same)), (shown, over)) =
     record { bytes = bytes; whole = whole; told = read.2; spelled = spelled.means; again = rw shown (back whole (bytes, spelled.means)) }
 
 -- a stop is not done

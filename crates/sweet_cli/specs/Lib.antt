@@ -4,6 +4,7 @@
 pub mod Words
 -- lines
 pub mod FaultLines
+pub mod UnitLines
 pub mod CheckLines
 pub mod FaultWords
 -- facts, reports and what is told of a run
@@ -14,12 +15,14 @@ pub mod RunText
 -- commands, a file each, and their table
 pub mod Task
 pub mod Programs
+pub mod Units
 pub mod Seen
 pub mod Scopes
 pub mod Counting
 pub mod Tables
 pub mod Analyse
 pub mod Print
+pub mod PrintC
 pub mod Run
 pub mod Table
 -- laws

@@ -7,8 +7,10 @@ mod answers;
 #[cfg(test)]
 mod notation;
 
-// Words, texts, faults of what is read, reports, runs, files and sinks that fail, and the codes of all
-// answers.
+// Words, texts of ALF and of C, faults of what is read, reports, runs, files and sinks that fail, and the
+// codes of all answers.
+#[cfg(test)]
+mod c_texts;
 #[cfg(test)]
 mod codes;
 #[cfg(test)]

@@ -96,6 +96,9 @@ analyse a.alf --costs c.toml | 1 | costs | c.toml
 analyse a.alf --costs no.toml | 9 | costs | no.toml
 print a.alf | 0 | program | a.alf
 print b.alf | 9 | program | b.alf
+print a.c | 9 | program | a.c
+print a.c | 0 | program | a.c
+print -- -a.c | 9 | program | -a.c
 run a.alf | 0 | program | a.alf
 run - | 9 | program | -
 run a.C | 9 | program | a.C
@@ -141,6 +144,7 @@ fn a_read_that_fails_is_told_in_its_turn(rt: HostRuntime) -> Result<(), Fail> {
 const UNREAD: &str = r#"run a.alf --turns 0 | 0 | 1
 analyse a.alf --inputs i.toml | 0 | 1
 print a.alf --root main | 0 | 1
+print a.c --root main | 0 | 1
 run a.alf --inputs i.toml --root f | 1 | 2
 run a.alf --costs c.toml --root f | 1 | 2
 run a.alf --inputs a.alf --costs c.toml | 2 | 2

@@ -39,7 +39,9 @@ analyse a.alf --pivots 1000
 analyse a.alf --cert
 analyse a.alf -- --root main
 print
-print a.c
+print a.c b.c
+print a.c --root main
+print -a.c
 print -a.alf
 print a.alf b.alf
 print a.alf --turns 5

@@ -7,7 +7,7 @@ use Rattle.std.specs.Prelude.{ℕ, List, [], ◌∷◌, Option, None, if◌then�
 use Rattle.std.specs.Str.{bytes_eq}
 use Rattle.sweet_words.specs.Forms.{Text, Form, forms, form_named}
 use Rattle.sweet_words.specs.Given.{uses_of, value_in}
-use Rattle.sweet_words.specs.Numbers.{number_or, program_file}
+use Rattle.sweet_words.specs.Numbers.{number_or, is_c, program_file}
 
 -- what `analyse` is given: the file of the program, the function that it starts with, the file of costs, and the most turns
 pub record AnalyseWords : Type 0 where
@@ -29,12 +29,15 @@ pub data Command : Type 0 where
   Analyse : AnalyseWords → Command
   -- the file of the program
   Print : Text → Command
+  -- the file of a unit of C
+  PrintC : Text → Command
   Run : RunWords → Command
 
 -- the file that a command names
 abbrev pub file_of : Command → Text
 file_of (Analyse given) = given.file
 file_of (Print file) = file
+file_of (PrintC file) = file
 file_of (Run given) = given.file
 
 -- the name of the root function, which is `main` where it is left out
@@ -52,9 +55,12 @@ analyse_words value file turns = record { file = file; root = root_in value; cos
 abbrev pub analyse_of : (Text → Option Text) → Option Command
 analyse_of value = option_and_then (λ file. option_map (λ turns. Analyse (analyse_words value file turns)) (turns_in value)) (program_file (value (codes "file")))
 
--- `print FILE`
+-- `print FILE`: a file whose name ends in `.c` is one of C
+abbrev pub print_words : Text → Command
+print_words file = if is_c file then PrintC file else Print file
+
 abbrev pub print_of : (Text → Option Text) → Option Command
-print_of value = option_map (λ file. Print file) (program_file (value (codes "file")))
+print_of value = option_map print_words (value (codes "file"))
 
 -- `run FILE --root NAME --inputs FILE --costs FILE --turns N`
 abbrev pub run_words : (Text → Option Text) → Text → ℕ → RunWords

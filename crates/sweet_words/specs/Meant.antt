@@ -6,7 +6,7 @@ use Rattle.sweet_words.specs.declared.command.AnalyseWords.{AnalyseWords as Anal
 use Rattle.sweet_words.specs.declared.command.RunWords.{RunWords as RunValue}
 use Rattle.sweet_words.specs.declared.command.Command.{Command as Value}
 use Rattle.sweet_words.specs.declared.command.Command.TheVariants as value
-use Rattle.sweet_words.specs.Commands.{AnalyseWords, RunWords, Command, Analyse, Print, Run}
+use Rattle.sweet_words.specs.Commands.{AnalyseWords, RunWords, Command, Analyse, Print, PrintC, Run}
 
 abbrev pub analyse_meant : AnalyseValue → AnalyseWords
 analyse_meant given = record { file = given.file.now; root = given.root.now; costs = option_map (λ name. name.now) given.costs; turns = given.turns }
@@ -23,4 +23,5 @@ run_meant given = record {
 abbrev pub command_meant : Value → Command
 command_meant (value.Analyse given) = Analyse (analyse_meant given)
 command_meant (value.Print file) = Print file.now
+command_meant (value.PrintC file) = PrintC file.now
 command_meant (value.Run given) = Run (run_meant given)

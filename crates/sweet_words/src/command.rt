@@ -1,10 +1,10 @@
 //! The commands, each with what it was given.
 ghost use Rattle.std.specs.Prelude.{◌≡◌, option_map};
 ghost use Rattle.clap.specs.Words.{first_value, found_of};
-ghost use Rattle.sweet_words.specs.Commands.{analyse_of, command_named, print_of, root_in, run_of, turns_in};
+ghost use Rattle.sweet_words.specs.Commands.{analyse_of, command_named, print_of, print_words, root_in, run_of, turns_in};
 ghost use Rattle.sweet_words.specs.Meant.{command_meant};
 
-use crate::values::{number, program_file};
+use crate::values::{is_c, number, program_file};
 use clap::ArgMatches;
 
 /// What `analyse` is given: the name of the program's file, that of the function that it starts with,
@@ -34,6 +34,8 @@ pub enum Command<'a> {
     Analyse(AnalyseWords<'a>),
     /// The name of the program's file.
     Print(&'a str),
+    /// The name of a file of C.
+    PrintC(&'a str),
     Run(RunWords<'a>),
 }
 
@@ -82,8 +84,19 @@ fn analyse<'a>(given: &ArgMatches<'a>) -> Option<Command<'a>>
 fn print<'a>(given: &ArgMatches<'a>) -> Option<Command<'a>>
     ensures { option_map command_meant result ≡ print_of (first_value (found_of given.now)) }
 {
-    let file = program_file(given.get_str("file"))?;
-    Some(Command::Print(file))
+    let file = given.get_str("file")?;
+    Some(printed(file))
+}
+
+// What `print` prints, by the name of the file.
+fn printed<'a>(file: &'a str) -> Command<'a>
+    ensures { command_meant result ≡ print_words file.entry.now }
+{
+    if is_c(file) {
+        Command::PrintC(file)
+    } else {
+        Command::Print(file)
+    }
 }
 
 fn run<'a>(given: &ArgMatches<'a>) -> Option<Command<'a>>

@@ -12,10 +12,12 @@ mod counting;
 mod programs;
 pub mod scopes;
 mod tables;
+mod units;
 
 // The commands.
 mod analyse;
 mod print;
+mod print_c;
 mod run;
 
 use crate::words::{Command, WordsFault, read};
@@ -60,6 +62,7 @@ fn command_text<F: Shelf>(
     match command {
         Command::Analyse(given) => analyse::analyse(alloc, given, shelf),
         Command::Print(file) => print::print(alloc, file, shelf),
+        Command::PrintC(file) => print_c::print_c(alloc, file, shelf),
         Command::Run(given) => run::run(alloc, given, shelf),
     }
 }

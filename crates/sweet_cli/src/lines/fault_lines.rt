@@ -49,8 +49,8 @@ fn profile_line(alloc: Global, place: Place, word: &Name) -> Result<Vec<u8>, All
     Ok(line)
 }
 
-// The line and the column.
-fn place_text(alloc: Global, place: Place) -> Result<String, AllocError>
+/// The line and the column.
+pub fn place_text(alloc: Global, place: Place) -> Result<String, AllocError>
     ensures { IfOk result (λ text. string_bytes text ≡ place_text place) }
 {
     let line = place.line;
@@ -59,8 +59,8 @@ fn place_text(alloc: Global, place: Place) -> Result<String, AllocError>
     Ok(text)
 }
 
-// The word of a quantity that has a limit.
-fn which_word(which: Which) -> &'static str
+/// The word of a quantity that has a limit.
+pub fn which_word(which: Which) -> &'static str
     ensures { result.now ≡ which_word which }
 {
     match which {

@@ -6,6 +6,7 @@ mod report_text;
 mod run_lines;
 mod scope_lines;
 mod table_lines;
+mod unit_lines;
 
 pub use check_lines::{check_line, check_why, graph_line};
 pub use fault_lines::fault_line;
@@ -13,3 +14,4 @@ pub use report_text::text_of;
 pub use run_lines::run_text;
 pub use scope_lines::{irreducible_line, unbounded_line};
 pub use table_lines::table_line;
+pub use unit_lines::unit_line;

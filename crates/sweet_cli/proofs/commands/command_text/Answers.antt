@@ -9,3 +9,6 @@ returns-in-Print-clause-promise g c = rw c.in-Print.is c.print.ensures.promise
 
 pub returns-in-Run-clause-promise : goal.returns-in-Run-clause-promise
 returns-in-Run-clause-promise g c = rw c.in-Run.is c.run.ensures.promise
+
+pub returns-in-PrintC-clause-promise : goal.returns-in-PrintC-clause-promise
+returns-in-PrintC-clause-promise g c = rw c.in-PrintC.is c.print_c.ensures.promise

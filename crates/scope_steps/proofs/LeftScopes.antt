@@ -1,55 +1,20 @@
--- A walk up the scopes that a step leaves.
---   own_at        the scope in a node's row is its own
---   from_last, from_more   a scope on a walk up, and what is above it
---   leads_any     parents lead to what stands on a walk up
+-- A walk up the scopes that a step leaves, by a test of each.
 --   left_stays    where the walk comes to a scope that holds the target
 --   left_whole    where it comes to the top
-use Rattle.std.proofs.Common.{◌≡◌, ◌<◌, ◌≤◌, ◌+◌, ◌==◌, ◌||◌, ◌&&◌, not, ℕ, zero, suc, List, [], ◌∷◌, ◌++◌, Option, None, Some, Bool, true, false, length, ◌-◌, map, get_or, refl, sym, ap, ◌∙◌, subst, arith, add-one}
+--   begin_low, begin_whole, begin_out   what holds at the beginning
+--   at_holder, at_top, at_end           and what at an end
+--   out_pushed, whole_pushed            one scope further
+use Rattle.std.proofs.Common.{◌≡◌, ◌<◌, ◌≤◌, ◌+◌, ◌==◌, ◌||◌, ◌&&◌, not, ℕ, List, [], ◌∷◌, ◌++◌, None, Some, Bool, true, false, length, ◌-◌, get_or, refl, sym, ap, ◌∙◌, subst, arith}
 use Rattle.std.specs.Prelude.{slice_get}
 use Rattle.std.specs.List.{list_any}
-use Rattle.std.specs.Option.{option_map_or}
 use Rattle.std.proofs.lemmas.Bool.{eqb-true}
-use Rattle.std.proofs.lemmas.List.{append_assoc, append-nil, length-map}
-use Rattle.std.proofs.lemmas.Option.{get_or_from_slice_get}
+use Rattle.std.proofs.lemmas.List.{append_assoc, append-nil}
 use Rattle.lists.specs.Tests.{by_test}
 use Rattle.domain_core.specs.declared.outline.NodeRow.{NodeRow}
-use Rattle.domain_core.specs.declared.outline.ScopeRow.{ScopeRow}
-use Rattle.domain_core.specs.Outlines.{Outlined, shape_of, no_scope, Shape, LeadsTo, here, up, Holds, parent_of, scopes_from, is_held, IsOutline}
+use Rattle.domain_core.specs.Outlines.{Outlined, shape_of, Shape, Holds, parent_of, scopes_from, is_held, IsOutline}
 use Rattle.domain_core.specs.OutlineLaws.{leads_on, held_is, is_holder}
 use Rattle.run_recordings.specs.TallyRules.{is_left}
-
--- the scope in a node's row is its own
-pub own_at : (nodes : List NodeRow) (n : ℕ) (row : NodeRow) → slice_get nodes n ≡ Some row → get_or (map (λ (r : NodeRow). r.scope) nodes) n 0 ≡ row.scope
-own_at [] n row is = absurd (let bad : None ≡ Some row = is in cc)
-own_at (x ∷ nodes) zero row is = let both : Some x ≡ Some row = is in let same : x ≡ row = cc in ap (λ (r : NodeRow). r.scope) same
-own_at (x ∷ nodes) (suc n) row is = own_at nodes n row is
-
-pub from_last : (scopes : List ScopeRow) (k j s : ℕ) → k ≡ j + 1 → parent_of scopes s ≡ None → scopes_from scopes k s ≡ s ∷ []
-from_last scopes k j s more top = rw (more, add-one, top) refl
-
-pub from_more : (scopes : List ScopeRow) (k j s p : ℕ) → k ≡ j + 1 → parent_of scopes s ≡ Some p → scopes_from scopes k s ≡ s ∷ scopes_from scopes j p
-from_more scopes k j s p more e = rw (more, add-one, e) refl
-
--- one of two tests passes
-either_test : {A : Type 0} (a b : Bool) → a || b ≡ true → (a ≡ true → A) → (b ≡ true → A) → A
-either_test true b found first second = first refl
-either_test false b found first second = second found
-
--- parents lead to what stands on a walk up
-pub leads_any : (scopes : List ScopeRow) (k s t : ℕ) → list_any (λ n. t == n) (scopes_from scopes k s) ≡ true → LeadsTo scopes t s
-leads_any scopes zero s t found = absurd (let bad : false ≡ true = found in cc)
-leads_any scopes (suc k) s t found =
-    either_test (t == s) (list_any (λ n. t == n) (option_map_or (λ p. scopes_from scopes k p) (parent_of scopes s) [])) found
-    (λ same. subst (λ (n : ℕ). LeadsTo scopes n s) (sym (eqb-true t s same)) here)
-    (λ above. by_parent (λ p there. leads_any scopes k p t there) (parent_of scopes s) refl above)
-  where
-    by_parent : ((p : ℕ) → list_any (λ n. t == n) (scopes_from scopes k p) ≡ true → LeadsTo scopes t p) → (parent : Option ℕ) → parent_of scopes s ≡ parent → list_any (λ n. t == n) (option_map_or (λ p. scopes_from scopes k p) parent []) ≡ true → LeadsTo scopes t s
-    by_parent further None is above = absurd (let bad : false ≡ true = above in cc)
-    by_parent further (Some p) is above = up is (further p above)
-
-any_joined : (t : ℕ) (xs ys : List ℕ) → list_any (λ n. t == n) (xs ++ ys) ≡ (list_any (λ n. t == n) xs || list_any (λ n. t == n) ys)
-any_joined t [] ys = refl
-any_joined t (x ∷ xs) ys = by_test (t == x) (λ is. rw is refl) (λ clear. rw clear (any_joined t xs ys))
+use Rattle.scope_steps.specs.Climbs.{own_at, own_low, from_last, from_more, either_test, leads_any, any_joined}
 
 -- among more, what was not there is the new one
 pub out_more : (o : Shape) (to : ℕ) (left : List ℕ) (s : ℕ) → (Holds o s to → ⊥) → IsOutline o → ((t : ℕ) → list_any (λ n. t == n) left ≡ true → is_held o t to ≡ false) → (t : ℕ) → list_any (λ n. t == n) (left ++ s ∷ []) ≡ true → is_held o t to ≡ false
@@ -93,16 +58,9 @@ module _ (o : Shape) (ok : IsOutline o) (from to : ℕ) (left above : List ℕ) 
 -- ---- the walk
 
 module _ (o : Outlined) (ok : IsOutline (shape_of o)) (from to : ℕ) where
-  -- a node has a place in the list of own scopes
-  pub own_low : (n : ℕ) → n < length o.nodes → n < length (shape_of o).own
-  own_low n low = let e : length (map (λ (r : NodeRow). r.scope) o.nodes) ≡ length o.nodes = length-map o.nodes (λ (r : NodeRow). r.scope) in omega arith
-
-  top : List ℕ
-  top = scopes_from o.scopes (length o.scopes) (get_or (shape_of o).own from 0)
-
   -- at the beginning
   pub begin_low : (row : NodeRow) → from < length o.nodes → slice_get o.nodes from ≡ Some row → row.scope < length o.scopes
-  begin_low row low is = subst (λ (s : ℕ). s < length o.scopes) (own_at o.nodes from row is) (ok.scopes_within from (own_low from low))
+  begin_low row low is = subst (λ (s : ℕ). s < length o.scopes) (own_at o.nodes from row is) (ok.scopes_within from (own_low o from low))
 
   pub begin_whole : (row : NodeRow) (left : List ℕ) → slice_get o.nodes from ≡ Some row → left ≡ []
       → left ++ scopes_from o.scopes (length o.scopes - 0) row.scope ≡ scopes_from o.scopes (length o.scopes) (get_or (shape_of o).own from 0)
@@ -114,9 +72,14 @@ module _ (o : Outlined) (ok : IsOutline (shape_of o)) (from to : ℕ) where
   pub begin_out : (left : List ℕ) → left ≡ [] → (t : ℕ) → list_any (λ n. t == n) left ≡ true → is_held (shape_of o) t to ≡ false
   begin_out left none t found = absurd (let bad : false ≡ true = ap (λ (xs : List ℕ). list_any (λ n. t == n) xs) (sym none) ∙ found in cc)
 
-  -- the parent in a scope's row
-  pub parent_at : (s : ℕ) (row : ScopeRow) (parent : Option ℕ) → slice_get o.scopes s ≡ Some row → row.parent ≡ parent → parent_of o.scopes s ≡ parent
-  parent_at s row parent is has = ap (λ (r : ScopeRow). r.parent) (get_or_from_slice_get o.scopes s row no_scope is) ∙ has
+  -- one scope further
+  pub whole_pushed : (left : List ℕ) (step s : ℕ) → left ++ scopes_from o.scopes (length o.scopes - step) s ≡ scopes_from o.scopes (length o.scopes) (get_or (shape_of o).own from 0) → (pushed : List ℕ) (p : ℕ) → pushed ≡ left ++ s ∷ [] → step < length o.scopes → parent_of o.scopes s ≡ Some p
+      → pushed ++ scopes_from o.scopes (length o.scopes - (step + 1)) p ≡ scopes_from o.scopes (length o.scopes) (get_or (shape_of o).own from 0)
+  whole_pushed left step s whole pushed p is low some =
+      ap (λ (xs : List ℕ). xs ++ scopes_from o.scopes (length o.scopes - (step + 1)) p) is
+      ∙ append_assoc left (s ∷ []) (scopes_from o.scopes (length o.scopes - (step + 1)) p)
+      ∙ ap (λ (xs : List ℕ). left ++ xs) (sym (from_more o.scopes (length o.scopes - step) (length o.scopes - (step + 1)) s p (omega arith) some))
+      ∙ whole
 
   module _ (left : List ℕ) (step s : ℕ) (whole : left ++ scopes_from o.scopes (length o.scopes - step) s ≡ scopes_from o.scopes (length o.scopes) (get_or (shape_of o).own from 0))
       (out : (t : ℕ) → list_any (λ n. t == n) left ≡ true → is_held (shape_of o) t to ≡ false) where
@@ -131,14 +94,6 @@ module _ (o : Outlined) (ok : IsOutline (shape_of o)) (from to : ℕ) where
         left_whole (shape_of o) ok from to pushed []
         (append-nil pushed ∙ is ∙ ap (λ (xs : List ℕ). left ++ xs) (sym (from_last o.scopes (length o.scopes - step) (length o.scopes - (step + 1)) s (omega arith) none)) ∙ whole)
         (out_pushed pushed is gone) refl
-
-    pub whole_pushed : (pushed : List ℕ) (p : ℕ) → pushed ≡ left ++ s ∷ [] → step < length o.scopes → parent_of o.scopes s ≡ Some p
-        → pushed ++ scopes_from o.scopes (length o.scopes - (step + 1)) p ≡ scopes_from o.scopes (length o.scopes) (get_or (shape_of o).own from 0)
-    whole_pushed pushed p is low some =
-        ap (λ (xs : List ℕ). xs ++ scopes_from o.scopes (length o.scopes - (step + 1)) p) is
-        ∙ append_assoc left (s ∷ []) (scopes_from o.scopes (length o.scopes - (step + 1)) p)
-        ∙ ap (λ (xs : List ℕ). left ++ xs) (sym (from_more o.scopes (length o.scopes - step) (length o.scopes - (step + 1)) s p (omega arith) some))
-        ∙ whole
 
     -- steps are at an end only where nothing is above
     pub at_end : length o.scopes ≤ step → (t : ℕ) → list_any (λ n. t == n) left ≡ is_left (shape_of o) t from to

@@ -5,6 +5,7 @@ use domain_core::{Outline, ScopeKind};
 use std::alloc::{AllocError, Global};
 
 // The nodes of one run, in order.
+#[derive(Drop)]
 pub struct Trace {
     nodes: Vec<u32>,
 }

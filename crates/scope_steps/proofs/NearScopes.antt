@@ -4,12 +4,12 @@
 --   near_holds     what is near the target holds it
 --   near_left      where the walk comes to such a scope
 --   apart_pushed, below_pushed   one scope further
-use Rattle.std.proofs.Common.{◌≡◌, ◌≢◌, ◌<◌, ◌≤◌, ◌+◌, ◌==◌, ◌||◌, ℕ, List, [], ◌∷◌, ◌++◌, Option, None, Some, Bool, true, false, length, ◌-◌, get_or, refl, sym, ap, ◌∙◌, subst, arith}
+use Rattle.std.proofs.Common.{◌≡◌, ◌<◌, ◌≤◌, ◌==◌, ◌||◌, ℕ, List, [], ◌∷◌, ◌++◌, Option, None, Some, Bool, true, false, length, ◌-◌, get_or, refl, sym, ap, ◌∙◌, subst, arith}
 use Rattle.std.specs.List.{list_any}
 use Rattle.std.proofs.lemmas.Bool.{eqb-true, eq-eqb}
 use Rattle.lists.specs.Tests.{by_test}
 use Rattle.domain_core.specs.declared.outline.ScopeRow.{ScopeRow}
-use Rattle.domain_core.specs.Outlines.{Outlined, shape_of, Shape, LeadsTo, here, up, Holds, IsChain, outermost, inner, parent_of, scopes_from, is_held, IsOutline}
+use Rattle.domain_core.specs.Outlines.{Outlined, shape_of, Shape, LeadsTo, here, up, IsChain, outermost, inner, parent_of, scopes_from, is_held, IsOutline}
 use Rattle.domain_core.specs.OutlineLaws.{leads_on, chain_one, chain_of, held_is}
 use Rattle.run_recordings.specs.TallyRules.{is_at, is_left}
 use Rattle.scope_steps.specs.Climbs.{near, either_test, any_joined}

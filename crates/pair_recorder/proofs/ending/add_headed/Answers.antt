@@ -1,6 +1,5 @@
 -- What is left to show of `add_headed`.
-use Rattle.std.proofs.Common.{◌==◌, ◌||◌, ◌&&◌, ℕ, Bool, ap, sym, ◌∙◌}
-use Rattle.std.specs.List.{list_any}
+use Rattle.std.proofs.Common.{sym, ◌∙◌}
 use Rattle.domain_core.specs.Outlines.{header_of}
 use Rattle.scope_steps.specs.Climbs.{header_at}
 use Rattle.pair_recorder.proofs.Ended.{headed_pushed, not_headed}

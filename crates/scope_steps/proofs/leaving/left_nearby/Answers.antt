@@ -1,7 +1,6 @@
 -- What is left to show of `left_nearby`.
-use Rattle.std.proofs.Common.{◌≡◌, ◌==◌, List, [], false, true, refl, sym, ap, ◌∙◌, ℕ, arith}
+use Rattle.std.proofs.Common.{◌≡◌, ◌==◌, List, false, true, refl, sym, ap, ◌∙◌, ℕ, arith}
 use Rattle.std.specs.List.{list_any}
-use Rattle.domain_core.specs.Outlines.{shape_of}
 use Rattle.scope_steps.specs.Climbs.{own_at, own_in, parent_at}
 use Rattle.scope_steps.proofs.LeftScopes.{begin_whole, whole_pushed}
 use Rattle.scope_steps.proofs.NearScopes.{near_left, apart_pushed, below_pushed}

@@ -128,9 +128,8 @@ fn meet(outline: &Outline, traces: &[Trace], a: u32, b: u32) -> bool {
     if a >= outline.node_count() || b >= outline.node_count() {
         return false;
     }
-    outline.kept();
     let scope = outline.node(a).scope;
-    if outline.node(b).scope != scope {
+    if outline.node(b).scope != scope || scope >= outline.scope_count() {
         return false;
     }
     let header = outline.scope(scope).header;
@@ -156,8 +155,10 @@ fn count_of(outline: &Outline, node: u32, traces: &[Trace]) -> Option<(u32, u32)
     if node >= outline.node_count() {
         return None;
     }
-    outline.kept();
     let own = outline.node(node).scope;
+    if own >= outline.scope_count() {
+        return None;
+    }
     let scope = outline.scope(own);
     match scope.kind {
         ScopeKind::Loop if scope.header != node => spread_of(outline, own, node, traces),

@@ -9,7 +9,6 @@ mod totals;
 mod begun;
 mod chains;
 mod counts;
-mod leaving;
 mod loops;
 mod tallies;
 mod walked;

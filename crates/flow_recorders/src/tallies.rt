@@ -8,9 +8,9 @@ ghost use Rattle.flow_recorders.specs.Chained.{KeysBelow};
 ghost use Rattle.flow_recorders.specs.Ledgers.{IsLedger};
 
 use crate::chains::{Chains, chained};
-use crate::leaving::left_scopes;
 use crate::walked::{collect_scopes, enter, reset_scopes};
 use domain_core::Outline;
+use scope_steps::left_scopes;
 use std::alloc::{AllocError, Global};
 use std::marker::Model;
 

@@ -1,16 +1,17 @@
 -- The nodes of iterations that end with a step.
---   goes_held, goes_not   the test for an iteration that goes on
 --   range_bits      the bits of words that others were added to
 --   after_each, each_after   what several scopes add
---   around_low      a scope around a node is one of the outline
---   ended_is        all scopes around a node
-use Rattle.std.proofs.Common.{◌≡◌, ◌+◌, ◌-◌, ◌*◌, ◌/◌, ◌%◌, ◌<◌, ◌==◌, ◌&&◌, ◌||◌, not, ℕ, Bool, true, false, cond, List, [], ◌∷◌, bit_or, Contains, length, get_or, reverse, refl, sym, ap, ◌∙◌, subst, arith}
+--   or_thrice       three tests
+--   any_with        one number with a property
+--   ends_either     an iteration ends where its scope is left, or where its header is entered
+--   ended_low, owned_ended   the scopes of which iterations end, and the nodes of them
+use Rattle.std.proofs.Common.{◌≡◌, ◌+◌, ◌-◌, ◌*◌, ◌/◌, ◌%◌, ◌<◌, ◌==◌, ◌&&◌, ◌||◌, not, ℕ, Bool, true, false, cond, List, [], ◌∷◌, bit_or, Contains, length, get_or, refl, sym, ap, ◌∙◌, arith}
 use Rattle.std.specs.List.{list_any}
 use Rattle.std.proofs.lemmas.Bool.{eqb-true}
 use Rattle.lists.specs.Members.{first_member, further_member}
 use Rattle.lists.specs.Tests.{by_test}
-use Rattle.domain_core.specs.Outlines.{Shape, is_held, header_of, scopes_from, scopes_around, Holds, IsOutline}
-use Rattle.domain_core.specs.OutlineLaws.{member_found, found_member, held_is, is_holder, in_reverse, of_reverse, around_is, holder_low}
+use Rattle.domain_core.specs.Outlines.{Shape, is_held, IsOutline}
+use Rattle.domain_core.specs.OutlineLaws.{member_found, held_is, holder_low}
 use Rattle.domain_core.specs.Executions.{goes_on_at}
 use Rattle.run_recordings.specs.LoopRules.{own_of}
 use Rattle.pair_recordings.specs.PairRules.{ends}
@@ -28,20 +29,12 @@ range_bits w start from old new changed b low =
     ∙ set_or (get_or old (0 + b / 64) 0) (get_or from (start + (0 + b / 64 - 0)) 0) (b % 64)
     ∙ ap (λ (i : ℕ). is_marked old 0 b || is_set (get_or from i 0) (b % 64)) (let e : start + (0 + b / 64 - 0) ≡ start + b / 64 = omega arith in e)
 
--- the test for an iteration that goes on
-module _ (o : Shape) (ok : IsOutline o) (t n : ℕ) where
-  pub goes_held : (h : ℕ) → Holds o t n → header_of o.scopes t ≡ h → not (h == n) ≡ goes_on_at o t n
-  goes_held h held is = ap (λ (k : ℕ). not (k == n)) (sym is) ∙ ap (λ (x : Bool). x && not (header_of o.scopes t == n)) (sym (is_holder o ok t n held))
-
-  pub goes_not : (Holds o t n → ⊥) → false ≡ goes_on_at o t n
-  goes_not out = by_test (is_held o t n) (λ held. absurd (out (held_is o ok t n held))) (λ clear. ap (λ (x : Bool). x && not (header_of o.scopes t == n)) (sym clear))
-
 -- what several scopes add
 abbrev pub after_each : (ℕ → Bool) → Bool → List ℕ → Bool
 after_each adds v [] = v
 after_each adds v (s ∷ ss) = after_each adds (v || adds s) ss
 
-or_thrice : (x y z : Bool) → ((x || y) || z) ≡ (x || (y || z))
+pub or_thrice : (x y z : Bool) → ((x || y) || z) ≡ (x || (y || z))
 or_thrice true y z = refl
 or_thrice false y z = refl
 
@@ -59,7 +52,7 @@ any_same f g [] same = refl
 any_same f g (x ∷ xs) same = ap (λ (b : Bool). b || list_any f xs) (same x (first_member x xs)) ∙ ap (λ (b : Bool). g x || b) (any_same f g xs (λ s there. same s (further_member x xs s there)))
 
 -- one number with a property
-any_with : (t : ℕ) (p : ℕ → Bool) (xs : List ℕ) → list_any (λ s. (t == s) && p s) xs ≡ (list_any (λ s. t == s) xs && p t)
+pub any_with : (t : ℕ) (p : ℕ → Bool) (xs : List ℕ) → list_any (λ s. (t == s) && p s) xs ≡ (list_any (λ s. t == s) xs && p t)
 any_with t p [] = refl
 any_with t p (x ∷ xs) =
     by_test (t == x)
@@ -71,27 +64,28 @@ any_with t p (x ∷ xs) =
     and_nothing true = refl
     and_nothing false = refl
 
-any_turned : (t : ℕ) (xs : List ℕ) → list_any (λ s. t == s) (reverse xs) ≡ list_any (λ s. t == s) xs
-any_turned t xs =
-    by_test (list_any (λ s. t == s) xs) (λ found. member_found (reverse xs) t (in_reverse xs t (found_member xs t found)) ∙ sym found)
-    (λ clear. by_test (list_any (λ s. t == s) (reverse xs)) (λ found. absurd (let bad : true ≡ false = sym (member_found xs t (of_reverse xs t (found_member (reverse xs) t found))) ∙ clear in cc)) (λ none. none ∙ sym clear))
+-- an iteration ends where its scope is left, or where its header is entered
+pub ends_either : (held stays header : Bool) → ((held && not stays) || (held && header)) ≡ (held && not (stays && not header))
+ends_either true true true = refl
+ends_either true true false = refl
+ends_either true false true = refl
+ends_either true false false = refl
+ends_either false stays header = refl
 
--- a scope around a node is one of the outline
-pub around_low : (o : Shape) → IsOutline o → (from : ℕ) → from < length o.own → (s : ℕ) → Contains (scopes_around o from) s → s < length o.scopes
-around_low o ok from within s there = holder_low o ok s from within ((around_is o ok s from).0 there)
+first_true : (a b : Bool) → a && b ≡ true → a ≡ true
+first_true true b both = refl
+first_true false b both = absurd (let bad : false ≡ true = both in cc)
 
-module _ (o : Shape) (ok : IsOutline o) (scopes count w : ℕ) (owned : List ℕ) (is : AreOwned o scopes count w owned) (from to a : ℕ) (low : a < count) where
-  -- what a scope adds
-  abbrev pub adds : ℕ → Bool
-  adds s = is_marked owned (s * w) a && not (goes_on_at o s to)
+module _ (o : Shape) (ok : IsOutline o) (from to : ℕ) (within : from < length o.own) (scopes : List ℕ) (all : (t : ℕ) → list_any (λ s. t == s) scopes ≡ ends o t from to) where
+  -- the scopes of which iterations end are those of the outline
+  pub ended_low : (s : ℕ) → Contains scopes s → s < length o.scopes
+  ended_low s there =
+      holder_low o ok s from within (held_is o ok s from (first_true (is_held o s from) (not (goes_on_at o s to)) (sym (all s) ∙ member_found scopes s there)))
 
-  -- all scopes around a node
-  pub ended_is : scopes ≡ length o.scopes → from < length o.own → (around : List ℕ) → around ≡ scopes_around o from → list_any adds around ≡ ends o (own_of o a) from to
-  ended_is all within around same =
-      any_same adds (λ s. (own_of o a == s) && not (goes_on_at o s to)) around
-      (λ s there. ap (λ (b : Bool). b && not (goes_on_at o s to)) (is s a (scope_low s (subst (λ (xs : List ℕ). Contains xs s) same there)) low))
-      ∙ any_with (own_of o a) (λ s. not (goes_on_at o s to)) around
-      ∙ ap (λ (b : Bool). b && not (goes_on_at o (own_of o a) to)) (ap (λ (xs : List ℕ). list_any (λ s. own_of o a == s) xs) same ∙ any_turned (own_of o a) (scopes_from o.scopes (length o.scopes) (get_or o.own from 0)))
-    where
-      scope_low : (s : ℕ) → Contains (scopes_around o from) s → s < scopes
-      scope_low s there = let below = around_low o ok from within s there in omega arith
+  -- and the nodes of them
+  pub owned_ended : (n count w : ℕ) (owned : List ℕ) → n ≡ length o.scopes → AreOwned o n count w owned → (a : ℕ) → a < count
+      → list_any (λ s. is_marked owned (s * w) a) scopes ≡ ends o (own_of o a) from to
+  owned_ended n count w owned same is a low =
+      any_same (λ s. is_marked owned (s * w) a) (λ s. own_of o a == s) scopes
+      (λ s there. is s a (let below = ended_low s there in omega arith) low)
+      ∙ all (own_of o a)

@@ -1,50 +1,90 @@
 //! The nodes of iterations that end with a step.
 
-ghost use Rattle.std.specs.Prelude.{◌≡◌, ℕ, ◌+◌, ◌*◌, ◌^◌, ◌<◌, ◌≤◌, ◌||◌, ◌&&◌, not, length, IfOk, All};
+ghost use Rattle.std.specs.Prelude.{◌≡◌, ℕ, ◌+◌, ◌*◌, ◌^◌, ◌<◌, ◌≤◌, ◌==◌, ◌||◌, ◌&&◌, length, IfOk, OnOk, All};
 ghost use Rattle.std.specs.List.{list_any};
-ghost use Rattle.domain_core.specs.Outlines.{shape_of};
-ghost use Rattle.domain_core.specs.Executions.{goes_on_at};
+ghost use Rattle.domain_core.specs.Outlines.{shape_of, is_held, header_of};
 ghost use Rattle.run_recordings.specs.LoopRules.{own_of};
 ghost use Rattle.pair_recordings.specs.PairRules.{ends};
 ghost use Rattle.pair_bits.specs.Marks.{is_marked, AreOwned};
 
 use crate::words::add_words;
 use domain_core::Outline;
+use scope_steps::left_scopes;
 use std::alloc::{AllocError, Global};
 
-/// Whether an iteration of the scope goes on where the node is entered.
-fn goes_on(outline: &Outline, scope: u32, node: u32) -> bool
-    requires scope { scope < length outline.now.scopes }
-    requires node { node < length outline.now.nodes }
-    ensures { result ≡ goes_on_at (shape_of outline.now) scope node }
+/// Adds the scope where the node is its header.
+fn add_headed(
+    outline: &Outline,
+    scope: u32,
+    node: u32,
+    ended: &mut Vec<u32>,
+) -> Result<(), AllocError>
+    requires { scope < length outline.now.scopes }
+    ensures { OnOk result ((t : ℕ) → list_any (λ s. t == s) ended.new.items ≡ (list_any (λ s. t == s) ended.old.items || ((t == scope) && (header_of outline.now.scopes scope == node)))) }
 {
-    outline.kept();
-    outline.holds(scope, node) && outline.scope(scope).header != node
+    if outline.scope(scope).header == node {
+        ended.push(scope)?;
+    }
+    Ok(())
 }
 
-/// Adds the nodes of the scope, unless an iteration of it goes on where the node is entered.
-fn add_ended(outline: &Outline, owned: &[u64], scope: u32, node: u32, marks: &mut [u64])
-    requires scope { scope < length outline.now.scopes }
-    requires node { node < length outline.now.nodes }
-    requires owned { length owned.now ≡ length outline.now.scopes * length marks.old }
-    ensures { (b : ℕ) → b < 64 * length marks.old → is_marked marks.new 0 b ≡ (is_marked marks.old 0 b || (is_marked owned.now (scope * length marks.old) b && not (goes_on_at (shape_of outline.now) scope node))) }
+/// Adds the scopes that hold the node `from` and have the header `to`.
+fn add_all_headed(
+    outline: &Outline,
+    from: u32,
+    to: u32,
+    ended: &mut Vec<u32>,
+) -> Result<(), AllocError>
+    requires from { from < length outline.now.nodes }
+    ensures { OnOk result ((t : ℕ) → list_any (λ s. t == s) ended.new.items ≡ (list_any (λ s. t == s) ended.old.items || (is_held (shape_of outline.now) t from && (header_of outline.now.scopes t == to)))) }
 {
-    if goes_on(outline, scope, node) {
-        return;
+    outline.kept();
+    let mut scope = outline.node(from).scope;
+    for step in 0..outline.scope_count() {
+        add_headed(outline, scope, to, ended)?;
+        match outline.scope(scope).parent {
+            None => return Ok(()),
+            Some(parent) => scope = parent,
+        }
     }
+    Ok(())
+}
+
+/// The scopes of which an iteration ends with the step: those that it leaves, and those whose header it
+/// enters from inside.
+fn ended_scopes(
+    alloc: Global,
+    outline: &Outline,
+    from: u32,
+    to: u32,
+) -> Result<Vec<u32>, AllocError>
+    requires from { from < length outline.now.nodes }
+    requires to { to < length outline.now.nodes }
+    ensures { IfOk result (λ ended. (t : ℕ) → list_any (λ s. t == s) ended.items ≡ ends (shape_of outline.now) t from to) }
+{
+    let mut ended = left_scopes(alloc, outline, from, to)?;
+    add_all_headed(outline, from, to, &mut ended)?;
+    Ok(ended)
+}
+
+/// Adds the nodes of the scope.
+fn add_owned(owned: &[u64], scopes: usize, scope: u32, marks: &mut [u64])
+    requires scope { scope < scopes }
+    requires owned { length owned.now ≡ scopes * length marks.old }
+    ensures { (b : ℕ) → b < 64 * length marks.old → is_marked marks.new 0 b ≡ (is_marked marks.old 0 b || is_marked owned.now (scope * length marks.old) b) }
+{
     let width = marks.len();
     add_words(marks, 0, owned, scope as usize * width, width);
 }
 
-/// Adds the nodes of each of the scopes of which no iteration goes on where the node is entered.
-fn add_all_ended(outline: &Outline, owned: &[u64], scopes: &[u32], node: u32, marks: &mut [u64])
-    requires scopes { All (λ s. s < length outline.now.scopes) scopes.now }
-    requires node { node < length outline.now.nodes }
-    requires owned { length owned.now ≡ length outline.now.scopes * length marks.old }
-    ensures { (b : ℕ) → b < 64 * length marks.old → is_marked marks.new 0 b ≡ (is_marked marks.old 0 b || list_any (λ s. is_marked owned.now (s * length marks.old) b && not (goes_on_at (shape_of outline.now) s node)) scopes.now) }
+/// Adds the nodes of each of the scopes.
+fn add_all_owned(owned: &[u64], count: usize, scopes: &[u32], marks: &mut [u64])
+    requires scopes { All (λ s. s < count) scopes.now }
+    requires owned { length owned.now ≡ count * length marks.old }
+    ensures { (b : ℕ) → b < 64 * length marks.old → is_marked marks.new 0 b ≡ (is_marked marks.old 0 b || list_any (λ s. is_marked owned.now (s * length marks.old) b) scopes.now) }
 {
     for scope in scopes {
-        add_ended(outline, owned, *scope, node, marks);
+        add_owned(owned, count, *scope, marks);
     }
 }
 
@@ -66,8 +106,9 @@ pub fn ended_nodes(
     ensures ended { IfOk result (λ marks. (a : ℕ) → a < length outline.now.nodes → is_marked marks.items 0 a ≡ ends (shape_of outline.now) (own_of (shape_of outline.now) a) from to) }
 {
     outline.kept();
-    let around = outline.around(alloc, from)?;
+    let ended = ended_scopes(alloc, outline, from, to)?;
     let mut marks = vec![in alloc; 0u64; width]?;
-    add_all_ended(outline, owned, &around, to, &mut marks);
+    let count = outline.scope_count() as usize;
+    add_all_owned(owned, count, &ended, &mut marks);
     Ok(marks)
 }

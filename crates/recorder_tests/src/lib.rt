@@ -5,10 +5,14 @@
 #[cfg(test)]
 mod sketch;
 
-// Runs as text, and what the books tell of them.
+// Runs as text, what the books tell of them, and what they do.
+#[cfg(test)]
+mod slow;
 #[cfg(test)]
 mod told;
 
-// Runs that are written by hand.
+// Runs that are written by hand, and walks.
 #[cfg(test)]
 mod runs;
+#[cfg(test)]
+mod walks;

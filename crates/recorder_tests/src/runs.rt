@@ -1,6 +1,7 @@
 //! Runs that are written by hand.
 
 use crate::sketch::outline_of;
+use crate::slow::counted;
 use crate::told::told;
 use std::test::Fail;
 
@@ -37,6 +38,19 @@ fn books_tell_what_runs_do(rt: HostRuntime) -> Result<(), Fail> {
         let runs = line.split(" => ").nth(1).unwrap_or("");
         let outline = outline_of(alloc, items)?;
         let found = told(alloc, &outline, runs)?;
+        assert_eq!(rt; found.as_str(), wanted_of(line), "{line}");
+    }
+    Ok(())
+}
+
+#[test]
+fn what_is_counted_place_by_place_is_what_was_counted_by_hand(rt: HostRuntime) -> Result<(), Fail> {
+    let alloc = rt.alloc();
+    for line in RUNS.lines() {
+        let items = line.split(" => ").nth(0).unwrap_or("");
+        let runs = line.split(" => ").nth(1).unwrap_or("");
+        let outline = outline_of(alloc, items)?;
+        let found = counted(alloc, &outline, runs)?;
         assert_eq!(rt; found.as_str(), wanted_of(line), "{line}");
     }
     Ok(())

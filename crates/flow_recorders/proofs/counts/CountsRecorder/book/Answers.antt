@@ -4,12 +4,12 @@ use Rattle.std.proofs.lemmas.List.{length-map}
 use Rattle.domain_core.specs.declared.outline.NodeRow.{NodeRow}
 use Rattle.domain_core.specs.Outlines.{shape_of}
 use Rattle.run_recordings.specs.LoopRules.{counted_scope, counted_node}
-use Rattle.flow_recorders.proofs.LeftScopes.{own_low}
+use Rattle.scope_steps.specs.Climbs.{own_low}
 use Rattle.flow_recorders.proofs.Keys.{below_by, length_by, counted_own, counted_self}
 use Rattle.flow_recorders.proofs.counts.CountsRecorder.book.Goals as goal
 
 pub new-requires-clause-scopes : goal.new-requires-clause-scopes
-new-requires-clause-scopes c = below_by c.in_ok-scopes.scopes.items (length c.args.outline.now.nodes) (length c.args.outline.now.scopes) (counted_scope (shape_of c.args.outline.now)) c.in_ok-scopes.ensures (λ i k low is. subst (λ (n : ℕ). n < length c.args.outline.now.scopes) (counted_own (shape_of c.args.outline.now) i k is) (c.kept.ensures.scopes_within i (own_low c.args.outline.now c.kept.ensures i i i low)))
+new-requires-clause-scopes c = below_by c.in_ok-scopes.scopes.items (length c.args.outline.now.nodes) (length c.args.outline.now.scopes) (counted_scope (shape_of c.args.outline.now)) c.in_ok-scopes.ensures (λ i k low is. subst (λ (n : ℕ). n < length c.args.outline.now.scopes) (counted_own (shape_of c.args.outline.now) i k is) (c.kept.ensures.scopes_within i (own_low c.args.outline.now i low)))
 
 pub new-requires-clause-nodes : goal.new-requires-clause-nodes
 new-requires-clause-nodes c = below_by c.in_ok-nodes.nodes.items (length c.args.outline.now.nodes) (length c.args.outline.now.nodes) (counted_node (shape_of c.args.outline.now)) c.in_ok-nodes.ensures (λ i k low is. subst (λ (n : ℕ). n < length c.args.outline.now.nodes) (counted_self (shape_of c.args.outline.now) i k is) low)

@@ -1,0 +1,10 @@
+pub mod Faults
+pub mod Types
+pub mod Names
+pub mod Expressions
+pub mod Calls
+pub mod Statements
+pub mod Units
+pub mod Recursion
+pub mod Programs
+pub mod Worked

@@ -1,0 +1,2 @@
+pub mod LeftScopes
+pub mod NearScopes

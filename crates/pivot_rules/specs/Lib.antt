@@ -18,3 +18,6 @@ pub mod OpeningValue
 pub mod OpeningPlaces
 pub mod OpeningPlaceLaws
 pub mod ReadOff
+pub mod SystemLaws
+pub mod OutlineOpenings
+pub mod HandedLaws

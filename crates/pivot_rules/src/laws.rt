@@ -1,16 +1,22 @@
 //! What the definitions promise, as clauses of functions that do nothing.
 
-ghost use Rattle.std.specs.Prelude.{◌≡◌, ◌<◌, ◌≤ℤ◌, ◌<ℤ◌, ◌*ℤ◌, ℕ, ℤ, List, None, length, pos};
+ghost use Rattle.std.specs.Prelude.{◌≡◌, ◌<◌, ◌≤◌, ◌≤ℤ◌, ◌<ℤ◌, ◌*ℤ◌, ℕ, ℤ, List, None, false, length, pos};
+ghost use Rattle.domain_core.specs.Outlines.{Outlined, IsOutline, shape_of};
+ghost use Rattle.flow_facts.specs.declared.fact.Fact.{Fact};
 ghost use Rattle.path_rows.specs.Sums.{total};
 ghost use Rattle.path_rows.specs.Programs.{Program, IsProgram, row_at, cost_at};
 ghost use Rattle.path_rows.specs.Points.{MeetsAll, worth};
 ghost use Rattle.dual_rules.specs.Firsts.{entry};
 ghost use Rattle.dual_rules.specs.Duals.{dual_sum};
+ghost use Rattle.dual_rules.specs.Verdicts.{floor_of, verdict};
+ghost use Rattle.dual_rules.specs.declared.verdict.Verdict.TheVariants.{Holds};
+ghost use Rattle.dual_check.specs.Openings.{system_of};
 ghost use Rattle.pivot_rules.specs.Tableaus.{Tableau, held_at, number_at};
-ghost use Rattle.pivot_rules.specs.PivotRule.{Least, entering, opening_at, variables_of};
+ghost use Rattle.pivot_rules.specs.PivotRule.{Least, entering, handed_wide, opening_at, variables_of};
 ghost use Rattle.pivot_rules.specs.Promise.{Answers, basic_point, point_whole, handed};
 ghost use Rattle.pivot_rules.specs.Runs.{IsRight};
 ghost use Rattle.pivot_rules.specs.OpeningPlaces.{OpensRows, started, ended};
+ghost use Rattle.pivot_rules.specs.OutlineOpenings.{AreLimited};
 ghost use Rattle.pivot_rules.specs.ReadOff.{IsReadOff, IsLeastPoint};
 
 /// From rows and their openings, after any number of pivots: the multipliers handed out are a dual point,
@@ -30,4 +36,18 @@ pub fn points_of_rule()
     ensures greatest { (p : Program) (t : Tableau) (x : ℕ → ℤ) (w : ℤ) → IsProgram p → IsRight p t → pos 1 ≤ℤ w → MeetsAll p x w → (worth p x *ℤ point_whole t) ≤ℤ (worth p (basic_point t) *ℤ w) }
     ensures enters { (p : Program) (t : Tableau) (r : ℕ) (x : ℕ → ℤ) (w : ℤ) → IsProgram p → IsRight p t → r < length t.rows → number_at t r 0 <ℤ pos 0 → pos 1 ≤ℤ w → MeetsAll p x w
         → entering (held_at t.rows r).line t.objective (variables_of p) ≡ None → ⊥ }
+{}
+
+/// The openings of the program that an outline and facts make open it, where of each node some fact says
+/// how often a run leaves it at most.
+pub fn outlines_open()
+    ensures { (o : Outlined) (facts : List Fact) → IsOutline (shape_of o) → AreLimited (length o.nodes) facts → OpensRows (system_of o facts).program (system_of o facts).openings }
+{}
+
+/// What a run hands out is not wide for the test of multipliers, where what the opening hands out is not;
+/// and the test answers `Holds` for each bound that the dual value, rounded down, does not pass.
+pub fn handed_duals_hold()
+    ensures { (p : Program) (os : List (ℕ × ℕ)) (n bound : ℕ) → IsProgram p → OpensRows p os → handed_wide p (started p os) ≡ false
+        → floor_of (dual_sum p (handed p (ended p os n).tableau)) (entry (ended p os n).tableau.objective 1) ≤ bound
+        → verdict p (entry (ended p os n).tableau.objective 1) (handed p (ended p os n).tableau) bound ≡ Holds (floor_of (dual_sum p (handed p (ended p os n).tableau)) (entry (ended p os n).tableau.objective 1)) }
 {}

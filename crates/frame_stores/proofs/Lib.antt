@@ -1,0 +1,2 @@
+mod SlotFrames
+mod Steps

@@ -1,2 +1,3 @@
 mod SlotFrames
 mod Steps
+mod Stores

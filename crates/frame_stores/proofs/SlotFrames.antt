@@ -5,7 +5,7 @@
 --   none_wider                  where no cell has more bits nothing is done to them
 --   byte_found, cells_found     what a frame has at the place of a slot
 use Rattle.std.specs.Prelude.{slice_get, slice_set, ◌==◌, nat_lt, if◌then◌else◌}
-use Rattle.std.proofs.Common.{Bool, ◌≡◌, ◌≢◌, inl, inr, sym, subst, ◌∙◌, ap, ℕ, suc, zero, true, false, List, [], ◌∷◌, Option, Some, None, refl, arith, ◌%◌, ◌<◌, ◌≤◌, length}
+use Rattle.std.proofs.Common.{Bool, ◌≡◌, ◌≢◌, inl, inr, sym, subst, ◌∙◌, ap, ℕ, suc, zero, true, false, List, [], ◌∷◌, map, Option, Some, None, refl, arith, ◌%◌, ◌<◌, ◌≤◌, length}
 use Rattle.std.proofs.lemmas.Bool.{cases_eq, and_parts, eqb-true, eq-eqb, ltb-true, leb-true, false≢true}
 use Rattle.lists.specs.Tests.{by_test}
 use Rattle.strided_rules.specs.Strides.{Stride}
@@ -17,7 +17,7 @@ use Rattle.memory_rules.specs.Frames.{AbstractByte, Cell, FrameMem, with_x}
 use Rattle.memory_rules.specs.AbstractSets.{abstract_sets}
 use Rattle.held_memories.specs.HeldFrames.{is_cell_size, byte_seen, cell_seen, byte_in, cell_in, frame_of}
 use Rattle.held_memories.specs.SlotStores.{CellChange}
-use Rattle.frame_stores.specs.Places.{CellsBySize, at_place, with_place, wider, AreTables, Becomes}
+use Rattle.frame_stores.specs.Places.{CellsBySize, at_place, with_place, wider, canonical, Becomes}
 
 -- ---- lists with one member set
 
@@ -47,6 +47,11 @@ pub set_length : {A : Type 0} (xs : List A) (i : ℕ) (x : A) → length (slice_
 set_length [] i x = refl
 set_length (y ∷ ys) zero x = refl
 set_length (y ∷ ys) (suc i) x = ap (λ (n : ℕ). suc n) (set_length ys i x)
+
+map_set : (slots : List HeldSlot) (i : ℕ) (slot : HeldSlot) → map canonical (slice_set slots i slot) ≡ slice_set (map canonical slots) i (canonical slot)
+map_set [] i slot = refl
+map_set (first ∷ slots) zero slot = refl
+map_set (first ∷ slots) (suc i) slot = ap (λ ss. canonical first ∷ ss) (map_set slots i slot)
 
 -- a member that is set to itself
 pub set_same : {A : Type 0} (xs : List A) (i : ℕ) (x : A) → slice_get xs i ≡ Some x → slice_set xs i x ≡ xs
@@ -158,21 +163,15 @@ module _ (slots : List HeldSlot) (place : ℕ) where
   cells_found slot found = ap cell_in found
 
   -- a slot is put
-  pub put_becomes : (slot : HeldSlot) → place < length slots → slot.cells ≡ table (cell_of slot)
+  pub put_becomes : (slot : HeldSlot) → place < length slots → canonical slot ≡ slot
       → Becomes slots (slice_set slots place slot) (with_place (frame_of slots) place (byte_seen slot.byte) (cell_in (Some slot)))
-  put_becomes slot low is_table = record {
+  put_becomes slot low is = record {
     frame = λ i. record {
       bytes = λ b. get_set byte_in slots place b slot low i;
       cells = λ p width. get_set (λ o. cell_in o width) slots place p slot low i;
     };
     length = set_length slots place slot;
-    tables = λ are p other found. by_test (p == place)
-        (λ same.
-        let here : slice_get (slice_set slots place slot) place ≡ Some other = subst (λ (n : ℕ). slice_get (slice_set slots place slot) n ≡ Some other) (eqb-true p place same) found in
-        let one : Some slot ≡ Some other = sym (get_same slots place slot low) ∙ here in
-        let e : slot ≡ other = cc in
-        subst (λ (s : HeldSlot). s.cells ≡ table (cell_of s)) e is_table)
-        (λ differ. are p other (sym (get_other slots place p slot (apart place p differ)) ∙ found));
+    canonical = λ are. map_set slots place slot ∙ (ap (λ s. slice_set (map canonical slots) place s) is ∙ ap (λ ss. slice_set ss place slot) are);
   }
 
   here_same : {A : Type 0} (f : ℕ → A) (x : A) (p : ℕ) → x ≡ f place → f p ≡ (if p == place then x else f p)
@@ -189,5 +188,5 @@ module _ (slots : List HeldSlot) (place : ℕ) where
       cells = λ p width. here_same (λ q. (frame_of slots).cells q width) (cells width) p (same_cells width) i;
     };
     length = refl;
-    tables = λ are. are;
+    canonical = λ are. are;
   }

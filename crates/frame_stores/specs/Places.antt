@@ -5,18 +5,20 @@
 --   at_place place after m        the frame m, where what begins at the place is that of the frame after
 --   below place after m           where what begins before the place is that of the frame after
 --   with_place m place byte cells the frame m with this byte and these cells at the place
+--   weakly m offset size cell value   the frame m after a weak store where the cell becomes this one
+--   IsMixedAt old slots place at size cell value   the slot at the place was mixed so
 --   wider others than cells       cells by size, where others is done to those of more bits
---   AreTables slots               each slot keeps its cells by their size, and no more
+--   AreCanonical slots            each slot keeps its cells by their size, and no more
 --   Becomes old slots m           the slots are as many, keep cells as before, and stand for the frame m
-use Rattle.std.specs.Prelude.{◌≡◌, ℕ, false, List, length, Option, Some, ◌==◌, nat_lt, if◌then◌else◌, slice_get}
+use Rattle.std.specs.Prelude.{◌≡◌, ℕ, false, List, length, map, Option, Some, ◌==◌, nat_lt, ◌-◌, if◌then◌else◌, slice_get, slice_set}
 use Rattle.strided_rules.specs.Strides.{Stride}
 use Rattle.pointer_rules.specs.AbstractValues.{AbstractValue}
 use Rattle.memory_pages.specs.declared.held.Held.{Held}
 use Rattle.memory_pages.specs.Slots.{HeldSlot, table, cell_of, bare, with_byte, with_cell, with_wider_marked}
-use Rattle.memory_rules.specs.Frames.{AbstractByte, Cell, FrameMem, new_byte, weak_byte}
+use Rattle.memory_rules.specs.Frames.{AbstractByte, Cell, FrameMem, new_byte, weak_byte, with_x}
 use Rattle.memory_rules.specs.AbstractSets.{abstract_sets}
 use Rattle.held_memories.specs.HeldFrames.{byte_held, byte_seen, frame_of}
-use Rattle.held_memories.specs.SlotStores.{CellChange}
+use Rattle.held_memories.specs.SlotStores.{CellChange, stored_frame}
 
 -- the cell of this value, where every byte has its store
 abbrev pub known : AbstractValue → Held
@@ -64,12 +66,27 @@ with_place m place byte cells = at_place place (record { bytes = λ b. byte; cel
 abbrev pub wider : CellChange → ℕ → CellsBySize → CellsBySize
 wider others than cells width = if nat_lt than width then others (cells width) else cells width
 
--- each slot keeps its cells by their size
-abbrev pub AreTables : List HeldSlot → Type 0
-AreTables slots = (place : ℕ) (slot : HeldSlot) → slice_get slots place ≡ Some slot → slot.cells ≡ table (cell_of slot)
+-- the slot with its cells by their size, and no more
+abbrev pub canonical : HeldSlot → HeldSlot
+canonical slot = record { byte = slot.byte; cells = table (cell_of slot) }
+
+-- each slot keeps its cells so
+abbrev pub AreCanonical : List HeldSlot → Type 0
+AreCanonical slots = map canonical slots ≡ slots
 
 -- the slots stand for the frame m
 pub record Becomes (old slots : List HeldSlot) (m : FrameMem abstract_sets) : Type 0 where
   pub frame : frame_of slots ≡ m
   pub length : length slots ≡ length old
-  pub tables : AreTables old → AreTables slots
+  pub canonical : AreCanonical old → AreCanonical slots
+
+-- after a weak store where the cell becomes this one
+abbrev pub weakly : FrameMem abstract_sets → ℕ → ℕ → Cell AbstractValue → AbstractValue → FrameMem abstract_sets
+weakly m offset size cell value =
+    stored_frame m offset size cell (with_x abstract_sets) (λ b old. weak_byte abstract_sets old (new_byte abstract_sets value (b - offset)))
+
+-- the slot at the place was mixed
+pub record IsMixedAt (old slots : List HeldSlot) (place at size : ℕ) (cell : Held) (value : AbstractValue) : Type 0 where
+  pub slot : HeldSlot
+  pub there : slice_get old place ≡ Some slot
+  pub put : slots ≡ slice_set old place (mixed_slot slot at size cell value)

@@ -12,7 +12,8 @@ use pointer_domain::AVal;
 /// This byte of each of the words, the lowest bits in byte 0.
 fn byte_of(words: Strided, place: u32) -> Strided
     requires { 8 * place + 8 ≤ words.size }
-    ensures { result ≡ low_byte place words }
+    ensures value { result ≡ low_byte place words }
+    ensures size { result.size ≡ 8 }
 {
     let low = 8 * place;
     if words.is_one() {
@@ -25,7 +26,8 @@ fn byte_of(words: Strided, place: u32) -> Strided
 /// This byte of the words, if there are words.
 fn byte_part(words: Option<Strided>, place: u32) -> Option<Strided>
     requires { IfSome words (λ words. 8 * place + 8 ≤ words.size) }
-    ensures { result ≡ byte_part_of abstract_sets place words }
+    ensures value { result ≡ byte_part_of abstract_sets place words }
+    ensures size { IfSome result (λ word. word.size ≡ 8) }
 {
     match words {
         None => None,
@@ -46,7 +48,8 @@ fn has_pointer(value: &AVal) -> bool
 /// The byte that a store of the value leaves at this place of its cell.
 pub(crate) fn new_byte(value: &AVal, place: u32) -> Byte
     requires { IfSome value.now.words (λ words. 8 * place + 8 ≤ words.size) }
-    ensures { result ≡ byte_held (new_byte_of abstract_sets value.now place) }
+    ensures byte { result ≡ byte_held (new_byte_of abstract_sets value.now place) }
+    ensures size { IfSome result.value (λ word. word.size ≡ 8) }
 {
     Byte {
         value: byte_part(value.int(), place),

@@ -13,11 +13,18 @@ mod slots;
 // What a store leaves in a byte and in its cell.
 mod byte;
 mod cell;
+mod joined;
+
+// What it makes of other cells.
+mod dropped;
+mod marked;
+mod mixed;
 
 // The stores.
-mod dropped;
 mod pins;
 mod strong;
+mod weak;
 
 pub use pins::pin;
 pub use strong::store_strongly;
+pub use weak::store_weakly;

@@ -6,7 +6,7 @@ ghost use Rattle.memory_rules.specs.AbstractSets.{abstract_sets};
 ghost use Rattle.memory_rules.specs.Frames.{pinned};
 ghost use Rattle.memory_pages.specs.Slots.{with_cell};
 ghost use Rattle.held_memories.specs.HeldFrames.{frame_of, is_cell_size};
-ghost use Rattle.frame_stores.specs.Places.{AreTables, known};
+ghost use Rattle.frame_stores.specs.Places.{AreCanonical, known};
 
 use crate::cell::known_cell;
 use crate::slots::put;
@@ -38,7 +38,7 @@ pub fn pin(
     requires fits { offset + size / 8 ≤ length slots.old }
     ensures pinned { OnOk result (frame_of slots.new ≡ pinned abstract_sets (frame_of slots.old) offset size (alone (Words words))) }
     ensures length { OnOk result (length slots.new ≡ length slots.old) }
-    ensures tables { OnOk result (AreTables slots.old → AreTables slots.new) }
+    ensures canonical { OnOk result (AreCanonical slots.old → AreCanonical slots.new) }
 {
     let value = AVal::word(alloc, words);
     let Some(slot) = slots.slot(offset as usize) else {

@@ -6,7 +6,7 @@ ghost use Rattle.memory_rules.specs.AbstractSets.{abstract_sets};
 ghost use Rattle.memory_rules.specs.Frames.{strong};
 ghost use Rattle.memory_pages.specs.Slots.{IsCellSize};
 ghost use Rattle.held_memories.specs.HeldFrames.{frame_of, is_cell_size};
-ghost use Rattle.frame_stores.specs.Places.{AreTables, Becomes, at_place, lone_slot};
+ghost use Rattle.frame_stores.specs.Places.{AreCanonical, Becomes, at_place, lone_slot};
 
 use crate::byte::new_byte;
 use crate::cell::known_cell;
@@ -74,7 +74,7 @@ pub fn store_strongly(
     requires value { IsValue size value.now }
     ensures stored { OnOk result (frame_of slots.new ≡ strong abstract_sets (frame_of slots.old) offset size value.now) }
     ensures length { OnOk result (length slots.new ≡ length slots.old) }
-    ensures tables { OnOk result (AreTables slots.old → AreTables slots.new) }
+    ensures canonical { OnOk result (AreCanonical slots.old → AreCanonical slots.new) }
 {
     for place in first_near(offset)..offset as usize + (size / 8) as usize {
         store_at(alloc, slots, offset, size, value, place)?;

@@ -18,12 +18,7 @@ use pointer_domain::AVal;
 use std::alloc::{AllocError, Global};
 
 /// The slot at this place of the cell: a byte of the value, and at the first place the cell.
-fn stored_slot(
-    alloc: Global,
-    place: u32,
-    size: u32,
-    value: &AVal,
-) -> Result<Slot, AllocError>
+fn stored_slot(alloc: Global, place: u32, size: u32, value: &AVal) -> Result<Slot, AllocError>
     requires { IfSome value.now.words (λ words. 8 * place + 8 ≤ words.size) }
     ensures { IfOk result (λ slot. slot ≡ lone_slot place size value.now) }
 {

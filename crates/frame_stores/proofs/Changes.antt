@@ -4,7 +4,7 @@
 --   dropped, marked   cells of more bits are dropped, or get x
 --   slot_mixed        the slot that is put in the cell of a weak store
 use Rattle.std.specs.Prelude.{slice_get, slice_set}
-use Rattle.std.proofs.Common.{◌≡◌, sym, subst, ◌∙◌, ap, ℕ, suc, zero, true, List, [], ◌∷◌, Option, Some, None, refl, arith, ◌<◌, length}
+use Rattle.std.proofs.Common.{◌≡◌, sym, subst, ◌∙◌, ap, ℕ, suc, zero, true, List, [], ◌∷◌, Some, None, refl, arith, ◌<◌, length}
 use Rattle.memory_pages.specs.declared.held.Held.{Held}
 use Rattle.memory_pages.specs.Slots.{HeldSlot, cell_of, without_wider, with_wider_marked}
 use Rattle.pointer_rules.specs.AbstractValues.{AbstractValue}

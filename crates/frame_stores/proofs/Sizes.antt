@@ -3,7 +3,7 @@
 --   byte_size       a byte of a frame has 8 bits
 --   stands_alike    the cell as it stands may be joined with a value of its size
 use Rattle.std.specs.Prelude.{IfSome}
-use Rattle.std.proofs.Common.{◌≡◌, sym, subst, ap, ℕ, Option, Some, None, arith, ◌+◌, ◌*◌, ◌≤◌}
+use Rattle.std.proofs.Common.{◌≡◌, sym, subst, ℕ, Option, Some, None, arith, ◌+◌, ◌*◌, ◌≤◌}
 use Rattle.strided_rules.specs.Strides.{Stride}
 use Rattle.pointer_rules.specs.AbstractValues.{AbstractValue, AreAlike}
 use Rattle.pointer_rules.specs.Covering.{IsValue}

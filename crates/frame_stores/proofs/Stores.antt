@@ -5,16 +5,15 @@
 --   strong_before, strong_inside  a place of a strong store
 --   weak_before, weak_inside      a place of a weak store
 --   pins                          a pin
-use Rattle.std.specs.Prelude.{slice_get, slice_set, ◌==◌, nat_lt, if◌then◌else◌}
-use Rattle.std.proofs.Common.{Bool, ◌≡◌, ◌≢◌, inl, inr, sym, subst, ◌∙◌, ap, ℕ, suc, zero, true, false, List, Option, Some, None, refl, arith, ◌+◌, ◌-◌, ◌*◌, ◌/◌, ◌<◌, ◌≤◌, length}
+use Rattle.std.specs.Prelude.{slice_get, slice_set, ◌==◌, if◌then◌else◌}
+use Rattle.std.proofs.Common.{◌≡◌, sym, subst, ◌∙◌, ap, ℕ, suc, zero, true, false, List, Some, None, refl, arith, ◌+◌, ◌-◌, ◌*◌, ◌/◌, ◌<◌, ◌≤◌, length}
 use Rattle.std.proofs.lemmas.Bool.{eqb-true, eq-eqb, lt-ltb, le-ltb, false≢true}
 use Rattle.lists.specs.Tests.{by_test}
-use Rattle.strided_rules.specs.Strides.{Stride}
 use Rattle.pointer_rules.specs.AbstractValues.{AbstractValue}
 use Rattle.memory_pages.specs.declared.byte.Byte.{Byte}
 use Rattle.memory_pages.specs.declared.held.Held.{Held}
-use Rattle.memory_pages.specs.Slots.{HeldSlot, table, cell_of, bare, with_byte, with_cell, with_wider_marked}
-use Rattle.memory_rules.specs.Frames.{AbstractByte, Cell, FrameMem, is_same, new_byte, weak_byte, with_x, strong, pinned}
+use Rattle.memory_pages.specs.Slots.{HeldSlot, bare, with_cell}
+use Rattle.memory_rules.specs.Frames.{Cell, FrameMem, is_same, new_byte, weak_byte, with_x, strong, pinned}
 use Rattle.memory_rules.specs.AbstractSets.{abstract_sets}
 use Rattle.held_memories.specs.HeldFrames.{is_cell_size, byte_held, byte_seen, cell_seen, cell_in, frame_of}
 use Rattle.held_memories.specs.SlotStores.{CellChange, ByteChange, stored_frame}

@@ -4,7 +4,6 @@ ghost use Rattle.std.specs.Prelude.{◌≡◌, ◌≤◌, ◌<◌, ◌+◌, ◌-
 ghost use Rattle.pointer_rules.specs.Covering.{IsValue};
 ghost use Rattle.memory_rules.specs.AbstractSets.{abstract_sets};
 ghost use Rattle.memory_rules.specs.Frames.{strong};
-ghost use Rattle.memory_pages.specs.Slots.{IsCellSize};
 ghost use Rattle.held_memories.specs.HeldFrames.{frame_of, is_cell_size};
 ghost use Rattle.frame_stores.specs.Places.{AreCanonical, Becomes, at_place, lone_slot};
 

@@ -106,7 +106,10 @@ fn the_name_of_a_file_tells_its_language(rt: HostRuntime) -> Result<(), Fail> {
     ];
     for (line, name, due) in cases {
         let mut files = Vec::new(alloc);
-        files.push((String::from_str(alloc, name)?, b"int x;".as_slice().to_vec(alloc)?))?;
+        files.push((
+            String::from_str(alloc, name)?,
+            b"int x;".as_slice().to_vec(alloc)?,
+        ))?;
         let (status, _) = answer_over(alloc, line, files)?;
         assert_eq!(rt; status, due, "{line}");
     }

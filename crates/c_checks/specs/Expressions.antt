@@ -67,7 +67,7 @@ abbrev pub on_both : (Scalar → Scalar → Option Scalar) → Option Scalar →
 on_both gives l r = option_and_then (λ a. option_and_then (λ b. gives a b) r) l
 
 abbrev pub type_of : List Word → List Scope → Expression → Option Scalar
-type_of words scopes (OfConstant token) = constant_type (worth_at words token)
+type_of words scopes (OfConstant token) = Some (constant_type (worth_at words token))
 type_of words scopes (OfName token) = type_at (look_up words scopes token)
 type_of words scopes (InParentheses token inner) = type_of words scopes inner
 type_of words scopes (WithUnary op token operand) = option_and_then (unary_type op (designates words scopes operand)) (type_of words scopes operand)

@@ -7,4 +7,8 @@ pub mod Statements
 pub mod Units
 pub mod Recursion
 pub mod Programs
+pub mod Typed
+pub mod Standing
+pub mod StandingLaws
+pub mod UnitsStand
 pub mod Worked

@@ -41,11 +41,12 @@ number_of worth.TooLarge = 0
 number_of (worth.Int n) = n
 number_of (worth.UnsignedInt n) = n
 
-abbrev pub constant_type : Worth → Option Scalar
-constant_type worth.NoConstant = None
-constant_type worth.TooLarge = None
-constant_type (worth.Int n) = Some (scalars.Integer Int)
-constant_type (worth.UnsignedInt n) = Some (scalars.Integer UnsignedInt)
+-- in a unit that some text spells each constant is worth a number
+abbrev pub constant_type : Worth → Scalar
+constant_type worth.NoConstant = scalars.Integer Int
+constant_type worth.TooLarge = scalars.Integer Int
+constant_type (worth.Int n) = scalars.Integer Int
+constant_type (worth.UnsignedInt n) = scalars.Integer UnsignedInt
 
 -- ---- scopes
 

@@ -3,12 +3,16 @@
 //! Expressions are typed by cases on their trees, with the integer promotions and the usual arithmetic
 //! conversions of C. All faults of a unit stand in one list, and the first counts; where there is none, the
 //! first cycle of calls counts, and then the root. Here is no code but functions that do nothing, whose
-//! clauses say what comes of small units.
+//! clauses say what every program keeps, and what comes of small units.
 #![tactic(auto)]
+
+// What the definitions promise.
+mod laws;
 
 // Small units, worked out.
 mod worked;
 
+pub use laws::{every_program_stands, expressions_have_one_type};
 pub use worked::{
     a_circle_is_told_by_its_names, a_root_is_defined, names_are_declared_once,
     small_types_become_int, what_is_wrong_has_a_place,

@@ -15,4 +15,4 @@ mod told;
 #[cfg(test)]
 mod runs;
 #[cfg(test)]
-mod walks;
+mod sample_walks;

@@ -21,3 +21,4 @@ pub mod ReadOff
 pub mod SystemLaws
 pub mod OutlineOpenings
 pub mod HandedLaws
+pub mod PlainOpening

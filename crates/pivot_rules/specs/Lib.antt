@@ -22,3 +22,4 @@ pub mod SystemLaws
 pub mod OutlineOpenings
 pub mod HandedLaws
 pub mod PlainOpening
+pub mod NarrowOpening

@@ -1,21 +1,21 @@
--- The opening in plain numbers: no line is divided, and only the objective changes.
---   IsPlain p os m t    after m pivots the openings' rows are first lines, and the objective is freed of m places
+-- The opening in plain numbers: no line is divided, and the openings' rows stay.
+--   IsPlain p os m t    after m pivots the openings' rows are first lines, and all other lines are freed of m places
 --   plain_opening       so it is
-use Rattle.std.proofs.Common.{inl, inr, ◌≡◌, ◌<◌, ◌≤◌, ◌+◌, ℕ, zero, suc, ℤ, pos, negsuc, List, length, refl, ap, sym, ◌∙◌, subst, arith}
-use Rattle.std.specs.Prelude.{◌+ℤ◌, ◌-ℤ◌, ◌*ℤ◌, ◌≤ℤ◌, ◌<ℤ◌}
+use Rattle.std.proofs.Common.{inl, inr, ◌≡◌, ◌<◌, ◌≤◌, ◌+◌, ℕ, zero, suc, ℤ, pos, List, length, refl, ap, sym, ◌∙◌, subst, arith}
+use Rattle.std.specs.Prelude.{◌-ℤ◌, ◌*ℤ◌, ◌≤ℤ◌}
 use Rattle.std.specs.Int.{int_div_euclid}
 use Rattle.std.proofs.lemmas.Int.{ints}
 use Rattle.std.proofs.lemmas.Bool.{cases_eq}
 use Rattle.whole_numbers.specs.Numbers.{Divides, gcd}
 use Rattle.whole_numbers.specs.GcdLaws.{gcd_first, gcd_second}
 use Rattle.whole_numbers.specs.DivisionLaws.{divides_at_most}
-use Rattle.path_rows.specs.Sums.{total, coefficient}
+use Rattle.path_rows.specs.Sums.{total}
 use Rattle.path_rows.specs.Programs.{Program, IsProgram, IsWithin}
 use Rattle.dual_rules.specs.Firsts.{entry}
 use Rattle.dual_rules.specs.SumLaws.{total_nothing, term_here}
 use Rattle.pivot_rules.specs.Lines.{times_line, mixed, line_gcd, divided, cleared}
-use Rattle.pivot_rules.specs.Tableaus.{Held, Tableau, held_at, number_at, generators, objective_line, cost_terms, slacks_from, width_of, first_tableau}
-use Rattle.pivot_rules.specs.PivotRule.{exchanged, pivoted, opening_at, opened}
+use Rattle.pivot_rules.specs.Tableaus.{Held, Tableau, held_at, number_at, objective_line, cost_terms, slacks_from, width_of, first_tableau}
+use Rattle.pivot_rules.specs.PivotRule.{pivoted, opening_at, opened}
 use Rattle.pivot_rules.specs.Promise.{generator_at, lines_of, coefficient_at, mark_at, cost_of, Opens}
 use Rattle.pivot_rules.specs.Steps.{exact, divisor_above, line_gcd_least, line_gcd_divides, entry_times, entry_mixed, entry_divided, first_gcd_above, exchanged_count, exchanged_there, exchanged_other}
 use Rattle.pivot_rules.specs.FirstLines.{cost_terms_low}
@@ -60,11 +60,11 @@ cleared_plain e s h f one own none j =
 lines_marked : (p : Program) → IsProgram p → AreMarked (slacks_from p) (width_of p) (slacks_from p) (lines_of p)
 lines_marked p is = marked p.rows (length p.costs) (slacks_from p) (width_of p) is (omega arith) (omega arith)
 
-line_own : (p : Program) (k : ℕ) → IsProgram p → k < length (lines_of p) → IsOwn (slacks_from p) (width_of p) (generator_at (lines_of p) k)
+pub line_own : (p : Program) (k : ℕ) → IsProgram p → k < length (lines_of p) → IsOwn (slacks_from p) (width_of p) (generator_at (lines_of p) k)
 line_own p k is below = own_at (slacks_from p) (width_of p) (slacks_from p) (lines_of p) k (lines_marked p is) below
 
 -- another line's mark
-line_other : (p : Program) (k i : ℕ) → IsProgram p → k < length (lines_of p) → i < length (lines_of p) → (k ≡ i → ⊥) → coefficient_at p k (mark_at p i) ≡ pos 0
+pub line_other : (p : Program) (k i : ℕ) → IsProgram p → k < length (lines_of p) → i < length (lines_of p) → (k ≡ i → ⊥) → coefficient_at p k (mark_at p i) ≡ pos 0
 line_other p k i is below other apart =
     let n = slacks_from p in
     let m = lines_marked p is in
@@ -82,21 +82,22 @@ first_objective p j =
     let first : IsWithin (slacks_from p) (objective_line p.costs).1 = (omega arith, costs) in
     spread_is (width_of p) o j (within_more (slacks_from p) (width_of p) o first wide)
 
-cost_scale : (p : Program) → cost_of p 1 ≡ pos 1
+pub cost_scale : (p : Program) → cost_of p 1 ≡ pos 1
 cost_scale p = omega (arith, ints, term_here 1 1 (pos 1) refl, cost_terms_low p.costs 2 1 (omega arith))
 
 -- ---- the opening
 
--- the objective, freed of the first m places
-abbrev pub plain_objective : Program → List (ℕ × ℕ) → ℕ → ℕ → ℤ
-plain_objective p os m j = cost_of p j -ℤ total m (λ i. cost_of p (opening_at os i).1 *ℤ coefficient_at p (opening_at os i).0 j)
+-- a line, freed of the first m places
+abbrev pub freed_of : Program → List (ℕ × ℕ) → (ℕ → ℤ) → ℕ → ℕ → ℤ
+freed_of p os f m j = f j -ℤ total m (λ i. f (opening_at os i).1 *ℤ coefficient_at p (opening_at os i).0 j)
 
 pub record IsPlain (p : Program) (os : List (ℕ × ℕ)) (m : ℕ) (t : Tableau) : Type 0 where
   pub count : length t.rows ≡ length (lines_of p)
   pub rows : (i : ℕ) → i < length os → (j : ℕ) → number_at t (opening_at os i).0 j ≡ coefficient_at p (opening_at os i).0 j
-  pub objective : (j : ℕ) → entry t.objective j ≡ plain_objective p os m j
+  pub others : (k : ℕ) → k < length (lines_of p) → ((i : ℕ) → i < length os → k ≡ (opening_at os i).0 → ⊥) → (j : ℕ) → number_at t k j ≡ freed_of p os (coefficient_at p k) m j
+  pub objective : (j : ℕ) → entry t.objective j ≡ freed_of p os (cost_of p) m j
 
-times_none : (u z : ℤ) → z ≡ pos 0 → u *ℤ z ≡ pos 0
+pub times_none : (u z : ℤ) → z ≡ pos 0 → u *ℤ z ≡ pos 0
 times_none u z e = rw e (omega (arith, ints))
 
 module _ (p : Program) (os : List (ℕ × ℕ)) (is : IsProgram p) (o : Opens p os) where
@@ -105,6 +106,22 @@ module _ (p : Program) (os : List (ℕ × ℕ)) (is : IsProgram p) (o : Opens p 
 
   abbrev place_of : ℕ → ℕ
   place_of i = (opening_at os i).1
+
+  -- a line freed of one place more, where one of its numbers stays 1
+  freed_more : (m q : ℕ) (g : ℕ → ℤ) (f h : List ℤ) → m < length os → ((j : ℕ) → entry h j ≡ coefficient_at p (row_of m) j) → ((j : ℕ) → entry f j ≡ freed_of p os g m j)
+      → g q ≡ pos 1 → ((i : ℕ) → i < length os → coefficient_at p (row_of i) q ≡ pos 0) → (j : ℕ) → entry (cleared (place_of m) h f) j ≡ freed_of p os g (suc m) j
+  freed_more m q g f h below h_is f_is one none j =
+      let e = place_of m in
+      let flat : total m (λ i. g (place_of i) *ℤ coefficient_at p (row_of i) q) ≡ pos 0 =
+      total_nothing m (λ i. g (place_of i) *ℤ coefficient_at p (row_of i) q) (λ i low. times_none (g (place_of i)) (coefficient_at p (row_of i) q) (none i (omega (arith, low, below)))) in
+      let stays : entry f q ≡ pos 1 = omega (arith, ints, f_is q, one, flat) in
+      let apart : total m (λ i. g (place_of i) *ℤ coefficient_at p (row_of i) e) ≡ pos 0 =
+      total_nothing m (λ i. g (place_of i) *ℤ coefficient_at p (row_of i) e)
+      (λ i low. times_none (g (place_of i)) (coefficient_at p (row_of i) e) (o.apart i m (omega (arith, low, below)) below (λ same. omega (arith, low, same)))) in
+      let here : entry f e ≡ g e = omega (arith, ints, f_is e, apart) in
+      let freed = cleared_plain e q h f (h_is e ∙ o.own m below) stays (h_is q ∙ none m below) j in
+      let product : entry f e *ℤ entry h j ≡ g e *ℤ coefficient_at p (row_of m) j = ap (λ (z : ℤ). z *ℤ entry h j) here ∙ ap (λ (z : ℤ). g e *ℤ z) (h_is j) in
+      omega (arith, ints, freed, product, f_is j)
 
   plain_step : (m : ℕ) (t : Tableau) → m < length os → IsPlain p os m t → IsPlain p os (suc m) (pivoted (pos 1) (row_of m) (place_of m) t)
   plain_step m t below plain =
@@ -116,7 +133,6 @@ module _ (p : Program) (os : List (ℕ × ℕ)) (is : IsProgram p) (o : Opens p 
       let r_row : r < length t.rows = omega (arith, count, r_low) in
       let h_is : (j : ℕ) → entry h j ≡ coefficient_at p r j = λ j.
       entry_times (pos 1) (held_at t.rows r).line j ∙ (let u : pos 1 *ℤ number_at t r j ≡ number_at t r j = omega (arith, ints) in u) ∙ plain.rows m below j in
-      let h_one : entry h e ≡ pos 1 = h_is e ∙ o.own m below in
       let new_row : (i : ℕ) → i < length os → (j : ℕ) → number_at (pivoted (pos 1) r e t) (row_of i) j ≡ coefficient_at p (row_of i) j = λ i low j. elim (cases_eq i m) [
         | inl same ↦ rw same (ap (λ (x : Held). entry x.line j) (exchanged_there r e h t.rows r_row) ∙ h_is j)
         | inr other ↦
@@ -128,27 +144,18 @@ module _ (p : Program) (os : List (ℕ × ℕ)) (is : IsProgram p) (o : Opens p 
             let none : entry h (mark_at p (row_of i)) ≡ pos 0 = h_is (mark_at p (row_of i)) ∙ line_other p r (row_of i) is r_low i_low (λ same. apart (sym same)) in
             let gone : entry f e ≡ pos 0 = f_is e ∙ o.apart i m low below other in
             let nothing : entry f e *ℤ entry h j ≡ pos 0 = ap (λ (z : ℤ). z *ℤ entry h j) gone ∙ (let u : pos 0 *ℤ entry h j ≡ pos 0 = omega (arith, ints) in u) in
-            let freed = cleared_plain e (mark_at p (row_of i)) h f h_one own none j in
+            let freed = cleared_plain e (mark_at p (row_of i)) h f (h_is e ∙ o.own m below) own none j in
             let number : entry (cleared e h f) j ≡ coefficient_at p (row_of i) j = omega (arith, ints, freed, nothing, f_is j) in
             ap (λ (x : Held). entry x.line j) (exchanged_other r e h t.rows (row_of i) (omega (arith, count, i_low)) apart) ∙ number
       ] in
-      let scale : entry t.objective 1 ≡ pos 1 =
-      (let flat : total m (λ i. cost_of p (place_of i) *ℤ coefficient_at p (row_of i) 1) ≡ pos 0 =
-      total_nothing m (λ i. cost_of p (place_of i) *ℤ coefficient_at p (row_of i) 1) (λ i low. times_none (cost_of p (place_of i)) (coefficient_at p (row_of i) 1) (line_own p (row_of i) is (o.rows i (omega (arith, low, below)))).flat) in
-      omega (arith, ints, plain.objective 1, cost_scale p, flat)) in
-      let h_flat : entry h 1 ≡ pos 0 = h_is 1 ∙ (line_own p r is r_low).flat in
-      let own_cost : entry t.objective e ≡ cost_of p e =
-      (let none : total m (λ i. cost_of p (place_of i) *ℤ coefficient_at p (row_of i) e) ≡ pos 0 =
-      total_nothing m (λ i. cost_of p (place_of i) *ℤ coefficient_at p (row_of i) e)
-      (λ i low. times_none (cost_of p (place_of i)) (coefficient_at p (row_of i) e) (o.apart i m (omega (arith, low, below)) below (λ same. omega (arith, low, same)))) in
-      omega (arith, ints, plain.objective e, none)) in
       record {
         count = exchanged_count r e h t.rows ∙ plain.count;
         rows = new_row;
-        objective = λ j.
-            let freed = cleared_plain e 1 h t.objective h_one scale h_flat j in
-            let product : entry t.objective e *ℤ entry h j ≡ cost_of p e *ℤ coefficient_at p r j = ap (λ (z : ℤ). z *ℤ entry h j) own_cost ∙ ap (λ (z : ℤ). cost_of p e *ℤ z) (h_is j) in
-            omega (arith, ints, freed, product, plain.objective j);
+        others = λ k low apart j.
+            ap (λ (x : Held). entry x.line j) (exchanged_other r e h t.rows k (omega (arith, count, low)) (apart m below))
+            ∙ freed_more m (mark_at p k) (coefficient_at p k) (held_at t.rows k).line h below h_is (plain.others k low apart) (line_own p k is low).own
+            (λ i less. line_other p (row_of i) k is (o.rows i less) low (λ same. apart i less (sym same))) j;
+        objective = freed_more m 1 (cost_of p) t.objective h below h_is plain.objective (cost_scale p) (λ i less. (line_own p (row_of i) is (o.rows i less)).flat);
       }
 
   -- after each of the opening's pivots
@@ -156,6 +163,7 @@ module _ (p : Program) (os : List (ℕ × ℕ)) (is : IsProgram p) (o : Opens p 
   plain_opening zero low = record {
     count = held_count (width_of p) (lines_of p);
     rows = λ i below j. first_number p (row_of i) is (o.rows i below) j;
+    others = λ k below apart j. (let none : coefficient_at p k j ≡ coefficient_at p k j -ℤ pos 0 = omega (arith, ints) in first_number p k is below j ∙ none);
     objective = λ j. (let none : cost_of p j ≡ cost_of p j -ℤ pos 0 = omega (arith, ints) in first_objective p j ∙ none);
   }
   plain_opening (suc m) low = plain_step m (opened os m (first_tableau p)) (omega arith) (plain_opening m (omega arith))

@@ -22,7 +22,7 @@ beyond n [] j within past = refl
 beyond n (t ∷ ts) j within past =
     omega (arith, ints, term_elsewhere t.0 j t.1 (λ (q : t.0 ≡ j). absurd (omega (arith, within.0))), beyond n ts j within.1 past)
 
-within_more : (n m : ℕ) (ts : List (ℕ × ℤ)) → IsWithin n ts → n ≤ m → IsWithin m ts
+pub within_more : (n m : ℕ) (ts : List (ℕ × ℤ)) → IsWithin n ts → n ≤ m → IsWithin m ts
 within_more n m [] within more = tt
 within_more n m (t ∷ ts) within more = (omega (arith, within.0), within_more n m ts within.1 more)
 
@@ -34,7 +34,7 @@ within_turned : (n : ℕ) (ts : List (ℕ × ℤ)) → IsWithin n ts → IsWithi
 within_turned n [] within = tt
 within_turned n (t ∷ ts) within = (within.0, within_turned n ts within.1)
 
-within_costs : (cs : List ℕ) (j : ℕ) → IsWithin (j + length cs) (cost_terms cs j)
+pub within_costs : (cs : List ℕ) (j : ℕ) → IsWithin (j + length cs) (cost_terms cs j)
 within_costs [] j = tt
 within_costs (c ∷ cs) j = (
   omega arith,
@@ -137,7 +137,7 @@ marks_rise n w s (g ∷ gs) k zero m less below = absurd (omega arith)
 marks_rise n w s (g ∷ gs) zero (suc i) m less below = mark_least n w (suc g.0) gs i m.2 (omega arith)
 marks_rise n w s (g ∷ gs) (suc k) (suc i) m less below = marks_rise n w (suc g.0) gs k i m.2 (omega arith) (omega arith)
 
-marks_apart : (n w s : ℕ) (gs : List Generator) (k i : ℕ) → AreMarked n w s gs → k < length gs → i < length gs → (k ≡ i → ⊥) → (generator_at gs i).0 ≡ (generator_at gs k).0 → ⊥
+pub marks_apart : (n w s : ℕ) (gs : List Generator) (k i : ℕ) → AreMarked n w s gs → k < length gs → i < length gs → (k ≡ i → ⊥) → (generator_at gs i).0 ≡ (generator_at gs k).0 → ⊥
 marks_apart n w s gs k i m below below' d same = ⊎_elim
     (λ (less : k < i). absurd (omega (arith, marks_rise n w s gs k i m less below', same)))
     (λ (more : i ≤ k). absurd (omega (arith, marks_rise n w s gs i k m (⊎_elim (λ (q : k ≡ i). absurd (d q)) (λ (x : k ≡ i → ⊥). let h : i < k = omega arith in h) (cases_eq k i)) below, same)))

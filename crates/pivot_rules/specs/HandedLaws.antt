@@ -53,7 +53,7 @@ module _ (p : Program) where
 
 -- ---- verdicts
 
-all_none : {A : Type 0} (n : ℕ) (f : ℕ → Option A) → ((k : ℕ) → k < n → f k ≡ None) → first n f ≡ None
+pub all_none : {A : Type 0} (n : ℕ) (f : ℕ → Option A) → ((k : ℕ) → k < n → f k ≡ None) → first n f ≡ None
 all_none zero f none = refl
 all_none (suc n) f none = rw (all_none n f (λ k below. none k (omega arith)), none n (omega arith)) refl
 
@@ -69,7 +69,7 @@ first_found {A = A} (suc n) f w e = by_first (first_found n f) (first n f) refl 
         let low = rest.1 in
         (rest.0, omega (arith, low), rest.2)
 
-sign_none : (k : ℕ) (equation : Bool) (y : ℤ) → (equation ≡ false → pos 0 ≤ℤ y) → sign_test k equation y ≡ None
+pub sign_none : (k : ℕ) (equation : Bool) (y : ℤ) → (equation ≡ false → pos 0 ≤ℤ y) → sign_test k equation y ≡ None
 sign_none k true y sign = refl
 sign_none k false y sign = let above : int_le (pos 0) y ≡ true = (let s = sign refl in at_least y s) in rw above refl
   where

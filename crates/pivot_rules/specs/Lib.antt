@@ -21,3 +21,5 @@ pub mod ReadOff
 pub mod SystemLaws
 pub mod OutlineOpenings
 pub mod HandedLaws
+pub mod PlainOpening
+pub mod NarrowOpening

@@ -69,7 +69,7 @@ line_right p k below =
     ap (λ (g : Generator). coefficient g.1 0) l.is ∙ slack_line_right (row_at p.rows k).right (row_at p.rows k).terms l.slack (omega (arith, low))
 
 -- what a column costs
-cost_there : (p : Program) (e : ℕ) → cost_of p (suc (suc e)) ≡ neg_ℤ (pos (cost_at p.costs e))
+pub cost_there : (p : Program) (e : ℕ) → cost_of p (suc (suc e)) ≡ neg_ℤ (pos (cost_at p.costs e))
 cost_there p e =
     let place : suc (suc e) ≡ 2 + e = omega arith in
     let costs : coefficient (cost_terms p.costs 2) (suc (suc e)) ≡ neg_ℤ (pos (cost_at p.costs e)) = ap (λ (j : ℕ). coefficient (cost_terms p.costs 2) j) place ∙ cost_terms_here p.costs 2 e in

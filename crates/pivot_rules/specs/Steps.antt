@@ -25,18 +25,18 @@ exact (pos (suc n)) z above m =
 exact (negsuc n) z above m = absurd (omega (arith, ints))
 
 -- a divisor of a number above 0 is not 0
-divisor_above : (d z : ℤ) → pos 0 ≤ℤ d → Divides d z → pos 1 ≤ℤ z → pos 1 ≤ℤ d
+pub divisor_above : (d z : ℤ) → pos 0 ≤ℤ d → Divides d z → pos 1 ≤ℤ z → pos 1 ≤ℤ d
 divisor_above (pos zero) z least m above =
     let none : m.times *ℤ pos 0 ≡ pos 0 = omega (arith, ints) in
     absurd (omega (arith, ints, m.is, none, above))
 divisor_above (pos (suc n)) z least m above = omega (arith, ints)
 divisor_above (negsuc n) z least m above = absurd (omega (arith, ints))
 
-line_gcd_least : (f : List ℤ) → pos 0 ≤ℤ line_gcd f
+pub line_gcd_least : (f : List ℤ) → pos 0 ≤ℤ line_gcd f
 line_gcd_least [] = omega (arith, ints)
 line_gcd_least (x ∷ f) = omega (arith, ints)
 
-line_gcd_divides : (f : List ℤ) (j : ℕ) → Divides (line_gcd f) (entry f j)
+pub line_gcd_divides : (f : List ℤ) (j : ℕ) → Divides (line_gcd f) (entry f j)
 line_gcd_divides [] j = divides_zero (pos 0)
 line_gcd_divides (x ∷ f) zero = gcd_first x (line_gcd f)
 line_gcd_divides (x ∷ f) (suc j) = divides_through (line_gcd (x ∷ f)) (line_gcd f) (entry f j) (gcd_second x (line_gcd f)) (line_gcd_divides f j)
@@ -57,7 +57,7 @@ entry_mixed a b (x ∷ f) [] (suc j) = entry_mixed a b f [] j
 entry_mixed a b (x ∷ f) (y ∷ h) zero = refl
 entry_mixed a b (x ∷ f) (y ∷ h) (suc j) = entry_mixed a b f h j
 
-entry_divided : (g : ℤ) (f : List ℤ) (j : ℕ) → pos 1 ≤ℤ g → ((i : ℕ) → Divides g (entry f i)) → g *ℤ entry (divided g f) j ≡ entry f j
+pub entry_divided : (g : ℤ) (f : List ℤ) (j : ℕ) → pos 1 ≤ℤ g → ((i : ℕ) → Divides g (entry f i)) → g *ℤ entry (divided g f) j ≡ entry f j
 entry_divided g [] j above each_one = omega (arith, ints)
 entry_divided g (x ∷ f) zero above each_one = exact g x above (each_one 0)
 entry_divided g (x ∷ f) (suc j) above each_one = entry_divided g f j above (λ i. each_one (suc i))
@@ -106,7 +106,7 @@ exchanged_count zero e h (k ∷ ks) = ap suc (replaced_count e h ks)
 exchanged_count (suc r) e h (k ∷ ks) = ap suc (exchanged_count r e h ks)
 
 -- the row k freed of the place
-abbrev freed : ℕ → List ℤ → Held → Held
+abbrev pub freed : ℕ → List ℤ → Held → Held
 freed e h k = record { basic = k.basic; line = cleared e h k.line }
 
 replaced_at : (e : ℕ) (h : List ℤ) (ks : List Held) (i : ℕ) → i < length ks → held_at (replaced e h ks) i ≡ freed e h (held_at ks i)
@@ -114,12 +114,12 @@ replaced_at e h [] i below = absurd (omega arith)
 replaced_at e h (k ∷ ks) zero below = refl
 replaced_at e h (k ∷ ks) (suc i) below = replaced_at e h ks i (omega arith)
 
-exchanged_there : (r e : ℕ) (h : List ℤ) (ks : List Held) → r < length ks → held_at (exchanged r e h ks) r ≡ record { basic = e; line = h }
+pub exchanged_there : (r e : ℕ) (h : List ℤ) (ks : List Held) → r < length ks → held_at (exchanged r e h ks) r ≡ record { basic = e; line = h }
 exchanged_there r e h [] below = absurd (omega arith)
 exchanged_there zero e h (k ∷ ks) below = refl
 exchanged_there (suc r) e h (k ∷ ks) below = exchanged_there r e h ks (omega arith)
 
-exchanged_other : (r e : ℕ) (h : List ℤ) (ks : List Held) (i : ℕ) → i < length ks → (i ≡ r → ⊥) → held_at (exchanged r e h ks) i ≡ freed e h (held_at ks i)
+pub exchanged_other : (r e : ℕ) (h : List ℤ) (ks : List Held) (i : ℕ) → i < length ks → (i ≡ r → ⊥) → held_at (exchanged r e h ks) i ≡ freed e h (held_at ks i)
 exchanged_other r e h [] i below d = absurd (omega arith)
 exchanged_other zero e h (k ∷ ks) zero below d = absurd (d refl)
 exchanged_other zero e h (k ∷ ks) (suc i) below d = replaced_at e h ks i (omega arith)

@@ -11,12 +11,14 @@ ghost use Rattle.dual_rules.specs.Duals.{dual_sum};
 ghost use Rattle.dual_rules.specs.Verdicts.{floor_of, verdict};
 ghost use Rattle.dual_rules.specs.declared.verdict.Verdict.TheVariants.{Holds};
 ghost use Rattle.dual_check.specs.Openings.{system_of};
-ghost use Rattle.pivot_rules.specs.Tableaus.{Tableau, held_at, number_at};
-ghost use Rattle.pivot_rules.specs.PivotRule.{Least, entering, handed_wide, opening_at, variables_of};
+ghost use Rattle.pivot_rules.specs.Tableaus.{Tableau, first_tableau, held_at, number_at};
+ghost use Rattle.pivot_rules.specs.PivotRule.{Least, entering, handed_wide, opened, opening_at, variables_of};
 ghost use Rattle.pivot_rules.specs.Promise.{Answers, basic_point, point_whole, handed};
 ghost use Rattle.pivot_rules.specs.Runs.{IsRight};
-ghost use Rattle.pivot_rules.specs.OpeningPlaces.{OpensRows, started, ended};
+ghost use Rattle.pivot_rules.specs.OpeningPlaces.{opening_places, OpensRows, started, ended};
 ghost use Rattle.pivot_rules.specs.OutlineOpenings.{AreLimited};
+ghost use Rattle.pivot_rules.specs.PlainOpening.{IsPlain};
+ghost use Rattle.pivot_rules.specs.NarrowOpening.{IsSmall};
 ghost use Rattle.pivot_rules.specs.ReadOff.{IsReadOff, IsLeastPoint};
 
 /// From rows and their openings, after any number of pivots: the multipliers handed out are a dual point,
@@ -50,4 +52,13 @@ pub fn handed_duals_hold()
     ensures { (p : Program) (os : List (ℕ × ℕ)) (n bound : ℕ) → IsProgram p → OpensRows p os → handed_wide p (started p os) ≡ false
         → floor_of (dual_sum p (handed p (ended p os n).tableau)) (entry (ended p os n).tableau.objective 1) ≤ bound
         → verdict p (entry (ended p os n).tableau.objective 1) (handed p (ended p os n).tableau) bound ≡ Holds (floor_of (dual_sum p (handed p (ended p os n).tableau)) (entry (ended p os n).tableau.objective 1)) }
+{}
+
+/// The opening divides no line: its rows stay as they are, and each other line is freed of the openings'
+/// places by them. Where costs, coefficients, right sides and the number of rows have about 32 bits, the
+/// test of what it hands out meets no wide number.
+pub fn opening_fits()
+    ensures plain { (p : Program) (os : List (ℕ × ℕ)) (m : ℕ) → IsProgram p → OpensRows p os → m ≤ length (opening_places p.rows os)
+        → IsPlain p (opening_places p.rows os) m (opened (opening_places p.rows os) m (first_tableau p)) }
+    ensures narrow { (p : Program) (os : List (ℕ × ℕ)) → IsProgram p → OpensRows p os → IsSmall p → handed_wide p (started p os) ≡ false }
 {}

@@ -10,4 +10,4 @@
 // What the definitions promise.
 mod laws;
 
-pub use laws::{handed_duals_hold, outlines_open, points_of_rule, rule_answers};
+pub use laws::{handed_duals_hold, opening_fits, outlines_open, points_of_rule, rule_answers};

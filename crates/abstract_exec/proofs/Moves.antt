@@ -39,7 +39,7 @@ use Rattle.domain_core.specs.FaultSets.{either}
 use Rattle.domain_core.specs.declared.outline.NodeRow.{NodeRow}
 use Rattle.abstract_exec.specs.declared.explored.Explored.{Explored}
 use Rattle.abstract_exec.specs.declared.explored.Explored.TheVariants.{Closed, Left}
-use Rattle.abstract_exec.specs.Explorations.{IsPool, IsLeftIn, IsEnded, IsExplored}
+use Rattle.abstract_exec.specs.Explorations.{IsPool, IsLater, IsLeftIn, IsEnded, IsExplored}
 
 -- pools are the same where their parts are
 pub pooled_is : {S T R B : Type 0} (stepper : S) (o : Outlined) (count : ℕ) (spots others : List (Spot T R)) (book other_book : B) (alarms others_told : List FaultSet) (stepped others_stepped : List Bool)
@@ -248,7 +248,7 @@ module _ {S T C R B : Type 0} (machine : S → Machine T C) (states : Order T) (
 -- what the turns of an exploration keep
 pub record Explores {S T C R B : Type 0} (machine : S → Machine T C) (states : Order T) (recorders : Order R) (z : Recording R B) (policy : Policy) (turns : ℕ) (flags : List Bool) (old : Pooled S T R B) (events : List Event) (w : Pooled S T R B) : Type 0 where
   pub kept : IsPool machine z w
-  pub low : w.steps ≤ turns
+  pub later : IsLater turns old w
   pub points : AreMergePoints (shape_of w.outline) policy flags
   pub run : IsPolicyStart machine states recorders z policy turns old events w
 
@@ -257,10 +257,14 @@ module _ {S T C R B : Type 0} (machine : S → Machine T C) (states : Order T) (
   pub one_more : (events : List Event) (w new : Pooled S T R B) (event : Event) → Explores machine states recorders z policy turns flags old events w → w.steps < turns → IsChoice (shape_of w.outline) policy w.spots event
       → Happens machine states recorders z w event new → IsPool machine z new → Explores machine states recorders z policy turns flags old (events ++ event ∷ []) new
   one_more events w new event so_far low choice happens kept =
-      let same = (event_one_on machine states recorders z w new event happens).outline in
+      let on = event_one_on machine states recorders z w new event happens in
       record {
         kept = kept;
-        low = turn_steps machine states recorders z turns w new event happens low;
-        points = subst (λ (o : Outlined). AreMergePoints (shape_of o) policy flags) (sym same) so_far.points;
+        later = record {
+          stepper = on.stepper ∙ so_far.later.stepper;
+          outline = on.outline ∙ so_far.later.outline;
+          steps = turn_steps machine states recorders z turns w new event happens low;
+        };
+        points = subst (λ (o : Outlined). AreMergePoints (shape_of o) policy flags) (sym on.outline) so_far.points;
         run = start_more machine states recorders z policy turns events old w new event so_far.run (λ is. absurd (omega arith)) choice happens;
       }

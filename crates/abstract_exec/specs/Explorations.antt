@@ -1,10 +1,11 @@
 -- What the calls of a pool take and answer.
 --   IsPool machine z w    what every pool keeps, and how many places it has at most
+--   IsLater turns old new the new pool explores the same, and has at most so many steps
 --   IsLeftIn w scope      places are left, and the first one stands in the scope
 --   IsEnded w events explored   this tells how an exploration by these events ended
 --   IsExplored .. policy turns old new explored   the policy's run of so many turns led from the old pool to the new
 --                         one, and this tells how it ended
-use Rattle.std.specs.Prelude.{◌≡◌, ◌<◌, ◌^◌, ℕ, List, [], length, slice_index, slice_get, Some}
+use Rattle.std.specs.Prelude.{◌≡◌, ◌<◌, ◌≤◌, ◌^◌, ℕ, List, [], length, slice_index, slice_get, Some}
 use Rattle.domain_core.specs.declared.event.Event.{Event}
 use Rattle.domain_core.specs.Orders.{Order}
 use Rattle.domain_core.specs.Outlines.{shape_of}
@@ -21,6 +22,12 @@ use Rattle.abstract_exec.specs.declared.explored.Explored.TheVariants.{Closed, L
 pub record IsPool {S T C R B : Type 0} (machine : S → Machine T C) (z : Recording R B) (w : Pooled S T R B) : Type 0 where
   pub kept : IsKept machine z w
   pub few : length w.spots < 2 ^ 32
+
+-- the new pool explores the same, and has at most so many steps
+pub record IsLater {S T R B : Type 0} (turns : ℕ) (old new : Pooled S T R B) : Type 0 where
+  pub stepper : new.stepper ≡ old.stepper
+  pub outline : new.outline ≡ old.outline
+  pub steps : new.steps ≤ turns
 
 -- places are left, and the first one stands in the scope
 abbrev pub IsLeftIn : {S T R B : Type 0} → Pooled S T R B → ℕ → Type 0

@@ -7,7 +7,7 @@ ghost use Rattle.pool_events.specs.Pools.{Pooled, alarm_at};
 ghost use Rattle.pool_events.specs.Events.{opened, Happens, IsOneOn};
 ghost use Rattle.pool_events.specs.Policies.{IsChoice};
 ghost use Rattle.pool_places.specs.Points.{AreMergePoints};
-ghost use Rattle.abstract_exec.specs.Explorations.{IsPool, IsEnded, IsExplored};
+ghost use Rattle.abstract_exec.specs.Explorations.{IsPool, IsLater, IsEnded, IsExplored};
 
 use crate::{ExecFault, Explored};
 use domain_core::{Event, FaultSet, Outline, Recorder, Stepper};
@@ -151,6 +151,7 @@ impl<'a, S: Stepper, R: Recorder> Pool<'a, S, R> {
         requires room { turns < 2 ^ 32 - 1 }
         ensures explored { IfOk result (λ explored. IsExplored S.machine S.State.order R.order R.recording policy turns self.old self.new explored) }
         ensures kept { OnOk result (IsPool S.machine R.recording self.new) }
+        ensures going_on { OnOk result (IsLater turns self.old self.new) }
     {
         let points = merge_points(alloc, self.outline, policy)?;
         let mut events = Vec::new(alloc);

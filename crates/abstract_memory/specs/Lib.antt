@@ -1,3 +1,4 @@
 -- The files of this folder.
 pub mod Blank
 pub mod Cells
+pub mod Rows

@@ -8,6 +8,9 @@
 // What a memory begins with.
 mod start;
 
+// What its frames become.
+mod frames;
+
 // The memory.
 mod memory;
 

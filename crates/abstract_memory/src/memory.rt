@@ -13,6 +13,7 @@ ghost use Rattle.memory_rules.specs.AbstractSets.{abstract_sets};
 ghost use Rattle.seen_memories.specs.Parts.{memory_in, rows_of, IsMemory};
 ghost use Rattle.abstract_memory.specs.Cells.{IsCellOf};
 
+use crate::frames::{copied_frames, empty_frames, frames_joined};
 use crate::start::{blank_frames, idle};
 use alf_check::Checked;
 use domain_core::{FaultSet, Lattice};
@@ -76,7 +77,10 @@ impl<'a> AMem<'a> {
         ensures kept { OnOk result (IsMemory self.new) }
         ensures entered { OnOk result (memory_in self.new ≡ entered abstract_sets (rows_of self.old.checked) (memory_in self.old) func) }
     {
-        Err(AllocError)
+        held_memories_are_those_of_the_rules();
+        empty_frames(alloc, self.checked.frames(), func, &mut self.frames)?;
+        self.running[func as usize] = true;
+        Ok(())
     }
 
     /// Leaves a function: its frames are no longer active. Takes no memory.
@@ -168,10 +172,20 @@ impl<'a> Lattice for AMem<'a> {
     ghost is_order = { parts_are_order };
 
     fn copy(&self, alloc: Global) -> Result<Self, AllocError> {
-        Err(AllocError)
+        Ok(AMem {
+            checked: self.checked,
+            running: Vec::from_slice(alloc, &self.running)?,
+            frames: copied_frames(alloc, &self.frames)?,
+        })
     }
 
     fn join(&self, alloc: Global, other: &Self) -> Result<Self, AllocError> {
-        Err(AllocError)
+        held_memories_are_those_of_the_rules();
+        let frames = frames_joined(alloc, self.checked.frames(), &self.frames, &other.frames)?;
+        Ok(AMem {
+            checked: self.checked,
+            running: Vec::from_slice(alloc, &self.running)?,
+            frames,
+        })
     }
 }

@@ -1,1 +1,3 @@
 mod Started
+mod Entered
+mod Joined

@@ -1,6 +1,6 @@
 -- Memories that hold nothing, and functions left.
 use Rattle.std.specs.Prelude.{slice_set}
-use Rattle.std.proofs.Common.{◌≡◌, ◌∙◌, ap, subst, sym, ℕ, suc, zero, Bool, false, List, [], ◌∷◌, map, replicate, refl, length}
+use Rattle.std.proofs.Common.{◌≡◌, ◌∙◌, ap, subst, sym, ℕ, suc, zero, Bool, false, List, [], ◌∷◌, map, replicate, refl, length, ◌/◌}
 use Rattle.std.proofs.lemmas.List.{length-replicate}
 use Rattle.alf_check.specs.declared.rows.FrameRow.{FrameRow}
 use Rattle.alf_check.specs.Shapes.{shapes_of}

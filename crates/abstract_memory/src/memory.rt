@@ -94,14 +94,6 @@ impl<'a> AMem<'a> {
         self.running[func as usize] = false;
     }
 
-    /// Whether the cell lies in its frame, which is active. Takes no memory.
-    pub fn has_cell(&self, frame: u32, offset: u32, size: u32) -> bool
-        requires { size ≤ 64 }
-        ensures { IsTrue result ↔ (tested (rows_of self.now.checked) (memory_in self.now).runs (Ptr frame offset) size ≡ Ok (frame, offset)) }
-    {
-        has_cell_at(self.checked.frames(), &self.running, frame, offset, size)
-    }
-
     /// What a load through the address gives: the values of all cells that it may mean, joined in their order, and
     /// the faults of the address and of the cells.
     pub fn load(

@@ -1,6 +1,6 @@
 //! Cells joined.
 
-ghost use Rattle.std.specs.Prelude.{◌≡◌, ◌×◌, true, IfOk, is_some, ◌||◌};
+ghost use Rattle.std.specs.Prelude.{◌≡◌, true, IfOk, is_some, ◌||◌};
 ghost use Rattle.pointer_rules.specs.AbstractValues.{joined};
 ghost use Rattle.memory_rules.specs.AbstractSets.{abstract_sets};
 ghost use Rattle.memory_rules.specs.Covers.{FrameSized};

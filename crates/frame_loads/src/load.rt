@@ -1,0 +1,93 @@
+//! Loads.
+
+ghost use Rattle.std.specs.Prelude.{◌≡◌, ◌↔◌, ◌⊎◌, true, IfOk, IfSome, Contains};
+ghost use Rattle.alf_ops.specs.declared.history.RunFault.{RunFault};
+ghost use Rattle.domain_core.specs.FaultSets.{has_fault};
+ghost use Rattle.pointer_rules.specs.Covering.{IsValue};
+ghost use Rattle.memory_rules.specs.AbstractSets.{abstract_sets};
+ghost use Rattle.memory_rules.specs.Covers.{FrameSized};
+ghost use Rattle.memory_rules.specs.Frames.{from_bytes, load_results, results, taken};
+ghost use Rattle.memory_rules.specs.Memories.{faults_of};
+ghost use Rattle.held_memories.specs.HeldFrames.{frame_of, is_cell_size};
+ghost use Rattle.frame_cells.specs.StandingCells.{seen};
+ghost use Rattle.frame_loads.specs.LoadedResults.{onto};
+
+use crate::loaded::{Loaded, fault_onto, value_onto, word_onto};
+use crate::word::{some_pointer, word_of_bytes};
+use alf_ops::RunFault;
+use frame_cells::{cell_of_bytes, kept_cell};
+use memory_pages::{FrameSlots, Held};
+use std::alloc::{AllocError, Global};
+
+/// What the bytes of a cell give, onto what was loaded before.
+fn bytes_onto(
+    alloc: Global,
+    slots: &FrameSlots,
+    offset: u32,
+    size: u32,
+    before: Loaded,
+) -> Result<Loaded, AllocError>
+    requires size { is_cell_size size ≡ true }
+    requires frame_sized { FrameSized abstract_sets (frame_of slots.now) }
+    requires before_sized { IfSome before.value (IsValue size) }
+    ensures { IfOk result (λ now. now ≡ onto before (from_bytes abstract_sets (taken abstract_sets (frame_of slots.now) offset size))) }
+{
+    let place = offset as usize;
+    let word = word_of_bytes(slots, place, size / 8);
+    let own = word_onto(alloc, before, word)?;
+    let of_pointer = some_pointer(slots, place, size / 8);
+    Ok(fault_onto(own, of_pointer, RunFault::Mixed))
+}
+
+/// What a cell gives over its bytes, onto what was loaded before.
+fn cell_onto(
+    alloc: Global,
+    slots: &FrameSlots,
+    offset: u32,
+    size: u32,
+    cell: &Held,
+    before: Loaded,
+) -> Result<Loaded, AllocError>
+    requires size { is_cell_size size ≡ true }
+    requires frame_sized { FrameSized abstract_sets (frame_of slots.now) }
+    requires cell_sized { IfSome cell.now.value (IsValue size) }
+    requires before_sized { IfSome before.value (IsValue size) }
+    ensures { IfOk result (λ now. now ≡ onto before (results abstract_sets (taken abstract_sets (frame_of slots.now) offset size) (seen cell.now))) }
+{
+    let own = value_onto(alloc, before, &cell.value)?;
+    let told = fault_onto(own, cell.u, RunFault::Uninit);
+    if cell.x {
+        bytes_onto(alloc, slots, offset, size, told)
+    } else {
+        Ok(told)
+    }
+}
+
+/// What a load of the cell of this size in bits at an offset gives, joined onto what was loaded before. Takes no
+/// memory where nothing was loaded before and the cell has no pointer.
+pub fn load_onto(
+    alloc: Global,
+    slots: &FrameSlots,
+    offset: u32,
+    size: u32,
+    before: Loaded,
+) -> Result<Loaded, AllocError>
+    requires size { is_cell_size size ≡ true }
+    requires frame_sized { FrameSized abstract_sets (frame_of slots.now) }
+    requires before_sized { IfSome before.value (IsValue size) }
+    ensures onto { IfOk result (λ now. now ≡ onto before (load_results abstract_sets (frame_of slots.now) offset size)) }
+    ensures faults { IfOk result (λ now. (kind : RunFault) → (has_fault now.faults kind ≡ true) ↔ ((has_fault before.faults kind ≡ true) ⊎ Contains (faults_of abstract_sets (load_results abstract_sets (frame_of slots.now) offset size)) kind)) }
+    ensures sized { IfOk result (λ now. IfSome now.value (IsValue size)) }
+{
+    match kept_cell(slots, offset, size) {
+        Some(cell) => cell_onto(alloc, slots, offset, size, cell, before),
+        None => cell_onto(
+            alloc,
+            slots,
+            offset,
+            size,
+            &cell_of_bytes(slots, offset, size),
+            before,
+        ),
+    }
+}

@@ -1,2 +1,3 @@
 -- The files of this folder.
-pub mod Parts
+pub mod Blank
+pub mod Cells

@@ -10,7 +10,7 @@ use Rattle.strided_rules.specs.Strides.{Stride, IsStride, Covers}
 use Rattle.strided_rules.specs.Members.{has}
 use Rattle.strided_rules.specs.MemberLaws.{has_tells}
 use Rattle.memory_rules.specs.Addresses.{cells_at}
-use Rattle.address_cells.specs.Offsets.{IsLeast, Finds, cells_from}
+use Rattle.address_cells.specs.NextOffsets.{IsLeast, Finds, cells_from}
 
 none_at : (frame bits size : ℕ) (x : Stride) (from n : ℕ) → ((t : ℕ) → from ≤ t → has x t ≡ true → fits_in bits t size ≡ true → ⊥) → cells_at frame bits size x (offsets from n) ≡ []
 none_at frame bits size x from zero none = refl

@@ -21,9 +21,9 @@ use Rattle.strided_rules.specs.MemberLaws.{some_word}
 use Rattle.pointer_rules.specs.AbstractValues.{AbstractValue, Covers, IsAbstract, IsPlace, ArePlaces, Ascends, AreAscending, offsets_in}
 use Rattle.memory_rules.specs.Addresses.{tested, tested_in, IsAddressFault}
 use Rattle.address_cells.specs.Running.{bits_on}
-use Rattle.address_cells.specs.Offsets.{IsLeast, Finds, first_past}
+use Rattle.address_cells.specs.NextOffsets.{IsLeast, Finds, first_past}
 use Rattle.address_cells.specs.PlaceFaults.{IsWordFault, IsBoundsFault, IsPlaceFault, IsFaultOf}
-use Rattle.address_cells.proofs.Active.{tested_none, tested_some}
+use Rattle.address_cells.proofs.ActiveFrames.{tested_none, tested_some}
 
 -- ---- sets of faults
 

@@ -15,7 +15,7 @@ use Rattle.progressions.specs.Progressions.{Has, HasSome, IsProgression, IfProgr
 use Rattle.progressions.specs.Parts.{from_least}
 use Rattle.progressions.specs.PartLaws.{from_least_has, from_least_is}
 use Rattle.progressions.specs.ProgressionLaws.{has_lo}
-use Rattle.address_cells.specs.Offsets.{IsTurned, IsLeast, Finds, lesser_of}
+use Rattle.address_cells.specs.NextOffsets.{IsTurned, IsLeast, Finds, lesser_of}
 
 -- n is the least number of p from this one on
 pub record IsFirst (p : Progression) (least n : ℤ) : Type 0 where
@@ -50,7 +50,7 @@ none_found p least is found other has above = go (from_least least p) refl found
 
 pub turned : (p : Progression) (turn n : ℤ) (from t : ℕ) → IsFirst p (pos from -ℤ turn) n → pos t ≡ n +ℤ turn → t < 2 ^ 32 → IsLeast (IsTurned p turn) from t
 turned p turn n from t first is small =
-    let low : pos from -ℤ turn ≤ℤ n = first.above in
+    let low : (pos from -ℤ turn) ≤ℤ n = first.above in
     let same : n ≡ pos t -ℤ turn = omega (arith, ints, is) in record {
       holds = (subst (Has p) same first.has, small);
       above = omega (arith, ints, is, low);
@@ -88,7 +88,7 @@ second_of P Q from a b of_a of_b low = record {
 }
 
 pub lesser_finds : (P Q : ℕ → Type 0) (from : ℕ) (a b : Option ℕ) → Finds P from a → Finds Q from b → Finds (λ t. P t ⊎ Q t) from (lesser_of a b)
-lesser_finds P Q from None None of_a of_b other holds above = elim holds [ | inl h ↦ of_a other h above | inr h ↦ of_b other h above ]
+lesser_finds P Q from None None of_a of_b = λ other holds above. elim holds [ | inl h ↦ of_a other h above | inr h ↦ of_b other h above ]
 lesser_finds P Q from None (Some b) of_a of_b = record {
   holds = inr of_b.holds;
   above = of_b.above;
@@ -105,5 +105,5 @@ lesser_finds P Q from (Some a) (Some b) of_a of_b = by_test (nat_le a b)
 
 -- of which the same holds
 pub finds_same : (P Q : ℕ → Type 0) (from : ℕ) (found : Option ℕ) → ((t : ℕ) → P t → Q t) → ((t : ℕ) → Q t → P t) → Finds P from found → Finds Q from found
-finds_same P Q from None there back of_p other holds above = of_p other (back other holds) above
+finds_same P Q from None there back of_p = λ other holds above. of_p other (back other holds) above
 finds_same P Q from (Some t) there back of_p = record { holds = there t of_p.holds; above = of_p.above; least = λ other holds above. of_p.least other (back other holds) above }

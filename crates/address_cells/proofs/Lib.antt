@@ -1,5 +1,5 @@
 mod Finding
 mod Members
 mod CellLists
-mod Active
+mod ActiveFrames
 mod Faulty

@@ -12,7 +12,7 @@ use Rattle.progressions.specs.Progressions.{Has, IsPlaced, full}
 use Rattle.strided_rules.specs.Strides.{Stride, IsStride, IsMember, Covers}
 use Rattle.strided_rules.specs.PlacedLaws.{member_below, member_other}
 use Rattle.strided_rules.specs.MemberLaws.{three_numbers}
-use Rattle.address_cells.specs.Offsets.{IsTurned, Finds, lesser_of}
+use Rattle.address_cells.specs.NextOffsets.{IsTurned, Finds, lesser_of}
 use Rattle.address_cells.proofs.Finding.{lesser_finds, finds_same}
 
 -- t is a number as it is, or one turn up or down

@@ -1,4 +1,4 @@
 -- The files here, each after those that it cites.
 pub mod Running
-pub mod Offsets
+pub mod NextOffsets
 pub mod PlaceFaults

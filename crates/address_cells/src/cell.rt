@@ -6,7 +6,7 @@ ghost use Rattle.alf_ops.specs.Histories.{fits_in};
 ghost use Rattle.alf_check.specs.Shapes.{shapes_of};
 ghost use Rattle.memory_rules.specs.Addresses.{cells_in, cells_of, tested};
 ghost use Rattle.address_cells.specs.Running.{runs_in};
-ghost use Rattle.address_cells.specs.Offsets.{cells_from};
+ghost use Rattle.address_cells.specs.NextOffsets.{cells_from};
 
 use crate::active::active_bits;
 use crate::offsets::next_offset;
@@ -29,15 +29,20 @@ fn next_cell(members: Strided, bits: u32, size: u32, from: u32) -> Option<u32>
     requires some { 8 ≤ size }
     requires few { size ≤ 64 }
     ensures none { IfNone result ((frame : ℕ) → cells_from frame bits size members from ≡ []) }
+    ensures above { IfSome result (λ offset. from ≤ offset) }
     ensures within { IfSome result (λ offset. offset < bits / 8) }
     ensures first { IfSome result (λ offset. (frame : ℕ) → cells_from frame bits size members from ≡ (frame, offset) ∷ cells_from frame bits size members (offset + 1)) }
 {
     let _ = members.numbers();
-    let offset = next_offset(members, from)?;
-    if fits(bits, offset, size) {
-        Some(offset)
-    } else {
-        None
+    match next_offset(members, from) {
+        None => None,
+        Some(offset) => {
+            if fits(bits, offset, size) {
+                Some(offset)
+            } else {
+                None
+            }
+        }
     }
 }
 

@@ -1,5 +1,4 @@
 -- The offsets of a place, one after the other.
---   numbers_of offsets           the progression of these numbers
 --   IsTurned p turn t            the offset t is a number of p, with this added
 --   IsLeast P from t             t is the least from this one on of which P holds
 --   Finds P from found           what is found is the least; where nothing is, there is none
@@ -12,11 +11,6 @@ use Rattle.progressions.specs.declared.ends.Progression.{Progression}
 use Rattle.progressions.specs.Progressions.{Has}
 use Rattle.strided_rules.specs.Strides.{Stride}
 use Rattle.memory_rules.specs.Addresses.{cells_at}
-use Rattle.address_cells.specs.declared.offsets.Offsets.{Offsets}
-
--- the progression of these numbers
-abbrev pub numbers_of : Offsets → Progression
-numbers_of offsets = record { lo = offsets.lo; hi = offsets.hi; step = offsets.step }
 
 -- the offset is one of the numbers, with this added
 abbrev pub IsTurned : Progression → ℤ → ℕ → Type 0

@@ -14,7 +14,7 @@ use Rattle.strided_rules.specs.Strides.{Stride}
 use Rattle.memory_rules.specs.Memories.{is_on}
 use Rattle.memory_rules.specs.Addresses.{tested_in, cells_at, cells_in}
 use Rattle.address_cells.specs.Running.{bits_on}
-use Rattle.address_cells.specs.Offsets.{cells_from}
+use Rattle.address_cells.specs.NextOffsets.{cells_from}
 
 pub cells_none : (found : Option FrameShape) (runs : ℕ → Bool) (place : ℕ × Stride) (size : ℕ) → None ≡ bits_on found runs → cells_in found runs place size ≡ []
 cells_none None runs place size none = refl

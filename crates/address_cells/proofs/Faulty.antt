@@ -3,9 +3,9 @@
 --   none_told, alone_told  an empty set, and a set of one fault
 --   bounds_told, dead_told the faults of pointers into a frame
 --   of_address             the faults of an address are those of its words and of its places
-use Rattle.std.proofs.Common.{◌≡◌, ◌≢◌, ◌⊎◌, inl, inr, ℕ, Bool, true, false, List, [], ◌∷◌, Option, Some, None, Result, Ok, Err, ◌<◌, ◌≤◌, ◌+◌, ◌-◌, ◌*◌, ◌/◌, ◌↔◌, refl, sym, ap, subst, ◌∙◌, arith}
+use Rattle.std.proofs.Common.{◌≡◌, ◌⊎◌, inl, inr, ℕ, Bool, true, false, List, [], ◌∷◌, Option, Some, None, Result, Ok, Err, ◌<◌, ◌≤◌, ◌+◌, ◌-◌, ◌*◌, ◌/◌, ◌↔◌, refl, sym, ap, subst, ◌∙◌, arith}
 use Rattle.std.specs.Prelude.{◌==◌, ◌||◌, if◌then◌else◌, slice_get, IsSomeAnd, IfSome, nat_lt}
-use Rattle.std.proofs.lemmas.Bool.{false≢true, or_left, or_right, eqb-true, eq-eqb, leb-true, leb-false, le-leb, ltb-true, ltb-false}
+use Rattle.std.proofs.lemmas.Bool.{false≢true, or_left, or_right, eqb-true, eq-eqb, leb-true, leb-false, ltb-true, ltb-false}
 use Rattle.lists.specs.Tests.{by_test}
 use Rattle.alf_ops.specs.declared.history.Value.{Value}
 use Rattle.alf_ops.specs.declared.history.Value.TheVariants.{Int, Ptr}
@@ -18,7 +18,7 @@ use Rattle.domain_core.specs.FaultSets.{has_fault, no_faults, with_fault, either
 use Rattle.domain_core.specs.FaultLaws.{is_empty, is_new, is_united}
 use Rattle.strided_rules.specs.Strides.{Stride, IsStride, Covers as CoversWord}
 use Rattle.strided_rules.specs.MemberLaws.{some_word}
-use Rattle.pointer_rules.specs.AbstractValues.{AbstractValue, Covers, IsAbstract, IsPlace, ArePlaces, Ascends, AreAscending, offsets_in}
+use Rattle.pointer_rules.specs.AbstractValues.{AbstractValue, Covers, IsAbstract, IsPlace, Ascends, AreAscending, offsets_in}
 use Rattle.memory_rules.specs.Addresses.{tested, tested_in, IsAddressFault}
 use Rattle.address_cells.specs.Running.{bits_on}
 use Rattle.address_cells.specs.NextOffsets.{IsLeast, Finds, first_past}
@@ -33,8 +33,8 @@ or_cases false b e = inr e
 
 pub in_either : (a b : FaultSet) (A B : Type 0) (fault : RunFault) → (has_fault a fault ≡ true) ↔ A → (has_fault b fault ≡ true) ↔ B → (has_fault (either a b) fault ≡ true) ↔ (A ⊎ B)
 in_either a b A B fault of_a of_b = (
-  λ e. elim (or_cases (has_fault a fault) (has_fault b fault) (sym (is_united a b fault) ∙ e)) [ | inl h ↦ inl (of_a.0 h) | inr h ↦ inr (of_b.0 h) ],
-  λ h. is_united a b fault ∙ elim h [ | inl x ↦ or_left (has_fault a fault) (has_fault b fault) (of_a.1 x) | inr y ↦ or_right (has_fault a fault) (has_fault b fault) (of_b.1 y) ],
+  λ e. elim (or_cases (has_fault a fault) (has_fault b fault) (sym (is_united a b fault) ∙ e)) [ inl h ↦ inl (of_a.0 h) | inr h ↦ inr (of_b.0 h) ],
+  λ h. is_united a b fault ∙ elim h [ inl x ↦ or_left (has_fault a fault) (has_fault b fault) (of_a.1 x) | inr y ↦ or_right (has_fault a fault) (has_fault b fault) (of_b.1 y) ],
 )
 
 pub none_told : (P : Type 0) (fault : RunFault) → (P → ⊥) → (has_fault no_faults fault ≡ true) ↔ P

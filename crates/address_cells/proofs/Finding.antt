@@ -4,7 +4,7 @@
 --   turned, turned_past, turned_none   the offsets that are numbers with something added
 --   lesser_finds            of which one or the other holds
 --   finds_same              of which the same holds
-use Rattle.std.proofs.Common.{◌≡◌, ◌⊎◌, inl, inr, ℕ, ℤ, pos, Bool, true, false, Option, Some, None, ◌<◌, ◌≤◌, ◌^◌, refl, sym, ap, subst, ◌∙◌, arith}
+use Rattle.std.proofs.Common.{◌≡◌, ◌⊎◌, inl, inr, ℕ, ℤ, pos, Option, Some, None, ◌<◌, ◌≤◌, ◌^◌, refl, sym, subst, arith}
 use Rattle.std.specs.Prelude.{◌≤ℤ◌, ◌+ℤ◌, ◌-ℤ◌, nat_le}
 use Rattle.std.specs.Option.{option_map}
 use Rattle.std.proofs.lemmas.Int.{ints}
@@ -88,16 +88,16 @@ second_of P Q from a b of_a of_b low = record {
 }
 
 pub lesser_finds : (P Q : ℕ → Type 0) (from : ℕ) (a b : Option ℕ) → Finds P from a → Finds Q from b → Finds (λ t. P t ⊎ Q t) from (lesser_of a b)
-lesser_finds P Q from None None of_a of_b = λ other holds above. elim holds [ | inl h ↦ of_a other h above | inr h ↦ of_b other h above ]
+lesser_finds P Q from None None of_a of_b = λ other holds above. elim holds [ inl h ↦ of_a other h above | inr h ↦ of_b other h above ]
 lesser_finds P Q from None (Some b) of_a of_b = record {
   holds = inr of_b.holds;
   above = of_b.above;
-  least = λ other holds above. elim holds [ | inl h ↦ absurd (of_a other h above) | inr h ↦ of_b.least other h above ];
+  least = λ other holds above. elim holds [ inl h ↦ absurd (of_a other h above) | inr h ↦ of_b.least other h above ];
 }
 lesser_finds P Q from (Some a) None of_a of_b = record {
   holds = inl of_a.holds;
   above = of_a.above;
-  least = λ other holds above. elim holds [ | inl h ↦ of_a.least other h above | inr h ↦ absurd (of_b other h above) ];
+  least = λ other holds above. elim holds [ inl h ↦ of_a.least other h above | inr h ↦ absurd (of_b other h above) ];
 }
 lesser_finds P Q from (Some a) (Some b) of_a of_b = by_test (nat_le a b)
     (λ e. rw e (first_of P Q from a b of_a of_b (leb-true a b e)))

@@ -2,14 +2,13 @@
 --   AnyTurn p t       t is such an offset
 --   covers_turn, turn_covers   these are the offsets
 --   next_found        so the least of the three is the next offset
-use Rattle.std.proofs.Common.{◌≡◌, ◌⊎◌, inl, inr, ℕ, ℤ, pos, Option, ◌<◌, ◌^◌, refl, sym, subst, arith}
-use Rattle.std.specs.Prelude.{◌+ℤ◌, ◌-ℤ◌, neg_ℤ}
+use Rattle.std.proofs.Common.{◌≡◌, ◌⊎◌, inl, inr, ℕ, pos, Option, ◌<◌, ◌^◌, sym, subst, arith}
+use Rattle.std.specs.Prelude.{◌-ℤ◌, neg_ℤ}
 use Rattle.std.proofs.lemmas.Int.{ints}
-use Rattle.whole_numbers.specs.Numbers.{Divides}
 use Rattle.whole_numbers.specs.MultipleLaws.{divides_same, divides_difference, divides_zero, divides_itself}
 use Rattle.progressions.specs.declared.ends.Progression.{Progression}
 use Rattle.progressions.specs.Progressions.{Has, IsPlaced, full}
-use Rattle.strided_rules.specs.Strides.{Stride, IsStride, IsMember, Covers}
+use Rattle.strided_rules.specs.Strides.{Stride, IsMember, Covers}
 use Rattle.strided_rules.specs.PlacedLaws.{member_below, member_other}
 use Rattle.strided_rules.specs.MemberLaws.{three_numbers}
 use Rattle.address_cells.specs.NextOffsets.{IsTurned, Finds, lesser_of}

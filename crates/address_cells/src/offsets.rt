@@ -52,13 +52,7 @@ fn lesser(a: Option<u32>, b: Option<u32>) -> Option<u32>
     match (a, b) {
         (None, b) => b,
         (Some(a), None) => Some(a),
-        (Some(a), Some(b)) => {
-            if a <= b {
-                Some(a)
-            } else {
-                Some(b)
-            }
-        }
+        (Some(a), Some(b)) => { if a <= b { Some(a) } else { Some(b) } }
     }
 }
 

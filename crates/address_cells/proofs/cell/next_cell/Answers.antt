@@ -1,4 +1,4 @@
-use Rattle.std.proofs.Common.{◌≡◌, sym, ◌∙◌}
+use Rattle.std.proofs.Common.{sym, ◌∙◌}
 use Rattle.address_cells.proofs.CellLists.{no_cells, none_fits, first_cell, fits_below}
 use Rattle.address_cells.proofs.cell.next_cell.Goals as goal
 

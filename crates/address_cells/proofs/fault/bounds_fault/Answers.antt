@@ -1,7 +1,7 @@
-use Rattle.std.proofs.Common.{◌≡◌, ℕ, None, subst}
+use Rattle.std.proofs.Common.{ℕ, None, subst}
 use Rattle.strided_rules.specs.Strides.{Covers}
 use Rattle.address_cells.specs.NextOffsets.{Finds}
-use Rattle.address_cells.proofs.Faulty.{bounds_none, bounds_some}
+use Rattle.address_cells.proofs.Faulty.{bounds_none}
 use Rattle.address_cells.proofs.fault.bounds_fault.Goals as goal
 
 pub returns-in-None : goal.returns-in-None

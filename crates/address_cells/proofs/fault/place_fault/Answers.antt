@@ -1,4 +1,4 @@
-use Rattle.std.proofs.Common.{◌≡◌, slice_get}
+use Rattle.std.proofs.Common.{slice_get}
 use Rattle.alf_check.specs.Shapes.{shapes_of}
 use Rattle.address_cells.specs.Running.{runs_in}
 use Rattle.address_cells.proofs.Faulty.{dead_told}

@@ -1,0 +1,5 @@
+mod Finding
+mod Members
+mod CellLists
+mod ActiveFrames
+mod Faulty

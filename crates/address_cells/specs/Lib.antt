@@ -1,0 +1,4 @@
+-- The files here, each after those that it cites.
+pub mod Running
+pub mod NextOffsets
+pub mod PlaceFaults

@@ -1,0 +1,3 @@
+mod SlotFrames
+mod Steps
+mod Stores

@@ -1,0 +1,83 @@
+//! A store to the one possible cell.
+
+ghost use Rattle.std.specs.Prelude.{◌≡◌, ◌≤◌, ◌<◌, ◌+◌, ◌-◌, ◌*◌, ◌/◌, true, IfOk, OnOk, IfSome, length};
+ghost use Rattle.pointer_rules.specs.Covering.{IsValue};
+ghost use Rattle.memory_rules.specs.AbstractSets.{abstract_sets};
+ghost use Rattle.memory_rules.specs.Frames.{strong};
+ghost use Rattle.memory_pages.specs.Slots.{IsCellSize};
+ghost use Rattle.held_memories.specs.HeldFrames.{frame_of, is_cell_size};
+ghost use Rattle.frame_stores.specs.Places.{AreCanonical, Becomes, at_place, lone_slot};
+
+use crate::byte::new_byte;
+use crate::cell::known_cell;
+use crate::dropped::drop_wider;
+use crate::near::first_near;
+use crate::slots::put;
+use memory_pages::{FrameSlots, Slot};
+use pointer_domain::AVal;
+use std::alloc::{AllocError, Global};
+
+/// The slot at this place of the cell: a byte of the value, and at the first place the cell.
+fn stored_slot(
+    alloc: Global,
+    place: u32,
+    size: u32,
+    value: &AVal,
+) -> Result<Slot, AllocError>
+    requires { IfSome value.now.words (λ words. 8 * place + 8 ≤ words.size) }
+    ensures { IfOk result (λ slot. slot ≡ lone_slot place size value.now) }
+{
+    let byte = new_byte(value, place);
+    let mut slot = Slot::bare(alloc, &byte);
+    if place == 0 {
+        slot.keep(size, known_cell(alloc, value)?)?;
+    }
+    Ok(slot)
+}
+
+/// Changes what begins at the place.
+fn store_at(
+    alloc: Global,
+    slots: &mut FrameSlots,
+    offset: u32,
+    size: u32,
+    value: &AVal,
+    place: usize,
+) -> Result<(), AllocError>
+    requires size { is_cell_size size ≡ true }
+    requires near { offset ≤ place + 7 }
+    requires inside { place < offset + size / 8 }
+    requires fits { offset + size / 8 ≤ length slots.old }
+    requires value { IsValue size value.now }
+    ensures { OnOk result (Becomes slots.old slots.new (at_place place (strong abstract_sets (frame_of slots.old) offset size value.now) (frame_of slots.old))) }
+{
+    let start = offset as usize;
+    if place < start {
+        return drop_wider(alloc, slots, place, 8 * (start - place) as u32);
+    }
+    let slot = stored_slot(alloc, (place - start) as u32, size, value)?;
+    put(slots, place, slot)
+}
+
+/// Stores a value in the one possible cell.
+///
+/// Cells that share a byte with it are dropped. After want of memory the slots are given up.
+pub fn store_strongly(
+    alloc: Global,
+    slots: &mut FrameSlots,
+    offset: u32,
+    size: u32,
+    value: &AVal,
+) -> Result<(), AllocError>
+    requires size { is_cell_size size ≡ true }
+    requires fits { offset + size / 8 ≤ length slots.old }
+    requires value { IsValue size value.now }
+    ensures stored { OnOk result (frame_of slots.new ≡ strong abstract_sets (frame_of slots.old) offset size value.now) }
+    ensures length { OnOk result (length slots.new ≡ length slots.old) }
+    ensures canonical { OnOk result (AreCanonical slots.old → AreCanonical slots.new) }
+{
+    for place in first_near(offset)..offset as usize + (size / 8) as usize {
+        store_at(alloc, slots, offset, size, value, place)?;
+    }
+    Ok(())
+}

@@ -1,3 +1,6 @@
 mod Started
 mod Entered
 mod Joined
+mod Fitting
+mod Changing
+mod Loading

@@ -8,6 +8,7 @@ ghost use Rattle.abstract_memory.specs.Rows.{shape_of, IsSlots, AreFrames};
 
 use crate::start::blank;
 use alf_check::FrameRow;
+use frame_joins::joined_frame;
 use memory_pages::FrameSlots;
 use std::alloc::{AllocError, Global};
 
@@ -77,7 +78,7 @@ fn joined_row(
     requires second { IsSlots row.now.bits b.now }
     ensures { IfOk result (λ slots. slots ≡ joined_slots a.now b.now) }
 {
-    Err(AllocError)
+    joined_frame(alloc, a, b, row.bits / 8)
 }
 
 /// Adds the joins of the frames, one by one. After want of memory the frames are given up.

@@ -14,7 +14,10 @@ ghost use Rattle.seen_memories.specs.Parts.{memory_in, rows_of, IsMemory};
 ghost use Rattle.abstract_memory.specs.Cells.{IsCellOf};
 
 use crate::frames::{copied_frames, empty_frames, frames_joined};
+use crate::loads::load_through;
 use crate::start::{blank_frames, idle};
+use crate::stores::{pin_in, store_through};
+use address_cells::has_cell;
 use alf_check::Checked;
 use domain_core::{FaultSet, Lattice};
 use held_memories::held_memories_are_those_of_the_rules;
@@ -94,6 +97,14 @@ impl<'a> AMem<'a> {
         self.running[func as usize] = false;
     }
 
+    /// Whether the cell lies in its frame, which is active. Takes no memory.
+    pub fn has_cell(&self, frame: u32, offset: u32, size: u32) -> bool
+        requires { size ≤ 64 }
+        ensures { IsTrue result ↔ (tested (rows_of self.now.checked) (memory_in self.now).runs (Ptr frame offset) size ≡ Ok (frame, offset)) }
+    {
+        has_cell(self.checked.frames(), &self.running, frame, offset, size)
+    }
+
     /// What a load through the address gives: the values of all cells that it may mean, joined in their order, and
     /// the faults of the address and of the cells.
     pub fn load(
@@ -109,7 +120,14 @@ impl<'a> AMem<'a> {
         ensures sized { IfOk result (λ loaded. IfSome loaded.0 (IsValue size)) }
         ensures faults { IfOk result (λ loaded. (fault : RunFault) → (has_fault loaded.1 fault ≡ true) ↔ IsLoadFault (rows_of self.now.checked) (memory_in self.now) at.now size fault) }
     {
-        Err(AllocError)
+        load_through(
+            alloc,
+            self.checked.frames(),
+            &self.running,
+            &self.frames,
+            at,
+            size,
+        )
     }
 
     /// Stores the value through the address: strongly where one cell is possible, else weakly to each of them in
@@ -132,7 +150,15 @@ impl<'a> AMem<'a> {
         ensures goes_on { IfOk result (λ stored. IsTrue stored.0 ↔ (cells_of (rows_of self.old.checked) (memory_in self.old).runs at.now.places size ≢ [])) }
         ensures faults { IfOk result (λ stored. (fault : RunFault) → (has_fault stored.1 fault ≡ true) ↔ IsAddressFault (rows_of self.old.checked) (memory_in self.old).runs at.now size fault) }
     {
-        Err(AllocError)
+        store_through(
+            alloc,
+            self.checked.frames(),
+            &self.running,
+            &mut self.frames,
+            at,
+            size,
+            value,
+        )
     }
 
     /// Keeps the cell with these words and nothing else; the bytes stay.
@@ -152,7 +178,8 @@ impl<'a> AMem<'a> {
         ensures kept { OnOk result (IsMemory self.new) }
         ensures pinned { OnOk result (memory_in self.new ≡ pinned_at abstract_sets (memory_in self.old) (frame, offset) size (alone (Words value))) }
     {
-        Err(AllocError)
+        let _ = value.numbers();
+        pin_in(alloc, &mut self.frames, (frame, offset), size, value)
     }
 }
 

@@ -39,7 +39,8 @@ fn store_in(
 {
     held_memories_are_those_of_the_rules();
     let (frame, offset) = cell;
-    store_strongly(alloc, &mut frames[frame as usize], offset, size, value)
+    store_strongly(alloc, &mut frames[frame as usize], offset, size, value)?;
+    Ok(())
 }
 
 /// Stores to one of several possible cells. After want of memory the frames are given up.
@@ -58,7 +59,8 @@ fn mix_in(
 {
     held_memories_are_those_of_the_rules();
     let (frame, offset) = cell;
-    store_weakly(alloc, &mut frames[frame as usize], offset, size, value)
+    store_weakly(alloc, &mut frames[frame as usize], offset, size, value)?;
+    Ok(())
 }
 
 /// Stores to each of the possible cells in order. After want of memory the frames are given up.
@@ -119,7 +121,8 @@ pub(crate) fn pin_in(
 {
     held_memories_are_those_of_the_rules();
     let (frame, offset) = cell;
-    pin(alloc, &mut frames[frame as usize], offset, size, words)
+    pin(alloc, &mut frames[frame as usize], offset, size, words)?;
+    Ok(())
 }
 
 /// Stores through the address. Answers whether some cell is possible, and the faults of the address. After want of

@@ -5,7 +5,7 @@
 --   slot_self         the join of two frames at a place where both have the same slot is this slot
 use Rattle.std.specs.Prelude.{slice_get, if◌then◌else◌, ◌==◌, nat_lt, ◌||◌, is_some}
 use Rattle.std.proofs.Common.{Bool, ◌≡◌, ◌≢◌, ◌∙◌, ap, subst, sym, inl, inr, ℕ, suc, zero, true, false, List, [], ◌∷◌, Option, Some, None, IfSome, refl, arith, ◌+◌, ◌*◌, ◌/◌, ◌%◌, ◌<◌, ◌≤◌, length}
-use Rattle.std.proofs.lemmas.Bool.{cases_eq, and_parts, eqb-true, eq-eqb, ltb-true, ltb-false, leb-true, lt-ltb, le-ltb, false≢true}
+use Rattle.std.proofs.lemmas.Bool.{cases_eq, and_parts, eqb-true, eq-eqb, ltb-true, ltb-false, leb-true, lt-ltb, le-ltb, le-leb, and_from, false≢true}
 use Rattle.lists.specs.Tests.{by_test}
 use Rattle.domain_core.specs.WordSets.{IsOfSize}
 use Rattle.strided_rules.specs.Strides.{Stride, joined as joined_words}
@@ -193,3 +193,8 @@ slot_self a b place slot sized first second =
     ∙ both_the_same slot x y
     (subst (λ (o : Option HeldSlot). IfSome (byte_in o).value (λ word. IsOfSize stride_sets 8 word)) first (sized.bytes place))
     (λ size cell is. sized.kept place size cell (ap (λ (o : Option HeldSlot). cell_in o size) first ∙ is)))
+
+-- so many bytes are the size of a cell
+pub size_of_count : (count : ℕ) → 1 ≤ count → count < 9 → is_cell_size (8 * count) ≡ true
+size_of_count count some few =
+    and_from _ _ (eq-eqb (8 * count % 8) 0 (omega arith)) (and_from _ _ (lt-ltb 0 (8 * count) (omega (arith, some))) (le-leb (8 * count) 64 (omega (arith, few))))

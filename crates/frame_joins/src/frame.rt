@@ -1,6 +1,6 @@
 //! Frames joined.
 
-ghost use Rattle.std.specs.Prelude.{◌≡◌, ◌≤◌, ◌<◌, ◌+◌, ℕ, IsTrue, IfOk, length, slice_get};
+ghost use Rattle.std.specs.Prelude.{◌≡◌, ◌≤◌, ◌<◌, ◌+◌, ◌^◌, ℕ, IsTrue, IfOk, length, slice_get};
 ghost use Rattle.memory_rules.specs.AbstractSets.{abstract_sets};
 ghost use Rattle.memory_rules.specs.Covers.{FrameSized};
 ghost use Rattle.held_memories.specs.HeldFrames.{frame_of};

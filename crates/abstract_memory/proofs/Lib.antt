@@ -4,3 +4,4 @@ mod Joined
 mod Fitting
 mod Changing
 mod Loading
+mod Lent

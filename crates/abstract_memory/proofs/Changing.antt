@@ -5,8 +5,8 @@
 --   MixedSo           after stores to some of the possible cells
 --   mixed_more, all_mixed
 --   changed_kept      the parts of a memory stay parts of one
-use Rattle.std.specs.Prelude.{slice_get, slice_set, get_or, ◌==◌, if◌then◌else◌}
-use Rattle.std.proofs.Common.{Bool, ◌≡◌, ◌∙◌, ap, subst, sym, ℕ, suc, zero, true, false, List, [], ◌∷◌, map, length, Option, Some, None, refl, arith, ◌+◌, ◌/◌, ◌<◌, ◌≤◌}
+use Rattle.std.specs.Prelude.{slice_get, slice_set, get_or, ◌==◌}
+use Rattle.std.proofs.Common.{Bool, ◌≡◌, ◌∙◌, ap, subst, sym, ℕ, suc, zero, List, [], ◌∷◌, map, length, refl, arith, ◌+◌, ◌/◌, ◌<◌, ◌≤◌}
 use Rattle.lists.specs.Tests.{by_test}
 use Rattle.pointer_rules.specs.AbstractValues.{AbstractValue}
 use Rattle.memory_pages.specs.Slots.{HeldSlot}
@@ -14,10 +14,10 @@ use Rattle.memory_pages.specs.Pages.{list_or}
 use Rattle.memory_rules.specs.AbstractSets.{abstract_sets}
 use Rattle.memory_rules.specs.Covers.{FrameSized}
 use Rattle.memory_rules.specs.Frames.{FrameMem}
-use Rattle.memory_rules.specs.Memories.{Mem, MemSized, with_frame, strong_at, stored, weak_at, weak_all}
+use Rattle.memory_rules.specs.Memories.{Mem, with_frame, strong_at, stored, weak_at, weak_all}
 use Rattle.held_memories.specs.HeldFrames.{frame_of}
 use Rattle.held_memories.specs.HeldMemories.{memory_of, FrameHeld}
-use Rattle.seen_memories.specs.Parts.{MemoryParts, memory_in, canonical, IsMemory}
+use Rattle.seen_memories.specs.Parts.{MemoryParts, canonical, IsMemory}
 use Rattle.abstract_memory.specs.Cells.{count_or, Fits, AllFit, AreSized, Changes}
 
 -- ---- one frame

@@ -1,8 +1,8 @@
 -- Functions entered.
 --   entered_more     one frame more is that of the entered function, or stays
 --   entered_kept     the parts after a function is entered are parts of a memory
-use Rattle.std.specs.Prelude.{slice_get, slice_set, get_or, take, if◌then◌else◌}
-use Rattle.std.proofs.Common.{Bool, ◌≡◌, ◌∙◌, ap, subst, sym, ℕ, suc, zero, true, false, List, [], ◌∷◌, map, length, refl, arith, ◌+◌, ◌/◌, ◌<◌}
+use Rattle.std.specs.Prelude.{slice_set, get_or, take}
+use Rattle.std.proofs.Common.{◌≡◌, ◌∙◌, ap, subst, sym, ℕ, suc, zero, true, List, [], ◌∷◌, map, length, refl, arith, ◌+◌, ◌/◌, ◌<◌}
 use Rattle.std.proofs.lemmas.List.{length-replicate}
 use Rattle.lists.specs.Tests.{by_test}
 use Rattle.alf_ops.specs.declared.history.FrameShape.{FrameShape}
@@ -14,7 +14,7 @@ use Rattle.memory_rules.specs.AbstractSets.{abstract_sets}
 use Rattle.memory_rules.specs.AbstractSetLaws.{abstract_is_sets}
 use Rattle.memory_rules.specs.Memories.{Mem, MemSized, entered}
 use Rattle.memory_rules.specs.MemoryProofs.{enter_sized}
-use Rattle.held_memories.specs.HeldMemories.{held_no_byte, blank_slots, entered_frame, entered_frames, EnteredHeld}
+use Rattle.held_memories.specs.HeldMemories.{held_no_byte, entered_frame, entered_frames, EnteredHeld}
 use Rattle.seen_memories.specs.Parts.{MemoryParts, memory_in, rows_of, bytes_in, canonical, IsMemory}
 use Rattle.abstract_memory.specs.Rows.{shape_of}
 use Rattle.abstract_memory.proofs.Started.{blank_canonical, set_length}

@@ -1,9 +1,9 @@
 -- Cells of an address lie in their frames.
 --   fits_one   the cell of a row that it fits
 --   all_fit    the cells that an address may mean
-use Rattle.std.specs.Prelude.{slice_get, ◌&&◌, if◌then◌else◌}
+use Rattle.std.specs.Prelude.{slice_get, ◌&&◌}
 use Rattle.std.specs.Option.{option_map}
-use Rattle.std.proofs.Common.{Bool, ◌≡◌, ◌∙◌, ap, subst, sym, ℕ, true, false, List, [], ◌∷◌, ◌++◌, map, length, Option, Some, None, refl, arith, ◌+◌, ◌*◌, ◌/◌, ◌<◌, ◌≤◌}
+use Rattle.std.proofs.Common.{Bool, ◌≡◌, ◌∙◌, ap, subst, sym, ℕ, List, [], ◌∷◌, ◌++◌, map, Option, Some, None, refl, arith, ◌+◌, ◌*◌, ◌/◌, ◌≤◌}
 use Rattle.std.proofs.lemmas.Bool.{and_parts, leb-true}
 use Rattle.std.proofs.lemmas.Option.{slice_get-map, slice_get_within}
 use Rattle.lists.specs.Tests.{by_test}

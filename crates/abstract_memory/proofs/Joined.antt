@@ -2,8 +2,7 @@
 --   are_frames    the frames of a memory are frames of its rows
 --   joined_parts  the frames joined one by one are those of the join
 use Rattle.std.specs.Prelude.{slice_get}
-use Rattle.std.proofs.Common.{Bool, ◌≡◌, ◌∙◌, ap, subst, sym, ℕ, suc, zero, List, [], ◌∷◌, map, length, refl, arith}
-use Rattle.alf_ops.specs.Histories.{offsets}
+use Rattle.std.proofs.Common.{◌≡◌, ◌∙◌, ap, subst, sym, ℕ, suc, List, [], ◌∷◌, map, length, refl}
 use Rattle.alf_check.specs.declared.rows.FrameRow.{FrameRow}
 use Rattle.alf_check.specs.Shapes.{shapes_of}
 use Rattle.alf_check.specs.CheckedPrograms.{CheckedParts}
@@ -16,13 +15,13 @@ use Rattle.memory_rules.specs.Frames.{joined as joined_frame}
 use Rattle.memory_rules.specs.Memories.{Mem, MemSized, both}
 use Rattle.memory_rules.specs.MemoryProofs.{join_sized}
 use Rattle.held_memories.specs.HeldFrames.{frame_of}
-use Rattle.held_memories.specs.HeldMemories.{memory_of, joined_slot, joined_slots, joined_frames, JoinedHeld}
+use Rattle.held_memories.specs.HeldMemories.{joined_slot, joined_slots, joined_frames, JoinedHeld}
 use Rattle.seen_memories.specs.Parts.{MemoryParts, memory_in, rows_of, bytes_in, canonical, IsMemory}
-use Rattle.seen_memories.specs.Made.{slots_of, made}
+use Rattle.seen_memories.specs.Made.{made}
 use Rattle.seen_memories.specs.ReadOff.{length_off}
 use Rattle.seen_memories.specs.PartsLaws.{canonical_off, parts_are}
 use Rattle.seen_memories.specs.SeenOrders.{AreAlike, joined}
-use Rattle.abstract_memory.specs.Rows.{IsSlots, AreFrames}
+use Rattle.abstract_memory.specs.Rows.{AreFrames}
 
 -- the frames of a memory are frames of its rows
 pub are_frames : (rows : List FrameRow) (frames : List (List HeldSlot)) → map length frames ≡ map bytes_in (shapes_of rows) → map (map canonical) frames ≡ frames

@@ -3,7 +3,7 @@
 --   loaded_more, all_loaded
 --   load_faults       the faults of a load
 use Rattle.std.specs.Prelude.{◌↔◌}
-use Rattle.std.proofs.Common.{Bool, ◌≡◌, ◌∙◌, ap, subst, sym, inl, inr, ⊎_elim, ℕ, true, List, [], ◌∷◌, map, length, Contains, None, IfSome, refl}
+use Rattle.std.proofs.Common.{Bool, ◌≡◌, ◌∙◌, ap, subst, sym, inl, inr, ⊎_elim, ℕ, true, List, [], ◌∷◌, map, length, Contains, None, IfSome}
 use Rattle.alf_ops.specs.declared.history.FrameShape.{FrameShape}
 use Rattle.alf_ops.specs.declared.history.RunFault.{RunFault}
 use Rattle.address_cells.specs.Running.{runs_in}

@@ -1,10 +1,7 @@
 -- What is left to show of `load_through`: facts of the proof files, applied.
-use Rattle.std.proofs.Common.{◌∙◌, ap, sym, subst, ℕ, List, Bool, length, map}
+use Rattle.std.proofs.Common.{◌∙◌, sym, subst, ℕ, List, length, map}
 use Rattle.alf_check.specs.Shapes.{shapes_of}
 use Rattle.address_cells.specs.Running.{runs_in}
-use Rattle.memory_rules.specs.AbstractSets.{abstract_sets}
-use Rattle.memory_rules.specs.Memories.{load_all}
-use Rattle.held_memories.specs.HeldMemories.{memory_of}
 use Rattle.abstract_memory.specs.Cells.{AllFit}
 use Rattle.abstract_memory.proofs.Fitting.{all_fit}
 use Rattle.abstract_memory.proofs.Loading.{load_faults}

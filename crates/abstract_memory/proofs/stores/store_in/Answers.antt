@@ -1,13 +1,10 @@
 -- What is left to show of `store_in`: facts of the proof files, applied.
-use Rattle.std.proofs.Common.{◌≡◌, subst, List}
-use Rattle.memory_pages.specs.Slots.{HeldSlot}
 use Rattle.memory_rules.specs.AbstractSets.{abstract_sets}
 use Rattle.memory_rules.specs.AbstractSetLaws.{abstract_is_sets}
-use Rattle.memory_rules.specs.Covers.{FrameSized}
 use Rattle.memory_rules.specs.Frames.{FrameMem, strong}
 use Rattle.memory_rules.specs.Updates.{strong_sized}
 use Rattle.held_memories.specs.HeldFrames.{frame_of}
-use Rattle.abstract_memory.proofs.Changing.{there, own_sized, set_changes_or}
+use Rattle.abstract_memory.proofs.Changing.{there, set_changes_or}
 use Rattle.abstract_memory.proofs.stores.store_in.Goals as goal
 
 pub returns : goal.returns

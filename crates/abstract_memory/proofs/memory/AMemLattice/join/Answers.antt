@@ -1,5 +1,5 @@
 -- What is left to show of `join`: facts of the proof files, applied.
-use Rattle.std.proofs.Common.{◌≡◌, ◌∙◌, ap, sym, subst, refl, Bool, List}
+use Rattle.std.proofs.Common.{◌≡◌, ◌∙◌, ap, sym, subst, Bool, List}
 use Rattle.alf_check.specs.declared.rows.FrameRow.{FrameRow}
 use Rattle.alf_check.specs.CheckedPrograms.{CheckedParts}
 use Rattle.memory_pages.specs.Slots.{HeldSlot}

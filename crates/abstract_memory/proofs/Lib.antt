@@ -1,1 +1,7 @@
 mod Started
+mod Entered
+mod Joined
+mod Fitting
+mod Changing
+mod Loading
+mod Lent

@@ -1,2 +1,4 @@
 -- The files of this folder.
-pub mod Parts
+pub mod Blank
+pub mod Cells
+pub mod Rows

@@ -8,6 +8,11 @@
 // What a memory begins with.
 mod start;
 
+// What its frames become, and what loads give.
+mod frames;
+mod loads;
+mod stores;
+
 // The memory.
 mod memory;
 

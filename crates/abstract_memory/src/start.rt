@@ -1,7 +1,7 @@
 //! Flags of functions that do not run, and frames that hold nothing.
 
 ghost use Rattle.std.specs.Prelude.{◌≡◌, map, replicate, false, IfOk};
-ghost use Rattle.abstract_memory.specs.Parts.{blank_frame};
+ghost use Rattle.abstract_memory.specs.Blank.{blank_frame};
 ghost use Rattle.held_memories.specs.HeldMemories.{held_no_byte};
 
 use alf_check::FrameRow;
@@ -20,7 +20,7 @@ fn no_byte() -> Byte
 }
 
 /// A frame of this row that holds nothing.
-fn blank(alloc: Global, row: &FrameRow) -> Result<FrameSlots, AllocError>
+pub(crate) fn blank(alloc: Global, row: &FrameRow) -> Result<FrameSlots, AllocError>
     ensures { IfOk result (λ slots. slots ≡ blank_frame row.now) }
 {
     let byte = no_byte();

@@ -1,0 +1,152 @@
+//! Stores to cells of frames.
+
+ghost use Rattle.std.specs.Prelude.{◌≡◌, ◌≢◌, ◌↔◌, [], true, length, map, IfOk, OnOk, IsTrue};
+ghost use Rattle.alf_check.specs.Shapes.{shapes_of};
+ghost use Rattle.alf_ops.specs.declared.history.RunFault.{RunFault};
+ghost use Rattle.address_cells.specs.Running.{runs_in};
+ghost use Rattle.domain_core.specs.FaultSets.{has_fault};
+ghost use Rattle.pointer_rules.specs.AbstractValues.{Words, alone};
+ghost use Rattle.pointer_rules.specs.Covering.{IsValue};
+ghost use Rattle.memory_rules.specs.Addresses.{cells_of, IsAddressFault};
+ghost use Rattle.memory_rules.specs.AbstractSets.{abstract_sets};
+ghost use Rattle.memory_rules.specs.Covers.{IsCellSize};
+ghost use Rattle.memory_rules.specs.Memories.{pinned_at, stored, strong_at, weak_all, weak_at};
+ghost use Rattle.seen_memories.specs.Parts.{bytes_in};
+ghost use Rattle.abstract_memory.specs.Cells.{AllFit, AreSized, Changes, Fits};
+
+use address_cells::{address_faults, cells};
+use alf_check::FrameRow;
+use domain_core::FaultSet;
+use frame_stores::{pin, store_strongly, store_weakly};
+use held_memories::held_memories_are_those_of_the_rules;
+use interval_congruence::Strided;
+use memory_pages::FrameSlots;
+use pointer_domain::AVal;
+use std::alloc::{AllocError, Global};
+
+/// Stores to the one possible cell. After want of memory the frames are given up.
+fn store_in(
+    alloc: Global,
+    frames: &mut [FrameSlots],
+    cell: (u32, u32),
+    size: u32,
+    value: &AVal,
+) -> Result<(), AllocError>
+    requires size { IsCellSize size }
+    requires value { IsValue size value.now }
+    requires fits { Fits (map length frames.old) size cell }
+    ensures { OnOk result (Changes frames.old frames.new (λ m. strong_at abstract_sets m cell size value.now)) }
+{
+    held_memories_are_those_of_the_rules();
+    let (frame, offset) = cell;
+    store_strongly(alloc, &mut frames[frame as usize], offset, size, value)?;
+    Ok(())
+}
+
+/// Stores to one of several possible cells. After want of memory the frames are given up.
+fn mix_in(
+    alloc: Global,
+    frames: &mut [FrameSlots],
+    cell: (u32, u32),
+    size: u32,
+    value: &AVal,
+) -> Result<(), AllocError>
+    requires size { IsCellSize size }
+    requires value { IsValue size value.now }
+    requires fits { Fits (map length frames.old) size cell }
+    requires sized { AreSized frames.old }
+    ensures { OnOk result (Changes frames.old frames.new (λ m. weak_at abstract_sets m cell size value.now)) }
+{
+    held_memories_are_those_of_the_rules();
+    let (frame, offset) = cell;
+    store_weakly(alloc, &mut frames[frame as usize], offset, size, value)?;
+    Ok(())
+}
+
+/// Stores to each of the possible cells in order. After want of memory the frames are given up.
+fn mix_all(
+    alloc: Global,
+    frames: &mut [FrameSlots],
+    cells: &[(u32, u32)],
+    size: u32,
+    value: &AVal,
+) -> Result<(), AllocError>
+    requires size { IsCellSize size }
+    requires value { IsValue size value.now }
+    requires fit { AllFit (map length frames.old) size cells.now }
+    requires sized { AreSized frames.old }
+    ensures { OnOk result (Changes frames.old frames.new (λ m. weak_all abstract_sets m cells.now size value.now)) }
+{
+    let mut rest = cells;
+    while let Some((cell, others)) = rest.split_first() {
+        mix_in(alloc, frames, *cell, size, value)?;
+        rest = others;
+    }
+    Ok(())
+}
+
+/// Stores to the possible cells. After want of memory the frames are given up.
+pub(crate) fn store_all(
+    alloc: Global,
+    frames: &mut [FrameSlots],
+    cells: &[(u32, u32)],
+    size: u32,
+    value: &AVal,
+) -> Result<(), AllocError>
+    requires size { IsCellSize size }
+    requires value { IsValue size value.now }
+    requires fit { AllFit (map length frames.old) size cells.now }
+    requires sized { AreSized frames.old }
+    ensures { OnOk result (Changes frames.old frames.new (λ m. stored abstract_sets m cells.now size value.now)) }
+{
+    match cells {
+        [] => Ok(()),
+        [cell] => store_in(alloc, frames, *cell, size, value),
+        [_, _, ..] => mix_all(alloc, frames, cells, size, value),
+    }
+}
+
+/// Keeps the cell with these words. After want of memory the frames are given up.
+pub(crate) fn pin_in(
+    alloc: Global,
+    frames: &mut [FrameSlots],
+    cell: (u32, u32),
+    size: u32,
+    words: Strided,
+) -> Result<(), AllocError>
+    requires size { IsCellSize size }
+    requires words { IsValue size (alone (Words words)) }
+    requires fits { Fits (map length frames.old) size cell }
+    ensures { OnOk result (Changes frames.old frames.new (λ m. pinned_at abstract_sets m cell size (alone (Words words)))) }
+{
+    held_memories_are_those_of_the_rules();
+    let (frame, offset) = cell;
+    pin(alloc, &mut frames[frame as usize], offset, size, words)?;
+    Ok(())
+}
+
+/// Stores through the address. Answers whether some cell is possible, and the faults of the address. After want of
+/// memory the frames are given up.
+pub(crate) fn store_through(
+    alloc: Global,
+    rows: &[FrameRow],
+    running: &[bool],
+    frames: &mut [FrameSlots],
+    at: &AVal,
+    size: u32,
+    value: &AVal,
+) -> Result<(bool, FaultSet), AllocError>
+    requires address { IsValue 32 at.now }
+    requires size { IsCellSize size }
+    requires value { IsValue size value.now }
+    requires lengths { map length frames.old ≡ map bytes_in (shapes_of rows.now) }
+    requires sized { AreSized frames.old }
+    ensures changes { OnOk result (Changes frames.old frames.new (λ m. stored abstract_sets m (cells_of (shapes_of rows.now) (runs_in running.now) at.now.places size) size value.now)) }
+    ensures goes_on { IfOk result (λ stored. IsTrue stored.0 ↔ (cells_of (shapes_of rows.now) (runs_in running.now) at.now.places size ≢ [])) }
+    ensures faults { IfOk result (λ stored. (fault : RunFault) → (has_fault stored.1 fault ≡ true) ↔ IsAddressFault (shapes_of rows.now) (runs_in running.now) at.now size fault) }
+{
+    let found = cells(alloc, rows, running, at, size)?;
+    let faults = address_faults(rows, running, at, size);
+    store_all(alloc, frames, &found, size, value)?;
+    Ok((!found.is_empty(), faults))
+}

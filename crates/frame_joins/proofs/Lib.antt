@@ -1,0 +1,2 @@
+mod SlotJoins
+mod FrameSteps

@@ -1,0 +1,2 @@
+-- The files here, each after those that it cites.
+pub mod FrameJoins

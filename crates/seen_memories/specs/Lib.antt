@@ -1,0 +1,8 @@
+-- The files here, each after those that it cites.
+pub mod Parts
+pub mod Made
+pub mod Within
+pub mod PartsWords
+pub mod ReadOff
+pub mod PartsLaws
+pub mod SeenOrders

@@ -2,10 +2,10 @@
 --   union_none, union_assoc   unions of faults
 --   load_found                a value and its faults, as a load gives them
 --   first_found               a value before those of the rest
---   store_done                a memory and its faults, as a store gives them
-use Rattle.std.specs.Prelude.{◌||◌, ◌↔◌, IfSome, if◌then◌else◌}
+--   store_told                a memory and its faults, as a store gives them
+use Rattle.std.specs.Prelude.{◌||◌, ◌↔◌, IfSome, IfOk, OnOk, if◌then◌else◌}
 use Rattle.std.specs.Option.{option_map}
-use Rattle.std.proofs.Common.{◌≡◌, ◌≢◌, ℕ, Bool, true, false, List, [], ◌∷◌, Option, Some, None, IsTrue, refl, sym, ap, subst, ◌∙◌}
+use Rattle.std.proofs.Common.{◌≡◌, ◌≢◌, ℕ, Bool, true, false, List, [], ◌∷◌, Option, Some, None, Result, Ok, Err, IsTrue, refl, sym, ap, subst, ◌∙◌}
 use Rattle.alf_ops.specs.declared.history.RunFault.{RunFault}
 use Rattle.alf_ops.specs.declared.history.FrameShape.{FrameShape}
 use Rattle.domain_core.specs.declared.fault_set.FaultSet.{FaultSet}
@@ -19,6 +19,7 @@ use Rattle.step_rules.specs.Remains.{Remains, all_left, with_faults, goes_on}
 use Rattle.step_rules.specs.Evaluating.{loaded, before, width_of}
 use Rattle.step_rules.specs.Doing.{where_possible, stored_by, stored_through}
 use Rattle.step_rules.specs.FaultForms.{loaded_faults, stored_faults}
+use Rattle.abstract_step.specs.Found.{done}
 
 or_false : (a : Bool) → (a || false) ≡ a
 or_false true = refl
@@ -87,16 +88,25 @@ possible_is (cell ∷ cells) a false is = let on : IsTrue false = is.1 (λ e. so
     some_cell c rest e = cc
 
 -- a memory and its faults, as a store gives them
-pub store_done : (rows : List FrameShape) (m new : Mem abstract_sets) (size width : ℕ) (at v : AbstractValue) (on : Bool) (faults : FaultSet) → IsValue 32 at → width ≡ width_of v → width ≡ size
+store_done : (rows : List FrameShape) (m new : Mem abstract_sets) (width : ℕ) (at v : AbstractValue) (on : Bool) (faults : FaultSet) → IsValue 32 at → width ≡ width_of v
     → new ≡ stored_at rows m at width v
     → IsTrue on ↔ (cells_of rows m.runs at.places width ≢ [])
     → ((fault : RunFault) → (has_fault faults fault ≡ true) ↔ IsAddressFault rows m.runs at width fault)
-    → (let r : Remains (Mem abstract_sets) = record { left = if on then Some new else None; faults = faults } in r) ≡ stored_through rows m at v
-store_done rows m new size width at v on faults is own same stored possible each =
-    subst (λ (w : ℕ). (let r : Remains (Mem abstract_sets) = record { left = if on then Some new else None; faults = faults } in r) ≡ stored_by rows m at v w) own
-    (remains_is (if on then Some new else None) (where_possible (cells_of rows m.runs at.places width) (stored_at rows m at width v)) faults _
+    → done (on, faults) new ≡ stored_through rows m at v
+store_done rows m new width at v on faults is own stored possible each =
+    subst (λ (w : ℕ). done (on, faults) new ≡ stored_by rows m at v w) own
+    (remains_is (if on then Some new else None) (where_possible (cells_of rows m.runs at.places width) (stored_at rows m at width v)) faults (stored_by rows m at v width).faults
     (ap (λ (n : Mem abstract_sets). if on then Some n else None) stored ∙ possible_is (cells_of rows m.runs at.places width) (stored_at rows m at width v) on possible)
     (stored_faults rows m.runs width at faults is each))
+
+-- the answer of a store
+pub store_told : {E : Type 0} (rows : List FrameShape) (m new : Mem abstract_sets) (width : ℕ) (at v : AbstractValue) (r : Result (Bool × FaultSet) E) → IsValue 32 at → width ≡ width_of v
+    → OnOk r (new ≡ stored_at rows m at width v)
+    → IfOk r (λ answer. IsTrue answer.0 ↔ (cells_of rows m.runs at.places width ≢ []))
+    → IfOk r (λ answer. (fault : RunFault) → (has_fault answer.1 fault ≡ true) ↔ IsAddressFault rows m.runs at width fault)
+    → IfOk r (λ answer. done answer new ≡ stored_through rows m at v)
+store_told rows m new width at v (Ok answer) is own stored possible each = store_done rows m new width at v answer.0 answer.1 is own stored possible each
+store_told rows m new width at v (Err e) is own stored possible each = tt
 
 -- ---- statements in order
 

@@ -2,7 +2,10 @@
 --   first_typed, second_typed, third_typed   operands in a row
 --   few_terms                   an operator has one to three operands
 --   one_member, two_members, three_members   lists of so many
+--   load_sized                  the address of a load is a pointer's
+--   apply_typed                 an operator has a result, and its operands have sizes
 --   operands_sized              the operands' values have their sizes
+--   one_found, two_found, three_found   what so many operands give
 use Rattle.std.specs.Prelude.{IfSome, IsSome}
 use Rattle.std.specs.List.{AllZip}
 use Rattle.std.specs.Option.{option_map}
@@ -12,19 +15,19 @@ use Rattle.std.proofs.lemmas.List.{length-map}
 use Rattle.alf_ops.specs.declared.operator.Op.{Op}
 use Rattle.alf_ops.specs.declared.layout.Layout.{Layout}
 use Rattle.alf_ops.specs.declared.layout.Layout.TheVariants.{Unary, Sum, Carry, Joined, First, Second, Binary, Comparison, Extension, Truncation, Field, Choice}
-use Rattle.alf_ops.specs.Table.{layout_of, operand_sizes}
+use Rattle.alf_ops.specs.Table.{layout_of, operand_sizes, result_size}
 use Rattle.alf_ops.specs.Layouts.{operands_by_layout}
-use Rattle.alf_program.specs.Tree.{NumberedExpression, NumberedExpressions, Empty, With, expressions_of}
+use Rattle.alf_program.specs.Tree.{NumberedExpression, NumberedExpressions, Load, Apply, Empty, With, expressions_of}
 use Rattle.alf_check.specs.declared.rows.FrameRow.{FrameRow}
 use Rattle.alf_check.specs.declared.rows.Term.{Term}
 use Rattle.alf_check.specs.CheckedPrograms.{term_of}
-use Rattle.alf_check.specs.Kept.{HaveSizes}
+use Rattle.alf_check.specs.Kept.{HasSize as HasWritten, HaveSizes}
 use Rattle.domain_core.specs.declared.fault_set.FaultSet.{FaultSet}
 use Rattle.pointer_rules.specs.AbstractValues.{AbstractValue, HasSize}
 use Rattle.pointer_rules.specs.Covering.{IsValue}
 use Rattle.seen_memories.specs.Parts.{MemoryParts, memory_in, rows_of, IsMemory}
-use Rattle.step_rules.specs.Remains.{Remains}
-use Rattle.step_rules.specs.Evaluating.{value_at, values_at}
+use Rattle.step_rules.specs.Remains.{Remains, all_left, goes_on}
+use Rattle.step_rules.specs.Evaluating.{value_at, values_at, before}
 use Rattle.step_rules.specs.RemainsLaws.{IfLeft}
 use Rattle.step_rules.specs.EvaluatingLaws.{value_sized, values_sized}
 use Rattle.abstract_step.specs.Typed.{IsTyped, AreTyped}
@@ -96,10 +99,19 @@ three_members (x ∷ y ∷ z ∷ w ∷ xs) a b c some few e f g = absurd (omega 
 
 -- ---- sizes of what is found
 
--- a value that is found has its size
-pub found_sized : (parts : MemoryParts) (table : List FrameRow) (k size : ℕ) (e : NumberedExpression) (answer : Option AbstractValue × FaultSet) → IsMemory parts
-    → found answer ≡ value_at (rows_of parts.checked) (memory_in parts) e → IfLeft (IsValue size) (value_at (rows_of parts.checked) (memory_in parts) e) → IfSome answer.0 (IsValue size)
-found_sized parts table k size e answer is same sized = subst (λ (r : Remains AbstractValue). IfLeft (IsValue size) r) (sym same) sized
+-- the address of a load is a pointer's
+pub load_sized : (parts : MemoryParts) (e at : NumberedExpression) (bits : ℕ) (answer : Option AbstractValue × FaultSet) → IsMemory parts → IsTyped e → e ≡ Load bits at
+    → found answer ≡ value_at (rows_of parts.checked) (memory_in parts) at → IfSome answer.0 (IsValue 32)
+load_sized parts e at bits answer is typed same told =
+    let has : HasWritten typed.table typed.function typed.size (Load bits at) = subst (HasWritten typed.table typed.function typed.size) same typed.has in
+    subst (λ (r : Remains AbstractValue). IfLeft (IsValue 32) r) (sym told) (value_sized typed.table (rows_of parts.checked) (memory_in parts) is.sized typed.function at 32 has.address)
+
+-- an operator has a result, and its operands have sizes
+pub apply_typed : (e : NumberedExpression) (op : Op) (sizes : List ℕ) (es : NumberedExpressions) → IsTyped e → e ≡ Apply op sizes es
+    → IsSome (result_size op sizes) × AreTyped (operand_sizes op sizes) es
+apply_typed e op sizes es typed same =
+    let has : HasWritten typed.table typed.function typed.size (Apply op sizes es) = subst (HasWritten typed.table typed.function typed.size) same typed.has in
+    (subst (λ (o : Option ℕ). IsSome o) (sym has.result_is) refl, record { table = typed.table; function = typed.function; have = has.operands })
 
 each_size : (sizes : List ℕ) (vs : List AbstractValue) → AllZip IsValue sizes vs → AllZip (λ size v. HasSize v size) sizes vs
 each_size [] [] are = tt
@@ -117,3 +129,37 @@ operands_sized parts sizes es answer is typed same = go answer.0 (subst (λ (r :
         → IfSome o (λ values. AllZip (λ size v. HasSize v size) sizes values.items)
     go None are = tt
     go (Some values) are = each_size sizes values.items are
+
+-- ---- what operands give
+
+module _ (parts : MemoryParts) where
+  abbrev given : NumberedExpression → Remains AbstractValue
+  given e = value_at (rows_of parts.checked) (memory_in parts) e
+
+  abbrev givens : NumberedExpressions → Remains (List AbstractValue)
+  givens es = values_at (rows_of parts.checked) (memory_in parts) es
+
+  pub one_more : (e : NumberedExpression) (es : NumberedExpressions) (first : Option AbstractValue × FaultSet) (rest all : Option (Vec AbstractValue Global) × FaultSet) → found first ≡ given e
+      → founds rest ≡ givens es → founds all ≡ goes_on (found first) (before (founds rest)) → founds all ≡ givens (With e es)
+  one_more e es first rest all of_first of_rest joined =
+      joined ∙ ap (λ (r : Remains AbstractValue). goes_on r (before (founds rest))) of_first ∙ ap (λ (r : Remains (List AbstractValue)). goes_on (given e) (before r)) of_rest
+
+  pub one_found : (terms : List Term) (a : Term) (x : Option AbstractValue × FaultSet) (none all : Option (Vec AbstractValue Global) × FaultSet) → terms ≡ a ∷ []
+      → found x ≡ given (term_of a) → founds none ≡ all_left [] → founds all ≡ goes_on (found x) (before (founds none)) → founds all ≡ givens (expressions_of (map term_of terms))
+  one_found terms a x none all split of_a empty joined =
+      one_more (term_of a) Empty x none all of_a empty joined ∙ ap (λ (ts : List Term). givens (expressions_of (map term_of ts))) (sym split)
+
+  pub two_found : (terms : List Term) (a b : Term) (x y : Option AbstractValue × FaultSet) (none last all : Option (Vec AbstractValue Global) × FaultSet) → terms ≡ a ∷ b ∷ []
+      → found x ≡ given (term_of a) → found y ≡ given (term_of b) → founds none ≡ all_left [] → founds last ≡ goes_on (found y) (before (founds none))
+      → founds all ≡ goes_on (found x) (before (founds last)) → founds all ≡ givens (expressions_of (map term_of terms))
+  two_found terms a b x y none last all split of_a of_b empty of_last joined =
+      one_more (term_of a) (With (term_of b) Empty) x last all of_a (one_more (term_of b) Empty y none last of_b empty of_last) joined
+      ∙ ap (λ (ts : List Term). givens (expressions_of (map term_of ts))) (sym split)
+
+  pub three_found : (terms : List Term) (a b c : Term) (x y z : Option AbstractValue × FaultSet) (none last later all : Option (Vec AbstractValue Global) × FaultSet) → terms ≡ a ∷ b ∷ c ∷ []
+      → found x ≡ given (term_of a) → found y ≡ given (term_of b) → found z ≡ given (term_of c) → founds none ≡ all_left [] → founds last ≡ goes_on (found z) (before (founds none))
+      → founds later ≡ goes_on (found y) (before (founds last)) → founds all ≡ goes_on (found x) (before (founds later)) → founds all ≡ givens (expressions_of (map term_of terms))
+  three_found terms a b c x y z none last later all split of_a of_b of_c empty of_last of_later joined =
+      one_more (term_of a) (With (term_of b) (With (term_of c) Empty)) x later all of_a
+      (one_more (term_of b) (With (term_of c) Empty) y last later of_b (one_more (term_of c) Empty z none last of_c empty of_last) of_later) joined
+      ∙ ap (λ (ts : List Term). givens (expressions_of (map term_of ts))) (sym split)

@@ -3,11 +3,14 @@
 --   load_found                a value and its faults, as a load gives them
 --   first_found               a value before those of the rest
 --   store_told                a memory and its faults, as a store gives them
+--   next_statements           one statement more, and then those that are left
 use Rattle.std.specs.Prelude.{◌||◌, ◌↔◌, IfSome, IfOk, OnOk, if◌then◌else◌}
 use Rattle.std.specs.Option.{option_map}
-use Rattle.std.proofs.Common.{◌≡◌, ◌≢◌, ℕ, Bool, true, false, List, [], ◌∷◌, Option, Some, None, Result, Ok, Err, IsTrue, refl, sym, ap, subst, ◌∙◌}
+use Rattle.std.proofs.Common.{◌≡◌, ◌≢◌, ℕ, Bool, true, false, List, [], ◌∷◌, map, Option, Some, None, Result, Ok, Err, IsTrue, refl, sym, ap, subst, ◌∙◌}
 use Rattle.alf_ops.specs.declared.history.RunFault.{RunFault}
 use Rattle.alf_ops.specs.declared.history.FrameShape.{FrameShape}
+use Rattle.alf_check.specs.declared.rows.Act.{Act}
+use Rattle.alf_check.specs.CheckedPrograms.{act_of}
 use Rattle.domain_core.specs.declared.fault_set.FaultSet.{FaultSet}
 use Rattle.domain_core.specs.FaultSets.{has_fault, no_faults, either}
 use Rattle.pointer_rules.specs.AbstractValues.{AbstractValue}
@@ -17,7 +20,7 @@ use Rattle.memory_rules.specs.Addresses.{cells_of, load_at, stored_at, IsAddress
 use Rattle.memory_rules.specs.AbstractSets.{abstract_sets}
 use Rattle.step_rules.specs.Remains.{Remains, all_left, with_faults, goes_on}
 use Rattle.step_rules.specs.Evaluating.{loaded, before, width_of}
-use Rattle.step_rules.specs.Doing.{where_possible, stored_by, stored_through}
+use Rattle.step_rules.specs.Doing.{where_possible, stored_by, stored_through, after_statement, after_statements}
 use Rattle.step_rules.specs.FaultForms.{loaded_faults, stored_faults}
 use Rattle.abstract_step.specs.Found.{done}
 
@@ -121,3 +124,12 @@ pub goes_further : {A B : Type 0} (faults more : FaultSet) (a : A) (r : Remains 
 goes_further faults more a r further is =
     ap (λ r. with_faults faults (goes_on r further)) is
     ∙ remains_is (further a).left (further a).left (either faults (either more (further a).faults)) (either (either faults more) (further a).faults) refl (union_assoc faults more (further a).faults)
+
+-- one statement more, and then those that are left
+pub next_statements : (rows : List FrameShape) (m later : Mem abstract_sets) (rest others : List Act) (act : Act) (faults more joined : FaultSet) (all : Remains (Mem abstract_sets)) → rest ≡ act ∷ others
+    → joined ≡ either faults more → after_statement rows (act_of act) m ≡ record { left = Some later; faults = more }
+    → with_faults faults (after_statements rows (map act_of rest) m) ≡ all → with_faults joined (after_statements rows (map act_of others) later) ≡ all
+next_statements rows m later rest others act faults more joined all cons union is so_far =
+    ap (λ (f : FaultSet). with_faults f (after_statements rows (map act_of others) later)) union
+    ∙ sym (goes_further faults more later (after_statement rows (act_of act) m) (λ next. after_statements rows (map act_of others) next) is)
+    ∙ subst (λ (acts : List Act). with_faults faults (after_statements rows (map act_of acts) m) ≡ all) cons so_far

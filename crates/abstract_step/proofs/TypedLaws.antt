@@ -2,6 +2,7 @@
 --   first_typed, second_typed, third_typed   operands in a row
 --   few_terms                   an operator has one to three operands
 --   one_member, two_members, three_members   lists of so many
+--   value_found                 a value that is found has its size
 --   load_sized                  the address of a load is a pointer's
 --   apply_typed                 an operator has a result, and its operands have sizes
 --   operands_sized              the operands' values have their sizes
@@ -99,12 +100,18 @@ three_members (x ∷ y ∷ z ∷ w ∷ xs) a b c some few e f g = absurd (omega 
 
 -- ---- sizes of what is found
 
+-- a value that is found has its size
+pub value_found : (parts : MemoryParts) (table : List FrameRow) (k size : ℕ) (e : NumberedExpression) (answer : Option AbstractValue × FaultSet) → IsMemory parts → HasWritten table k size e
+    → found answer ≡ value_at (rows_of parts.checked) (memory_in parts) e → IfSome answer.0 (IsValue size)
+value_found parts table k size e answer is has told =
+    subst (λ (r : Remains AbstractValue). IfLeft (IsValue size) r) (sym told) (value_sized table (rows_of parts.checked) (memory_in parts) is.sized k e size has)
+
 -- the address of a load is a pointer's
 pub load_sized : (parts : MemoryParts) (e at : NumberedExpression) (bits : ℕ) (answer : Option AbstractValue × FaultSet) → IsMemory parts → IsTyped e → e ≡ Load bits at
     → found answer ≡ value_at (rows_of parts.checked) (memory_in parts) at → IfSome answer.0 (IsValue 32)
 load_sized parts e at bits answer is typed same told =
     let has : HasWritten typed.table typed.function typed.size (Load bits at) = subst (HasWritten typed.table typed.function typed.size) same typed.has in
-    subst (λ (r : Remains AbstractValue). IfLeft (IsValue 32) r) (sym told) (value_sized typed.table (rows_of parts.checked) (memory_in parts) is.sized typed.function at 32 has.address)
+    value_found parts typed.table typed.function 32 at answer is has.address told
 
 -- an operator has a result, and its operands have sizes
 pub apply_typed : (e : NumberedExpression) (op : Op) (sizes : List ℕ) (es : NumberedExpressions) → IsTyped e → e ≡ Apply op sizes es

@@ -1,9 +1,11 @@
-use Rattle.std.proofs.Common.{◌≡◌, List, ℕ, map, IsSome, sym, subst, arith, rules}
+use Rattle.std.proofs.Common.{◌≡◌, List, ℕ, map, IsSome, sym, ap, subst, ◌∙◌, arith, rules}
 use Rattle.std.specs.Prelude.{IfOk}
 use Rattle.alf_ops.specs.Table.{result_size, operand_sizes}
-use Rattle.alf_program.specs.Tree.{Load, Apply, Empty, With, expressions_of}
+use Rattle.alf_program.specs.Tree.{NumberedExpression, Load, Apply, Empty, With, expressions_of}
 use Rattle.alf_check.specs.declared.rows.Term.{Term}
-use Rattle.alf_check.specs.CheckedPrograms.{term_of}
+use Rattle.alf_check.specs.declared.rows.Term.TheFolds.{fold-roll-Term}
+use Rattle.alf_check.specs.declared.rows.Term.TheVariants as terms
+use Rattle.alf_check.specs.CheckedPrograms.{term_of, term_step}
 use Rattle.pointer_rules.specs.AbstractValues.{AbstractValue}
 use Rattle.step_rules.specs.Remains.{Remains, goes_on}
 use Rattle.step_rules.specs.Evaluating.{operated}
@@ -14,12 +16,16 @@ use Rattle.abstract_step.proofs.evaluating.+evaluation.Goals as goal
 
 pub evaluate-load-requires-clause-place : goal.evaluate-load-requires-clause-place
 evaluate-load-requires-clause-place t c =
-    load_sized c.args.memory.now (term_of c.args.term.now) (term_of c.in-Load.at.value) c.in-Load.size c.in_ok-place-in-Load.place c.requires.kept c.requires.typed (search rules) (search rules)
+    let same : term_of c.args.term.now ≡ Load c.in-Load.size (term_of c.in-Load.at.value) =
+    ap term_of c.in-Load.is ∙ (ap term_of (sym (terms.rolls-Load c.in-Load.size c.in-Load.at)) ∙ fold-roll-Term NumberedExpression term_step _) in
+    load_sized c.args.memory.now (term_of c.args.term.now) (term_of c.in-Load.at.value) c.in-Load.size c.in_ok-place-in-Load.place c.requires.kept c.requires.typed same (search rules)
 
 pub evaluate-operate-requires : goal.evaluate-operate-requires
 evaluate-operate-requires t c =
     let op = c.in-Apply.op in
-    let parts = apply_typed (term_of c.args.term.now) op c.in-Apply.sizes.items (expressions_of (map term_of c.in-Apply.operands.items)) c.requires.typed (search rules) in
+    let same : term_of c.args.term.now ≡ Apply op c.in-Apply.sizes.items (expressions_of (map term_of c.in-Apply.operands.items)) =
+    ap term_of c.in-Apply.is ∙ (ap term_of (sym (terms.rolls-Apply op c.in-Apply.sizes c.in-Apply.operands)) ∙ fold-roll-Term NumberedExpression term_step _) in
+    let parts = apply_typed (term_of c.args.term.now) op c.in-Apply.sizes.items (expressions_of (map term_of c.in-Apply.operands.items)) c.requires.typed same in
     let shaped = subst (λ (sizes : List ℕ). IsSome (result_size op sizes)) (sym c.deref-in-Apply.ensures.value) parts.0 in
     let typed = subst (λ (sizes : List ℕ). AreTyped (operand_sizes op sizes) (expressions_of (map term_of c.in-Apply.operands.items))) (sym c.deref-in-Apply.ensures.value) parts.1 in
     let each = subst (λ (terms : List Term). AreTyped (operand_sizes op c.deref-in-Apply.result.now) (expressions_of (map term_of terms))) (sym c.deref-in-Apply-2.ensures.value) typed in
@@ -91,8 +97,8 @@ operate-applied-requires-in-len3-clause-sized t c =
     let y = c.b-item-then-terms-lt4.result in
     let z = c.c-item.result in
     let split = three_members c.args.terms.now x y z c.in-len3.len_at_least c.in-len3.len_below c.a-item-then-terms-lt4.is c.b-item-then-terms-lt4.is c.c-item.is in
-    let same = three_found c.args.memory.now c.args.terms.now x y z c.in_ok-a-in-len3.a c.in_ok-b-in-len3.b c.in_ok-c.c c.no_operand-in-len3.result c.in_ok-last-in-len3.last c.in_ok-later.later c.in_ok-args-in-len3.args split
-    c.in_ok-a-in-len3.ensures c.in_ok-b-in-len3.ensures c.in_ok-c.ensures c.no_operand-in-len3.ensures c.in_ok-last-in-len3.ensures c.in_ok-later.ensures c.in_ok-args-in-len3.ensures in
+    let same = three_found c.args.memory.now c.args.terms.now x y z c.in_ok-a-in-len3.a c.in_ok-b-in-len3.b c.in_ok-c-in-len3.c c.no_operand-in-len3.result c.in_ok-last-in-len3.last c.in_ok-later-in-len3.later c.in_ok-args-in-len3.args split
+    c.in_ok-a-in-len3.ensures c.in_ok-b-in-len3.ensures c.in_ok-c-in-len3.ensures c.no_operand-in-len3.ensures c.in_ok-last-in-len3.ensures c.in_ok-later-in-len3.ensures c.in_ok-args-in-len3.ensures in
     operands_sized c.args.memory.now (operand_sizes c.args.op c.args.sizes.now) (expressions_of (map term_of c.args.terms.now)) c.in_ok-args-in-len3.args c.requires.kept c.requires.typed same
 
 pub operate-returns-in_ok-args-in-len3 : goal.operate-returns-in_ok-args-in-len3
@@ -101,8 +107,8 @@ operate-returns-in_ok-args-in-len3 t c =
     let y = c.b-item-then-terms-lt4.result in
     let z = c.c-item.result in
     let split = three_members c.args.terms.now x y z c.in-len3.len_at_least c.in-len3.len_below c.a-item-then-terms-lt4.is c.b-item-then-terms-lt4.is c.c-item.is in
-    let same = three_found c.args.memory.now c.args.terms.now x y z c.in_ok-a-in-len3.a c.in_ok-b-in-len3.b c.in_ok-c.c c.no_operand-in-len3.result c.in_ok-last-in-len3.last c.in_ok-later.later c.in_ok-args-in-len3.args split
-    c.in_ok-a-in-len3.ensures c.in_ok-b-in-len3.ensures c.in_ok-c.ensures c.no_operand-in-len3.ensures c.in_ok-last-in-len3.ensures c.in_ok-later.ensures c.in_ok-args-in-len3.ensures in
+    let same = three_found c.args.memory.now c.args.terms.now x y z c.in_ok-a-in-len3.a c.in_ok-b-in-len3.b c.in_ok-c-in-len3.c c.no_operand-in-len3.result c.in_ok-last-in-len3.last c.in_ok-later-in-len3.later c.in_ok-args-in-len3.args split
+    c.in_ok-a-in-len3.ensures c.in_ok-b-in-len3.ensures c.in_ok-c-in-len3.ensures c.no_operand-in-len3.ensures c.in_ok-last-in-len3.ensures c.in_ok-later-in-len3.ensures c.in_ok-args-in-len3.ensures in
     subst (λ (r : Remains (List AbstractValue)). IfOk c.applied-in-len3.result (λ answer. found answer ≡ goes_on r (operated c.args.op c.args.sizes.now))) same c.applied-in-len3.ensures
 
 pub operate-unreachable-requires-in-len4-up : goal.operate-unreachable-requires-in-len4-up

@@ -4,7 +4,7 @@
 --   one_member, two_members, three_members   lists of so many
 --   value_found                 a value that is found has its size
 --   load_sized                  the address of a load is a pointer's
---   apply_typed                 an operator has a result, and its operands have sizes
+--   apply_typed, operands_typed an operator has a result, and its operands have sizes
 --   operands_sized              the operands' values have their sizes
 --   one_found, two_found, three_found   what so many operands give
 use Rattle.std.specs.Prelude.{IfSome, IsSome}
@@ -119,6 +119,19 @@ pub apply_typed : (e : NumberedExpression) (op : Op) (sizes : List ℕ) (es : Nu
 apply_typed e op sizes es typed same =
     let has : HasWritten typed.table typed.function typed.size (Apply op sizes es) = subst (HasWritten typed.table typed.function typed.size) same typed.has in
     (subst (λ (o : Option ℕ). IsSome o) (sym has.result_is) refl, record { table = typed.table; function = typed.function; have = has.operands })
+
+-- the same of its parts as code passes them on
+pub operands_typed : {K : Type 0} (e : NumberedExpression) (op : Op) (sizes own : List ℕ) (terms passed : List Term) → IsTyped e → e ≡ Apply op sizes (expressions_of (map term_of terms))
+    → own ≡ sizes → passed ≡ terms → K → IsSome (result_size op own) × (AreTyped (operand_sizes op own) (expressions_of (map term_of passed)) × K)
+operands_typed e op sizes own terms passed typed same of_sizes of_terms kept =
+    let parts = apply_typed e op sizes (expressions_of (map term_of terms)) typed same in (
+      subst (λ (xs : List ℕ). IsSome (result_size op xs)) (sym of_sizes) parts.0,
+      (
+        subst (λ (xs : List ℕ). AreTyped (operand_sizes op xs) (expressions_of (map term_of passed))) (sym of_sizes)
+            (subst (λ (ts : List Term). AreTyped (operand_sizes op sizes) (expressions_of (map term_of ts))) (sym of_terms) parts.1),
+        kept,
+      ),
+    )
 
 each_size : (sizes : List ℕ) (vs : List AbstractValue) → AllZip IsValue sizes vs → AllZip (λ size v. HasSize v size) sizes vs
 each_size [] [] are = tt

@@ -5,13 +5,14 @@ use Rattle.alf_program.specs.Tree.{NumberedExpression, Load, Apply, Empty, With,
 use Rattle.alf_check.specs.declared.rows.Term.{Term}
 use Rattle.alf_check.specs.declared.rows.Term.TheFolds.{fold-roll-Term}
 use Rattle.alf_check.specs.declared.rows.Term.TheVariants as terms
+use Rattle.alf_check.specs.declared.rows.Term.TheViews.{the_lemmas}
 use Rattle.alf_check.specs.CheckedPrograms.{term_of, term_step}
 use Rattle.pointer_rules.specs.AbstractValues.{AbstractValue}
 use Rattle.step_rules.specs.Remains.{Remains, goes_on}
 use Rattle.step_rules.specs.Evaluating.{operated}
 use Rattle.abstract_step.specs.Typed.{AreTyped}
 use Rattle.abstract_step.specs.Found.{found}
-use Rattle.abstract_step.proofs.TypedLaws.{first_typed, second_typed, third_typed, few_terms, one_member, two_members, three_members, load_sized, apply_typed, operands_sized, one_found, two_found, three_found}
+use Rattle.abstract_step.proofs.TypedLaws.{first_typed, second_typed, third_typed, few_terms, one_member, two_members, three_members, load_sized, operands_typed, operands_sized, one_found, two_found, three_found}
 use Rattle.abstract_step.proofs.evaluating.+evaluation.Goals as goal
 
 pub evaluate-load-requires-clause-place : goal.evaluate-load-requires-clause-place
@@ -21,15 +22,12 @@ evaluate-load-requires-clause-place t c =
     load_sized c.args.memory.now (term_of c.args.term.now) (term_of c.in-Load.at.value) c.in-Load.size c.in_ok-place-in-Load.place c.requires.kept c.requires.typed same (search rules)
 
 pub evaluate-operate-requires : goal.evaluate-operate-requires
-evaluate-operate-requires t c =
-    let op = c.in-Apply.op in
-    let same : term_of c.args.term.now ≡ Apply op c.in-Apply.sizes.items (expressions_of (map term_of c.in-Apply.operands.items)) =
-    ap term_of c.in-Apply.is ∙ (ap term_of (sym (terms.rolls-Apply op c.in-Apply.sizes c.in-Apply.operands)) ∙ fold-roll-Term NumberedExpression term_step _) in
-    let parts = apply_typed (term_of c.args.term.now) op c.in-Apply.sizes.items (expressions_of (map term_of c.in-Apply.operands.items)) c.requires.typed same in
-    let shaped = subst (λ (sizes : List ℕ). IsSome (result_size op sizes)) (sym c.deref-in-Apply.ensures.value) parts.0 in
-    let typed = subst (λ (sizes : List ℕ). AreTyped (operand_sizes op sizes) (expressions_of (map term_of c.in-Apply.operands.items))) (sym c.deref-in-Apply.ensures.value) parts.1 in
-    let each = subst (λ (terms : List Term). AreTyped (operand_sizes op c.deref-in-Apply.result.now) (expressions_of (map term_of terms))) (sym c.deref-in-Apply-2.ensures.value) typed in
-    (search rules, (shaped, (each, c.requires.kept)))
+evaluate-operate-requires t c = (
+  search (rules, the_lemmas),
+  operands_typed (term_of c.args.term.now) c.in-Apply.op c.in-Apply.sizes.items c.deref-in-Apply.result.now c.in-Apply.operands.items c.deref-in-Apply-2.result.now c.requires.typed
+      (ap term_of c.in-Apply.is ∙ (ap term_of (sym (terms.rolls-Apply c.in-Apply.op c.in-Apply.sizes c.in-Apply.operands)) ∙ fold-roll-Term NumberedExpression term_step _))
+      c.deref-in-Apply.ensures.value c.deref-in-Apply-2.ensures.value c.requires.kept,
+)
 
 pub operate-applied-requires-clause-sized : goal.operate-applied-requires-clause-sized
 operate-applied-requires-clause-sized t c =

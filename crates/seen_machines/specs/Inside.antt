@@ -3,7 +3,7 @@
 --   IsInside rows history             each store does
 --   outside                           past the end of its frame a byte comes from no store
 --   store_inside, by_stores_inside    a store without a fault lies inside, and so do such stores in a row
-use Rattle.std.specs.Prelude.{◌==◌, slice_get, if◌then◌else◌}
+use Rattle.std.specs.Prelude.{◌==◌, nat_le, nat_lt, slice_get, if◌then◌else◌}
 use Rattle.std.proofs.Common.{◌≡◌, ℕ, Bool, true, false, List, [], ◌∷◌, Option, Some, None, Result, Ok, Err, ◌<◌, ◌≤◌, ◌+◌, ◌*◌, ◌/◌, refl, sym, ap, subst, ◌∙◌, arith}
 use Rattle.std.proofs.lemmas.Bool.{eqb-true, leb-true, ltb-true, and_parts, false≢true}
 use Rattle.lists.specs.Tests.{by_test}
@@ -35,7 +35,7 @@ IsInside rows (Store frame offset size value ∷ history) = IsStoreInside (slice
 past_cell : (bits offset size byte : ℕ) → fits_in bits offset size ≡ true → bits / 8 ≤ byte → is_byte_of offset size byte ≡ false
 past_cell bits offset size byte fits past = by_test (is_byte_of offset size byte)
     (λ e.
-    let parts = and_parts _ _ e in
+    let parts = and_parts (nat_le offset byte) (nat_lt byte (offset + size / 8)) e in
     let low : byte < offset + size / 8 = ltb-true byte (offset + size / 8) parts.1 in
     let room : offset * 8 + size ≤ bits = leb-true (offset * 8 + size) bits fits in
     absurd (omega (arith, low, room, past)))

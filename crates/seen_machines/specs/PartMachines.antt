@@ -1,11 +1,11 @@
 -- The machine of a program over the parts that code keeps.
---   IsOwn checked parts              parts of a memory of this program
+--   IsOwn program parts              parts of a memory of this program
 --   KeepsParts                       what the machine keeps
 --   part_machine checked graph rows  the machine
 --   is_part_machine                  it keeps the laws of a stepper
 --   is_part_along                    and its steps lie along the edges of the graph's outline
 use Rattle.std.specs.Prelude.{◌↔◌, Contains}
-use Rattle.std.proofs.Common.{◌≡◌, ◌≢◌, ℕ, Bool, true, List, length, Option, Some, ◌<◌, refl, sym, ap, subst, ◌∙◌, arith}
+use Rattle.std.proofs.Common.{◌≡◌, ◌≢◌, ℕ, Bool, true, List, [], ◌∷◌, length, Option, Some, ◌<◌, refl, sym, ap, subst, ◌∙◌, arith}
 use Rattle.lists.specs.Members.{first_or_further, no_member}
 use Rattle.alf_ops.specs.declared.history.FrameShape.{FrameShape}
 use Rattle.alf_ops.specs.declared.history.RunEvent.{RunEvent}
@@ -39,8 +39,8 @@ use Rattle.seen_machines.specs.MadeMachines.{by_made, IsMade, IsOrdered, made_is
 use Rattle.seen_machines.specs.RunsInside.{StorePromises, steps_inside, starts_inside}
 
 -- parts of a memory of this program
-pub record IsOwn (checked : CheckedParts) (parts : MemoryParts) : Type 0 where
-  pub checked : parts.checked ≡ checked
+pub record IsOwn (program : CheckedParts) (parts : MemoryParts) : Type 0 where
+  pub checked : parts.checked ≡ program
   pub is : IsMemory parts
 
 -- what the machine keeps

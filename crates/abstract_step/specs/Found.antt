@@ -1,0 +1,24 @@
+-- What code finds, as what remains.
+--   found answer      a value, if there is one, and the faults
+--   founds answer     values in a row
+--   done answer m     whether some run goes on, with this memory, and the faults
+use Rattle.std.specs.Prelude.{Bool, Option, Some, None, List, Vec, if◌then◌else◌}
+use Rattle.std.specs.Option.{option_map}
+use Rattle.std.specs.declared.alloc.Global.{Global}
+use Rattle.domain_core.specs.declared.fault_set.FaultSet.{FaultSet}
+use Rattle.pointer_rules.specs.AbstractValues.{AbstractValue}
+use Rattle.memory_rules.specs.Memories.{Mem}
+use Rattle.memory_rules.specs.AbstractSets.{abstract_sets}
+use Rattle.step_rules.specs.Remains.{Remains}
+
+-- a value, if there is one, and the faults
+abbrev pub found : Option AbstractValue × FaultSet → Remains AbstractValue
+found answer = record { left = answer.0; faults = answer.1 }
+
+-- values in a row
+abbrev pub founds : Option (Vec AbstractValue Global) × FaultSet → Remains (List AbstractValue)
+founds answer = record { left = option_map (λ values. values.items) answer.0; faults = answer.1 }
+
+-- whether some run goes on, with this memory, and the faults
+abbrev pub done : Bool × FaultSet → Mem abstract_sets → Remains (Mem abstract_sets)
+done answer m = record { left = if answer.0 then Some m else None; faults = answer.1 }

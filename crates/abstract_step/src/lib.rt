@@ -1,0 +1,16 @@
+//! The transfer of a program: one step over abstract memories.
+//!
+//! Each call gives exactly what the definitions of `step_rules` say, whose laws hold of it: values of expressions with
+//! the faults that some run may end with, and memories after statements. The crate rests on abstract memory and on
+//! checked programs.
+#![tactic(auto)]
+
+// What expressions give.
+mod evaluating;
+mod operands;
+
+// What statements make of a memory.
+mod storing;
+
+pub use evaluating::evaluate;
+pub use storing::do_statements;

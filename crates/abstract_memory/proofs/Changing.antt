@@ -14,7 +14,7 @@ use Rattle.memory_pages.specs.Pages.{list_or}
 use Rattle.memory_rules.specs.AbstractSets.{abstract_sets}
 use Rattle.memory_rules.specs.Covers.{FrameSized}
 use Rattle.memory_rules.specs.Frames.{FrameMem}
-use Rattle.memory_rules.specs.Memories.{Mem, MemSized, with_frame, weak_at, weak_all}
+use Rattle.memory_rules.specs.Memories.{Mem, MemSized, with_frame, strong_at, stored, weak_at, weak_all}
 use Rattle.held_memories.specs.HeldFrames.{frame_of}
 use Rattle.held_memories.specs.HeldMemories.{memory_of, FrameHeld}
 use Rattle.seen_memories.specs.Parts.{MemoryParts, memory_in, canonical, IsMemory}
@@ -94,6 +94,16 @@ set_changes law frames frame own slots g low is stored count canon sized =
           (λ apart. rw apart (all other)));
     }
 
+-- the same, where the frame before is told by its place
+pub set_changes_or : (law : FrameHeld) (frames : List (List HeldSlot)) (frame : ℕ) (own slots : List HeldSlot) (g : FrameMem abstract_sets → FrameMem abstract_sets)
+    → frame < length frames → own ≡ get_or frames frame own → frame_of slots ≡ g (frame_of (get_or frames frame own)) → length slots ≡ length (get_or frames frame own)
+    → (map canonical (get_or frames frame own) ≡ get_or frames frame own → map canonical slots ≡ slots)
+    → (FrameSized abstract_sets (frame_of own) → FrameSized abstract_sets (g (frame_of own)))
+    → Changes frames (slice_set frames frame slots) (λ m. with_frame abstract_sets m frame (g (m.frames frame)))
+set_changes_or law frames frame own slots g low is stored count canon sized =
+    set_changes law frames frame own slots g low is (stored ∙ ap (λ (s : List HeldSlot). g (frame_of s)) (sym is)) (count ∙ ap (λ (s : List HeldSlot). length s) (sym is))
+    (λ here. canon (subst (λ (s : List HeldSlot). map canonical s ≡ s) is here)) sized
+
 pub nothing_changes : (frames : List (List HeldSlot)) → Changes frames frames (λ m. m)
 nothing_changes frames = record { memory = λ running. refl; lengths = refl; canonical = λ is. is; sized = λ is. is }
 
@@ -128,6 +138,38 @@ module _ (old : List (List HeldSlot)) (cells : List (ℕ × ℕ)) (size : ℕ) (
   all_mixed frames rest none so =
       let own = subst (λ (list : List (ℕ × ℕ)). MixedSo old frames cells list size value) none so in
       record { memory = own.memory; lengths = own.lengths; canonical = own.canonical; sized = λ before. own.sized }
+
+-- ---- one cell or several
+
+one_alone : (cells : List (ℕ × ℕ)) (x : ℕ × ℕ) → 1 ≤ length cells → length cells < 2 → get_or cells 0 x ∷ [] ≡ cells
+one_alone [] x some few = absurd (omega arith)
+one_alone (cell ∷ []) x some few = refl
+one_alone (cell ∷ other ∷ cells) x some few = absurd (omega arith)
+
+-- the one possible cell
+pub alone_changes : (old new : List (List HeldSlot)) (cells : List (ℕ × ℕ)) (x : ℕ × ℕ) (size : ℕ) (value : AbstractValue) → 1 ≤ length cells → length cells < 2
+    → Changes old new (λ m. strong_at abstract_sets m (get_or cells 0 x) size value) → Changes old new (λ m. stored abstract_sets m cells size value)
+alone_changes old new cells x size value some few changes = record {
+  memory = λ running. changes.memory running ∙ ap (λ (list : List (ℕ × ℕ)). stored abstract_sets (memory_of running old) list size value) (one_alone cells x some few);
+  lengths = changes.lengths;
+  canonical = changes.canonical;
+  sized = changes.sized;
+}
+
+many_are_weak : (m : Mem abstract_sets) (cells : List (ℕ × ℕ)) (size : ℕ) (value : AbstractValue) → 2 ≤ length cells → weak_all abstract_sets m cells size value ≡ stored abstract_sets m cells size value
+many_are_weak m [] size value some = absurd (omega arith)
+many_are_weak m (cell ∷ []) size value some = absurd (omega arith)
+many_are_weak m (cell ∷ other ∷ cells) size value some = refl
+
+-- several possible cells
+pub many_change : (old new : List (List HeldSlot)) (cells : List (ℕ × ℕ)) (size : ℕ) (value : AbstractValue) → 2 ≤ length cells
+    → Changes old new (λ m. weak_all abstract_sets m cells size value) → Changes old new (λ m. stored abstract_sets m cells size value)
+many_change old new cells size value some changes = record {
+  memory = λ running. changes.memory running ∙ many_are_weak (memory_of running old) cells size value some;
+  lengths = changes.lengths;
+  canonical = changes.canonical;
+  sized = changes.sized;
+}
 
 -- ---- parts
 

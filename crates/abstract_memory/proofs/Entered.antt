@@ -27,7 +27,7 @@ none_entered function (slots ∷ frames) = refl
 pub entered_more : (rows : List FrameRow) (frames : List (List HeldSlot)) (function at : ℕ) (row : FrameRow) (slots : List HeldSlot)
     → length frames ≡ length rows → at < length rows
     → slice_set (entered_frames (shapes_of (take at rows)) function frames) at (entered_frame function (shape_of (get_or rows at row)) (get_or (entered_frames (shapes_of (take at rows)) function frames) at slots))
-    ≡ entered_frames (shapes_of (take (at + 1) rows)) function frames
+    ≡ entered_frames (shapes_of (take (suc at) rows)) function frames
 entered_more [] frames function at row slots same low = absurd (omega arith)
 entered_more (first ∷ rows) [] function at row slots same low = absurd (omega arith)
 entered_more (first ∷ rows) (own ∷ frames) function zero row slots same low = ap (λ others. entered_frame function (shape_of first) own ∷ others) (sym (none_entered function frames))
@@ -37,14 +37,15 @@ entered_more (first ∷ rows) (own ∷ frames) function (suc at) row slots same 
 -- the step that makes one frame more
 pub entered_step : (rows : List FrameRow) (old now : List (List HeldSlot)) (function at : ℕ) (row : FrameRow) (slots after : List HeldSlot)
     → length old ≡ length rows → at < length rows → now ≡ entered_frames (shapes_of (take at rows)) function old
-    → row ≡ get_or rows at row → slots ≡ get_or now at slots → after ≡ entered_frame function (shape_of row) slots
+    → row ≡ get_or rows at row → after ≡ entered_frame function (shape_of row) (get_or now at slots)
     → slice_set now at after ≡ entered_frames (shapes_of (take (at + 1) rows)) function old
-entered_step rows old now function at row slots after same low so_far row_is slots_is is =
+entered_step rows old now function at row slots after same low so_far row_is is =
     let before = entered_frames (shapes_of (take at rows)) function old in
     let own : after ≡ entered_frame function (shape_of (get_or rows at row)) (get_or before at slots) =
-    is ∙ (ap (λ (r : FrameRow). entered_frame function (shape_of r) slots) row_is
-    ∙ ap (entered_frame function (shape_of (get_or rows at row))) (slots_is ∙ ap (λ (xs : List (List HeldSlot)). get_or xs at slots) so_far)) in
-    ap (λ (xs : List (List HeldSlot)). slice_set xs at after) so_far ∙ (ap (slice_set before at) own ∙ entered_more rows old function at row slots same low)
+    is ∙ (ap (λ (r : FrameRow). entered_frame function (shape_of r) (get_or now at slots)) row_is
+    ∙ ap (λ (xs : List (List HeldSlot)). entered_frame function (shape_of (get_or rows at row)) (get_or xs at slots)) so_far) in
+    ap (λ (xs : List (List HeldSlot)). slice_set xs at after) so_far ∙ (ap (slice_set before at) own ∙ (entered_more rows old function at row slots same low
+    ∙ ap (λ (n : ℕ). entered_frames (shapes_of (take n rows)) function old) (let e : suc at ≡ at + 1 = omega arith in e)))
 
 frame_count : (function : ℕ) (row : FrameShape) (slots : List HeldSlot) → length slots ≡ bytes_in row → length (entered_frame function row slots) ≡ bytes_in row
 frame_count function row slots count = by_test (is_owner row.owner function)

@@ -201,9 +201,10 @@ impl<'a> Lattice for AMem<'a> {
     fn join(&self, alloc: Global, other: &Self) -> Result<Self, AllocError> {
         held_memories_are_those_of_the_rules();
         let frames = frames_joined(alloc, self.checked.frames(), &self.frames, &other.frames)?;
+        let running = Vec::from_slice(alloc, &self.running)?;
         Ok(AMem {
             checked: self.checked,
-            running: Vec::from_slice(alloc, &self.running)?,
+            running,
             frames,
         })
     }

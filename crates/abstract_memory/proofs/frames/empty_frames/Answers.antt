@@ -5,4 +5,4 @@ use Rattle.abstract_memory.proofs.frames.empty_frames.Goals as goal
 pub loop-at-preserved : goal.loop-at-preserved
 loop-at-preserved c =
     entered_step c.args.rows.now c.args.frames.now c.loop-at.frames c.args.func c.loop-at.at c.index-rows-at.result c.index-frames-at.result c.empty_frame.new.slots
-    c.requires c.loop-at-test.true c.loop-at.invariant c.index-rows-at.is c.index-frames-at.is c.in_ok-empty_frame.ensures
+    c.requires c.loop-at-test.true c.loop-at.invariant c.index-rows-at.is c.in_ok-empty_frame.ensures

@@ -1,3 +1,5 @@
 mod SlotFrames
 mod Steps
 mod Stores
+mod Changes
+mod Sizes

@@ -5,19 +5,18 @@
 --   none_wider                  where no cell has more bits nothing is done to them
 --   byte_found, cells_found     what a frame has at the place of a slot
 use Rattle.std.specs.Prelude.{slice_get, slice_set, ◌==◌, nat_lt, if◌then◌else◌}
-use Rattle.std.proofs.Common.{Bool, ◌≡◌, ◌≢◌, inl, inr, sym, subst, ◌∙◌, ap, ℕ, suc, zero, true, false, List, [], ◌∷◌, map, Option, Some, None, refl, arith, ◌%◌, ◌<◌, ◌≤◌, length}
+use Rattle.std.proofs.Common.{◌≡◌, ◌≢◌, inl, inr, sym, subst, ◌∙◌, ap, ℕ, suc, zero, true, false, List, [], ◌∷◌, map, Option, Some, None, refl, arith, ◌%◌, ◌<◌, ◌≤◌, length}
 use Rattle.std.proofs.lemmas.Bool.{cases_eq, and_parts, eqb-true, eq-eqb, ltb-true, leb-true, false≢true}
 use Rattle.lists.specs.Tests.{by_test}
 use Rattle.strided_rules.specs.Strides.{Stride}
-use Rattle.pointer_rules.specs.AbstractValues.{AbstractValue}
 use Rattle.memory_pages.specs.declared.byte.Byte.{Byte}
 use Rattle.memory_pages.specs.declared.held.Held.{Held}
-use Rattle.memory_pages.specs.Slots.{HeldSlot, table, cell_of, bare, with_byte, with_cell, without_wider, with_wider_marked, marked}
-use Rattle.memory_rules.specs.Frames.{AbstractByte, Cell, FrameMem, with_x}
+use Rattle.memory_pages.specs.Slots.{HeldSlot, table, cell_of, bare, with_cell, without_wider, with_wider_marked, marked}
+use Rattle.memory_rules.specs.Frames.{AbstractByte, with_x}
 use Rattle.memory_rules.specs.AbstractSets.{abstract_sets}
 use Rattle.held_memories.specs.HeldFrames.{is_cell_size, byte_seen, cell_seen, byte_in, cell_in, frame_of}
 use Rattle.held_memories.specs.SlotStores.{CellChange}
-use Rattle.frame_stores.specs.Places.{CellsBySize, at_place, with_place, wider, canonical, Becomes}
+use Rattle.frame_stores.specs.Places.{CellsBySize, with_place, wider, canonical, Becomes}
 
 -- ---- lists with one member set
 

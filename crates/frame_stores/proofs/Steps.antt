@@ -2,10 +2,9 @@
 --   before_is, inside_is   what a store makes of a place before its cell, and in it
 --   begun, gone_on, ended  no place is changed at first, one more at each step, and all at the end
 use Rattle.std.specs.Prelude.{slice_get, ◌==◌, nat_lt, if◌then◌else◌}
-use Rattle.std.proofs.Common.{Bool, ◌≡◌, ◌≢◌, ◌⊎◌, inl, inr, sym, subst, ◌∙◌, ap, ℕ, suc, true, false, List, Option, Some, None, refl, arith, ◌+◌, ◌-◌, ◌*◌, ◌/◌, ◌%◌, ◌<◌, ◌≤◌, length}
-use Rattle.std.proofs.lemmas.Bool.{cases_lt, and_parts, and_from, and_right, eqb-true, eq-eqb, ltb-true, ltb-false, lt-ltb, le-ltb, false≢true}
+use Rattle.std.proofs.Common.{Bool, ◌≡◌, ◌≢◌, ◌⊎◌, inl, inr, sym, subst, ◌∙◌, ℕ, true, false, List, Option, Some, None, refl, arith, ◌+◌, ◌-◌, ◌*◌, ◌/◌, ◌<◌, ◌≤◌}
+use Rattle.std.proofs.lemmas.Bool.{and_parts, and_from, eqb-true, eq-eqb, ltb-true, ltb-false, lt-ltb, le-ltb, false≢true}
 use Rattle.lists.specs.Tests.{by_test}
-use Rattle.alf_ops.specs.Histories.{is_byte_of}
 use Rattle.alf_ops.specs.Tables.{in_cell, below_cell, above_cell}
 use Rattle.strided_rules.specs.Strides.{Stride}
 use Rattle.pointer_rules.specs.AbstractValues.{AbstractValue}

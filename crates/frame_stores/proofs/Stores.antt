@@ -1,24 +1,29 @@
 -- Stores and pins, of slots.
+--   begins_in                     a cell that lies in the frame begins in it
 --   begins, goes, ends            a store from place to place
+--   untouched                     the byte that is next is as it was
 --   strong_before, strong_inside  a place of a strong store
 --   weak_before, weak_inside      a place of a weak store
 --   pins                          a pin
-use Rattle.std.specs.Prelude.{slice_get, slice_set, ◌==◌, nat_lt, if◌then◌else◌}
-use Rattle.std.proofs.Common.{Bool, ◌≡◌, ◌≢◌, inl, inr, sym, subst, ◌∙◌, ap, ℕ, suc, zero, true, false, List, Option, Some, None, refl, arith, ◌+◌, ◌-◌, ◌*◌, ◌/◌, ◌<◌, ◌≤◌, length}
-use Rattle.std.proofs.lemmas.Bool.{eqb-true, eq-eqb, lt-ltb, false≢true}
+use Rattle.std.specs.Prelude.{slice_get, slice_set, ◌==◌, if◌then◌else◌}
+use Rattle.std.proofs.Common.{◌≡◌, sym, subst, ◌∙◌, ap, ℕ, suc, zero, true, false, List, Some, None, refl, arith, ◌+◌, ◌-◌, ◌*◌, ◌/◌, ◌<◌, ◌≤◌, length}
+use Rattle.std.proofs.lemmas.Bool.{eqb-true, eq-eqb, lt-ltb, le-ltb, false≢true}
 use Rattle.lists.specs.Tests.{by_test}
-use Rattle.strided_rules.specs.Strides.{Stride}
 use Rattle.pointer_rules.specs.AbstractValues.{AbstractValue}
 use Rattle.memory_pages.specs.declared.byte.Byte.{Byte}
 use Rattle.memory_pages.specs.declared.held.Held.{Held}
-use Rattle.memory_pages.specs.Slots.{HeldSlot, table, cell_of, bare, with_byte, with_cell, with_wider_marked}
-use Rattle.memory_rules.specs.Frames.{AbstractByte, Cell, FrameMem, is_same, new_byte, weak_byte, with_x, strong, pinned}
+use Rattle.memory_pages.specs.Slots.{HeldSlot, bare, with_cell}
+use Rattle.memory_rules.specs.Frames.{Cell, FrameMem, is_same, new_byte, weak_byte, with_x, strong, pinned}
 use Rattle.memory_rules.specs.AbstractSets.{abstract_sets}
 use Rattle.held_memories.specs.HeldFrames.{is_cell_size, byte_held, byte_seen, cell_seen, cell_in, frame_of}
 use Rattle.held_memories.specs.SlotStores.{CellChange, ByteChange, stored_frame}
 use Rattle.frame_stores.specs.Places.{CellsBySize, at_place, below, with_place, wider, canonical, known, known_seen, lone_slot, mixed, mixed_slot, weakly, IsMixedAt, Becomes}
-use Rattle.frame_stores.proofs.SlotFrames.{slot_at, put_becomes, bare_cells, with_cell_cells, marked_cells, byte_found, cells_found}
+use Rattle.frame_stores.proofs.SlotFrames.{cell_bounds, put_becomes, bare_cells, with_cell_cells, marked_cells, byte_found, cells_found}
 use Rattle.frame_stores.proofs.Steps.{before_is, inside_is, begun, gone_on, ended, frames_keep_cells}
+
+-- a cell that lies in the frame begins in it
+pub begins_in : (offset size count : ℕ) → is_cell_size size ≡ true → offset + size / 8 ≤ count → offset < count
+begins_in offset size count sized fits = let bounds = cell_bounds size sized in omega (arith, bounds.0, bounds.1, fits)
 
 -- ---- from place to place
 
@@ -46,6 +51,10 @@ module _ (offset size : ℕ) (new : Cell AbstractValue) (others : CellChange) (b
       length = step.length ∙ so_far.length;
       canonical = λ are. step.canonical (so_far.canonical are);
     }
+
+    -- what begins at the place is still as it was
+    pub untouched : (slots : List HeldSlot) (place : ℕ) → Becomes first slots (partly place) → (frame_of slots).bytes place ≡ (frame_of first).bytes place
+    untouched slots place so_far = ap (λ (m : FrameMem abstract_sets). m.bytes place) so_far.frame ∙ rw (le-ltb place place (omega arith)) refl
 
     pub ends : (slots : List HeldSlot) (place : ℕ) → place ≡ offset + size / 8 → Becomes first slots (partly place)
         → Becomes first slots (after (frame_of first))

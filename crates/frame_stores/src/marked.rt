@@ -1,6 +1,6 @@
 //! Cells that perhaps are read from their bytes after a weak store.
 
-ghost use Rattle.std.specs.Prelude.{◌≡◌, ◌<◌, OnOk, length};
+ghost use Rattle.std.specs.Prelude.{◌<◌, OnOk, length};
 ghost use Rattle.memory_rules.specs.AbstractSets.{abstract_sets};
 ghost use Rattle.memory_rules.specs.Frames.{with_x};
 ghost use Rattle.held_memories.specs.HeldFrames.{frame_of};

@@ -4,7 +4,6 @@ ghost use Rattle.std.specs.Prelude.{◌≡◌, ◌≤◌, ◌<◌, ◌+◌, ◌-
 ghost use Rattle.pointer_rules.specs.Covering.{IsValue};
 ghost use Rattle.memory_rules.specs.AbstractSets.{abstract_sets};
 ghost use Rattle.memory_rules.specs.Frames.{strong};
-ghost use Rattle.memory_pages.specs.Slots.{IsCellSize};
 ghost use Rattle.held_memories.specs.HeldFrames.{frame_of, is_cell_size};
 ghost use Rattle.frame_stores.specs.Places.{AreCanonical, Becomes, at_place, lone_slot};
 
@@ -18,12 +17,7 @@ use pointer_domain::AVal;
 use std::alloc::{AllocError, Global};
 
 /// The slot at this place of the cell: a byte of the value, and at the first place the cell.
-fn stored_slot(
-    alloc: Global,
-    place: u32,
-    size: u32,
-    value: &AVal,
-) -> Result<Slot, AllocError>
+fn stored_slot(alloc: Global, place: u32, size: u32, value: &AVal) -> Result<Slot, AllocError>
     requires { IfSome value.now.words (λ words. 8 * place + 8 ≤ words.size) }
     ensures { IfOk result (λ slot. slot ≡ lone_slot place size value.now) }
 {

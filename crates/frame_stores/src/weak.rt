@@ -40,7 +40,15 @@ fn store_at(
     if place < start {
         return mark_wider(alloc, slots, place, 8 * (start - place) as u32);
     }
-    mix_at(alloc, slots, place, (place - start) as u32, size, cell, value)
+    mix_at(
+        alloc,
+        slots,
+        place,
+        (place - start) as u32,
+        size,
+        cell,
+        value,
+    )
 }
 
 /// Stores a value in one of several possible cells, of which this is one.

@@ -6,9 +6,8 @@
 --   is_within       what parts stand for holds nothing outside the frames
 --   made_is         what is made of a memory with values of their sizes are parts of a memory
 --   both_within     a join holds nothing outside the frames
-use Rattle.std.specs.Prelude.{slice_get, if◌then◌else◌}
-use Rattle.std.specs.Option.{option_map}
-use Rattle.std.proofs.Common.{Bool, ◌≡◌, ◌∙◌, ap, subst, sym, inl, inr, ℕ, suc, zero, true, false, List, [], ◌∷◌, map, Option, Some, None, refl, arith, ◌+◌, ◌/◌, ◌%◌, ◌<◌, ◌≤◌, length}
+use Rattle.std.specs.Prelude.{slice_get}
+use Rattle.std.proofs.Common.{Bool, ◌≡◌, ◌∙◌, ap, subst, sym, inl, inr, ℕ, suc, zero, true, false, List, [], ◌∷◌, map, Option, Some, None, refl, arith, ◌+◌, ◌%◌, ◌<◌, ◌≤◌, length}
 use Rattle.std.proofs.lemmas.Bool.{cases_eq, cases_lt, and_parts, eqb-true, ltb-true, leb-true}
 use Rattle.lists.specs.Tests.{by_test}
 use Rattle.alf_ops.specs.declared.history.FrameShape.{FrameShape}
@@ -18,12 +17,11 @@ use Rattle.memory_pages.specs.declared.byte.Byte.{Byte}
 use Rattle.memory_pages.specs.declared.held.Held.{Held}
 use Rattle.memory_pages.specs.Slots.{HeldSlot, table, cell_of}
 use Rattle.memory_pages.specs.Pages.{list_or}
-use Rattle.memory_rules.specs.Frames.{FrameMem, Cell, AbstractByte, no_byte, joined, join_bytes}
+use Rattle.memory_rules.specs.Frames.{FrameMem, Cell, joined}
 use Rattle.memory_rules.specs.Memories.{Mem, MemSized, both}
 use Rattle.memory_rules.specs.AbstractSets.{abstract_sets}
-use Rattle.held_memories.specs.HeldFrames.{is_cell_size, byte_seen, byte_held, cell_seen, cell_held, byte_in, cell_in, frame_of}
-use Rattle.held_memories.specs.HeldMemories.{runs_or, memory_of}
-use Rattle.strided_rules.specs.Strides.{Stride}
+use Rattle.held_memories.specs.HeldFrames.{is_cell_size, byte_held, cell_seen, cell_held, byte_in, cell_in, frame_of}
+use Rattle.held_memories.specs.HeldMemories.{runs_or}
 use Rattle.pointer_rules.specs.AbstractValues.{AbstractValue}
 use Rattle.seen_memories.specs.Parts.{MemoryParts, memory_in, rows_of, functions_of, bytes_in, canonical, IsMemory}
 use Rattle.seen_memories.specs.Made.{slot_at, slots_of, frames_from, made}

@@ -2,7 +2,7 @@
 --   get_in, get_out   what is found in a list that is read off
 --   read_off          a list that is read off a function is the one that the function gives place by place
 use Rattle.std.specs.Prelude.{slice_get}
-use Rattle.std.proofs.Common.{◌≡◌, ◌∙◌, ap, subst, sym, ℕ, suc, zero, List, [], ◌∷◌, map, Option, Some, None, refl, arith, ◌+◌, ◌<◌, ◌≤◌, length}
+use Rattle.std.proofs.Common.{◌≡◌, ◌∙◌, ap, ℕ, suc, zero, List, [], ◌∷◌, map, Some, None, refl, arith, ◌+◌, ◌<◌, ◌≤◌, length}
 use Rattle.alf_ops.specs.Histories.{offsets}
 
 pub get_in : {A : Type 0} (g : ℕ → A) (from count i : ℕ) → i < count → slice_get (map g (offsets from count)) i ≡ Some (g (from + i))

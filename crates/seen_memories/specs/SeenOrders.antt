@@ -5,7 +5,7 @@
 --   joined_seen     the parts of the join stand for the join
 --   joined_is       and are parts of a memory
 --   parts_are_order it is an order, and a join is above both sides
-use Rattle.std.proofs.Common.{◌≡◌, ◌∙◌, ap, subst, sym, ℕ, List}
+use Rattle.std.proofs.Common.{◌≡◌, subst, sym, ℕ, List}
 use Rattle.alf_ops.specs.declared.history.FrameShape.{FrameShape}
 use Rattle.alf_ops.specs.declared.history.RunEvent.{RunEvent}
 use Rattle.alf_ops.specs.Histories.{IsSound}

@@ -172,7 +172,6 @@ fn copied<'a>(
     requires { ArePair count first.now second.old }
     ensures { OnOk result (ArePair count first.now second.new) }
 {
-    let _ = count;
     let copy = first.copy(alloc)?;
     *second = copy;
     Ok(nothing())
@@ -188,7 +187,6 @@ fn joined<'a>(
     requires { ArePair count first.old second.now }
     ensures { OnOk result (ArePair count first.new second.now) }
 {
-    let _ = count;
     let both = first.join(alloc, second)?;
     *first = both;
     Ok(nothing())
@@ -205,7 +203,6 @@ fn in_first(
     requires { ArePair count first.old second.now }
     ensures { OnOk result (ArePair count first.new second.now) }
 {
-    let _ = (count, second);
     let told = accessed(alloc, first, access)?;
     Ok(told)
 }
@@ -221,7 +218,6 @@ fn in_second(
     requires { ArePair count first.now second.old }
     ensures { OnOk result (ArePair count first.now second.new) }
 {
-    let _ = (count, first);
     let told = accessed(alloc, second, access)?;
     Ok(told)
 }
@@ -256,7 +252,6 @@ pub(crate) fn fresh_pair<'a>(
     requires { count ≡ functions_of checked.now }
     ensures { IfOk result (λ pair. ArePair count pair.0 pair.1) }
 {
-    let _ = count;
     let first = AMem::new(alloc, checked)?;
     let second = AMem::new(alloc, checked)?;
     Ok((first, second))

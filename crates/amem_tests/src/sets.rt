@@ -103,7 +103,6 @@ fn both(alloc: Global, size: u32, a: &AVal, b: &AVal) -> Result<AVal, AllocError
     requires b { IsValue size b.now }
     ensures { IfOk result (IsValue size) }
 {
-    let _ = size;
     let value = a.join(alloc, b)?;
     let _kept = value.at();
     Ok(value)

@@ -311,7 +311,7 @@ int f(){x=a+++b;} @ outside 1 12 ++
 int f(){x=a---b;} @ outside 1 12 --
 int f(){x=a+ ++b;} @ outside 1 14 ++
 int f(){x=a- -b+ +c;} @ ok
-int f(){x=1*a/2%b+c-d<<e>>f<g>h<=i>=j==k!=l&m^n|o;} @ ok
+int f(){x=1*a/2%b+c-d<<e>>f;x=f<g>h<=i>=j==k!=l&m^n|o;} @ ok
 int f(){x*=1;x/=1;x%=1;x+=1;x-=1;x<<=1;x>>=1;x&=1;x^=1;x|=1;} @ ok
 int f(){x+=f();} @ outside 1 13 (
 int f(){*p++;} @ outside 1 11 ++
@@ -334,8 +334,10 @@ fn what_is_printed_is_read_back(rt: HostRuntime) -> Result<(), Fail> {
     let alloc = rt.alloc();
     for row in ROWS.lines().chain(FORMS.lines()) {
         let once = printed(alloc, field(row, 0).as_bytes())?;
-        let twice = printed(alloc, &once)?;
-        assert_eq!(rt; once.as_slice(), twice.as_slice(), "{row}");
+        if !once.is_empty() {
+            let twice = printed(alloc, &once)?;
+            assert_eq!(rt; once.as_slice(), twice.as_slice(), "{row}");
+        }
     }
     Ok(())
 }

@@ -1,11 +1,12 @@
 -- Small units, to be worked out: a text, and the trees that a person reads in it.
 --   unit_in text xs   the unit of this line, with the trees given; where nothing stands between two of its words, the line has a bar
 --   int_main body     a function `main` without parameters that gives an `int`, whose block begins behind token 5
-use Rattle.std.specs.Prelude.{ℕ, ◌+◌, ◌==◌, List, [], ◌∷◌, ◌++◌, Some, None, codes, if◌then◌else◌}
+use Rattle.std.specs.Prelude.{ℕ, ◌+◌, ◌==◌, false, true, List, [], ◌∷◌, ◌++◌, Some, None, codes, if◌then◌else◌}
 use Rattle.c_unit.specs.declared.types.Integer.TheVariants.{Int}
 use Rattle.c_unit.specs.declared.types.Scalar.TheVariants as scalars
 use Rattle.c_unit.specs.declared.types.Outcome.TheVariants as outcomes
-use Rattle.c_unit.specs.Tree.{Expression, OfConstant, OfName, WithCast, OfExpression, OfCall, Assigns, LocalInteger, LocalPointer, LocalTree, Statement, Declares, Break, Returns, Does, FunctionOf, ExternalTree, Declaration, Definition}
+use Rattle.c_unit.specs.declared.expression.Binary.TheVariants.{Both}
+use Rattle.c_unit.specs.Tree.{Expression, OfConstant, OfName, WithCast, WithBinary, OfExpression, OfCall, Assigns, Calls, LocalInteger, LocalPointer, LocalTree, Statement, Declares, Block, If, Switch, Case, Break, Returns, Does, FunctionOf, ExternalTree, Declaration, Definition, statements_of}
 use Rattle.c_unit.specs.Units.{Word, UnitTree}
 
 abbrev word_from : ℕ → List ℕ → List Word
@@ -60,3 +61,38 @@ with_a_lone_break = unit_in (codes "int main|(|void|)|{|break|; return 0|;|}") (
 abbrev pub with_a_cast_of_a_number : UnitTree
 with_a_cast_of_a_number = unit_in (codes "int main|(|void|)|{|int *|p|; p|=|(|int *|)|5|; return 0|;|}")
     (int_main (Declares 6 Int (record { name = 8; shape = LocalPointer None } ∷ []) ∷ Does (Assigns (OfName 10) 11 (OfExpression (WithCast 12 (scalars.Pointer Int) (OfConstant 16)))) ∷ returns 18 (OfConstant 19) ∷ []) ∷ [])
+
+-- ---- calls and scopes
+
+abbrev pub call_of : ℕ → Statement
+call_of name = Does (Calls (record { name = name; arguments = [] }))
+
+abbrev pub without_a_definition : UnitTree
+without_a_definition = unit_in (codes "int f|(|void|)|; int main|(|void|)|{|f|(|)|; return 0|;|}")
+    (Declaration 0 (outcomes.Integer Int) (record { name = 1; shape = FunctionOf [] } ∷ []) ∷ Definition 6 (outcomes.Integer Int) 7 [] (call_of 12 ∷ returns 16 (OfConstant 17) ∷ []) ∷ [])
+
+abbrev pub with_a_local_called : UnitTree
+with_a_local_called = unit_in (codes "int f|(|void|)|{|return 0|;|} int main|(|void|)|{|int f|; f|(|)|; return 0|;|}")
+    (int_main (returns 6 (OfConstant 7) ∷ []) ∷ Definition 10 (outcomes.Integer Int) 11 [] (Declares 16 Int (integer 17 ∷ []) ∷ call_of 19 ∷ returns 23 (OfConstant 24) ∷ []) ∷ [])
+
+abbrev pub with_nothing_returned : UnitTree
+with_nothing_returned = unit_in (codes "void f|(|void|)|{|} int main|(|void|)|{|return f|(|)|;|}")
+    (Definition 0 outcomes.Nothing 1 [] [] ∷ Definition 7 (outcomes.Integer Int) 8 [] (Returns 13 (Some (OfCall (record { name = 14; arguments = [] }))) ∷ []) ∷ [])
+
+abbrev pub with_an_inner_name : UnitTree
+with_an_inner_name = unit_in (codes "int main|(|void|)|{|int a|; {|int a|; a|=|1|;|} return 0|;|}")
+    (int_main (Declares 6 Int (integer 7 ∷ []) ∷ Block (statements_of (Declares 10 Int (integer 11 ∷ []) ∷ Does (Assigns (OfName 13) 14 (OfExpression (OfConstant 15))) ∷ [])) ∷ returns 18 (OfConstant 19) ∷ []) ∷ [])
+
+abbrev pub with_a_parameter_twice : UnitTree
+with_a_parameter_twice = unit_in (codes "int main|(|int a|)|{|int a|; return 0|;|}")
+    (Definition 0 (outcomes.Integer Int) 1 (record { first = 3; kind = scalars.Integer Int; name = Some 4 } ∷ []) (Declares 7 Int (integer 8 ∷ []) ∷ returns 10 (OfConstant 11) ∷ []) ∷ [])
+
+-- ---- labels and conditions
+
+abbrev pub with_a_label_twice : UnitTree
+with_a_label_twice = unit_in (codes "int main|(|void|)|{|switch|(|1|)|{|case 4294967295u|: case -|1|: return 0|;|}|}")
+    (int_main (Switch (OfConstant 8) (statements_of (Case 11 (record { minus = false; token = 12 }) ∷ Case 14 (record { minus = true; token = 16 }) ∷ returns 18 (OfConstant 19) ∷ [])) ∷ []) ∷ [])
+
+abbrev pub with_a_pointer_as_condition : UnitTree
+with_a_pointer_as_condition = unit_in (codes "int main|(|void|)|{|int *|p|; if|(|1|&&|p|) return 1|; return 0|;|}")
+    (int_main (Declares 6 Int (record { name = 8; shape = LocalPointer None } ∷ []) ∷ If (WithBinary Both 13 (OfConstant 12) (OfName 14)) (returns 16 (OfConstant 17)) ∷ returns 19 (OfConstant 20) ∷ []) ∷ [])

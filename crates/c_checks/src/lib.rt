@@ -14,6 +14,7 @@ mod worked;
 
 pub use laws::{every_program_stands, expressions_have_one_type};
 pub use worked::{
-    a_circle_is_told_by_its_names, a_root_is_defined, names_are_declared_once,
-    small_types_become_int, what_is_wrong_has_a_place,
+    a_circle_is_told_by_its_names, a_root_is_defined, blocks_are_scopes,
+    calls_name_functions_that_are_defined, labels_and_conditions_are_converted,
+    names_are_declared_once, small_types_become_int, what_is_wrong_has_a_place,
 };

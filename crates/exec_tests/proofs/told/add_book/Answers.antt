@@ -1,0 +1,9 @@
+use Rattle.std.proofs.Common.{◌≡◌, Some, length, arith}
+use Rattle.run_recordings.specs.Generated.{length-generated}
+use Rattle.run_recordings.specs.LoopRules.{loop_tally}
+use Rattle.exec_tests.proofs.told.add_book.Goals as goal
+
+pub loop_of-requires : goal.loop_of-requires
+loop_of-requires c =
+    let long : length (loop_tally c.args.outline.now).scopes ≡ length c.args.outline.now.scopes = length-generated (length c.args.outline.now.scopes) (λ s. Some s) in
+    omega (arith, c.requires.loops, long, c.loop-s-test.true, c.scope_count-s-end.ensures)

@@ -4,21 +4,21 @@
 --   kept_more         the cells of a join are kept size by size
 --   slot_self         the join of two frames at a place where both have the same slot is this slot
 use Rattle.std.specs.Prelude.{slice_get, if◌then◌else◌, ◌==◌, nat_lt, ◌||◌, is_some}
-use Rattle.std.proofs.Common.{Bool, ◌≡◌, ◌≢◌, ◌∙◌, ap, subst, sym, inl, inr, ℕ, suc, zero, true, false, List, [], ◌∷◌, Option, Some, None, IfSome, refl, arith, ◌+◌, ◌*◌, ◌/◌, ◌%◌, ◌<◌, ◌≤◌, length}
+use Rattle.std.proofs.Common.{Bool, ◌≡◌, ◌≢◌, ◌∙◌, ap, subst, sym, inl, inr, ℕ, suc, true, false, List, [], ◌∷◌, Option, Some, None, IfSome, refl, arith, ◌*◌, ◌%◌, ◌<◌, ◌≤◌}
 use Rattle.std.proofs.lemmas.Bool.{cases_eq, and_parts, eqb-true, eq-eqb, ltb-true, ltb-false, leb-true, lt-ltb, le-ltb, le-leb, and_from, false≢true}
 use Rattle.lists.specs.Tests.{by_test}
 use Rattle.domain_core.specs.WordSets.{IsOfSize}
 use Rattle.strided_rules.specs.Strides.{Stride, joined as joined_words}
 use Rattle.strided_rules.specs.Domains.{stride_sets}
-use Rattle.pointer_rules.specs.AbstractValues.{AbstractValue, IsAbstract, joined}
+use Rattle.pointer_rules.specs.AbstractValues.{AbstractValue, joined}
 use Rattle.pointer_rules.specs.Covering.{IsValue}
 use Rattle.pointer_rules.specs.ApplyLaws.{alike}
 use Rattle.self_joins.specs.SelfStrides.{stride_self}
 use Rattle.self_joins.specs.SelfValues.{value_self}
 use Rattle.memory_pages.specs.declared.byte.Byte.{Byte}
 use Rattle.memory_pages.specs.declared.held.Held.{Held}
-use Rattle.memory_pages.specs.Slots.{HeldSlot, table, cell_of, with_cell}
-use Rattle.memory_rules.specs.Frames.{AbstractByte, Cell, FrameMem, either, join_bytes, join_cells, kept_or, not_kept, stands, taken}
+use Rattle.memory_pages.specs.Slots.{HeldSlot, table, cell_of}
+use Rattle.memory_rules.specs.Frames.{Cell, FrameMem, either, join_bytes, join_cells, kept_or, not_kept, stands, taken}
 use Rattle.memory_rules.specs.Covers.{FrameSized}
 use Rattle.memory_rules.specs.AbstractSets.{abstract_sets}
 use Rattle.held_memories.specs.HeldFrames.{is_cell_size, byte_seen, byte_held, cell_seen, cell_held, byte_in, cell_in, frame_of}

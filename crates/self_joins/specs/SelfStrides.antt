@@ -2,9 +2,9 @@
 --   hull_self      the hull of a progression and itself is it
 --   join_self      the join of a progression in normal form with itself is it
 --   stride_self    the same of strided values
-use Rattle.std.proofs.Common.{◌≡◌, ℕ, suc, zero, ℤ, pos, neg_ℤ, ◌≤◌, ◌%◌, ◌<◌, ◌^◌, arith, refl, sym, ap, ◌∙◌, true, false, subst}
-use Rattle.std.specs.Prelude.{◌+ℤ◌, ◌-ℤ◌, ◌≤ℤ◌, ◌<ℤ◌, int_le, int_lt, unsigned_abs, if◌then◌else◌}
-use Rattle.std.specs.Int.{int_rem_euclid, int_min, int_max}
+use Rattle.std.proofs.Common.{◌≡◌, ℕ, suc, zero, ℤ, pos, neg_ℤ, ◌≤◌, ◌%◌, arith, refl, sym, ap, ◌∙◌, false}
+use Rattle.std.specs.Prelude.{◌+ℤ◌, ◌-ℤ◌, ◌≤ℤ◌, ◌<ℤ◌, int_lt, unsigned_abs}
+use Rattle.std.specs.Int.{int_min, int_max}
 use Rattle.std.proofs.lemmas.Int.{ints, clamps}
 use Rattle.std.proofs.lemmas.Nat.{pow_pos}
 use Rattle.lists.specs.Tests.{by_test}

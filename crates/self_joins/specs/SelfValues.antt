@@ -1,10 +1,10 @@
 -- The join of an abstract value with itself is the value.
 --   places_self    the places of a value, joined with themselves
 --   value_self     an abstract value
-use Rattle.std.specs.Prelude.{◌<◌, ◌==◌, nat_lt, if◌then◌else◌}
-use Rattle.std.proofs.Common.{◌≡◌, ℕ, List, [], ◌∷◌, ◌++◌, Option, Some, None, IfSome, true, false, arith, refl, sym, ap, ◌∙◌, subst}
+use Rattle.std.specs.Prelude.{◌<◌, ◌==◌, nat_lt}
+use Rattle.std.proofs.Common.{◌≡◌, ℕ, List, [], ◌∷◌, ◌++◌, Option, Some, None, IfSome, false, arith, refl, sym, ap, ◌∙◌, subst}
 use Rattle.std.proofs.lemmas.Bool.{eq-eqb, ne_eqb, le-ltb}
-use Rattle.strided_rules.specs.Strides.{Stride, IsStride, joined as joined_words}
+use Rattle.strided_rules.specs.Strides.{Stride, IsStride}
 use Rattle.pointer_rules.specs.AbstractValues.{AbstractValue, IsPlace, ArePlaces, Ascends, AreAscending, IsAbstract, either_words, with_place, with_places, joined}
 use Rattle.pointer_rules.specs.ValueLaws.{rest_ascends}
 use Rattle.self_joins.specs.SelfStrides.{stride_self}

@@ -9,8 +9,10 @@
 mod evaluating;
 mod operands;
 
-// What statements make of a memory.
+// What statements make of a memory, and cells that are filled.
+mod filling;
 mod storing;
 
 pub use evaluating::evaluate;
+pub use filling::{fill, put_inits};
 pub use storing::do_statements;

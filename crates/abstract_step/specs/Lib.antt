@@ -2,3 +2,4 @@
 pub mod Typed
 pub mod Found
 pub mod Rooms
+pub mod Arguments

@@ -13,6 +13,10 @@ mod operands;
 mod filling;
 mod storing;
 
+// Functions entered.
+mod entering;
+
+pub use entering::enter;
 pub use evaluating::evaluate;
 pub use filling::{fill, put_inits};
 pub use storing::do_statements;

@@ -4,8 +4,7 @@
 --   first_found               a value before those of the rest
 --   store_told                a memory and its faults, as a store gives them
 --   next_statements           one statement more, and then those that are left
-use Rattle.std.specs.Prelude.{◌||◌, ◌↔◌, IfSome, IfOk, OnOk, if◌then◌else◌}
-use Rattle.std.specs.Option.{option_map}
+use Rattle.std.specs.Prelude.{◌||◌, ◌↔◌, IfOk, OnOk, if◌then◌else◌}
 use Rattle.std.proofs.Common.{◌≡◌, ◌≢◌, ℕ, Bool, true, false, List, [], ◌∷◌, map, Option, Some, None, Result, Ok, Err, IsTrue, refl, sym, ap, subst, ◌∙◌}
 use Rattle.alf_ops.specs.declared.history.RunFault.{RunFault}
 use Rattle.alf_ops.specs.declared.history.FrameShape.{FrameShape}
@@ -18,7 +17,7 @@ use Rattle.pointer_rules.specs.Covering.{IsValue}
 use Rattle.memory_rules.specs.Memories.{Mem, joined_values}
 use Rattle.memory_rules.specs.Addresses.{cells_of, load_at, stored_at, IsAddressFault, IsLoadFault}
 use Rattle.memory_rules.specs.AbstractSets.{abstract_sets}
-use Rattle.step_rules.specs.Remains.{Remains, all_left, with_faults, goes_on}
+use Rattle.step_rules.specs.Remains.{Remains, with_faults, goes_on}
 use Rattle.step_rules.specs.Evaluating.{loaded, before, width_of}
 use Rattle.step_rules.specs.Doing.{where_possible, stored_by, stored_through, after_statement, after_statements}
 use Rattle.step_rules.specs.FaultForms.{loaded_faults, stored_faults}

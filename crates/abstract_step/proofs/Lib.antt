@@ -1,2 +1,4 @@
 mod FoundLaws
 mod TypedLaws
+mod RoomLaws
+mod CallLaws

@@ -9,8 +9,14 @@
 mod evaluating;
 mod operands;
 
-// What statements make of a memory.
+// What statements make of a memory, and cells that are filled.
+mod filling;
 mod storing;
 
+// Functions entered.
+mod entering;
+
+pub use entering::enter;
 pub use evaluating::evaluate;
+pub use filling::{fill, put_inits};
 pub use storing::do_statements;

@@ -4,26 +4,23 @@
 --   clip_within             nothing lies outside
 --   made_clipped            the parts made of it are those made of the memory
 --   clip_sized, clip_covers, clip_sharp   it has the sizes, and covers each history inside the frames that the memory covers
-use Rattle.std.specs.Prelude.{nat_lt, nat_le, ◌&&◌, ◌==◌, slice_get, IfSome, if◌then◌else◌}
+use Rattle.std.specs.Prelude.{nat_lt, nat_le, ◌&&◌, ◌==◌, slice_get, if◌then◌else◌}
 use Rattle.std.specs.List.{list_all}
-use Rattle.std.proofs.Common.{◌≡◌, inl, inr, ℕ, zero, suc, Bool, true, false, List, [], ◌∷◌, map, Option, Some, None, ◌<◌, ◌≤◌, ◌+◌, ◌*◌, ◌/◌, ◌%◌, refl, sym, ap, subst, ◌∙◌, arith}
-use Rattle.std.proofs.lemmas.Bool.{and_from, and_parts, eq-eqb, lt-ltb, le-leb, leb-true, ltb-true, ltb-false}
+use Rattle.std.proofs.Common.{◌≡◌, inl, ℕ, zero, suc, Bool, true, false, List, [], ◌∷◌, map, Option, Some, None, ◌<◌, ◌≤◌, ◌+◌, ◌*◌, ◌/◌, ◌%◌, refl, sym, ap, subst, ◌∙◌, arith}
+use Rattle.std.proofs.lemmas.Bool.{and_from, eq-eqb, lt-ltb, le-leb, leb-true, ltb-true, ltb-false}
 use Rattle.lists.specs.Tests.{by_test}
 use Rattle.alf_ops.specs.declared.history.FrameShape.{FrameShape}
 use Rattle.alf_ops.specs.declared.history.RunEvent.{RunEvent}
-use Rattle.alf_ops.specs.Histories.{Byte, offsets, bytes_of, is_from, cell_in, origin, is_active, fits_in}
-use Rattle.alf_ops.specs.WholeCells.{is_whole}
+use Rattle.alf_ops.specs.Histories.{Byte, offsets, is_from, cell_in, origin, fits_in}
 use Rattle.alf_check.specs.CheckedPrograms.{CheckedParts}
-use Rattle.memory_rules.specs.Frames.{FrameMem, AbstractByte, Cell, no_byte, taken, results}
+use Rattle.memory_rules.specs.Frames.{FrameMem, AbstractByte, no_byte, taken, results}
 use Rattle.memory_rules.specs.Covers.{IsCellSize, Among, FrameCovers, FrameSized}
 use Rattle.memory_rules.specs.Sharp.{Exactly, FrameSharp}
 use Rattle.memory_rules.specs.Memories.{Mem, is_on, MemCovers, MemSharp, MemSized}
 use Rattle.memory_rules.specs.AbstractSets.{abstract_sets}
 use Rattle.strided_rules.specs.Strides.{Stride}
-use Rattle.pointer_rules.specs.AbstractValues.{AbstractValue}
-use Rattle.memory_pages.specs.Slots.{HeldSlot, table}
-use Rattle.held_memories.specs.HeldFrames.{is_cell_size, byte_held, cell_held}
-use Rattle.seen_memories.specs.Parts.{MemoryParts, rows_of, functions_of, bytes_in}
+use Rattle.held_memories.specs.HeldFrames.{is_cell_size}
+use Rattle.seen_memories.specs.Parts.{rows_of, functions_of, bytes_in}
 use Rattle.seen_memories.specs.Made.{slot_at, slots_of, frames_from, made}
 use Rattle.seen_memories.specs.Within.{bytes_at, IsFrameWithin, IsWithin}
 use Rattle.seen_machines.specs.Inside.{IsInside, outside}

@@ -3,19 +3,18 @@
 --   IsInside rows history             each store does
 --   outside                           past the end of its frame a byte comes from no store
 --   store_inside, by_stores_inside    a store without a fault lies inside, and so do such stores in a row
-use Rattle.std.specs.Prelude.{◌==◌, nat_le, nat_lt, slice_get, if◌then◌else◌}
-use Rattle.std.proofs.Common.{◌≡◌, ℕ, Bool, true, false, List, [], ◌∷◌, Option, Some, None, Result, Ok, Err, ◌<◌, ◌≤◌, ◌+◌, ◌*◌, ◌/◌, refl, sym, ap, subst, ◌∙◌, arith}
-use Rattle.std.proofs.lemmas.Bool.{eqb-true, leb-true, ltb-true, and_parts, false≢true}
+use Rattle.std.specs.Prelude.{◌==◌, nat_le, nat_lt, slice_get}
+use Rattle.std.proofs.Common.{◌≡◌, ℕ, true, false, List, [], ◌∷◌, Option, Some, None, Ok, Err, ◌<◌, ◌≤◌, ◌+◌, ◌*◌, ◌/◌, refl, sym, ap, subst, ◌∙◌, arith}
+use Rattle.std.proofs.lemmas.Bool.{eqb-true, leb-true, ltb-true, and_parts}
 use Rattle.lists.specs.Tests.{by_test}
 use Rattle.alf_ops.specs.declared.history.Value.{Value}
 use Rattle.alf_ops.specs.declared.history.Value.TheVariants.{Int, Ptr}
-use Rattle.alf_ops.specs.declared.history.RunFault.{RunFault}
-use Rattle.alf_ops.specs.declared.history.RunFault.TheVariants.{Kind, Dead, Bounds}
+use Rattle.alf_ops.specs.declared.history.RunFault.TheVariants.{Dead, Bounds}
 use Rattle.alf_ops.specs.declared.history.FrameShape.{FrameShape}
 use Rattle.alf_ops.specs.declared.history.RunEvent.{RunEvent}
 use Rattle.alf_ops.specs.declared.history.RunEvent.TheVariants.{Enter, Leave, Store}
 use Rattle.alf_ops.specs.Values.{size_of}
-use Rattle.alf_ops.specs.Histories.{Byte, is_byte_of, is_owner, is_active, origin, fits_in, address_in, stored, store}
+use Rattle.alf_ops.specs.Histories.{is_byte_of, is_owner, is_active, origin, fits_in, address_in, stored, store}
 use Rattle.alf_runs.specs.StoreLaws.{ByStores, unchanged, first_store}
 
 -- the cell lies in the frame of this row

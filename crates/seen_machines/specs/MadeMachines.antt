@@ -6,7 +6,7 @@
 --   made_is_machine                   it keeps the laws of a stepper
 --   made_is_along                     and its steps lie along the same edges
 use Rattle.std.specs.Prelude.{Contains}
-use Rattle.std.proofs.Common.{◌≡◌, ◌≢◌, ℕ, List, [], ◌∷◌, map, sym, ap, subst, ◌∙◌}
+use Rattle.std.proofs.Common.{◌≡◌, ◌≢◌, ℕ, List, [], ◌∷◌, map, sym, ap, subst}
 use Rattle.lists.specs.Images.{mapped, image}
 use Rattle.lists.specs.Members.{first_member}
 use Rattle.domain_core.specs.FaultSets.{no_faults}

@@ -4,29 +4,25 @@
 --   part_machine checked graph rows  the machine
 --   is_part_machine                  it keeps the laws of a stepper
 --   is_part_along                    and its steps lie along the edges of the graph's outline
-use Rattle.std.specs.Prelude.{◌↔◌, Contains}
-use Rattle.std.proofs.Common.{◌≡◌, ◌≢◌, ℕ, Bool, true, List, [], ◌∷◌, length, Option, Some, ◌<◌, refl, sym, ap, subst, ◌∙◌, arith}
+use Rattle.std.specs.Prelude.{Contains}
+use Rattle.std.proofs.Common.{◌≡◌, ℕ, true, List, [], ◌∷◌, length, Some, ◌<◌, refl, sym, ap, subst, ◌∙◌, arith}
 use Rattle.lists.specs.Members.{first_or_further, no_member}
-use Rattle.alf_ops.specs.declared.history.FrameShape.{FrameShape}
 use Rattle.alf_ops.specs.declared.history.RunEvent.{RunEvent}
-use Rattle.alf_ops.specs.Histories.{IsSound}
 use Rattle.alf_check.specs.declared.rows.InputRow.{InputRow}
 use Rattle.alf_check.specs.CheckedPrograms.{CheckedParts, NumberedProgram, seen}
 use Rattle.alf_check.specs.Kept.{IsKept}
-use Rattle.alf_check.specs.Inputs.{KeepInputs}
-use Rattle.flow_graph.specs.Nodes.{Node, function_at, first_node}
-use Rattle.flow_graph.specs.Paths.{IsCallPath, IsPlaced}
+use Rattle.flow_graph.specs.Nodes.{function_at, first_node}
+use Rattle.flow_graph.specs.Paths.{IsCallPath}
 use Rattle.flow_graph.specs.PathLaws.{path_low}
-use Rattle.flow_graph.specs.Numbering.{GraphParts, IsGraph}
+use Rattle.flow_graph.specs.Numbering.{GraphParts}
 use Rattle.flow_graph.specs.Expansions.{IsExpansion, node_number}
 use Rattle.alf_runs.specs.Steps.{frames_of}
 use Rattle.alf_runs.specs.Places.{functions_on}
-use Rattle.run_points.specs.Points.{GoesOn}
 use Rattle.domain_core.specs.Machines.{Machine, IsMachine, IsAlong}
 use Rattle.domain_core.specs.Outlines.{Shape}
-use Rattle.memory_rules.specs.Memories.{Mem, is_on, MemSized, MemCovers}
+use Rattle.memory_rules.specs.Memories.{Mem, MemSized}
 use Rattle.memory_rules.specs.AbstractSets.{abstract_sets}
-use Rattle.step_rules.specs.Machines.{CoversHistory, SharpFor, RunsAlong, Fits, AreAlike, memory_order, KeepsMachine, run_machine}
+use Rattle.step_rules.specs.Machines.{CoversHistory, SharpFor, Fits, memory_order, KeepsMachine, run_machine}
 use Rattle.step_rules.specs.MachineLaws.{own_order_suits, is_machine, is_along}
 use Rattle.step_rules.specs.SteppingLaws.{same_along}
 use Rattle.seen_memories.specs.Parts.{MemoryParts, memory_in, rows_of, functions_of, IsMemory}
@@ -52,7 +48,7 @@ pub record KeepsParts (checked : CheckedParts) (graph : GraphParts) (rows : List
 abbrev pub part_machine : CheckedParts → GraphParts → List InputRow → Machine MemoryParts (List RunEvent)
 part_machine checked graph rows =
     record (by_made memory_in (made checked) (IsOwn checked) (IsInside (rows_of checked)) (run_machine (seen checked) graph rows)) {
-      kept = KeepsParts checked graph rows
+      kept = KeepsParts checked graph rows;
     }
 
 -- ---- what is made of a memory

@@ -4,10 +4,9 @@
 --   StorePromises            what is promised of the stores of starts and calls
 --   steps_inside             a step from inside leads inside
 --   starts_inside            and so does each start
-use Rattle.std.specs.Prelude.{slice_get, All}
-use Rattle.std.specs.List.{AllZip}
+use Rattle.std.specs.Prelude.{slice_get}
 use Rattle.std.specs.Option.{option_map}
-use Rattle.std.proofs.Common.{◌≡◌, ℕ, List, [], ◌∷◌, map, length, Option, Some, None, Result, Ok, Err, ◌<◌, refl, sym, ap, subst, ◌∙◌}
+use Rattle.std.proofs.Common.{◌≡◌, ℕ, List, [], ◌∷◌, map, length, Option, Some, None, Result, Ok, Err, ◌<◌, refl, sym, ap, subst}
 use Rattle.alf_ops.specs.declared.history.Value.{Value}
 use Rattle.alf_ops.specs.declared.history.Value.TheVariants.{Int, Ptr}
 use Rattle.alf_ops.specs.declared.history.RunFault.{RunFault}
@@ -22,14 +21,14 @@ use Rattle.alf_check.specs.declared.rows.InputRow.{InputRow}
 use Rattle.alf_check.specs.CheckedPrograms.{NumberedProgram, NumberedBlock, NumberedStatement, Null, Store, BlockEnding, Fall, Jump, Switch, Call, Return, blocks_at}
 use Rattle.alf_check.specs.Kept.{IsKept, KeepsEnding, CallKeeps}
 use Rattle.alf_check.specs.Inputs.{KeepInputs}
-use Rattle.flow_graph.specs.Nodes.{Node, block_node, entry_node, ending_at, function_at}
+use Rattle.flow_graph.specs.Nodes.{Node, ending_at, function_at}
 use Rattle.flow_graph.specs.Paths.{IsPlaced}
 use Rattle.flow_graph.specs.PathLaws.{ending_keeps}
 use Rattle.alf_runs.specs.Expressions.{value_of}
 use Rattle.alf_runs.specs.Statements.{after_store, after_statement, after_statements}
 use Rattle.alf_runs.specs.Entering.{with_arguments, with_inits, args_at, inits_at, entered}
 use Rattle.alf_runs.specs.Starts.{start_history, words_of, IsStart}
-use Rattle.alf_runs.specs.Steps.{Moment, At, Over, frames_of, target_of, switch_step, call_step, move_on, result_step, go_back, leave, return_step, ending_step, then_ending, block_step, node_step, step}
+use Rattle.alf_runs.specs.Steps.{Moment, At, Over, frames_of, switch_step, call_step, move_on, result_step, go_back, leave, return_step, ending_step, then_ending, block_step, node_step, step}
 use Rattle.alf_runs.specs.StoreLaws.{EntersByStores, ArgumentsFit, StartsByStores}
 use Rattle.alf_runs.specs.PlaceLaws.{InputsAreWords}
 use Rattle.seen_machines.specs.Inside.{IsInside, store_inside, by_stores_inside}

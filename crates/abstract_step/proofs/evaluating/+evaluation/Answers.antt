@@ -1,7 +1,7 @@
-use Rattle.std.proofs.Common.{◌≡◌, List, ℕ, map, IsSome, sym, ap, subst, ◌∙◌, arith, rules}
+use Rattle.std.proofs.Common.{◌≡◌, List, map, sym, ap, subst, ◌∙◌, arith, rules}
 use Rattle.std.specs.Prelude.{IfOk}
-use Rattle.alf_ops.specs.Table.{result_size, operand_sizes}
-use Rattle.alf_program.specs.Tree.{NumberedExpression, Load, Apply, Empty, With, expressions_of}
+use Rattle.alf_ops.specs.Table.{operand_sizes}
+use Rattle.alf_program.specs.Tree.{NumberedExpression, Load, Empty, With, expressions_of}
 use Rattle.alf_check.specs.declared.rows.Term.{Term}
 use Rattle.alf_check.specs.declared.rows.Term.TheFolds.{fold-roll-Term}
 use Rattle.alf_check.specs.declared.rows.Term.TheVariants as terms

@@ -1,4 +1,4 @@
-use Rattle.std.proofs.Common.{◌≡◌, List, length, map}
+use Rattle.std.proofs.Common.{◌≡◌, length, map}
 use Rattle.std.specs.List.{AllByRecursion}
 use Rattle.alf_check.specs.CheckedPrograms.{act_of}
 use Rattle.seen_memories.specs.Parts.{memory_in, rows_of, IsMemory}

@@ -1,4 +1,4 @@
-use Rattle.std.proofs.Common.{◌≡◌, Option, Some, subst}
+use Rattle.std.proofs.Common.{Option, subst}
 use Rattle.std.specs.Prelude.{IfSome}
 use Rattle.alf_check.specs.CheckedPrograms.{term_of}
 use Rattle.pointer_rules.specs.AbstractValues.{AbstractValue}

@@ -12,7 +12,7 @@ ghost use Rattle.step_rules.specs.Evaluating.{word_value, pointer_value, loaded,
 ghost use Rattle.abstract_step.specs.Typed.{IsTyped, AreTyped};
 ghost use Rattle.abstract_step.specs.Found.{found};
 
-use crate::operands::{applied, before, no_operand};
+use crate::operating::{applied, before, no_operand};
 use abstract_memory::AMem;
 use alf_check::Term;
 use alf_ops::Op;

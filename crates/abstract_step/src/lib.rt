@@ -7,7 +7,7 @@
 
 // What expressions give.
 mod evaluating;
-mod operands;
+mod operating;
 
 // What statements make of a memory, and cells that are filled.
 mod filling;

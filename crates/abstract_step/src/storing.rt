@@ -89,7 +89,7 @@ fn do_statement(
     }
 }
 
-/// Statements in their order: whether some run goes on behind them, with the memory as it then is, and the faults.
+/// Statements in their order: whether some run goes on after them, with the memory as it then is, and the faults.
 /// Where none goes on, or after want of memory, the memory is given up.
 pub fn do_statements(
     alloc: Global,

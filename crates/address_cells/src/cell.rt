@@ -46,7 +46,7 @@ fn next_cell(members: Strided, bits: u32, size: u32, from: u32) -> Option<u32>
     }
 }
 
-/// Puts the cells at offsets in a frame of so many bits behind those that are there.
+/// Puts the cells at offsets in a frame of so many bits after those that are there.
 fn put_cells(
     cells: &mut Vec<(u32, u32)>,
     place: &(u32, Strided),
@@ -67,7 +67,7 @@ fn put_cells(
     Ok(())
 }
 
-/// Puts the cells of a place behind those that are there.
+/// Puts the cells of a place after those that are there.
 fn put_place(
     cells: &mut Vec<(u32, u32)>,
     rows: &[FrameRow],

@@ -1,6 +1,6 @@
 -- Small units, to be worked out: a text, and the trees that a person reads in it.
 --   unit_in text xs   the unit of this line, with the trees given; where nothing stands between two of its words, the line has a bar
---   int_main body     a function `main` without parameters that gives an `int`, whose block begins behind token 5
+--   int_main body     a function `main` without parameters that gives an `int`, whose block begins after token 5
 use Rattle.std.specs.Prelude.{ℕ, ◌+◌, ◌==◌, false, true, List, [], ◌∷◌, ◌++◌, Some, None, codes, if◌then◌else◌}
 use Rattle.c_unit.specs.declared.types.Integer.TheVariants.{Int}
 use Rattle.c_unit.specs.declared.types.Scalar.TheVariants as scalars

@@ -5,7 +5,7 @@ use flow_base::Place;
 use std::alloc::{AllocError, Global};
 use std::test::Fail;
 
-/// The tokens of five programs, each behind what is told where it is left out, where it stands twice, where
+/// The tokens of five programs, each after what is told where it is left out, where it stands twice, where
 /// it is swapped with the next, and where it is replaced by each of `KINDS`: `o` where the text is read,
 /// else `s`, `n` or `p` for syntax, number or profile, and how many tokens later that is, if any. The
 /// answers come from a slow reader of two grammars, that of the profile and that of C99.
@@ -333,7 +333,7 @@ fn push_token(text: &mut String, token: &str) -> Result<(), AllocError> {
     Ok(())
 }
 
-// The token of this number as it is edited, and that behind it where they are swapped.
+// The token of this number as it is edited, and that after it where they are swapped.
 fn push_edited(
     text: &mut String,
     program: &str,

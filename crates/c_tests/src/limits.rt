@@ -208,7 +208,7 @@ fn limits_are_told_where_they_are_passed(rt: HostRuntime) -> Result<(), Fail> {
     Ok(())
 }
 
-// Texts before and behind a name, with the column of the name, where a name of 28 bytes fits.
+// Texts before and after a name, with the column of the name, where a name of 28 bytes fits.
 const NAMES: &str = r#"int  @ ; @ 5
 int  @ (){} @ 5
 int f(int  @ ); @ 11

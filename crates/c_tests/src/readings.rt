@@ -4,7 +4,7 @@ use crate::answers::{field, printed, told};
 use c_text::read;
 use std::test::Fail;
 
-/// A text in each line, and behind ` @ ` what is told of it. Worked out by hand from C99 and the profile.
+/// A text in each line, and after ` @ ` what is told of it. Worked out by hand from C99 and the profile.
 const ROWS: &str = r#"int f ( void ) { return 0 ; } @ ok
  @ ok
 int x ; int y = - 3 ; short a [ 3 ] = { 1 , 2 , } ; @ ok

@@ -19,7 +19,7 @@ const TEN_TURNS: [Fact; 6] = [
     Fact::Total(4, 1, 1),
 ];
 
-// The cost of node 1, the scale, the multipliers other than 0, each behind its row, the bound, and the verdict.
+// The cost of node 1, the scale, the multipliers other than 0, each after its row, the bound, and the verdict.
 const ROWS: &str = "\
 1 1 | 9 1 11 1 13 1 15 1 | 23 => Holds(23)\n\
 1 1 | 9 1 11 1 13 1 15 1 | 22 => Bound(23)\n\

@@ -39,7 +39,7 @@ fn put_first(
     }
 }
 
-/// An operand before the rest; behind one without a value nothing is told.
+/// An operand before the rest; after one without a value nothing is told.
 pub(crate) fn before(
     first: (Option<AVal>, FaultSet),
     rest: (Option<Vec<AVal>>, FaultSet),

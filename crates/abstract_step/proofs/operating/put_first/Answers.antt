@@ -6,7 +6,7 @@ use Rattle.pointer_rules.specs.AbstractValues.{AbstractValue}
 use Rattle.step_rules.specs.Remains.{with_faults}
 use Rattle.step_rules.specs.Evaluating.{before}
 use Rattle.abstract_step.proofs.FoundLaws.{remains_is, first_found}
-use Rattle.abstract_step.proofs.operands.put_first.Goals as goal
+use Rattle.abstract_step.proofs.operating.put_first.Goals as goal
 
 pub returns-in_ok-insert-in-Some : goal.returns-in_ok-insert-in-Some
 returns-in_ok-insert-in-Some c =

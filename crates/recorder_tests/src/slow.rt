@@ -10,14 +10,16 @@ pub struct Trace {
     nodes: Vec<u32>,
 }
 
-// One of the two runs that a text merges, or the one that it has.
+// One of the two runs that a text merges, or the one that it has. The rest of a merged run begins with the
+// node at which the two are merged, which both have.
 fn trace_of(alloc: Global, run: &str, side: usize) -> Result<Trace, AllocError> {
     let front = run.split(" > ").nth(0).unwrap_or("");
     let rest = run.split(" > ").nth(1).unwrap_or("");
     let way = front.split(" + ").nth(side).unwrap_or(front);
     let mut nodes = numbers(alloc, way)?;
-    for node in &numbers(alloc, rest)? {
-        nodes.push(*node)?;
+    let further = numbers(alloc, rest)?;
+    for place in 1..further.len() {
+        nodes.push(further[place])?;
     }
     Ok(Trace { nodes })
 }

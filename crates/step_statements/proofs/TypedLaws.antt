@@ -1,0 +1,185 @@
+-- Parts of expressions that keep the rules of the checks.
+--   first_typed, second_typed, third_typed   operands in a row
+--   few_terms                   an operator has one to three operands
+--   one_member, two_members, three_members   lists of so many
+--   value_found                 a value that is found has its size
+--   load_sized                  the address of a load is a pointer's
+--   apply_typed, operands_typed an operator has a result, and its operands have sizes
+--   operands_sized              the operands' values have their sizes
+--   one_found, two_found, three_found   what so many operands give
+use Rattle.std.specs.Prelude.{IfSome, IsSome}
+use Rattle.std.specs.List.{AllZip}
+use Rattle.std.specs.Option.{option_map}
+use Rattle.std.proofs.Common.{◌≡◌, ◌≤◌, ◌<◌, ℕ, List, [], ◌∷◌, Vec, length, map, get_or, Option, Some, None, refl, sym, ap, ◌∙◌, subst, arith}
+use Rattle.std.specs.declared.alloc.Global.{Global}
+use Rattle.std.proofs.lemmas.List.{length-map}
+use Rattle.alf_ops.specs.declared.operator.Op.{Op}
+use Rattle.alf_ops.specs.declared.layout.Layout.{Layout}
+use Rattle.alf_ops.specs.declared.layout.Layout.TheVariants.{Unary, Sum, Carry, Joined, First, Second, Binary, Comparison, Extension, Truncation, Field, Choice}
+use Rattle.alf_ops.specs.Table.{layout_of, operand_sizes, result_size}
+use Rattle.alf_ops.specs.Layouts.{operands_by_layout}
+use Rattle.alf_program.specs.Tree.{NumberedExpression, NumberedExpressions, Load, Apply, Empty, With, expressions_of}
+use Rattle.alf_check.specs.declared.rows.FrameRow.{FrameRow}
+use Rattle.alf_check.specs.declared.rows.Term.{Term}
+use Rattle.alf_check.specs.CheckedPrograms.{term_of}
+use Rattle.alf_check.specs.Kept.{HasSize as HasWritten, HaveSizes}
+use Rattle.domain_core.specs.declared.fault_set.FaultSet.{FaultSet}
+use Rattle.pointer_rules.specs.AbstractValues.{AbstractValue, HasSize}
+use Rattle.pointer_rules.specs.Covering.{IsValue}
+use Rattle.seen_memories.specs.Parts.{MemoryParts, memory_in, rows_of, IsMemory}
+use Rattle.step_rules.specs.Remains.{Remains, all_left, goes_on}
+use Rattle.step_rules.specs.Evaluating.{value_at, values_at, before}
+use Rattle.step_rules.specs.RemainsLaws.{IfLeft}
+use Rattle.step_rules.specs.EvaluatingLaws.{value_sized, values_sized}
+use Rattle.step_statements.specs.Typed.{IsTyped, AreTyped}
+use Rattle.step_statements.specs.Found.{found, founds}
+
+pub first_typed : (sizes : List ℕ) (e : NumberedExpression) (es : NumberedExpressions) → AreTyped sizes (With e es) → IsTyped e
+first_typed [] e es h = absurd h.have
+first_typed (size ∷ sizes) e es h = record { table = h.table; function = h.function; size = size; has = h.have.0 }
+
+pub second_typed : (sizes : List ℕ) (a b : NumberedExpression) (es : NumberedExpressions) → AreTyped sizes (With a (With b es)) → IsTyped b
+second_typed [] a b es h = absurd h.have
+second_typed (size ∷ sizes) a b es h = first_typed sizes b es (record { table = h.table; function = h.function; have = h.have.1 })
+
+pub third_typed : (sizes : List ℕ) (a b c : NumberedExpression) (es : NumberedExpressions) → AreTyped sizes (With a (With b (With c es))) → IsTyped c
+third_typed [] a b c es h = absurd h.have
+third_typed (size ∷ sizes) a b c es h = second_typed sizes b c es (record { table = h.table; function = h.function; have = h.have.1 })
+
+as_many : (rows : List FrameRow) (function : ℕ) (sizes : List ℕ) (es : List NumberedExpression) → HaveSizes rows function sizes (expressions_of es) → length es ≡ length sizes
+as_many rows function [] [] h = refl
+as_many rows function [] (e ∷ es) h = absurd h
+as_many rows function (size ∷ sizes) [] h = absurd h
+as_many rows function (size ∷ sizes) (e ∷ es) h = let more = as_many rows function sizes es h.1 in omega arith
+
+-- one to three
+pub record IsFew (n : ℕ) : Type 0 where
+  pub some : 1 ≤ n
+  pub few : n ≤ 3
+
+few_sizes : (layout : Layout) (m n h : ℕ) → IsFew (length (operands_by_layout layout m n h))
+few_sizes Unary m n h = record { some = omega arith; few = omega arith }
+few_sizes Sum m n h = record { some = omega arith; few = omega arith }
+few_sizes Carry m n h = record { some = omega arith; few = omega arith }
+few_sizes Joined m n h = record { some = omega arith; few = omega arith }
+few_sizes First m n h = record { some = omega arith; few = omega arith }
+few_sizes Second m n h = record { some = omega arith; few = omega arith }
+few_sizes Binary m n h = record { some = omega arith; few = omega arith }
+few_sizes Comparison m n h = record { some = omega arith; few = omega arith }
+few_sizes Extension m n h = record { some = omega arith; few = omega arith }
+few_sizes Truncation m n h = record { some = omega arith; few = omega arith }
+few_sizes Field m n h = record { some = omega arith; few = omega arith }
+few_sizes Choice m n h = record { some = omega arith; few = omega arith }
+
+-- an operator has one to three operands
+pub few_terms : (op : Op) (sizes : List ℕ) (terms : List Term) → AreTyped (operand_sizes op sizes) (expressions_of (map term_of terms)) → IsFew (length terms)
+few_terms op sizes terms typed =
+    let many = as_many typed.table typed.function (operand_sizes op sizes) (map term_of terms) typed.have in
+    let long = length-map terms term_of in
+    subst IsFew (sym many ∙ long) (few_sizes (layout_of op) _ _ _)
+
+-- ---- lists of so many
+
+pub one_member : {A : Type 0} (xs : List A) (a : A) → 1 ≤ length xs → length xs < 2 → a ≡ get_or xs 0 a → xs ≡ a ∷ []
+one_member [] a some few e = absurd (omega arith)
+one_member (x ∷ []) a some few e = cc
+one_member (x ∷ y ∷ xs) a some few e = absurd (omega arith)
+
+pub two_members : {A : Type 0} (xs : List A) (a b : A) → 2 ≤ length xs → length xs < 3 → a ≡ get_or xs 0 a → b ≡ get_or xs 1 b → xs ≡ a ∷ b ∷ []
+two_members [] a b some few e f = absurd (omega arith)
+two_members (x ∷ []) a b some few e f = absurd (omega arith)
+two_members (x ∷ y ∷ []) a b some few e f = cc
+two_members (x ∷ y ∷ z ∷ xs) a b some few e f = absurd (omega arith)
+
+pub three_members : {A : Type 0} (xs : List A) (a b c : A) → 3 ≤ length xs → length xs < 4 → a ≡ get_or xs 0 a → b ≡ get_or xs 1 b → c ≡ get_or xs 2 c → xs ≡ a ∷ b ∷ c ∷ []
+three_members [] a b c some few e f g = absurd (omega arith)
+three_members (x ∷ []) a b c some few e f g = absurd (omega arith)
+three_members (x ∷ y ∷ []) a b c some few e f g = absurd (omega arith)
+three_members (x ∷ y ∷ z ∷ []) a b c some few e f g = cc
+three_members (x ∷ y ∷ z ∷ w ∷ xs) a b c some few e f g = absurd (omega arith)
+
+-- ---- sizes of what is found
+
+-- a value that is found has its size
+pub value_found : (parts : MemoryParts) (table : List FrameRow) (k size : ℕ) (e : NumberedExpression) (answer : Option AbstractValue × FaultSet) → IsMemory parts → HasWritten table k size e
+    → found answer ≡ value_at (rows_of parts.checked) (memory_in parts) e → IfSome answer.0 (IsValue size)
+value_found parts table k size e answer is has told =
+    subst (λ (r : Remains AbstractValue). IfLeft (IsValue size) r) (sym told) (value_sized table (rows_of parts.checked) (memory_in parts) is.sized k e size has)
+
+-- the address of a load is a pointer's
+pub load_sized : (parts : MemoryParts) (e at : NumberedExpression) (bits : ℕ) (answer : Option AbstractValue × FaultSet) → IsMemory parts → IsTyped e → e ≡ Load bits at
+    → found answer ≡ value_at (rows_of parts.checked) (memory_in parts) at → IfSome answer.0 (IsValue 32)
+load_sized parts e at bits answer is typed same told =
+    let has : HasWritten typed.table typed.function typed.size (Load bits at) = subst (HasWritten typed.table typed.function typed.size) same typed.has in
+    value_found parts typed.table typed.function 32 at answer is has.address told
+
+-- an operator has a result, and its operands have sizes
+pub apply_typed : (e : NumberedExpression) (op : Op) (sizes : List ℕ) (es : NumberedExpressions) → IsTyped e → e ≡ Apply op sizes es
+    → IsSome (result_size op sizes) × AreTyped (operand_sizes op sizes) es
+apply_typed e op sizes es typed same =
+    let has : HasWritten typed.table typed.function typed.size (Apply op sizes es) = subst (HasWritten typed.table typed.function typed.size) same typed.has in
+    (subst (λ (o : Option ℕ). IsSome o) (sym has.result_is) refl, record { table = typed.table; function = typed.function; have = has.operands })
+
+-- the same of its parts as code passes them on
+pub operands_typed : {K : Type 0} (e : NumberedExpression) (op : Op) (sizes own : List ℕ) (terms passed : List Term) → IsTyped e → e ≡ Apply op sizes (expressions_of (map term_of terms))
+    → own ≡ sizes → passed ≡ terms → K → IsSome (result_size op own) × (AreTyped (operand_sizes op own) (expressions_of (map term_of passed)) × K)
+operands_typed e op sizes own terms passed typed same of_sizes of_terms kept =
+    let parts = apply_typed e op sizes (expressions_of (map term_of terms)) typed same in (
+      subst (λ (xs : List ℕ). IsSome (result_size op xs)) (sym of_sizes) parts.0,
+      (
+        subst (λ (xs : List ℕ). AreTyped (operand_sizes op xs) (expressions_of (map term_of passed))) (sym of_sizes)
+            (subst (λ (ts : List Term). AreTyped (operand_sizes op sizes) (expressions_of (map term_of ts))) (sym of_terms) parts.1),
+        kept,
+      ),
+    )
+
+each_size : (sizes : List ℕ) (vs : List AbstractValue) → AllZip IsValue sizes vs → AllZip (λ size v. HasSize v size) sizes vs
+each_size [] [] are = tt
+each_size [] (v ∷ vs) are = absurd are
+each_size (size ∷ sizes) [] are = absurd are
+each_size (size ∷ sizes) (v ∷ vs) are = (are.0.sized, each_size sizes vs are.1)
+
+-- the operands' values have their sizes
+pub operands_sized : (parts : MemoryParts) (sizes : List ℕ) (es : NumberedExpressions) (answer : Option (Vec AbstractValue Global) × FaultSet) → IsMemory parts → AreTyped sizes es
+    → founds answer ≡ values_at (rows_of parts.checked) (memory_in parts) es → IfSome answer.0 (λ values. AllZip (λ size v. HasSize v size) sizes values.items)
+operands_sized parts sizes es answer is typed same = go answer.0 (subst (λ (r : Remains (List AbstractValue)). IfLeft (AllZip IsValue sizes) r) (sym same)
+    (values_sized typed.table (rows_of parts.checked) (memory_in parts) is.sized typed.function es sizes typed.have))
+  where
+    go : (o : Option (Vec AbstractValue Global)) → IfSome (option_map (λ (values : Vec AbstractValue Global). values.items) o) (AllZip IsValue sizes)
+        → IfSome o (λ values. AllZip (λ size v. HasSize v size) sizes values.items)
+    go None are = tt
+    go (Some values) are = each_size sizes values.items are
+
+-- ---- what operands give
+
+module _ (parts : MemoryParts) where
+  abbrev given : NumberedExpression → Remains AbstractValue
+  given e = value_at (rows_of parts.checked) (memory_in parts) e
+
+  abbrev givens : NumberedExpressions → Remains (List AbstractValue)
+  givens es = values_at (rows_of parts.checked) (memory_in parts) es
+
+  pub one_more : (e : NumberedExpression) (es : NumberedExpressions) (first : Option AbstractValue × FaultSet) (rest all : Option (Vec AbstractValue Global) × FaultSet) → found first ≡ given e
+      → founds rest ≡ givens es → founds all ≡ goes_on (found first) (before (founds rest)) → founds all ≡ givens (With e es)
+  one_more e es first rest all of_first of_rest joined =
+      joined ∙ ap (λ (r : Remains AbstractValue). goes_on r (before (founds rest))) of_first ∙ ap (λ (r : Remains (List AbstractValue)). goes_on (given e) (before r)) of_rest
+
+  pub one_found : (terms : List Term) (a : Term) (x : Option AbstractValue × FaultSet) (none all : Option (Vec AbstractValue Global) × FaultSet) → terms ≡ a ∷ []
+      → found x ≡ given (term_of a) → founds none ≡ all_left [] → founds all ≡ goes_on (found x) (before (founds none)) → founds all ≡ givens (expressions_of (map term_of terms))
+  one_found terms a x none all split of_a empty joined =
+      one_more (term_of a) Empty x none all of_a empty joined ∙ ap (λ (ts : List Term). givens (expressions_of (map term_of ts))) (sym split)
+
+  pub two_found : (terms : List Term) (a b : Term) (x y : Option AbstractValue × FaultSet) (none last all : Option (Vec AbstractValue Global) × FaultSet) → terms ≡ a ∷ b ∷ []
+      → found x ≡ given (term_of a) → found y ≡ given (term_of b) → founds none ≡ all_left [] → founds last ≡ goes_on (found y) (before (founds none))
+      → founds all ≡ goes_on (found x) (before (founds last)) → founds all ≡ givens (expressions_of (map term_of terms))
+  two_found terms a b x y none last all split of_a of_b empty of_last joined =
+      one_more (term_of a) (With (term_of b) Empty) x last all of_a (one_more (term_of b) Empty y none last of_b empty of_last) joined
+      ∙ ap (λ (ts : List Term). givens (expressions_of (map term_of ts))) (sym split)
+
+  pub three_found : (terms : List Term) (a b c : Term) (x y z : Option AbstractValue × FaultSet) (none last later all : Option (Vec AbstractValue Global) × FaultSet) → terms ≡ a ∷ b ∷ c ∷ []
+      → found x ≡ given (term_of a) → found y ≡ given (term_of b) → found z ≡ given (term_of c) → founds none ≡ all_left [] → founds last ≡ goes_on (found z) (before (founds none))
+      → founds later ≡ goes_on (found y) (before (founds last)) → founds all ≡ goes_on (found x) (before (founds later)) → founds all ≡ givens (expressions_of (map term_of terms))
+  three_found terms a b c x y z none last later all split of_a of_b of_c empty of_last of_later joined =
+      one_more (term_of a) (With (term_of b) (With (term_of c) Empty)) x later all of_a
+      (one_more (term_of b) (With (term_of c) Empty) y last later of_b (one_more (term_of c) Empty z none last of_c empty of_last) of_later) joined
+      ∙ ap (λ (ts : List Term). givens (expressions_of (map term_of ts))) (sym split)

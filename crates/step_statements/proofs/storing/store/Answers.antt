@@ -1,0 +1,25 @@
+use Rattle.std.proofs.Common.{Option, subst}
+use Rattle.std.specs.Prelude.{IfSome}
+use Rattle.alf_check.specs.CheckedPrograms.{term_of}
+use Rattle.pointer_rules.specs.AbstractValues.{AbstractValue}
+use Rattle.pointer_rules.specs.Covering.{IsValue}
+use Rattle.step_rules.specs.EvaluatingLaws.{cell_size}
+use Rattle.step_statements.proofs.TypedLaws.{value_found}
+use Rattle.step_statements.proofs.storing.store.Goals as goal
+
+pub store_through-requires-clause-address : goal.store_through-requires-clause-address
+store_through-requires-clause-address c =
+    let typed = c.requires.typed in
+    let of_at = value_found c.args.memory.now typed.table typed.function 32 (term_of c.args.to.now) (c.in_ok-at.at, c.in_ok-at.faults) c.requires.kept typed.keeps.address c.in_ok-at.ensures in
+    subst (λ (o : Option AbstractValue). IfSome o (IsValue 32)) c.in-Some.is of_at
+
+pub store_through-requires-clause-value : goal.store_through-requires-clause-value
+store_through-requires-clause-value c =
+    let typed = c.requires.typed in
+    let stored = typed.keeps.stored in
+    let of_value = value_found c.args.memory.now typed.table typed.function stored.size (term_of c.args.term.now) (c.in_ok-value.value, c.in_ok-value.more) c.requires.kept stored.value_has c.in_ok-value.ensures in
+    record {
+      size = stored.size;
+      cell = cell_size stored.size stored.cell;
+      is = subst (λ (o : Option AbstractValue). IfSome o (IsValue stored.size)) c.in-Some-value.is of_value;
+    }

@@ -1,0 +1,125 @@
+//! Values of expressions.
+
+ghost use Rattle.std.specs.Prelude.{◌≡◌, IfOk, IfSome, IsSome, map};
+ghost use Rattle.alf_ops.specs.Table.{result_size, operand_sizes};
+ghost use Rattle.alf_program.specs.Tree.{Number, expressions_of};
+ghost use Rattle.alf_check.specs.CheckedPrograms.{term_of};
+ghost use Rattle.memory_rules.specs.Covers.{IsCellSize};
+ghost use Rattle.pointer_rules.specs.Covering.{IsValue};
+ghost use Rattle.seen_memories.specs.Parts.{memory_in, rows_of, IsMemory};
+ghost use Rattle.step_rules.specs.Remains.{all_left, goes_on};
+ghost use Rattle.step_rules.specs.Evaluating.{word_value, pointer_value, loaded, operated, value_at, values_at};
+ghost use Rattle.step_statements.specs.Typed.{IsTyped, AreTyped};
+ghost use Rattle.step_statements.specs.Found.{found};
+
+use crate::operating::{applied, before, no_operand};
+use abstract_memory::AMem;
+use alf_check::Term;
+use alf_ops::Op;
+use alf_program::Num;
+use domain_core::FaultSet;
+use interval_congruence::Strided;
+use pointer_domain::AVal;
+use std::alloc::{AllocError, Global};
+
+/// A word.
+fn word(alloc: Global, num: Num) -> (Option<AVal>, FaultSet)
+    requires { IsTyped (Number num) }
+    ensures { found result ≡ all_left (word_value num.size num.bits) }
+{
+    let value = AVal::word(alloc, Strided::one_word(num.size, num.bits));
+    (Some(value), FaultSet::none())
+}
+
+/// A pointer.
+fn pointer(alloc: Global, frame: u32, offset: u32) -> Result<(Option<AVal>, FaultSet), AllocError>
+    ensures { IfOk result (λ answer. found answer ≡ all_left (pointer_value frame offset)) }
+{
+    let value = AVal::pointer(alloc, frame, Strided::one_word(32, offset as u64))?;
+    Ok((Some(value), FaultSet::none()))
+}
+
+/// What a load through the address gives.
+fn load(
+    alloc: Global,
+    memory: &AMem<'_>,
+    place: (Option<AVal>, FaultSet),
+    size: u32,
+) -> Result<(Option<AVal>, FaultSet), AllocError>
+    requires kept { IsMemory memory.now }
+    requires place { IfSome place.0 (IsValue 32) }
+    requires size { IsCellSize size }
+    ensures { IfOk result (λ answer. found answer ≡ goes_on (found place) (loaded (rows_of memory.now.checked) (memory_in memory.now) size)) }
+{
+    let (at, faults) = place;
+    match at {
+        None => Ok((None, faults)),
+        Some(at) => {
+            let (value, more) = memory.load(alloc, &at, size)?;
+            Ok((value, faults.union(more)))
+        }
+    }
+}
+
+/// What the expression gives over the memory: its value, where some run goes on, and the faults.
+#[cycle(evaluation)]
+pub fn evaluate(
+    alloc: Global,
+    memory: &AMem<'_>,
+    term: &Term,
+) -> Result<(Option<AVal>, FaultSet), AllocError>
+    requires typed { IsTyped (term_of term.now) }
+    requires kept { IsMemory memory.now }
+    ensures { IfOk result (λ answer. found answer ≡ value_at (rows_of memory.now.checked) (memory_in memory.now) (term_of term.now)) }
+{
+    match term {
+        Term::Num(num) => Ok(word(alloc, *num)),
+        Term::Addr(frame, offset) => pointer(alloc, *frame, *offset),
+        Term::Load(size, at) => {
+            let place = evaluate(alloc, memory, at)?;
+            load(alloc, memory, place, *size)
+        }
+        Term::Apply(op, sizes, operands) => operate(alloc, memory, *op, sizes, operands),
+    }
+}
+
+/// What an operator gives at its operands, which are evaluated from left to right.
+#[cycle(evaluation)]
+fn operate(
+    alloc: Global,
+    memory: &AMem<'_>,
+    op: Op,
+    sizes: &[u32],
+    terms: &[Term],
+) -> Result<(Option<AVal>, FaultSet), AllocError>
+    requires shaped { IsSome (result_size op sizes.now) }
+    requires typed { AreTyped (operand_sizes op sizes.now) (expressions_of (map term_of terms.now)) }
+    requires kept { IsMemory memory.now }
+    ensures { IfOk result (λ answer. found answer ≡ goes_on (values_at (rows_of memory.now.checked) (memory_in memory.now) (expressions_of (map term_of terms.now))) (operated op sizes.now)) }
+{
+    match terms {
+        [] => unreachable!(),
+        [a] => {
+            let a = evaluate(alloc, memory, a)?;
+            let args = before(a, no_operand(alloc))?;
+            applied(alloc, op, sizes, args)
+        }
+        [a, b] => {
+            let a = evaluate(alloc, memory, a)?;
+            let b = evaluate(alloc, memory, b)?;
+            let last = before(b, no_operand(alloc))?;
+            let args = before(a, last)?;
+            applied(alloc, op, sizes, args)
+        }
+        [a, b, c] => {
+            let a = evaluate(alloc, memory, a)?;
+            let b = evaluate(alloc, memory, b)?;
+            let c = evaluate(alloc, memory, c)?;
+            let last = before(c, no_operand(alloc))?;
+            let later = before(b, last)?;
+            let args = before(a, later)?;
+            applied(alloc, op, sizes, args)
+        }
+        [_, _, _, _, ..] => unreachable!(),
+    }
+}

@@ -15,7 +15,7 @@ use crate::departures::told;
 use crate::fault::TextFault;
 use crate::laws::spelled_units_are_read_back;
 use c_externals::read_unit;
-use c_reader::{Departure, Reader, cut};
+use c_reader::{Departure, Names, Reader, cut};
 use c_unit::{CUnit, External, Span, spans};
 use std::alloc::Global;
 
@@ -71,7 +71,7 @@ fn read_externals(alloc: Global, bytes: &[u8]) -> Result<Vec<External>, Departur
         functions: MOST_FUNCTIONS,
         frames: MOST_FRAMES,
         elements: MOST_ELEMENTS,
-        names: Vec::new(alloc),
+        names: Names::new(alloc),
     };
     match read_unit(&mut reader) {
         Ok(externals) => Ok(externals),

@@ -292,6 +292,6 @@ fn each_of_6000_functions_is_called(rt: HostRuntime) -> Result<(), Fail> {
     }
     text.push_str("}")?;
     let found = told(alloc, &read(alloc, text.as_bytes()))?;
-    assert_eq!(rt; found.as_slice(), b"ok");
+    assert_eq!(rt; found.as_slice(), b"ok".as_slice());
     Ok(())
 }

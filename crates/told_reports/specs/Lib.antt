@@ -1,0 +1,9 @@
+-- The files here, each after those that it cites.
+pub mod Told
+pub mod Lines
+pub mod Runs
+pub mod BelowLaws
+pub mod AscentLaws
+pub mod LineLaws
+pub mod CostLaws
+pub mod SoundLaws

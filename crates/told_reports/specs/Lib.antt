@@ -7,3 +7,4 @@ pub mod AscentLaws
 pub mod LineLaws
 pub mod CostLaws
 pub mod SoundLaws
+pub mod EventLaws

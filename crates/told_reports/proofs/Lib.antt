@@ -1,1 +1,0 @@
--- The proofs here are answers alone.

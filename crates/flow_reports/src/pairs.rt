@@ -55,7 +55,26 @@ fn tell_pair(
     tell(facts, Fact::Pair(scope, a, b))
 }
 
-// The lines of the pairs that begin with a node.
+// The lines of the pairs of a scope that begin with a node, which may be one of a pair.
+fn tell_pairs_from(
+    facts: &mut Vec<Fact>,
+    outline: &Outline,
+    found: &Collected,
+    scope: u32,
+    a: u32,
+) -> Result<(), AllocError>
+    requires sized { IsSized outline.now (found_in found.now) }
+    requires scope { scope < length outline.now.scopes }
+    requires first { a < length outline.now.nodes }
+    ensures { OnOk result (facts.new.items ≡ facts.old.items ++ below (pair_line outline.now (found_in found.now) scope a) (length outline.now.nodes)) }
+{
+    for b in 0..outline.node_count() {
+        tell_pair(facts, outline, found, scope, a, b)?;
+    }
+    Ok(())
+}
+
+// The lines of the pairs of a scope that begin with a node.
 fn tell_pairs_with(
     facts: &mut Vec<Fact>,
     outline: &Outline,
@@ -71,10 +90,7 @@ fn tell_pairs_with(
     if !may_pair_at(outline, found, scope, a) {
         return Ok(());
     }
-    for b in 0..outline.node_count() {
-        tell_pair(facts, outline, found, scope, a, b)?;
-    }
-    Ok(())
+    tell_pairs_from(facts, outline, found, scope, a)
 }
 
 // The lines of the pairs of a scope.

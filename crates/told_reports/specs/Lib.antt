@@ -8,3 +8,5 @@ pub mod LineLaws
 pub mod CostLaws
 pub mod SoundLaws
 pub mod EventLaws
+pub mod Numbers
+pub mod NumberLaws

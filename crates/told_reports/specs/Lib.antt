@@ -10,3 +10,4 @@ pub mod SoundLaws
 pub mod EventLaws
 pub mod Numbers
 pub mod NumberLaws
+pub mod WritableLaws

@@ -11,3 +11,4 @@ pub mod EventLaws
 pub mod Numbers
 pub mod NumberLaws
 pub mod WritableLaws
+pub mod AgreeLaws

@@ -138,3 +138,12 @@ module _ (o : Outlined) (found : Found) (k : ℕ) (orderly : AreOrderly k found.
         where
           named : NodeRow → NamedNode
           named row = record { scope = row.scope; cost = row.cost; name = row.name.items }
+
+-- and so it is where nodes times steps are few
+pub few_writable : (o : Outlined) (found : Found) (k : ℕ) → IsOutline (shape_of o) → CostsFit o → All (λ row. IsNodeName row.name.items) o.nodes → AreOrderly k found.books → length o.nodes * k ≤ 2 ^ 31
+    → IsWritable (told_report o found)
+few_writable o found k ok costs names orderly few =
+    let own : length (shape_of o).own ≡ length o.nodes = length-map o.nodes (λ row. row.scope) in
+    let some = ok.some in
+    let one = mul-le 1 k (length o.nodes) k (omega (arith, own, some)) (omega arith) in
+    told_writable o found k orderly ok (omega (arith, one, few)) costs names (bound_fits o found k orderly costs few)

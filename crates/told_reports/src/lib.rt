@@ -9,4 +9,7 @@
 // What the definitions promise.
 mod laws;
 
-pub use laws::closed_explorations_are_sound;
+pub use laws::{
+    analyses_agree, closed_explorations_are_sound, numbers_are_at_most_the_steps,
+    told_reports_are_writable,
+};

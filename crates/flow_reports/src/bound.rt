@@ -2,6 +2,7 @@
 
 ghost use Rattle.std.specs.Prelude.{◌≡◌, ◌<◌, ◌^◌, ◌*◌, length, slice_index};
 ghost use Rattle.told_reports.specs.Told.{greatest_total, costs_of, count_bound};
+ghost use Rattle.told_reports.specs.Numbers.{CostsFit};
 ghost use Rattle.flow_reports.specs.Gathering.{found_in, IsSized};
 
 use crate::collected::Collected;
@@ -22,13 +23,21 @@ fn greatest(found: &Collected, node: u32) -> u32
     }
 }
 
+// What a visit of a node costs.
+fn cost_at(outline: &Outline, node: u32) -> u32
+    requires { node < length outline.now.nodes }
+    ensures { result ≡ slice_index (costs_of outline.now) node }
+{
+    outline.node(node).cost
+}
+
 // What all visits of a node cost at most.
 fn most_cost(outline: &Outline, found: &Collected, node: u32) -> u64
     requires sized { IsSized outline.now (found_in found.now) }
     requires node { node < length outline.now.nodes }
     ensures { result ≡ slice_index (costs_of outline.now) node * greatest_total (found_in found.now) node }
 {
-    u64::from(outline.node(node).cost) * u64::from(greatest(found, node))
+    u64::from(cost_at(outline, node)) * u64::from(greatest(found, node))
 }
 
 /// Each node's cost times its greatest total, added up.
@@ -42,4 +51,13 @@ pub fn bound(outline: &Outline, found: &Collected) -> u64
         sum += most_cost(outline, found, n);
     }
     sum
+}
+
+/// Each cost fits 32 bits, as the outline keeps it.
+pub fn costs_fit(outline: &Outline)
+    ensures { CostsFit outline.now }
+{
+    for n in 0..outline.node_count() {
+        let _ = cost_at(outline, n);
+    }
 }

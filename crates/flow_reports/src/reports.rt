@@ -1,14 +1,16 @@
 //! The report.
 
-ghost use Rattle.std.specs.Prelude.{◌≡◌, ◌<◌, ◌^◌, ◌++◌, [], IfOk, OnOk};
+ghost use Rattle.std.specs.Prelude.{◌≡◌, ◌<◌, ◌≤◌, ◌*◌, ◌^◌, [], length, All, IfOk};
 ghost use Rattle.flow_facts.specs.Reports.{reported};
+ghost use Rattle.flow_facts.specs.Writable.{IsNodeName, IsWritable};
 ghost use Rattle.abstract_exec.specs.Explorations.{IsPool};
-ghost use Rattle.told_reports.specs.Told.{four_recording, found_of, told_facts, count_bound, told_report};
+ghost use Rattle.told_reports.specs.Told.{four_recording, books_of, found_of, told_facts, count_bound, told_report};
+ghost use Rattle.told_reports.specs.Numbers.{AreOrderly};
 ghost use Rattle.told_reports.specs.Runs.{IsSound};
 ghost use Rattle.flow_reports.specs.Gathering.{found_in, IsSized};
 
 use crate::alarms::tell_alarms;
-use crate::bound::bound;
+use crate::bound::{bound, costs_fit};
 use crate::collected::{Collected, FourRecorders};
 use crate::counts::tell_counts;
 use crate::gathering::collected;
@@ -20,7 +22,7 @@ use abstract_exec::Pool;
 use domain_core::{Outline, Stepper};
 use flow_facts::{Fact, Report};
 use std::alloc::{AllocError, Global};
-use told_reports::closed_explorations_are_sound;
+use told_reports::{closed_explorations_are_sound, told_reports_are_writable};
 
 // The facts, in the order of lines.
 fn facts_of(
@@ -74,7 +76,8 @@ pub fn report<S: Stepper>(
 ) -> Result<Report, AllocError>
     requires kept { IsPool S.machine four_recording pool.now }
     requires outline { pool.now.outline ≡ outline.now }
-    requires room { count_bound outline.now (found_of pool.now) < 2 ^ 64 }
+    requires orderly { AreOrderly pool.now.steps (books_of pool.now.book) }
+    requires room { length outline.now.nodes * pool.now.steps ≤ 2 ^ 31 }
 
     // The report is the one that the definition tells.
     ensures told { IfOk result (λ report. reported report ≡ told_report outline.now (found_of pool.now)) }
@@ -82,7 +85,14 @@ pub fn report<S: Stepper>(
     // Where no place is left, each run of the stepper's system ends, meets each fact, faults only where an
     // alarm says so, and costs no more than the count bound.
     ensures sound { pool.now.spots ≡ [] → IfOk result (λ report. IsSound (S.machine pool.now.stepper).system outline.now (reported report)) }
+
+    // Where the nodes have names as reports spell them, the report is one that some text spells: what is
+    // printed is read again as the same report.
+    ensures writable { All (λ row. IsNodeName row.name.items) outline.now.nodes → IfOk result (λ report. IsWritable (reported report)) }
 {
+    outline.kept();
+    costs_fit(outline);
+    told_reports_are_writable();
     closed_explorations_are_sound::<S>();
     let found = collected(alloc, pool, outline.node_count())?;
     let report = report_of(alloc, outline, &found)?;

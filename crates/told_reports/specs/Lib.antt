@@ -12,3 +12,5 @@ pub mod Numbers
 pub mod NumberLaws
 pub mod WritableLaws
 pub mod AgreeLaws
+pub mod Exact
+pub mod PointLaws

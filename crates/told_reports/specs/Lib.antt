@@ -14,3 +14,4 @@ pub mod WritableLaws
 pub mod AgreeLaws
 pub mod Exact
 pub mod PointLaws
+pub mod ExactLaws

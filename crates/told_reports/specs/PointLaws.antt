@@ -14,7 +14,7 @@ use Rattle.told_reports.specs.Runs.{EndsWith, Passes, stops, moves}
 
 module _ {C : Type 0} (system : System C) where
   -- its points, in order
-  pub points : {n : ℕ} {c : C} {trace : List ℕ} {fault : Option RunFault} → Passes system n c trace fault → List (ℕ × C)
+  abbrev pub points : {n : ℕ} {c : C} {trace : List ℕ} {fault : Option RunFault} → Passes system n c trace fault → List (ℕ × C)
   points {n} {c} (stops way) = (n, c) ∷ []
   points {n} {c} (moves step rest) = (n, c) ∷ points rest
 

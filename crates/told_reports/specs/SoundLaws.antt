@@ -60,14 +60,14 @@ pub record SummedUp (o : Outlined) (found : Found) (past : List ℕ) : Type 0 wh
   pub stepped : AllStepped found.stepped past
 
 -- a visited node was stepped
-stepped_there : (stepped : List Bool) (past : List ℕ) → AllStepped stepped past → (n : ℕ) → Contains past n → slice_index_or stepped n false ≡ true
+pub stepped_there : (stepped : List Bool) (past : List ℕ) → AllStepped stepped past → (n : ℕ) → Contains past n → slice_index_or stepped n false ≡ true
 stepped_there stepped [] all n there = no_member n there
 stepped_there stepped (m ∷ past) all n there =
     first_or_further m past n there
     (λ same. subst (λ (k : ℕ). slice_index_or stepped k false ≡ true) same (get_or_from_slice_get stepped m true false all.0))
     (λ older. stepped_there stepped past all.1 n older)
 
-greatest_is : (v : Bool) (spread : Option (ℕ × ℕ)) (s : ℕ × ℕ) → v ≡ true → spread ≡ Some s → cond v (option_map_or (λ span. span.1) spread 0) 0 ≡ s.1
+pub greatest_is : (v : Bool) (spread : Option (ℕ × ℕ)) (s : ℕ × ℕ) → v ≡ true → spread ≡ Some s → cond v (option_map_or (λ span. span.1) spread 0) 0 ≡ s.1
 greatest_is v spread s is there = ap (λ (u : Bool). cond u (option_map_or (λ span. span.1) spread 0) 0) is ∙ ap (λ (t : Option (ℕ × ℕ)). option_map_or (λ span. span.1) t 0) there
 
 module _ (o : Outlined) (found : Found) (past : List ℕ) (run : SummedUp o found past) where
@@ -100,11 +100,11 @@ module _ (o : Outlined) (found : Found) (past : List ℕ) (run : SummedUp o foun
   own_length : length (shape_of o).own ≡ length o.nodes
   own_length = length-map o.nodes (λ row. row.scope)
 
-  node_low : (n : ℕ) → Contains (reverse past) n → n < length o.nodes
+  pub node_low : (n : ℕ) → Contains (reverse past) n → n < length o.nodes
   node_low n there = let low = trace_low (shape_of o) run.kept past run.walk n (of_reverse past n there) in let same = own_length in omega (arith, low, same)
 
   -- in the order of the run
-  visits_turned : (n : ℕ) → visits n (reverse past) ≡ visits n past
+  pub visits_turned : (n : ℕ) → visits n (reverse past) ≡ visits n past
   visits_turned n = sym (places_are_visits n (reverse past)) ∙ turned n past
 
   -- the run costs no more than the count bound

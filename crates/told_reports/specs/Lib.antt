@@ -15,3 +15,4 @@ pub mod AgreeLaws
 pub mod Exact
 pub mod PointLaws
 pub mod ExactLaws
+pub mod LoneLaws

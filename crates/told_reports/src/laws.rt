@@ -1,6 +1,7 @@
 //! What the definitions promise, as clauses of functions that do nothing.
 
-ghost use Rattle.std.specs.Prelude.{◌≡◌, ◌≤◌, ◌<◌, ◌*◌, ◌^◌, ℕ, List, [], All, length};
+ghost use Rattle.std.specs.Prelude.{◌≡◌, ◌≤◌, ◌<◌, ◌*◌, ◌^◌, ℕ, List, [], Option, All, length};
+ghost use Rattle.alf_ops.specs.declared.history.RunFault.{RunFault};
 ghost use Rattle.domain_core.specs.declared.event.Event.{Event};
 ghost use Rattle.domain_core.specs.Outlines.{Outlined, IsOutline, shape_of};
 ghost use Rattle.domain_core.specs.Machines.{IsAlong};
@@ -11,7 +12,8 @@ ghost use Rattle.pool_events.specs.Policies.{IsPolicyRun};
 ghost use Rattle.pool_events.specs.Kept.{IsKept};
 ghost use Rattle.told_reports.specs.Told.{FourRecorders, FourBooks, Found, four_order, four_recording, books_of, found_of, count_bound, told_report};
 ghost use Rattle.told_reports.specs.Numbers.{AreOrderly, CostsFit};
-ghost use Rattle.told_reports.specs.Runs.{IsSound};
+ghost use Rattle.told_reports.specs.Runs.{Passes, IsSound};
+ghost use Rattle.told_reports.specs.Exact.{LoneRun};
 
 use domain_core::Stepper;
 use pool_events::Policy;
@@ -55,3 +57,15 @@ pub fn analyses_agree<S: Stepper>(policy: Policy)
 {
     let _ = policy;
 }
+
+/// Where a system has one start and no place is left, the report tells exactly the run that passes
+/// through the trace: each node's own count twice, the nodes without a place as dead, the least and the
+/// greatest count of each loop's executions, the pairs of this one trace, the run's fault as the only
+/// alarm, and its cost as the count bound.
+pub fn a_lone_run_is_told_exactly<S: Stepper>()
+    ensures { (stepper : S) (o : Outlined) (events : List Event) (w : Pooled S S.State FourRecorders FourBooks) → (S.machine stepper).kept → IsOutline (shape_of o)
+        → IsAlong S.State S.Concrete (shape_of o) (S.machine stepper) → HappenAll S.machine S.State.order four_order four_recording (opened S.machine four_recording stepper o) events w
+        → w.spots ≡ [] → (c : S.Concrete) (trace : List ℕ) (fault : Option RunFault) → (S.machine stepper).system.starts c
+        → ((d e : S.Concrete) → (S.machine stepper).system.starts d → (S.machine stepper).system.starts e → e ≡ d)
+        → Passes (S.machine stepper).system 0 c trace fault → LoneRun (S.machine stepper).system o (told_report o (found_of w)) trace }
+{}

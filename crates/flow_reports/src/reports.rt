@@ -25,11 +25,7 @@ use std::alloc::{AllocError, Global};
 use told_reports::{closed_explorations_are_sound, told_reports_are_writable};
 
 // The facts, in the order of lines.
-fn facts_of(
-    alloc: Global,
-    outline: &Outline,
-    found: &Collected,
-) -> Result<Vec<Fact>, AllocError>
+fn facts_of(alloc: Global, outline: &Outline, found: &Collected) -> Result<Vec<Fact>, AllocError>
     requires sized { IsSized outline.now (found_in found.now) }
     ensures { IfOk result (λ facts. facts.items ≡ told_facts outline.now (found_in found.now)) }
 {

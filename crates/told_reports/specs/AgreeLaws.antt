@@ -1,13 +1,13 @@
 -- One pool has one report, however many turns there are.
 --   one_report       two policy runs of one pool leave one report
 --   longer_report    where no place is left, more turns leave the same
-use Rattle.std.proofs.Common.{◌≡◌, ◌≤◌, ℕ, List, [], sym, ap, ◌∙◌, subst}
+use Rattle.std.proofs.Common.{◌≡◌, ◌≤◌, ℕ, List, [], ap, subst}
 use Rattle.domain_core.specs.declared.event.Event.{Event}
 use Rattle.domain_core.specs.Orders.{Order}
 use Rattle.domain_core.specs.Machines.{Machine}
 use Rattle.flow_facts.specs.Reports.{Reported}
 use Rattle.pool_events.specs.declared.policy.Policy.{Policy}
-use Rattle.pool_events.specs.Pools.{Spot, Pooled}
+use Rattle.pool_events.specs.Pools.{Pooled}
 use Rattle.pool_events.specs.Policies.{IsPolicyRun}
 use Rattle.pool_events.specs.PolicyLaws.{run_unique, closed_longer}
 use Rattle.told_reports.specs.Told.{FourRecorders, FourBooks, four_order, four_recording, found_of, told_report}

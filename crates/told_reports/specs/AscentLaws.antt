@@ -1,6 +1,6 @@
 -- The facts of a report are in the order of lines.
 --   told_ascend   each stands before those after it
-use Rattle.std.proofs.Common.{◌≡◌, ◌≢◌, ◌<◌, ◌≤◌, ◌+◌, ◌==◌, ◌&&◌, not, ℕ, zero, suc, List, [], ◌∷◌, ◌++◌, Option, Some, None, Bool, true, false, cond, length, Contains, AllPairs, inl, inr, refl, sym, ap, ◌∙◌, subst, arith}
+use Rattle.std.proofs.Common.{◌≡◌, ◌<◌, ◌≤◌, ◌+◌, ◌==◌, ◌&&◌, not, ℕ, zero, suc, List, [], ◌∷◌, ◌++◌, Option, Some, None, Bool, true, false, cond, length, Contains, AllPairs, inl, inr, refl, sym, ap, ◌∙◌, subst, arith}
 use Rattle.std.specs.List.{flat_map}
 use Rattle.std.specs.Cmp.Lexicographic.{slice_cmp}
 use Rattle.std.specs.Ordering.{nat_cmp, ordering_then}
@@ -13,7 +13,6 @@ use Rattle.std.proofs.lemmas.List.Kept.{AllPairs-cons}
 use Rattle.lists.specs.Members.{no_member, first_member, further_member, first_or_further, all_members}
 use Rattle.lists.specs.Images.{from_joined}
 use Rattle.alf_ops.specs.declared.history.RunFault.{RunFault}
-use Rattle.alf_ops.specs.declared.history.RunFault.TheVariants.{Divide, Uninit, Mixed, Bounds, Dead as DeadFrame, Kind, Pointers}
 use Rattle.domain_core.specs.declared.fault_set.FaultSet.{FaultSet}
 use Rattle.domain_core.specs.FaultSets.{has_fault}
 use Rattle.domain_core.specs.Outlines.{Outlined, shape_of, kind_of}
@@ -40,9 +39,10 @@ AllBefore xs ys = (f g : Fact) → Contains xs f → Contains ys g → IsBefore 
 
 ascends-append : (xs ys : List Fact) → Ascends xs → Ascends ys → AllBefore xs ys → Ascends (xs ++ ys)
 ascends-append [] ys first second between = second
-ascends-append (x ∷ xs) ys first second between =
-    (λ g there. elim (Contains-append_cases xs ys g there) [ inl left ↦ first.0 g left | inr right ↦ between x g (first_member x xs) right ],
-    ascends-append xs ys first.1 second (λ f g left right. between f g (further_member x xs f left) right))
+ascends-append (x ∷ xs) ys first second between = (
+  λ g there. elim (Contains-append_cases xs ys g there) [ inl left ↦ first.0 g left | inr right ↦ between x g (first_member x xs) right ],
+  ascends-append xs ys first.1 second (λ f g left right. between f g (further_member x xs f left) right),
+)
 
 ascends_below : (f : ℕ → List Fact) (k : ℕ) → ((n : ℕ) → n < k → Ascends (f n)) → ((m n : ℕ) → m < n → AllBefore (f m) (f n)) → Ascends (below f k)
 ascends_below f zero each between = tt
@@ -139,9 +139,9 @@ module _ (o : Outlined) (found : Found) where
   loops_ascend = ascends_below (loop_lines o found) (length o.scopes)
       (λ s low. if_ascends (is_loop (kind_of o.scopes s)) (span_lines (λ low high. Loop s low high) (spread_at found.books.loops.spreads s)) (span_ascends (λ low high. Loop s low high) (spread_at found.books.loops.spreads s)))
       (λ s t less x y first second.
-          let f = loop_of s x first in
-          let g = loop_of t y second in
-          before_as (Loop s f.low f.high) (Loop t g.low g.high) x y f.is g.is (loop_before s t f.low f.high g.low g.high less))
+      let f = loop_of s x first in
+      let g = loop_of t y second in
+      before_as (Loop s f.low f.high) (Loop t g.low g.high) x y f.is g.is (loop_before s t f.low f.high g.low g.high less))
 
   count_of : (s n : ℕ) (fact : Fact) → Contains (count_line o found s n) fact → OfSpan (λ low high. Count s n low high) (spread_at found.books.counts.spreads n) fact
   count_of s n fact there =
@@ -151,18 +151,18 @@ module _ (o : Outlined) (found : Found) where
   counts_ascend : Ascends (below (count_lines o found) (length o.scopes))
   counts_ascend = ascends_below (count_lines o found) (length o.scopes)
       (λ s low. ascends_below (count_line o found s) (length o.nodes)
-        (λ n less. if_ascends (is_stepped found n && (is_counted (shape_of o) n && (own_of (shape_of o) n == s))) (span_lines (λ low high. Count s n low high) (spread_at found.books.counts.spreads n))
-          (span_ascends (λ low high. Count s n low high) (spread_at found.books.counts.spreads n)))
-        (λ m n less x y first second.
-            let f = count_of s m x first in
-            let g = count_of s n y second in
-            before_as (Count s m f.low f.high) (Count s n g.low g.high) x y f.is g.is (count_node_before s m n f.low f.high g.low g.high less)))
+      (λ n less. if_ascends (is_stepped found n && (is_counted (shape_of o) n && (own_of (shape_of o) n == s))) (span_lines (λ low high. Count s n low high) (spread_at found.books.counts.spreads n))
+      (span_ascends (λ low high. Count s n low high) (spread_at found.books.counts.spreads n)))
+      (λ m n less x y first second.
+      let f = count_of s m x first in
+      let g = count_of s n y second in
+      before_as (Count s m f.low f.high) (Count s n g.low g.high) x y f.is g.is (count_node_before s m n f.low f.high g.low g.high less)))
       (λ s t less x y first second.
-          let m = from_below (count_line o found s) (length o.nodes) x first in
-          let n = from_below (count_line o found t) (length o.nodes) y second in
-          let f = count_of s m.0 x m.2 in
-          let g = count_of t n.0 y n.2 in
-          before_as (Count s m.0 f.low f.high) (Count t n.0 g.low g.high) x y f.is g.is (count_before s t m.0 n.0 f.low f.high g.low g.high less))
+      let m = from_below (count_line o found s) (length o.nodes) x first in
+      let n = from_below (count_line o found t) (length o.nodes) y second in
+      let f = count_of s m.0 x m.2 in
+      let g = count_of t n.0 y n.2 in
+      before_as (Count s m.0 f.low f.high) (Count t n.0 g.low g.high) x y f.is g.is (count_before s t m.0 n.0 f.low f.high g.low g.high less))
 
   dead_of : (n : ℕ) (fact : Fact) → Contains (dead_lines found n) fact → Dead n ≡ fact
   dead_of n fact there = only_member (Dead n) fact (from_unless (is_stepped found n) (Dead n ∷ []) fact there).1
@@ -179,9 +179,9 @@ module _ (o : Outlined) (found : Found) where
   totals_ascend = ascends_below (total_lines found) (length o.nodes)
       (λ n low. if_ascends (is_stepped found n) (span_lines (λ low high. Total n low high) (spread_at found.books.totals n)) (span_ascends (λ low high. Total n low high) (spread_at found.books.totals n)))
       (λ m n less x y first second.
-          let f = total_of m x first in
-          let g = total_of n y second in
-          before_as (Total m f.low f.high) (Total n g.low g.high) x y f.is g.is (total_before m n f.low f.high g.low g.high less))
+      let f = total_of m x first in
+      let g = total_of n y second in
+      before_as (Total m f.low f.high) (Total n g.low g.high) x y f.is g.is (total_before m n f.low f.high g.low g.high less))
 
   pair_of : (s a b : ℕ) (fact : Fact) → Contains (pair_line o found s a b) fact → Pair s a b ≡ fact
   pair_of s a b fact there = only_member (Pair s a b) fact (from_if (nat_lt a b && (may_pair o found s b && not (together found.books.pairs a b))) (Pair s a b ∷ []) fact there).1
@@ -195,20 +195,20 @@ module _ (o : Outlined) (found : Found) where
   pairs_ascend : Ascends (below (pair_lines o found) (length o.scopes))
   pairs_ascend = ascends_below (pair_lines o found) (length o.scopes)
       (λ s low. ascends_below (pairs_with o found s) (length o.nodes)
-        (λ a less. if_ascends (may_pair o found s a) (below (pair_line o found s a) (length o.nodes))
-          (ascends_below (pair_line o found s a) (length o.nodes)
-            (λ b within. if_ascends (nat_lt a b && (may_pair o found s b && not (together found.books.pairs a b))) (Pair s a b ∷ []) (one_ascends (Pair s a b)))
-            (λ b c before x y first second. before_as (Pair s a b) (Pair s a c) x y (pair_of s a b x first) (pair_of s a c y second) (pair_second_before s a b c before))))
-        (λ a b before x y first second.
-            let f = pair_with s a x first in
-            let g = pair_with s b y second in
-            before_as (Pair s a f.0) (Pair s b g.0) x y f.1 g.1 (pair_first_before s a f.0 b g.0 before)))
+      (λ a less. if_ascends (may_pair o found s a) (below (pair_line o found s a) (length o.nodes))
+      (ascends_below (pair_line o found s a) (length o.nodes)
+      (λ b within. if_ascends (nat_lt a b && (may_pair o found s b && not (together found.books.pairs a b))) (Pair s a b ∷ []) (one_ascends (Pair s a b)))
+      (λ b c before x y first second. before_as (Pair s a b) (Pair s a c) x y (pair_of s a b x first) (pair_of s a c y second) (pair_second_before s a b c before))))
+      (λ a b before x y first second.
+      let f = pair_with s a x first in
+      let g = pair_with s b y second in
+      before_as (Pair s a f.0) (Pair s b g.0) x y f.1 g.1 (pair_first_before s a f.0 b g.0 before)))
       (λ s t less x y first second.
-          let m = from_below (pairs_with o found s) (length o.nodes) x first in
-          let n = from_below (pairs_with o found t) (length o.nodes) y second in
-          let f = pair_with s m.0 x m.2 in
-          let g = pair_with t n.0 y n.2 in
-          before_as (Pair s m.0 f.0) (Pair t n.0 g.0) x y f.1 g.1 (pair_before s t m.0 f.0 n.0 g.0 less))
+      let m = from_below (pairs_with o found s) (length o.nodes) x first in
+      let n = from_below (pairs_with o found t) (length o.nodes) y second in
+      let f = pair_with s m.0 x m.2 in
+      let g = pair_with t n.0 y n.2 in
+      before_as (Pair s m.0 f.0) (Pair t n.0 g.0) x y f.1 g.1 (pair_before s t m.0 f.0 n.0 g.0 less))
 
   -- ---- alarms
 
@@ -242,8 +242,8 @@ module _ (o : Outlined) (found : Found) where
       (if_ascends (has_fault set k) (Alarm n k ∷ []) (one_ascends (Alarm n k)))
       (faults_ascend set n faults (rest_ascends k faults up))
       (λ x y first second.
-          let g = alarm_among set n faults y second in
-          before_as (Alarm n k) (Alarm n g.0) x y (alarm_of set n k x first) g.2 (alarm_code_before n k g.0 (later_code k faults up g.0 g.1)))
+      let g = alarm_among set n faults y second in
+      before_as (Alarm n k) (Alarm n g.0) x y (alarm_of set n k x first) g.2 (alarm_code_before n k g.0 (later_code k faults up g.0 g.1)))
 
   all_codes : CodesAscend all_faults
   all_codes = (omega arith, (omega arith, (omega arith, (omega arith, (omega arith, (omega arith, tt))))))
@@ -252,9 +252,9 @@ module _ (o : Outlined) (found : Found) where
   alarms_ascend = ascends_below (alarm_lines found) (length o.nodes)
       (λ n low. faults_ascend (alarm_at found.alarms n) n all_faults all_codes)
       (λ m n less x y first second.
-          let f = alarm_among (alarm_at found.alarms m) m all_faults x first in
-          let g = alarm_among (alarm_at found.alarms n) n all_faults y second in
-          before_as (Alarm m f.0) (Alarm n g.0) x y f.2 g.2 (alarm_before m n f.0 g.0 less))
+      let f = alarm_among (alarm_at found.alarms m) m all_faults x first in
+      let g = alarm_among (alarm_at found.alarms n) n all_faults y second in
+      before_as (Alarm m f.0) (Alarm n g.0) x y f.2 g.2 (alarm_before m n f.0 g.0 less))
 
   -- ---- one kind after another
 

@@ -1,6 +1,6 @@
 -- What a run costs, node by node.
 --   cost_is      a run costs each node's cost times its visits, added up
-use Rattle.std.proofs.Common.{◌≡◌, ◌<◌, ◌+◌, ◌*◌, ◌==◌, ℕ, zero, suc, List, [], ◌∷◌, Bool, true, false, cond, Contains, refl, sym, ap, ◌∙◌, arith}
+use Rattle.std.proofs.Common.{◌≡◌, ◌<◌, ◌+◌, ◌*◌, ◌==◌, ℕ, List, [], ◌∷◌, Bool, cond, Contains, sym, ap, ◌∙◌, arith}
 use Rattle.std.specs.Prelude.{slice_index}
 use Rattle.std.proofs.lemmas.Bool.{eqb-true}
 use Rattle.std.proofs.lemmas.List.Sums.{sum_by-cons}
@@ -15,10 +15,10 @@ use Rattle.told_reports.specs.BelowLaws.{sum_same, sum_both, sum_none, sum_one}
 more_visits : (c : ℕ → ℕ) (m : ℕ) (nodes : List ℕ) (n : ℕ) → c n * visits n (m ∷ nodes) ≡ c n * visits n nodes + cond (n == m) (c m) 0
 more_visits c m nodes n = by_test (n == m)
     (λ hit. let same : n ≡ m = eqb-true n m hit in
-      ap (λ (v : Bool). c n * cond v (visits n nodes + 1) (visits n nodes)) hit ∙ times_more (c n) (visits n nodes) ∙ ap (λ (k : ℕ). c n * visits n nodes + k) (ap c same)
-      ∙ sym (ap (λ (v : Bool). c n * visits n nodes + cond v (c m) 0) hit))
+    ap (λ (v : Bool). c n * cond v (visits n nodes + 1) (visits n nodes)) hit ∙ times_more (c n) (visits n nodes) ∙ ap (λ (k : ℕ). c n * visits n nodes + k) (ap c same)
+    ∙ sym (ap (λ (v : Bool). c n * visits n nodes + cond v (c m) 0) hit))
     (λ miss. ap (λ (v : Bool). c n * cond v (visits n nodes + 1) (visits n nodes)) miss ∙ no_more (c n * visits n nodes)
-      ∙ sym (ap (λ (v : Bool). c n * visits n nodes + cond v (c m) 0) miss))
+    ∙ sym (ap (λ (v : Bool). c n * visits n nodes + cond v (c m) 0) miss))
   where
     times_more : (a b : ℕ) → a * (b + 1) ≡ a * b + a
     times_more a b = omega arith
@@ -38,8 +38,8 @@ cost_is costs (m ∷ nodes) k low =
     let first : run_cost costs (m ∷ nodes) ≡ c m + run_cost costs nodes = sum_by-cons (λ n. slice_index costs n) m nodes in
     let rest : run_cost costs nodes ≡ sum_below (λ n. c n * visits n nodes) k = cost_is costs nodes k (λ n there. low n (further_member m nodes n there)) in
     let each : sum_below (λ n. c n * visits n (m ∷ nodes)) k ≡ sum_below (λ n. c n * visits n nodes + cond (n == m) (c m) 0) k =
-      sum_same (λ n. c n * visits n (m ∷ nodes)) (λ n. c n * visits n nodes + cond (n == m) (c m) 0) k (λ n less. more_visits c m nodes n) in
+    sum_same (λ n. c n * visits n (m ∷ nodes)) (λ n. c n * visits n nodes + cond (n == m) (c m) 0) k (λ n less. more_visits c m nodes n) in
     let both : sum_below (λ n. c n * visits n nodes + cond (n == m) (c m) 0) k ≡ sum_below (λ n. c n * visits n nodes) k + sum_below (λ n. cond (n == m) (c m) 0) k =
-      sum_both (λ n. c n * visits n nodes) (λ n. cond (n == m) (c m) 0) k in
+    sum_both (λ n. c n * visits n nodes) (λ n. cond (n == m) (c m) 0) k in
     let one : sum_below (λ n. cond (n == m) (c m) 0) k ≡ c m = sum_one m (c m) k (low m (first_member m nodes)) in
     omega (arith, first, rest, each, both, one)

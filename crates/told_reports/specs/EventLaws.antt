@@ -4,12 +4,12 @@
 --   four_kept         a pool that events led to keeps what pools keep
 --   events_one_on     it has the stepper and the outline of its start
 --   sound_events      where no place is left, its report is sound
-use Rattle.std.proofs.Common.{◌≡◌, List, [], ◌∷◌, refl, sym, ap, ◌∙◌, subst}
+use Rattle.std.proofs.Common.{◌≡◌, List, [], ◌∷◌, ap, ◌∙◌, subst}
 use Rattle.domain_core.specs.declared.event.Event.{Event}
 use Rattle.domain_core.specs.Orders.{Order, IsOrder}
 use Rattle.domain_core.specs.Outlines.{Outlined, IsOutline, shape_of}
 use Rattle.domain_core.specs.Machines.{Machine, IsMachine, IsAlong}
-use Rattle.domain_core.specs.Recordings.{Recording, IsRecording, IsSuited}
+use Rattle.domain_core.specs.Recordings.{IsRecording, IsSuited}
 use Rattle.run_recordings.specs.TotalRules.{span_order, total_recording}
 use Rattle.run_recordings.specs.TotalLaws.{span_is_order, total_is_recording}
 use Rattle.run_recordings.specs.LoopRules.{loop_recording, count_recording, loop_is_recording, count_is_recording}
@@ -18,7 +18,7 @@ use Rattle.pair_recordings.specs.PairLaws.{pair_is_order, pair_is_recording}
 use Rattle.flow_recorders.specs.BothRules.{both_order, both_recording}
 use Rattle.flow_recorders.specs.BothLaws.{both_is_order, both_is_recording}
 use Rattle.pool_events.specs.Pools.{Pooled}
-use Rattle.pool_events.specs.Events.{opened, Happens, HappenAll}
+use Rattle.pool_events.specs.Events.{opened, HappenAll}
 use Rattle.pool_events.specs.Kept.{IsKept}
 use Rattle.pool_events.specs.EventLaws.{start_kept, events_kept, event_one_on}
 use Rattle.told_reports.specs.Told.{FourRecorders, FourBooks, four_order, four_recording, found_of, told_report}

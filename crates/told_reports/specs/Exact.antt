@@ -8,7 +8,6 @@ use Rattle.alf_ops.specs.declared.history.RunFault.{RunFault}
 use Rattle.domain_core.specs.Outlines.{Outlined, Shape, shape_of, header_of, kind_of}
 use Rattle.domain_core.specs.Executions.{IsExecution, IsIteration}
 use Rattle.domain_core.specs.Machines.{System}
-use Rattle.flow_facts.specs.declared.fact.Fact.{Fact}
 use Rattle.flow_facts.specs.declared.fact.Fact.TheVariants.{Loop, Count, Dead, Total, Pair, Alarm}
 use Rattle.flow_facts.specs.Facts.{places, IsBetween}
 use Rattle.flow_facts.specs.Reports.{Reported}

@@ -1,48 +1,43 @@
 -- Where a system has one start, the report of a closed exploration tells exactly its run.
 --   Alone o found past n fault   exactly this run was collected: its own numbers, its nodes, and its fault
 --   exact_report      so the report tells exactly it
-use Rattle.std.proofs.Common.{◌≡◌, ◌≢◌, ◌<◌, ◌≤◌, ◌+◌, ◌*◌, ◌==◌, ◌&&◌, ◌↔◌, ℕ, zero, suc, List, [], ◌∷◌, ◌++◌, Option, Some, None, Bool, true, false, cond, length, reverse, slice_get, get_or, Contains, inl, inr, refl, sym, ap, ◌∙◌, subst, arith, ◌⊎◌}
+use Rattle.std.proofs.Common.{◌≡◌, ◌<◌, ◌≤◌, ◌+◌, ◌*◌, ◌==◌, ◌&&◌, ◌↔◌, ℕ, zero, suc, List, [], ◌∷◌, ◌++◌, Option, Some, Bool, true, false, cond, length, reverse, slice_get, Contains, sym, ap, ◌∙◌, subst, arith}
 use Rattle.std.specs.Prelude.{slice_index, slice_index_or}
 use Rattle.std.specs.Option.{option_map_or}
-use Rattle.std.proofs.lemmas.Bool.{eqb-true, eq-eqb, or_left, or_right}
-use Rattle.std.proofs.lemmas.Option.{get_or_from_slice_get, slice_get-get_or, same_Some}
+use Rattle.std.proofs.lemmas.Bool.{eq-eqb}
+use Rattle.std.proofs.lemmas.Option.{same_Some}
 use Rattle.std.proofs.lemmas.List.{reverse-append, reverse-reverse, length-map}
-use Rattle.lists.specs.Members.{no_member, first_member, further_member, first_or_further}
+use Rattle.lists.specs.Members.{no_member, first_member, first_or_further}
 use Rattle.lists.specs.Tests.{by_test}
-use Rattle.walks.specs.ListLaws.{same_or_not}
 use Rattle.alf_ops.specs.declared.history.RunFault.{RunFault}
-use Rattle.domain_core.specs.FaultSets.{has_fault, no_faults, with_fault}
-use Rattle.domain_core.specs.FaultLaws.{is_empty, is_new, is_kept}
+use Rattle.domain_core.specs.FaultSets.{has_fault}
 use Rattle.domain_core.specs.Outlines.{Outlined, Shape, shape_of, IsOutline, header_of, kind_of}
 use Rattle.domain_core.specs.OutlineLaws.{in_reverse, of_reverse}
 use Rattle.domain_core.specs.Executions.{IsExecution, IsIteration, header_count}
 use Rattle.domain_core.specs.Traces.{IsTrace}
-use Rattle.flow_facts.specs.declared.fact.Fact.{Fact}
 use Rattle.flow_facts.specs.declared.fact.Fact.TheVariants.{Loop, Count, Dead, Total, Pair, Alarm}
-use Rattle.flow_facts.specs.Facts.{places, IsBetween, Meets}
+use Rattle.flow_facts.specs.Facts.{places}
 use Rattle.path_rows.specs.Uses.{run_cost}
 use Rattle.run_recordings.specs.Spans.{visits, IsWider}
 use Rattle.run_recordings.specs.SpanLaws.{wider_itself}
 use Rattle.run_recordings.specs.TotalRules.{spread_at, total_recording}
-use Rattle.run_recordings.specs.TotalLaws.{past_end}
 use Rattle.run_recordings.specs.Spans.{spread_of}
 use Rattle.run_recordings.specs.TallyRules.{Tally, all_counts, IsSummed, IsExactTally}
-use Rattle.run_recordings.specs.LoopRules.{is_loop, own_of, is_counted, loop_tally, count_tally, loop_recording, count_recording}
-use Rattle.run_recordings.specs.BookLaws.{Bounds, header_visits, loop_bounds, count_bounds, loop_least, loop_most, count_least, count_most}
-use Rattle.pair_recordings.specs.PairRules.{is_shared, any_follows, whole, together, AreCollected, AreExactPairs, pair_recording}
-use Rattle.pair_recordings.specs.PairBookLaws.{Meeting, pair_is_of}
-use Rattle.book_facts.specs.Told.{Books, SumUp, IsSpan, IsCountedIn, AreApart}
-use Rattle.book_facts.specs.ToldLaws.{places_are_visits, turned}
+use Rattle.run_recordings.specs.LoopRules.{is_loop, own_of, loop_tally, count_tally, loop_recording, count_recording}
+use Rattle.run_recordings.specs.BookLaws.{header_visits, loop_bounds, count_bounds, loop_least, loop_most, count_least, count_most}
+use Rattle.pair_recordings.specs.PairRules.{is_shared, any_follows, whole, together, pair_recording}
+use Rattle.pair_recordings.specs.PairBookLaws.{pair_is_of}
+use Rattle.book_facts.specs.Told.{Books, SumUp, IsCountedIn}
+use Rattle.book_facts.specs.ToldLaws.{turned}
 use Rattle.pool_events.specs.Pools.{alarm_at}
 use Rattle.pool_events.specs.Runs.{AllStepped}
-use Rattle.told_reports.specs.Told.{Found, is_stepped, sum_below, told_facts, greatest_total, costs_of, count_bound, told_report}
-use Rattle.told_reports.specs.Lines.{IsPair, IsLine}
-use Rattle.told_reports.specs.Runs.{EndsWith}
+use Rattle.told_reports.specs.Told.{Found, is_stepped, greatest_total, costs_of, count_bound, told_report}
+use Rattle.told_reports.specs.Lines.{IsLine}
 use Rattle.told_reports.specs.Exact.{AreExtremes, IsLonePair, IsLast, IsExact}
 use Rattle.told_reports.specs.BelowLaws.{sum_same}
 use Rattle.told_reports.specs.LineLaws.{told_line, line_told}
 use Rattle.told_reports.specs.CostLaws.{cost_is}
-use Rattle.told_reports.specs.SoundLaws.{SummedUp, stepped_there, greatest_is, trace_low, no_visit, line_is_met, node_low, visits_turned}
+use Rattle.told_reports.specs.SoundLaws.{SummedUp, stepped_there, greatest_is, no_visit, line_is_met, node_low, visits_turned}
 
 -- the books have exactly the run
 pub record ExactBooks (o : Outlined) (books : Books) (past : List ℕ) : Type 0 where
@@ -68,10 +63,10 @@ some_visit n [] there = no_member n there
 some_visit n (m ∷ nodes) there = by_test (n == m)
     (λ hit. let more : visits n (m ∷ nodes) ≡ visits n nodes + 1 = ap (λ (v : Bool). cond v (visits n nodes + 1) (visits n nodes)) hit in omega (arith, more))
     (λ miss.
-        let same : visits n (m ∷ nodes) ≡ visits n nodes = ap (λ (v : Bool). cond v (visits n nodes + 1) (visits n nodes)) miss in
-        first_or_further m nodes n there
-        (λ first. absurd (let hit = eq-eqb n m (sym first) in let bad : true ≡ false = sym hit ∙ miss in cc))
-        (λ older. let more = some_visit n nodes older in omega (arith, same, more)))
+    let same : visits n (m ∷ nodes) ≡ visits n nodes = ap (λ (v : Bool). cond v (visits n nodes + 1) (visits n nodes)) miss in
+    first_or_further m nodes n there
+    (λ first. absurd (let hit = eq-eqb n m (sym first) in let bad : true ≡ false = sym hit ∙ miss in cc))
+    (λ older. let more = some_visit n nodes older in omega (arith, same, more)))
 
 -- the two numbers of a span
 span_is : (t : Option (ℕ × ℕ)) (low high v : ℕ) → t ≡ Some (low, high) → t ≡ Some (v, v) → (low ≡ v) × (high ≡ v)
@@ -137,19 +132,24 @@ module _ (o : Outlined) (found : Found) (past : List ℕ) (n : ℕ) (fault : Opt
   told_total k low high (there, least, most) =
       let within = low_of k there in
       let first : low ≡ visits k full = least ∙ turned k full in
-      let second : high ≡ visits k full = most ∙ turned k full in
-      (visited_stepped k there, record {
-        there = within;
-        span = run.books.totals k within ∙ ap (λ (v : ℕ). Some (v, visits k full)) (sym first) ∙ ap (λ (v : ℕ). Some (low, v)) (sym second);
-      })
+      let second : high ≡ visits k full = most ∙ turned k full in (
+        visited_stepped k there,
+        record {
+          there = within;
+          span = run.books.totals k within ∙ ap (λ (v : ℕ). Some (v, visits k full)) (sym first) ∙ ap (λ (v : ℕ). Some (low, v)) (sym second);
+        },
+      )
 
   dead_told : (k : ℕ) → IsLine o found (Dead k) → (k < length o.nodes) × (places k trace ≡ 0)
   dead_told k is = (is.0, turned k full ∙ no_visit o found full collected k is.1)
 
   told_dead : (k : ℕ) → (k < length o.nodes) × (places k trace ≡ 0) → IsLine o found (Dead k)
-  told_dead k (low, none) = (low, by_test (is_stepped found k)
-      (λ is. absurd (let some = some_visit k full (of_reverse full k (stepped_visited k is)) in let same = turned k full in omega (arith, some, same, none)))
-      (λ never. never))
+  told_dead k (low, none) = (
+    low,
+    by_test (is_stepped found k)
+        (λ is. absurd (let some = some_visit k full (of_reverse full k (stepped_visited k is)) in let same = turned k full in omega (arith, some, same, none)))
+        (λ never. never),
+  )
 
   -- ---- loops
 
@@ -166,12 +166,15 @@ module _ (o : Outlined) (found : Found) (past : List ℕ) (n : ℕ) (fault : Opt
   loop_told : (s low high : ℕ) → IsLine o found (Loop s low high) → (s < length o.scopes) × (is_loop (kind_of o.scopes s) ≡ true) × AreExtremes (shape_of o) s trace (places (header_of o.scopes s)) low high
   loop_told s low high is =
       let least = loop_least o run.kept found.books.loops full s (low, high) run.books.loops is.1.there is.1.span in
-      let most = loop_most o run.kept found.books.loops full s (low, high) run.books.loops is.1.there is.1.span in
-      (is.1.there, is.0, record {
-        each = line_is_met o found full collected (Loop s low high) is;
-        least = (reverse least.0, least.1, header_places s least.0 ∙ least.2);
-        most = (reverse most.0, most.1, header_places s most.0 ∙ most.2);
-      })
+      let most = loop_most o run.kept found.books.loops full s (low, high) run.books.loops is.1.there is.1.span in (
+        is.1.there,
+        is.0,
+        record {
+          each = line_is_met o found full collected (Loop s low high) is;
+          least = (reverse least.0, least.1, header_places s least.0 ∙ least.2);
+          most = (reverse most.0, most.1, header_places s most.0 ∙ most.2);
+        },
+      )
 
   told_loop : (s low high : ℕ) → (s < length o.scopes) × (is_loop (kind_of o.scopes s) ≡ true) × AreExtremes (shape_of o) s trace (places (header_of o.scopes s)) low high → IsLine o found (Loop s low high)
   told_loop s low high (within, kind, extremes) =
@@ -200,12 +203,15 @@ module _ (o : Outlined) (found : Found) (past : List ℕ) (n : ℕ) (fault : Opt
   count_told : (s k low high : ℕ) → IsLine o found (Count s k low high) → Contains trace k × IsCountedIn o s k × AreExtremes (shape_of o) s trace (places k) low high
   count_told s k low high (within, stepped, counted, span) =
       let least = count_least o run.kept found.books.counts full k (low, high) run.books.counts span.there counted.counted span.span in
-      let most = count_most o run.kept found.books.counts full k (low, high) run.books.counts span.there counted.counted span.span in
-      (stepped_visited k stepped, counted, record {
-        each = line_is_met o found full collected (Count s k low high) (within, stepped, counted, span);
-        least = (reverse least.0, subst (λ (t : ℕ). IsExecution (shape_of o) t trace (reverse least.0)) counted.own least.1, turned k least.0 ∙ least.2);
-        most = (reverse most.0, subst (λ (t : ℕ). IsExecution (shape_of o) t trace (reverse most.0)) counted.own most.1, turned k most.0 ∙ most.2);
-      })
+      let most = count_most o run.kept found.books.counts full k (low, high) run.books.counts span.there counted.counted span.span in (
+        stepped_visited k stepped,
+        counted,
+        record {
+          each = line_is_met o found full collected (Count s k low high) (within, stepped, counted, span);
+          least = (reverse least.0, subst (λ (t : ℕ). IsExecution (shape_of o) t trace (reverse least.0)) counted.own least.1, turned k least.0 ∙ least.2);
+          most = (reverse most.0, subst (λ (t : ℕ). IsExecution (shape_of o) t trace (reverse most.0)) counted.own most.1, turned k most.0 ∙ most.2);
+        },
+      )
 
   scope_low : (s k : ℕ) → k < length o.nodes → own_of (shape_of o) k ≡ s → s < length o.scopes
   scope_low s k low own =
@@ -254,24 +260,26 @@ module _ (o : Outlined) (found : Found) (past : List ℕ) (n : ℕ) (fault : Opt
   told_pair : (s a b : ℕ) → IsLonePair (shape_of o) trace s a b → IsLine o found (Pair s a b)
   told_pair s a b is =
       let first = low_of a is.first in
-      let second = low_of b is.second in
-      (scope_low s a first is.own, record {
-        ordered = is.ordered;
-        first = visited_stepped a is.first;
-        second = visited_stepped b is.second;
-        no_header = is.no_header;
-        apart = record {
-          first = first;
-          second = second;
-          own = is.own;
-          other_own = is.other_own;
-          apart = by_test (together found.books.pairs a b)
-              (λ there.
-                  let met = pair_is_of o run.kept found.books.pairs full a b run.books.pairs first second there in
-                  absurd (is.apart met.iteration (subst (λ (t : ℕ). IsIteration (shape_of o) t trace met.iteration) is.own met.is) met.first met.second))
-              (λ none. none);
-        };
-      })
+      let second = low_of b is.second in (
+        scope_low s a first is.own,
+        record {
+          ordered = is.ordered;
+          first = visited_stepped a is.first;
+          second = visited_stepped b is.second;
+          no_header = is.no_header;
+          apart = record {
+            first = first;
+            second = second;
+            own = is.own;
+            other_own = is.other_own;
+            apart = by_test (together found.books.pairs a b)
+                (λ there.
+                let met = pair_is_of o run.kept found.books.pairs full a b run.books.pairs first second there in
+                absurd (is.apart met.iteration (subst (λ (t : ℕ). IsIteration (shape_of o) t trace met.iteration) is.own met.is) met.first met.second))
+                (λ none. none);
+          };
+        },
+      )
 
   -- ---- alarms
 
@@ -305,7 +313,7 @@ module _ (o : Outlined) (found : Found) (past : List ℕ) (n : ℕ) (fault : Opt
   bound_exact : count_bound o found ≡ run_cost (costs_of o) trace
   bound_exact =
       sum_same (λ k. slice_index (costs_of o) k * greatest_total found k) (λ k. slice_index (costs_of o) k * visits k trace) (length o.nodes)
-        (λ k low. ap (λ (v : ℕ). slice_index (costs_of o) k * v) (greatest_exact k low ∙ sym (visits_turned o found full collected k)))
+      (λ k low. ap (λ (v : ℕ). slice_index (costs_of o) k * v) (greatest_exact k low ∙ sym (visits_turned o found full collected k)))
       ∙ sym (cost_is (costs_of o) trace (length o.nodes) low_of)
 
   -- the report tells exactly it

@@ -2,9 +2,8 @@
 --   line_told     each fact that it is to tell is there
 --   told_line     and no other
 --   told_lines    each once, in the order of lines
-use Rattle.std.proofs.Common.{◌≡◌, ◌≢◌, ◌<◌, ◌==◌, ◌&&◌, not, ℕ, zero, suc, List, [], ◌∷◌, ◌++◌, Bool, true, false, length, Contains, inl, inr, refl, sym, ap, ◌∙◌, subst, arith}
-use Rattle.std.specs.Prelude.{nat_lt, slice_index, slice_get}
-use Rattle.std.specs.List.{flat_map}
+use Rattle.std.proofs.Common.{◌≡◌, ◌≢◌, ◌<◌, ◌==◌, ◌&&◌, not, ℕ, List, [], ◌∷◌, ◌++◌, Bool, true, false, length, Contains, inl, inr, refl, sym, ◌∙◌, subst, arith}
+use Rattle.std.specs.Prelude.{nat_lt}
 use Rattle.std.proofs.lemmas.Bool.{lt-ltb, ltb-true, eq-eqb, eqb-true, ne_eqb, and_parts}
 use Rattle.std.proofs.lemmas.List.Elements.{Contains-append_left, Contains-append_right, Contains-append_cases}
 use Rattle.lists.specs.Members.{first_member}
@@ -18,11 +17,10 @@ use Rattle.flow_facts.specs.declared.fact.Fact.TheVariants.{Loop, Count, Dead, T
 use Rattle.run_recordings.specs.TotalRules.{spread_at}
 use Rattle.run_recordings.specs.LoopRules.{is_loop, own_of, is_counted}
 use Rattle.pair_recordings.specs.PairRules.{together}
-use Rattle.book_facts.specs.Told.{IsSpan, IsCountedIn, AreApart}
 use Rattle.pool_events.specs.Pools.{alarm_at}
 use Rattle.told_reports.specs.Told.{Found, is_stepped, below, span_lines, loop_lines, count_line, count_lines, dead_lines, total_lines, may_pair, pair_line, pairs_with, pair_lines, all_faults, alarm_line, alarm_lines, told_facts}
 use Rattle.told_reports.specs.Lines.{IsPair, IsLine, AreLines}
-use Rattle.told_reports.specs.BelowLaws.{in_if, from_if, in_unless, from_unless, only_member, in_below, from_below, in_span, OfSpan, from_span}
+use Rattle.told_reports.specs.BelowLaws.{in_if, from_if, in_unless, from_unless, only_member, in_below, from_below, in_span, from_span}
 use Rattle.told_reports.specs.AscentLaws.{told_ascend}
 
 both_true : (a b : Bool) → a ≡ true → b ≡ true → (a && b) ≡ true
@@ -93,14 +91,16 @@ module _ (o : Outlined) (found : Found) where
       let inner = and_parts (may_pair o found s b) (not (together found.books.pairs a b)) outer.1 in
       let left = may_pair_is s a may in
       let right = may_pair_is s b inner.0 in
-      as_line (Pair s a b) fact (only_member (Pair s a b) fact parts.1)
-      (low, record {
-        ordered = ltb-true a b outer.0;
-        first = left.stepped;
-        second = right.stepped;
-        no_header = (left.no_header, right.no_header);
-        apart = record { first = first; second = second; own = left.own; other_own = right.own; apart = not_false (together found.books.pairs a b) inner.1 };
-      })
+      as_line (Pair s a b) fact (only_member (Pair s a b) fact parts.1) (
+        low,
+        record {
+          ordered = ltb-true a b outer.0;
+          first = left.stepped;
+          second = right.stepped;
+          no_header = (left.no_header, right.no_header);
+          apart = record { first = first; second = second; own = left.own; other_own = right.own; apart = not_false (together found.books.pairs a b) inner.1 };
+        },
+      )
 
   alarm_is : (n : ℕ) → n < length o.nodes → (fact : Fact) → Contains (alarm_lines found n) fact → IsLine o found fact
   alarm_is n low fact there =

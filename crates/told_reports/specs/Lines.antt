@@ -10,7 +10,7 @@ use Rattle.flow_facts.specs.Writable.{IsBefore}
 use Rattle.run_recordings.specs.LoopRules.{is_loop}
 use Rattle.book_facts.specs.Told.{IsSpan, IsCountedIn, AreApart}
 use Rattle.pool_events.specs.Pools.{alarm_at}
-use Rattle.told_reports.specs.Told.{Found, is_stepped, told_facts}
+use Rattle.told_reports.specs.Told.{Found, is_stepped}
 
 -- two nodes that were stepped, none of them the header, are in no iteration of their scope together
 pub record IsPair (o : Outlined) (found : Found) (s a b : ℕ) : Type 0 where

@@ -1,7 +1,7 @@
 -- Where a system has one start, a closed exploration tells exactly the run that passes through its trace.
 --   only_fault    a set of one fault has no other
 --   lone_report   the report of the pool tells exactly the run
-use Rattle.std.proofs.Common.{◌≡◌, ◌≢◌, ◌==◌, ◌↔◌, ◌⊎◌, ℕ, suc, List, [], ◌∷◌, ◌++◌, Option, Some, None, Bool, true, false, length, reverse, slice_get, Contains, inl, inr, refl, sym, ap, ◌∙◌, subst}
+use Rattle.std.proofs.Common.{◌≡◌, ◌≢◌, ◌==◌, ◌↔◌, ℕ, suc, List, [], ◌∷◌, Option, Some, None, true, false, reverse, slice_get, Contains, inl, inr, refl, sym, ap, ◌∙◌, subst}
 use Rattle.std.proofs.lemmas.Bool.{eqb-true, eq-eqb}
 use Rattle.std.proofs.lemmas.Option.{none-some, same_Some}
 use Rattle.lists.specs.Members.{no_member, first_member}
@@ -15,9 +15,8 @@ use Rattle.domain_core.specs.FaultLaws.{is_empty, is_new, is_kept}
 use Rattle.domain_core.specs.Orders.{Order, IsOrder}
 use Rattle.domain_core.specs.Outlines.{Outlined, IsOutline, shape_of}
 use Rattle.domain_core.specs.Machines.{System, Machine, IsMachine, IsAlong}
-use Rattle.flow_facts.specs.declared.fact.Fact.{Fact}
 use Rattle.flow_facts.specs.declared.fact.Fact.TheVariants.{Alarm}
-use Rattle.flow_facts.specs.Writable.{IsBefore, fault_code}
+use Rattle.flow_facts.specs.Writable.{fault_code}
 use Rattle.flow_facts.specs.OrderLaws.{one_before, never_itself}
 use Rattle.std.specs.Cmp.Lexicographic.{slice_cmp}
 use Rattle.std.specs.Ordering.{nat_cmp}
@@ -26,7 +25,7 @@ use Rattle.pool_events.specs.Pools.{Spot, Pooled, alarm_at}
 use Rattle.pool_events.specs.Events.{opened, HappenAll}
 use Rattle.pool_events.specs.EventLaws.{start_kept}
 use Rattle.pool_events.specs.Runs.{trace_to}
-use Rattle.pool_events.specs.Sharp.{IsSharp, IsSharpAt, IsSharpOver, EndsSharp}
+use Rattle.pool_events.specs.Sharp.{IsSharp, IsSharpOver}
 use Rattle.pool_events.specs.SharpLaws.{sharp_start, sharp_events}
 use Rattle.told_reports.specs.Told.{FourRecorders, FourBooks, four_order, four_recording, found_of, told_report}
 use Rattle.told_reports.specs.Runs.{EndsWith, Passes}
@@ -53,8 +52,8 @@ only_fault : (a b : RunFault) → has_fault (with_fault no_faults a) b ≡ true 
 only_fault a b there = by_test (fault_code a == fault_code b)
     (λ hit. same_fault a b (eqb-true (fault_code a) (fault_code b) hit))
     (λ miss.
-        let other : a ≢ b = λ (same : a ≡ b). (let hit = eq-eqb (fault_code a) (fault_code b) (ap fault_code same) in let bad : true ≡ false = sym hit ∙ miss in cc) in
-        absurd (let bad : true ≡ false = sym there ∙ is_kept no_faults a b other ∙ is_empty b in cc))
+    let other : a ≢ b = λ (same : a ≡ b). (let hit = eq-eqb (fault_code a) (fault_code b) (ap fault_code same) in let bad : true ≡ false = sym hit ∙ miss in cc) in
+    absurd (let bad : true ≡ false = sym there ∙ is_kept no_faults a b other ∙ is_empty b in cc))
 
 -- ---- pools
 
@@ -67,16 +66,17 @@ quiet_told alarms n quiet k kind =
     (λ there. absurd (let bad : true ≡ false = sym there ∙ ap (λ (set : FaultSet). has_fault set kind) (quiet k) ∙ is_empty kind in cc), λ so. absurd (none-some kind so.0))
 
 one_told : (alarms : List FaultSet) (n : ℕ) (fault : RunFault) → alarm_at alarms n ≡ with_fault no_faults fault → ((k : ℕ) → k ≢ n → alarm_at alarms k ≡ no_faults) → ToldAt alarms n (Some fault)
-one_told alarms n fault here others k kind =
-    (λ there. elim (same_or_not k n) [
-      | inl same ↦ (
-        ap Some (only_fault fault kind (sym (ap (λ (set : FaultSet). has_fault set kind) (ap (λ (m : ℕ). alarm_at alarms m) same ∙ here)) ∙ there)),
-        same,
-      )
-      | inr other ↦ absurd (let bad : true ≡ false = sym there ∙ ap (λ (set : FaultSet). has_fault set kind) (others k other) ∙ is_empty kind in cc)
-    ],
-    λ so. ap (λ (set : FaultSet). has_fault set kind) (ap (λ (m : ℕ). alarm_at alarms m) so.1 ∙ here)
-      ∙ ap (λ (f : RunFault). has_fault (with_fault no_faults f) kind) (same_Some fault kind so.0) ∙ is_new no_faults kind)
+one_told alarms n fault here others k kind = (
+  λ there. elim (same_or_not k n) [
+    | inl same ↦ (
+      ap Some (only_fault fault kind (sym (ap (λ (set : FaultSet). has_fault set kind) (ap (λ (m : ℕ). alarm_at alarms m) same ∙ here)) ∙ there)),
+      same,
+    )
+    | inr other ↦ absurd (let bad : true ≡ false = sym there ∙ ap (λ (set : FaultSet). has_fault set kind) (others k other) ∙ is_empty kind in cc)
+  ],
+  λ so. ap (λ (set : FaultSet). has_fault set kind) (ap (λ (m : ℕ). alarm_at alarms m) so.1 ∙ here)
+      ∙ ap (λ (f : RunFault). has_fault (with_fault no_faults f) kind) (same_Some fault kind so.0) ∙ is_new no_faults kind,
+)
 
 module _ {S T C : Type 0} (machine : S → Machine T C) (states : Order T) (events : List Event) (stepper : S) (o : Outlined) (w : Pooled S T FourRecorders FourBooks) (states_laws : IsOrder T states)
     (machine_laws : (s : S) → (machine s).kept → IsMachine T C states (machine s)) (stepper_kept : (machine stepper).kept) (ok : IsOutline (shape_of o)) (along : IsAlong T C (shape_of o) (machine stepper))

@@ -1,20 +1,18 @@
 -- Of a pool that events led to, each number of the books is at most the count of its steps.
 --   orderly_events    so it is, and the least of each span is not greater than the greatest
-use Rattle.std.proofs.Common.{◌≡◌, ◌<◌, ◌≤◌, ◌+◌, ◌==◌, ◌&&◌, min, max, ℕ, zero, suc, List, [], ◌∷◌, ◌++◌, Option, Some, None, Bool, true, false, cond, length, get_or, set, replicate, take, drop, slice_get, Contains, inl, inr, refl, sym, ap, ◌∙◌, subst, arith}
-use Rattle.std.specs.List.{remove}
+use Rattle.std.proofs.Common.{◌≡◌, ◌≤◌, ◌+◌, ◌==◌, ℕ, zero, suc, List, [], ◌∷◌, Option, Some, None, Bool, true, false, cond, length, get_or, set, replicate, slice_get, Contains, inl, inr, sym, subst, arith}
 use Rattle.std.specs.Prelude.{slice_set}
 use Rattle.lists.specs.Members.{contained, no_member, first_or_further}
 use Rattle.std.proofs.lemmas.List.Elements.{Contains-append_cases}
 use Rattle.domain_core.specs.declared.event.Event.{Event}
 use Rattle.domain_core.specs.declared.event.Event.TheVariants.{Step, Merge}
-use Rattle.domain_core.specs.declared.fault_set.FaultSet.{FaultSet}
 use Rattle.domain_core.specs.Orders.{Order}
 use Rattle.domain_core.specs.Outlines.{Outlined, shape_of}
 use Rattle.domain_core.specs.Machines.{Machine}
 use Rattle.run_recordings.specs.Generated.{generated, length-generated, at-generated}
 use Rattle.run_recordings.specs.Spans.{one_more, span_of, collected}
 use Rattle.run_recordings.specs.SpanLaws.{low_or_over}
-use Rattle.run_recordings.specs.TotalRules.{span_at, spread_at, all_collected}
+use Rattle.run_recordings.specs.TotalRules.{span_at, spread_at}
 use Rattle.run_recordings.specs.TotalLaws.{past_end}
 use Rattle.run_recordings.specs.TallyRules.{Tally, key_at, is_at, leaves, is_within, span_after, spread_after, spans_gone, spreads_gone, spreads_ended}
 use Rattle.run_recordings.specs.LoopRules.{loop_tally, count_tally}
@@ -22,7 +20,7 @@ use Rattle.pool_events.specs.Pools.{Spot, Pooled, may_fault}
 use Rattle.pool_events.specs.Places.{from_room, from_set, from_remove}
 use Rattle.pool_events.specs.Events.{next_spot, book_after, spots_after, spread_book, spread_spots, book_at_faults, opened, stepped_at, met, merged_at, Happens, HappenAll}
 use Rattle.told_reports.specs.Told.{FourRecorders, FourBooks, four_order, four_recording}
-use Rattle.told_reports.specs.Numbers.{IsOrderly, IsOrderlySpread, OrderlyRecorders, AreOrderly, OrderlyBooks}
+use Rattle.told_reports.specs.Numbers.{IsOrderly, IsOrderlySpread, OrderlyRecorders, OrderlyBooks}
 
 -- ---- one span
 

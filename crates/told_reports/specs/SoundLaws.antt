@@ -4,7 +4,7 @@
 --   line_is_met      such a run meets each line
 --   met_bound        and costs no more than the count bound
 --   sound_report     where no place is left, the report is sound
-use Rattle.std.proofs.Common.{◌≡◌, ◌<◌, ◌≤◌, ◌+◌, ◌*◌, ◌==◌, ℕ, zero, suc, List, [], ◌∷◌, ◌++◌, Option, Some, None, Bool, true, false, cond, length, reverse, slice_get, All, Contains, inl, inr, refl, sym, ap, ◌∙◌, subst, arith, ◌⊎◌, ⊎_elim}
+use Rattle.std.proofs.Common.{◌≡◌, ◌<◌, ◌≤◌, ◌+◌, ◌*◌, ℕ, zero, suc, List, [], ◌∷◌, ◌++◌, Option, Some, None, Bool, true, false, cond, length, reverse, All, Contains, inl, inr, refl, sym, ap, ◌∙◌, subst, arith, ◌⊎◌}
 use Rattle.std.specs.Prelude.{slice_index, slice_index_or}
 use Rattle.std.specs.Option.{option_map_or}
 use Rattle.std.proofs.lemmas.Bool.{ne_eqb}
@@ -14,7 +14,6 @@ use Rattle.std.proofs.lemmas.List.{reverse-append, length-map, append_assoc}
 use Rattle.lists.specs.Members.{no_member, first_member, further_member, first_or_further, all_members}
 use Rattle.lists.specs.Tests.{by_test}
 use Rattle.alf_ops.specs.declared.history.RunFault.{RunFault}
-use Rattle.domain_core.specs.FaultSets.{has_fault}
 use Rattle.domain_core.specs.Outlines.{Outlined, Shape, shape_of, IsOutline}
 use Rattle.domain_core.specs.OutlineLaws.{of_reverse}
 use Rattle.domain_core.specs.Traces.{IsTrace}
@@ -28,12 +27,12 @@ use Rattle.run_recordings.specs.TotalRules.{spread_at}
 use Rattle.run_recordings.specs.BookLaws.{total_bounds}
 use Rattle.book_facts.specs.Told.{SumUp}
 use Rattle.book_facts.specs.ToldLaws.{places_are_visits, turned, told_is_met}
-use Rattle.pool_events.specs.Pools.{Spot, Pooled, alarm_at}
-use Rattle.pool_events.specs.Runs.{IsRun, IsHandled, waits, passed, AllStepped, EachIsHandled, IsOver}
+use Rattle.pool_events.specs.Pools.{Spot, Pooled}
+use Rattle.pool_events.specs.Runs.{IsRun, IsHandled, waits, passed, AllStepped, EachIsHandled}
 use Rattle.pool_events.specs.RunLaws.{each_run_is_over}
-use Rattle.told_reports.specs.Told.{FourRecorders, FourBooks, four_recording, Found, found_of, is_stepped, sum_below, told_facts, greatest_total, costs_of, count_bound, told_report}
+use Rattle.told_reports.specs.Told.{FourRecorders, FourBooks, four_recording, Found, found_of, is_stepped, told_facts, greatest_total, costs_of, count_bound, told_report}
 use Rattle.told_reports.specs.Lines.{IsLine}
-use Rattle.told_reports.specs.Runs.{EndsWith, Passes, stops, moves, RunEnds, HasAlarm, IsRightOf, IsSound}
+use Rattle.told_reports.specs.Runs.{Passes, stops, moves, RunEnds, HasAlarm, IsRightOf, IsSound}
 use Rattle.told_reports.specs.BelowLaws.{sum_rises}
 use Rattle.told_reports.specs.LineLaws.{told_line, line_told}
 use Rattle.told_reports.specs.CostLaws.{cost_is}
@@ -91,10 +90,10 @@ module _ (o : Outlined) (found : Found) (past : List ℕ) (run : SummedUp o foun
   visits_low : (n : ℕ) → n < length o.nodes → visits n past ≤ greatest_total found n
   visits_low n low = by_test (is_stepped found n)
       (λ is.
-          let bounds = total_bounds o found.books.totals past n run.books.totals low in
-          let greatest : greatest_total found n ≡ bounds.span.1 = greatest_is (is_stepped found n) (spread_at found.books.totals n) bounds.span is bounds.is in
-          let within = bounds.within.1 in
-          omega (arith, greatest, within))
+      let bounds = total_bounds o found.books.totals past n run.books.totals low in
+      let greatest : greatest_total found n ≡ bounds.span.1 = greatest_is (is_stepped found n) (spread_at found.books.totals n) bounds.span is bounds.is in
+      let within = bounds.within.1 in
+      omega (arith, greatest, within))
       (λ never. let none = no_visit n never in omega (arith, none))
 
   own_length : length (shape_of o).own ≡ length o.nodes
@@ -113,7 +112,7 @@ module _ (o : Outlined) (found : Found) (past : List ℕ) (run : SummedUp o foun
       let costs = costs_of o in
       let cost = cost_is costs (reverse past) (length o.nodes) node_low in
       let rises = sum_rises (λ n. slice_index costs n * visits n (reverse past)) (λ n. slice_index costs n * greatest_total found n) (length o.nodes)
-        (λ n low. mul-le (slice_index costs n) (visits n (reverse past)) (slice_index costs n) (greatest_total found n) (omega arith) (let a = visits_turned n in let b = visits_low n low in omega (arith, a, b))) in
+      (λ n low. mul-le (slice_index costs n) (visits n (reverse past)) (slice_index costs n) (greatest_total found n) (omega arith) (let a = visits_turned n in let b = visits_low n low in omega (arith, a, b))) in
       omega (arith, cost, rises)
 
 -- what the four recorders sum up

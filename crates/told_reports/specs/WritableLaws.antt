@@ -1,14 +1,13 @@
 -- Reports that are told can be written.
 --   bound_fits       the count bound fits 64 bits, where nodes times steps are few
 --   told_writable    the report is one that some text spells
-use Rattle.std.proofs.Common.{◌≡◌, ◌<◌, ◌≤◌, ◌+◌, ◌*◌, ◌^◌, ℕ, zero, suc, List, [], ◌∷◌, Option, Some, None, Bool, true, false, cond, length, get_or, map, All, Contains, inl, inr, refl, sym, ap, ◌∙◌, subst, arith}
+use Rattle.std.proofs.Common.{◌≡◌, ◌<◌, ◌≤◌, ◌+◌, ◌*◌, ◌^◌, ℕ, zero, suc, Option, Some, None, Bool, true, false, cond, length, get_or, All, Contains, inr, refl, ap, ◌∙◌, subst, arith}
 use Rattle.std.specs.Prelude.{slice_index, IfSome}
 use Rattle.std.specs.Option.{option_map_or}
 use Rattle.std.proofs.lemmas.Nat.{mul-le}
 use Rattle.std.proofs.lemmas.List.{length-map, get_or-map}
 use Rattle.lists.specs.Members.{all_members}
 use Rattle.lists.specs.Images.{all_images}
-use Rattle.lists.specs.Tests.{by_test}
 use Rattle.domain_core.specs.declared.outline.NodeRow.{NodeRow}
 use Rattle.domain_core.specs.declared.outline.ScopeRow.{ScopeRow}
 use Rattle.domain_core.specs.Outlines.{Outlined, shape_of, IsOutline, no_scope}
@@ -20,7 +19,7 @@ use Rattle.flow_facts.specs.Writable.{IsNumber, IsNodeName, FactIsWritable, Node
 use Rattle.run_recordings.specs.TotalRules.{spread_at}
 use Rattle.told_reports.specs.Told.{Found, is_stepped, sum_below, told_facts, greatest_total, costs_of, count_bound, named_nodes, told_report}
 use Rattle.told_reports.specs.Lines.{IsLine}
-use Rattle.told_reports.specs.Numbers.{IsOrderly, IsOrderlySpread, AreOrderly, CostsFit}
+use Rattle.told_reports.specs.Numbers.{IsOrderlySpread, AreOrderly, CostsFit}
 use Rattle.told_reports.specs.LineLaws.{told_line}
 use Rattle.told_reports.specs.AscentLaws.{told_ascend}
 
@@ -51,7 +50,7 @@ module _ (o : Outlined) (found : Found) (k : ℕ) (orderly : AreOrderly k found.
   pub bound_fits : CostsFit o → length o.nodes * k ≤ 2 ^ 31 → count_bound o found < 2 ^ 64
   bound_fits costs few =
       let low = sum_low (λ n. slice_index (costs_of o) n * greatest_total found n) (2 ^ 32) (length o.nodes)
-        (λ n less. mul-le (slice_index (costs_of o) n) (greatest_total found n) (2 ^ 32) k (let c = costs n less in omega (arith, c)) (greatest_low n)) in
+      (λ n less. mul-le (slice_index (costs_of o) n) (greatest_total found n) (2 ^ 32) k (let c = costs n less in omega (arith, c)) (greatest_low n)) in
       let most = mul-le (2 ^ 32) (length o.nodes * k) (2 ^ 32) (2 ^ 31) (omega arith) few in
       omega (arith, low, most)
 

@@ -10,6 +10,6 @@
 mod laws;
 
 pub use laws::{
-    a_lone_run_is_told_exactly, analyses_agree, closed_explorations_are_sound, numbers_are_at_most_the_steps,
-    told_reports_are_writable,
+    a_lone_run_is_told_exactly, analyses_agree, closed_explorations_are_sound,
+    numbers_are_at_most_the_steps, told_reports_are_writable,
 };

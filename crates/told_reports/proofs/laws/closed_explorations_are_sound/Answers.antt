@@ -1,8 +1,5 @@
-use Rattle.std.proofs.Common.{◌≡◌, refl}
-use Rattle.pool_events.specs.Events.{opened}
-use Rattle.told_reports.specs.Told.{four_order, four_recording}
 use Rattle.told_reports.specs.SoundLaws.{sound_report}
-use Rattle.told_reports.specs.EventLaws.{four_kept, sound_events}
+use Rattle.told_reports.specs.EventLaws.{sound_events}
 use Rattle.told_reports.proofs.laws.closed_explorations_are_sound.Goals as goal
 
 pub returns-clause-kept : goal.returns-clause-kept

@@ -1,0 +1,4 @@
+mod Reading
+mod Lying
+mod Telling
+mod ArmLists

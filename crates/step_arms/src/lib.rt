@@ -1,0 +1,18 @@
+//! Arms of switches over an abstract memory: which there are, and what each tells of memory.
+//!
+//! What the switch's expression tells is found once: the place that it is, or the sides that it compares with their places
+//! and words. Each arm then copies the memory and pins. Each call gives exactly what the definitions of `step_rules` say,
+//! whose laws hold of it. The crate rests on abstract memory and on values of expressions.
+#![tactic(auto)]
+
+// Cells that words are told of, and what tells of them.
+mod places;
+mod relations;
+mod sides;
+
+// What a switch tells, and its arms.
+mod arms;
+mod pins;
+mod refinements;
+
+pub use arms::switch_arms;

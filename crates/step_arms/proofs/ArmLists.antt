@@ -1,6 +1,8 @@
 -- Lists of arms.
+--   one_arm       an arm that is there is one of the same program
 --   arms_are      arms by what the expression tells are those of the rules, as goals
-use Rattle.std.proofs.Common.{◌≡◌, ℕ, List, [], ◌∷◌, ◌++◌, map, Option, Some, None, refl, sym, ap, ◌∙◌}
+use Rattle.std.specs.Prelude.{IfSome}
+use Rattle.std.proofs.Common.{◌≡◌, ℕ, List, [], ◌∷◌, ◌++◌, map, Option, Some, None, refl, ap, subst, ◌∙◌}
 use Rattle.alf_ops.specs.declared.history.FrameShape.{FrameShape}
 use Rattle.alf_program.specs.Tree.{NumberedExpression}
 use Rattle.flow_graph.specs.Nodes.{block_node}
@@ -8,12 +10,21 @@ use Rattle.strided_rules.specs.Strides.{Stride}
 use Rattle.strided_rules.specs.Members.{only}
 use Rattle.memory_rules.specs.Memories.{Mem}
 use Rattle.memory_rules.specs.AbstractSets.{abstract_sets}
-use Rattle.seen_memories.specs.Parts.{MemoryParts, memory_in}
+use Rattle.seen_memories.specs.Parts.{MemoryParts, memory_in, IsMemory}
 use Rattle.step_rules.specs.Refining.{refined}
 use Rattle.step_rules.specs.Stepping.{Goals, without_all, arm_to, arm, target_arms, arms}
 use Rattle.step_arms.specs.declared.refinements.Refinement.{Refinement}
 use Rattle.step_arms.specs.Refinements.{refined_by}
-use Rattle.step_arms.specs.Arms.{seen_arms, if_there, arm_by, target_arms_by, arms_by, goals_of}
+use Rattle.step_arms.specs.Arms.{seen_arms, if_there, arm_by, target_arms_by, arms_by, goals_of, IsArmOf}
+
+-- an arm that is there is one of the same program
+pub one_arm : (memory : MemoryParts) (to : ℕ) (o : Option MemoryParts) (own : MemoryParts) → o ≡ Some own → IfSome o (λ m. m.checked ≡ memory.checked) → IfSome o IsMemory → IsArmOf memory (to, own)
+one_arm memory to o own is checked kept = record {
+  checked = subst (λ (x : Option MemoryParts). IfSome x (λ m. m.checked ≡ memory.checked)) is checked;
+  kept = subst (λ (x : Option MemoryParts). IfSome x IsMemory) is kept;
+}
+
+-- ---- arms as goals
 
 abbrev to_goals : List ℕ → List (ℕ × Mem abstract_sets) → Goals
 to_goals path arms = map (λ (a : ℕ × Mem abstract_sets). (Some (block_node path a.0), a.1)) arms

@@ -1,4 +1,4 @@
 mod Reading
 mod Lying
-mod Telling
+mod Tellings
 mod ArmLists

@@ -28,8 +28,8 @@ use Rattle.abstract_memory.specs.Cells.{IsCellOf}
 use Rattle.step_rules.specs.Evaluating.{loaded, value_at}
 use Rattle.step_rules.specs.Refining.{Place as SeenPlace, cell_of, words_alone, cell_where, loaded_cell, load_place, is_extension, operand_place, place_of}
 use Rattle.step_rules.specs.PlaceReading.{place_fits}
-use Rattle.step_arms.specs.declared.places.Place.{Place}
-use Rattle.step_arms.specs.declared.sides.Side.{Side}
+use Rattle.step_arms.specs.declared.refinements.Place.{Place}
+use Rattle.step_arms.specs.declared.refinements.Side.{Side}
 use Rattle.step_arms.specs.Places.{seen_place, PinFits}
 use Rattle.step_arms.specs.Sides.{IsSide, SideFits}
 use Rattle.step_arms.proofs.Reading.{left_sized, words_sized}

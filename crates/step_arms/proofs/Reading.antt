@@ -2,11 +2,13 @@
 --   load_left, one_left     a load, and an operator at one operand
 --   left_sized              what an expression gives has its size
 --   words_sized             so have its words
+--   operand_sized           and the one operand of an operator
 --   address_typed, operand_typed, compared_typed   parts of expressions that keep the rules of the checks
 --   load_cell               the size of a load is a cell's
 --   one_operand             an extension has one operand, which has its first size
 use Rattle.std.specs.Prelude.{IfSome, IsSome, slice_index, if◌then◌else◌}
-use Rattle.std.proofs.Common.{◌≡◌, ℕ, List, [], ◌∷◌, map, length, Option, Some, None, refl, sym, ap, subst, ◌∙◌, arith}
+use Rattle.std.specs.List.{AllZip}
+use Rattle.std.proofs.Common.{◌≡◌, ℕ, true, List, [], ◌∷◌, map, length, Option, Some, None, refl, sym, ap, subst, ◌∙◌, arith}
 use Rattle.alf_ops.specs.declared.operator.Op.{Op}
 use Rattle.alf_ops.specs.declared.history.FrameShape.{FrameShape}
 use Rattle.alf_ops.specs.Table.{operand_sizes, result_size}
@@ -15,7 +17,7 @@ use Rattle.alf_check.specs.declared.rows.FrameRow.{FrameRow}
 use Rattle.alf_check.specs.Kept.{HasSize, HaveSizes}
 use Rattle.domain_core.specs.declared.fault_set.FaultSet.{FaultSet}
 use Rattle.strided_rules.specs.Strides.{Stride}
-use Rattle.pointer_rules.specs.AbstractValues.{AbstractValue}
+use Rattle.pointer_rules.specs.AbstractValues.{AbstractValue, HasSize as ValueHas}
 use Rattle.pointer_rules.specs.Covering.{IsValue}
 use Rattle.memory_rules.specs.Covers.{IsCellSize}
 use Rattle.memory_rules.specs.Memories.{Mem}
@@ -64,6 +66,17 @@ words_sized size (Some v) is = go v.words v.places is.sized.words
     go words (place ∷ places) sized = tt
     go None [] sized = tt
     go (Some words) [] sized = sized
+
+-- and the one operand of an operator
+pub operand_sized : (parts : MemoryParts) (table : List FrameRow) (k : ℕ) (sizes : List ℕ) (e : NumberedExpression) (o : Option AbstractValue) → IsMemory parts → HaveSizes table k sizes (With e Empty)
+    → o ≡ (value_at (rows_of parts.checked) (memory_in parts) e).left → IfSome o (λ v. AllZip (λ size x. ValueHas x size) sizes (v ∷ []))
+operand_sized parts table k [] e o kept have is = absurd have
+operand_sized parts table k (size ∷ other ∷ sizes) e o kept have is = absurd have.1
+operand_sized parts table k (size ∷ []) e o kept have is = go o (subst (λ (x : Option AbstractValue). IfSome x (IsValue size)) (sym is) (left_sized parts table k size e kept have.0))
+  where
+    go : (o : Option AbstractValue) → IfSome o (IsValue size) → IfSome o (λ v. AllZip (λ size x. ValueHas x size) (size ∷ []) (v ∷ []))
+    go None of_v = tt
+    go (Some v) of_v = (of_v.sized, tt)
 
 -- ---- parts of expressions
 

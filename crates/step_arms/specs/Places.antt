@@ -8,7 +8,7 @@ use Rattle.alf_ops.specs.declared.history.FrameShape.{FrameShape}
 use Rattle.abstract_memory.specs.Cells.{IsCellOf}
 use Rattle.step_rules.specs.Refining.{Place as SeenPlace}
 use Rattle.step_rules.specs.PlaceLaws.{PlaceFits}
-use Rattle.step_arms.specs.declared.places.Place.{Place}
+use Rattle.step_arms.specs.declared.refinements.Place.{Place}
 
 -- the place as the rules name it
 abbrev pub seen_place : Place → SeenPlace

@@ -16,8 +16,8 @@ use Rattle.strided_rules.specs.Members.{is_one, word_of}
 use Rattle.memory_rules.specs.Memories.{Mem}
 use Rattle.memory_rules.specs.AbstractSets.{abstract_sets}
 use Rattle.step_rules.specs.Refining.{Comparison, place_of, comparison_of, pinned_to, pinned_sides, rel_at}
-use Rattle.step_arms.specs.declared.places.Place.{Place}
-use Rattle.step_arms.specs.declared.sides.Side.{Side}
+use Rattle.step_arms.specs.declared.refinements.Place.{Place}
+use Rattle.step_arms.specs.declared.refinements.Side.{Side}
 use Rattle.step_arms.specs.declared.refinements.Refinement.{Refinement}
 use Rattle.step_arms.specs.declared.refinements.Refinement.TheVariants.{Nothing, At, Between}
 use Rattle.step_arms.specs.Places.{seen_place, PinFits}

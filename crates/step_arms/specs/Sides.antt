@@ -14,7 +14,7 @@ use Rattle.memory_rules.specs.Memories.{Mem}
 use Rattle.memory_rules.specs.AbstractSets.{abstract_sets}
 use Rattle.step_rules.specs.Evaluating.{loaded, value_at}
 use Rattle.step_rules.specs.Refining.{place_of, words_alone}
-use Rattle.step_arms.specs.declared.sides.Side.{Side}
+use Rattle.step_arms.specs.declared.refinements.Side.{Side}
 use Rattle.step_arms.specs.Places.{seen_place, PinFits}
 
 -- what a load gives through the address, if there is one

@@ -11,7 +11,8 @@ ghost use Rattle.step_arms.specs.Refinements.{Refines};
 ghost use Rattle.step_arms.specs.Arms.{seen_arms, arm_by, target_arms_by, goals_of, IsArmOf};
 
 use crate::pins::refined;
-use crate::refinements::{Refinement, refinement_of};
+use crate::refinements::Refinement;
+use crate::telling::refinement_of;
 use abstract_memory::AMem;
 use alf_check::Term;
 use interval_congruence::Strided;
@@ -32,20 +33,28 @@ fn without_all(words: Strided, targets: &[(u64, u32)]) -> Option<Strided>
     without_all(rest, others)
 }
 
+/// The one word, where it is among these.
+fn only(words: Strided, bits: u64) -> Option<Strided>
+    ensures value { result ≡ only_of words bits }
+    ensures sized { IfSome result (λ word. word.size ≡ words.size) }
+{
+    words.only(bits)
+}
+
 /// Adds an arm with these words, if it is there.
 fn push_arm<'a>(
     alloc: Global,
     memory: &AMem<'a>,
-    refinement: Refinement,
+    refinement: &Refinement,
     to: u32,
     words: Option<Strided>,
     arms: &mut Vec<(u32, AMem<'a>)>,
 ) -> Result<(), AllocError>
     requires kept { IsMemory memory.now }
-    requires fits { IfSome words (λ own. Refines (rows_of memory.now.checked) own.size refinement) }
+    requires fits { IfSome words (λ own. Refines (rows_of memory.now.checked) own.size refinement.now) }
     requires arms { All (IsArmOf memory.now) arms.old.items }
     ensures arms { OnOk result (All (IsArmOf memory.now) arms.new.items) }
-    ensures pushed { OnOk result (seen_arms arms.new.items ≡ seen_arms arms.old.items ++ arm_by refinement (memory_in memory.now) to words) }
+    ensures pushed { OnOk result (seen_arms arms.new.items ≡ seen_arms arms.old.items ++ arm_by refinement.now (memory_in memory.now) to words) }
 {
     let Some(words) = words else {
         return Ok(());
@@ -62,21 +71,21 @@ fn push_arm<'a>(
 fn push_targets<'a>(
     alloc: Global,
     memory: &AMem<'a>,
-    refinement: Refinement,
+    refinement: &Refinement,
     words: Strided,
     targets: &[(u64, u32)],
     arms: &mut Vec<(u32, AMem<'a>)>,
 ) -> Result<(), AllocError>
     requires kept { IsMemory memory.now }
-    requires fits { Refines (rows_of memory.now.checked) words.size refinement }
+    requires fits { Refines (rows_of memory.now.checked) words.size refinement.now }
     requires arms { All (IsArmOf memory.now) arms.old.items }
     ensures arms { OnOk result (All (IsArmOf memory.now) arms.new.items) }
-    ensures pushed { OnOk result (seen_arms arms.new.items ≡ seen_arms arms.old.items ++ target_arms_by refinement (memory_in memory.now) words targets.now) }
+    ensures pushed { OnOk result (seen_arms arms.new.items ≡ seen_arms arms.old.items ++ target_arms_by refinement.now (memory_in memory.now) words targets.now) }
 {
     let Some((target, others)) = targets.split_first() else {
         return Ok(());
     };
-    push_arm(alloc, memory, refinement, target.1, words.only(target.0), arms)?;
+    push_arm(alloc, memory, refinement, target.1, only(words, target.0), arms)?;
     push_targets(alloc, memory, refinement, words, others, arms)
 }
 
@@ -101,8 +110,8 @@ pub fn switch_arms<'a>(
 {
     let refinement = refinement_of(alloc, memory, value, given)?;
     let mut arms = Vec::new(alloc);
-    push_targets(alloc, memory, refinement, words, targets, &mut arms)?;
+    push_targets(alloc, memory, &refinement, words, targets, &mut arms)?;
     let rest = without_all(words, targets);
-    push_arm(alloc, memory, refinement, others, rest, &mut arms)?;
+    push_arm(alloc, memory, &refinement, others, rest, &mut arms)?;
     Ok(arms)
 }

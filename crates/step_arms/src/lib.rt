@@ -5,14 +5,15 @@
 //! whose laws hold of it. The crate rests on abstract memory and on values of expressions.
 #![tactic(auto)]
 
-// Cells that words are told of, and what tells of them.
+// What tells of memory, and of which cells.
 mod places;
+mod refinements;
 mod relations;
 mod sides;
+mod telling;
 
-// What a switch tells, and its arms.
+// Arms, and what their memories become.
 mod arms;
 mod pins;
-mod refinements;
 
 pub use arms::switch_arms;

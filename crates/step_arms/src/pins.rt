@@ -8,14 +8,25 @@ ghost use Rattle.step_rules.specs.Refining.{pinned_side, pinned_sides};
 ghost use Rattle.step_arms.specs.Places.{seen_place, PinFits};
 ghost use Rattle.step_arms.specs.Refinements.{there, sides_by, refined_by, SidesFit, Refines};
 
-use crate::places::{Place, pin_to};
-use crate::refinements::Refinement;
+use crate::places::pin_to;
+use crate::refinements::{Place, Refinement, Side};
 use crate::relations::{rel_at, swapped};
-use crate::sides::Side;
 use abstract_memory::AMem;
 use domain_core::{Domain, Lattice, Rel};
 use interval_congruence::Strided;
 use std::alloc::{AllocError, Global};
+
+/// What the relation leaves of the words.
+fn left_of(rel: Rel, own: Strided, other: Strided) -> Option<Strided>
+    requires { own.size ≡ other.size }
+    ensures value { result ≡ assumed rel own other }
+    ensures sized { IfSome result (λ words. words.size ≡ own.size) }
+{
+    // The laws of what is left speak of words in normal form.
+    let _own = own.numbers();
+    let _other = other.numbers();
+    own.assume(rel, &other)
+}
 
 /// A side that is a place is pinned to what the relation leaves of its words: whether something is left. Where nothing
 /// is, or after want of memory, the memory is given up.
@@ -37,7 +48,7 @@ fn pin_side(
     let Some(place) = place else {
         return Ok(true);
     };
-    let Some(words) = own.assume(rel, &other) else {
+    let Some(words) = left_of(rel, own, other) else {
         return Ok(false);
     };
     pin_to(alloc, memory, place, words)?;
@@ -104,16 +115,16 @@ fn refine(
 pub(crate) fn refined<'a>(
     alloc: Global,
     memory: &AMem<'a>,
-    refinement: Refinement,
+    refinement: &Refinement,
     arm: Strided,
 ) -> Result<Option<AMem<'a>>, AllocError>
     requires kept { IsMemory memory.now }
-    requires fits { Refines (rows_of memory.now.checked) arm.size refinement }
+    requires fits { Refines (rows_of memory.now.checked) arm.size refinement.now }
     ensures checked { IfOk result (λ own. IfSome own (λ m. m.checked ≡ memory.now.checked)) }
     ensures kept { IfOk result (λ own. IfSome own IsMemory) }
-    ensures refined { IfOk result (λ own. option_map memory_in own ≡ refined_by refinement (memory_in memory.now) arm) }
+    ensures refined { IfOk result (λ own. option_map memory_in own ≡ refined_by refinement.now (memory_in memory.now) arm) }
 {
     let mut own = memory.copy(alloc)?;
-    let on = refine(alloc, &mut own, refinement, arm)?;
+    let on = refine(alloc, &mut own, *refinement, arm)?;
     if on { Ok(Some(own)) } else { Ok(None) }
 }

@@ -11,20 +11,13 @@ ghost use Rattle.step_rules.specs.Refining.{cell_of, cut as cut_of, for_cell as 
 ghost use Rattle.step_rules.specs.PlaceLaws.{PlaceFits};
 ghost use Rattle.step_arms.specs.Places.{seen_place, placed, PinFits};
 
+use crate::refinements::Place;
 use abstract_memory::AMem;
 use alf_ops::Op;
 use domain_core::Domain;
 use interval_congruence::Strided;
 use pointer_domain::AVal;
 use std::alloc::{AllocError, Global};
-
-/// A cell that a load reads, the size of the load, and whether its word is extended.
-#[derive(Clone, Copy, Drop)]
-pub(crate) struct Place {
-    pub cell: (u32, u32),
-    pub size: u32,
-    pub extended: bool,
-}
 
 /// The place of a load of the cell, if there is one.
 pub(crate) fn place_at(cell: Option<(u32, u32)>, size: u32, extended: bool) -> Option<Place>

@@ -1,6 +1,6 @@
 //! Sides of comparisons: the words of an expression and the place that it is.
 
-ghost use Rattle.std.specs.Prelude.{◌≡◌, ◌∷◌, [], true, IfOk, IfSome, IsSome, Some, map};
+ghost use Rattle.std.specs.Prelude.{◌≡◌, ◌∷◌, [], true, false, IfOk, IfSome, IsSome, Some, map};
 ghost use Rattle.std.specs.List.{AllZip};
 ghost use Rattle.std.specs.Option.{option_map};
 ghost use Rattle.alf_ops.specs.Table.{result_size, operand_sizes};
@@ -16,7 +16,8 @@ ghost use Rattle.step_statements.specs.Typed.{IsTyped};
 ghost use Rattle.step_arms.specs.Places.{seen_place};
 ghost use Rattle.step_arms.specs.Sides.{loaded_value, at_one, IsSide};
 
-use crate::places::{Place, one_cell, place_at};
+use crate::places::{one_cell, place_at};
+use crate::refinements::{Place, Side};
 use crate::relations::is_extension;
 use abstract_memory::AMem;
 use alf_check::Term;
@@ -25,13 +26,6 @@ use interval_congruence::Strided;
 use pointer_domain::AVal;
 use std::alloc::{AllocError, Global};
 use step_statements::evaluate;
-
-/// An expression: its words, where it has no pointer, and the place that it is.
-#[derive(Clone, Copy, Drop)]
-pub(crate) struct Side {
-    pub words: Option<Strided>,
-    pub place: Option<Place>,
-}
 
 /// The words of a value without a pointer.
 pub(crate) fn words_alone(value: &AVal) -> Option<Strided>
@@ -234,7 +228,7 @@ fn unextended(alloc: Global, memory: &AMem<'_>, term: &Term) -> Result<Side, All
 }
 
 /// An expression: its words, where it has no pointer, and the place that it is.
-pub(crate) fn side(alloc: Global, memory: &AMem<'_>, term: &Term) -> Result<Side, AllocError>
+pub(crate) fn side_of(alloc: Global, memory: &AMem<'_>, term: &Term) -> Result<Side, AllocError>
     requires kept { IsMemory memory.now }
     requires typed { IsTyped (term_of term.now) }
     ensures { IfOk result (IsSide (rows_of memory.now.checked) (memory_in memory.now) (term_of term.now)) }

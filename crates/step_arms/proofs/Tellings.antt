@@ -1,18 +1,22 @@
 -- What a switch's expression tells.
 --   is_refined        the memories of arms are those of the rules
---   refinement_fits   its places may be pinned to words of the expression
---   place_told, extension_told, comparison_told, operator_tells_nothing   what expressions tell
-use Rattle.std.specs.Prelude.{IfSome, slice_index, if◌then◌else◌}
+--   refinement_fits, sized_fit   its places may be pinned to words of the expression
+--   place_told, extension_told, comparison_told   what expressions tell
+--   tells_nothing, two_members, compared_told     and operators at operands as they stand
+use Rattle.std.specs.Prelude.{IfSome, IfOk, slice_index, if◌then◌else◌}
 use Rattle.std.specs.Option.{option_map, option_and_then}
-use Rattle.std.proofs.Common.{◌≡◌, ℕ, Bool, true, false, List, [], ◌∷◌, Option, Some, None, refl, sym, ap, subst, ◌∙◌}
+use Rattle.std.proofs.Common.{◌≡◌, ◌≤◌, ◌<◌, ℕ, true, false, List, [], ◌∷◌, length, map, get_or, Option, Some, None, Result, Ok, Err, refl, sym, ap, subst, ◌∙◌, arith}
 use Rattle.std.proofs.lemmas.Option.{none-some, same_Some}
 use Rattle.std.proofs.lemmas.Bool.{false≢true}
+use Rattle.std.proofs.lemmas.List.{length-map}
 use Rattle.alf_ops.specs.declared.operator.Op.{Op}
 use Rattle.alf_ops.specs.declared.operator.Op.TheVariants as ops
 use Rattle.alf_ops.specs.declared.history.FrameShape.{FrameShape}
 use Rattle.alf_ops.specs.Table.{operand_sizes}
-use Rattle.alf_program.specs.Tree.{NumberedExpression, NumberedExpressions, Number, Address, Load, Apply, Empty, With}
+use Rattle.alf_program.specs.Tree.{NumberedExpression, NumberedExpressions, Number, Address, Load, Apply, Empty, With, expressions_of}
 use Rattle.alf_check.specs.declared.rows.FrameRow.{FrameRow}
+use Rattle.alf_check.specs.declared.rows.Term.{Term}
+use Rattle.alf_check.specs.CheckedPrograms.{term_of}
 use Rattle.alf_check.specs.Kept.{HasSize, HaveSizes}
 use Rattle.domain_core.specs.declared.relation.Rel.{Rel}
 use Rattle.domain_core.specs.Relations.{operator_of}
@@ -27,8 +31,8 @@ use Rattle.step_rules.specs.Evaluating.{value_at}
 use Rattle.step_rules.specs.Refining.{Place as SeenPlace, Comparison, is_extension, words_alone, place_of, relation_of, sides_of, comparison_of, pinned_sides, rel_at, compared, by_form, refined}
 use Rattle.step_rules.specs.ComparisonLaws.{relation_is, compared_sizes}
 use Rattle.step_statements.specs.Typed.{IsTyped}
-use Rattle.step_arms.specs.declared.places.Place.{Place}
-use Rattle.step_arms.specs.declared.sides.Side.{Side}
+use Rattle.step_arms.specs.declared.refinements.Place.{Place}
+use Rattle.step_arms.specs.declared.refinements.Side.{Side}
 use Rattle.step_arms.specs.declared.refinements.Refinement.{Refinement}
 use Rattle.step_arms.specs.declared.refinements.Refinement.TheVariants.{Nothing, At, Between}
 use Rattle.step_arms.specs.Places.{seen_place, PinFits}
@@ -54,14 +58,11 @@ is_refined rows m e (At place) is arm = sym (ap (λ (o : Option SeenPlace). by_f
 is_refined rows m e (Between rel first second) is arm =
     let c = is.c in
     let sides : sides_by (rel_at rel (word_of arm)) first second m
-    ≡ pinned_sides (rel_at c.rel (word_of arm)) (place_of rows m c.first) (words_alone_at c.first) (place_of rows m c.second) (words_alone_at c.second) m =
+    ≡ pinned_sides (rel_at c.rel (word_of arm)) (place_of rows m c.first) (words_alone (value_at rows m c.first).left) (place_of rows m c.second) (words_alone (value_at rows m c.second).left) m =
     same_sides m (rel_at rel (word_of arm)) (rel_at c.rel (word_of arm)) (option_map seen_place first.place) (option_map seen_place second.place) (place_of rows m c.first) (place_of rows m c.second)
-    first.words second.words (words_alone_at c.first) (words_alone_at c.second) (ap (λ (r : Rel). rel_at r (word_of arm)) (sym is.related)) is.left.place is.left.words is.right.place is.right.words in
+    first.words second.words (words_alone (value_at rows m c.first).left) (words_alone (value_at rows m c.second).left) (ap (λ (r : Rel). rel_at r (word_of arm)) (sym is.related)) is.left.place is.left.words is.right.place is.right.words in
     ap (λ (o : Option (Mem abstract_sets)). if is_one arm then o else Some m) sides
     ∙ sym (ap (λ (o : Option SeenPlace). by_form rows m o (comparison_of e) arm) is.no_place ∙ ap (λ (d : Option Comparison). by_form rows m None d arm) is.is)
-  where
-    abbrev words_alone_at : NumberedExpression → Option Stride
-    words_alone_at x = words_alone (value_at rows m x).left
 
 -- ---- what may be pinned
 
@@ -113,6 +114,11 @@ refinement_fits parts e v words (Between rel first second) kept typed given of_w
       right = side_fits parts typed.table typed.function is.c.second have.size second kept have.right is.right;
     }
 
+-- of words of its size
+pub sized_fit : (rows : List FrameShape) (size : ℕ) (r : Refinement) (o : Option Stride) → Refines rows size r → IfSome o (λ own. own.size ≡ size) → IfSome o (λ own. Refines rows own.size r)
+sized_fit rows size r None fits sized = tt
+sized_fit rows size r (Some own) fits sized = subst (λ (s : ℕ). Refines rows s r) (sym sized) fits
+
 -- ---- what expressions tell
 
 -- an expression that is no comparison
@@ -149,7 +155,30 @@ comparison_told rows m op sizes rel x y (Between own first second) extends relat
   no_place = rw extends refl;
 }
 
--- an operator that is no comparison of two sides
-pub operator_tells_nothing : (rows : List FrameShape) (m : Mem abstract_sets) (op : Op) (sizes : List ℕ) (es : NumberedExpressions) → is_extension op ≡ false → comparison_of (Apply op sizes es) ≡ None
-    → IsRefinement rows m (Apply op sizes es) Nothing
-operator_tells_nothing rows m op sizes es extends none = (rw extends refl, none)
+no_sides : (o : Option Rel) (es : List NumberedExpression) → (length es ≡ 2 → ⊥) → option_and_then (λ (rel : Rel). sides_of rel (expressions_of es)) o ≡ None
+no_sides None es other = refl
+no_sides (Some rel) [] other = refl
+no_sides (Some rel) (x ∷ []) other = refl
+no_sides (Some rel) (x ∷ y ∷ []) other = absurd (other refl)
+no_sides (Some rel) (x ∷ y ∷ z ∷ es) other = refl
+
+-- an operator that does not have two operands
+pub tells_nothing : (rows : List FrameShape) (m : Mem abstract_sets) (op : Op) (sizes : List ℕ) (terms : List Term) → is_extension op ≡ false → (length terms ≡ 2 → ⊥)
+    → IsRefinement rows m (Apply op sizes (expressions_of (map term_of terms))) Nothing
+tells_nothing rows m op sizes terms extends other = (rw extends refl, no_sides (relation_of op) (map term_of terms) (λ two. other (sym (length-map terms term_of) ∙ two)))
+
+-- two operands as they stand
+pub two_members : (terms : List Term) (x y : Term) → 2 ≤ length terms → length terms < 3 → x ≡ get_or terms 0 x → y ≡ get_or terms 1 y → terms ≡ x ∷ y ∷ []
+two_members [] x y some few e f = absurd (omega arith)
+two_members (a ∷ []) x y some few e f = absurd (omega arith)
+two_members (a ∷ b ∷ []) x y some few e f = cc
+two_members (a ∷ b ∷ c ∷ terms) x y some few e f = absurd (omega arith)
+
+-- what a comparison of two operands tells
+pub compared_told : {E : Type 0} (rows : List FrameShape) (m : Mem abstract_sets) (op : Op) (sizes : List ℕ) (rel : Rel) (terms : List Term) (x y : Term) (answer : Result Refinement E)
+    → is_extension op ≡ false → relation_of op ≡ Some rel → terms ≡ x ∷ y ∷ [] → IfOk answer (IsComparing rows m rel (term_of x) (term_of y))
+    → IfOk answer (IsRefinement rows m (Apply op sizes (expressions_of (map term_of terms))))
+compared_told rows m op sizes rel terms x y (Err e) extends related split is = tt
+compared_told rows m op sizes rel terms x y (Ok r) extends related split is =
+    subst (λ (ts : List Term). IsRefinement rows m (Apply op sizes (expressions_of (map term_of ts))) r) (sym split)
+    (comparison_told rows m op sizes rel (term_of x) (term_of y) r extends related is)

@@ -1,8 +1,9 @@
 -- Lists of arms.
 --   one_arm       an arm that is there is one of the same program
---   arms_are      arms by what the expression tells are those of the rules, as goals
-use Rattle.std.specs.Prelude.{IfSome}
-use Rattle.std.proofs.Common.{◌≡◌, ℕ, List, [], ◌∷◌, ◌++◌, map, Option, Some, None, refl, ap, subst, ◌∙◌}
+--   arms_are, all_arms_are   arms by what the expression tells are those of the rules, as goals
+use Rattle.std.specs.Prelude.{IfSome, IfOk}
+use Rattle.std.specs.declared.alloc.Global.{Global}
+use Rattle.std.proofs.Common.{◌≡◌, ℕ, List, [], ◌∷◌, ◌++◌, map, Option, Some, None, Result, Ok, Err, Vec, refl, ap, subst, ◌∙◌}
 use Rattle.alf_ops.specs.declared.history.FrameShape.{FrameShape}
 use Rattle.alf_program.specs.Tree.{NumberedExpression}
 use Rattle.flow_graph.specs.Nodes.{block_node}
@@ -63,3 +64,10 @@ module _ (rows : List FrameShape) (m : Mem abstract_sets) (e : NumberedExpressio
       ∙ (both_goals path (target_arms_by r m words targets) last
       ∙ (ap (λ (goals : Goals). goals ++ to_goals path last) (targets_are words targets)
       ∙ ap (λ (goals : Goals). target_arms rows m e path words targets ++ goals) (arm_is others (without_all (Some words) targets)))))
+
+-- and so are they all
+pub all_arms_are : {E : Type 0} (rows : List FrameShape) (m : Mem abstract_sets) (e : NumberedExpression) (r : Refinement) → ((words : Stride) → refined_by r m words ≡ refined rows m e words)
+    → (targets : List (ℕ × ℕ)) (others : ℕ) (words : Stride) (answer : Result (Vec (ℕ × MemoryParts) Global) E) → IfOk answer (λ own. seen_arms own.items ≡ arms_by r m targets others words)
+    → IfOk answer (λ own. (path : List ℕ) → goals_of path own.items ≡ arms rows m e path targets others words)
+all_arms_are rows m e r same targets others words (Ok own) is = λ path. arms_are rows m e r same path own.items targets others words is
+all_arms_are rows m e r same targets others words (Err error) is = tt

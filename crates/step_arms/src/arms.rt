@@ -8,7 +8,7 @@ ghost use Rattle.step_rules.specs.Evaluating.{value_at};
 ghost use Rattle.step_rules.specs.Stepping.{arms as arms_by_rule, without_all as without_all_of};
 ghost use Rattle.step_statements.specs.Typed.{IsTyped};
 ghost use Rattle.step_arms.specs.Refinements.{Refines};
-ghost use Rattle.step_arms.specs.Arms.{seen_arms, arm_by, target_arms_by, goals_of, IsArmOf};
+ghost use Rattle.step_arms.specs.Arms.{seen_arms, arm_by, target_arms_by, arms_by as arms_by_words, goals_of, IsArmOf};
 
 use crate::pins::refined;
 use crate::refinements::Refinement;
@@ -89,6 +89,27 @@ fn push_targets<'a>(
     push_targets(alloc, memory, refinement, words, others, arms)
 }
 
+/// The arms of a switch whose expression tells this: targets in order, then the default.
+fn arms_by<'a>(
+    alloc: Global,
+    memory: &AMem<'a>,
+    refinement: &Refinement,
+    words: Strided,
+    targets: &[(u64, u32)],
+    others: u32,
+) -> Result<Vec<(u32, AMem<'a>)>, AllocError>
+    requires kept { IsMemory memory.now }
+    requires fits { Refines (rows_of memory.now.checked) words.size refinement.now }
+    ensures each { IfOk result (λ arms. All (IsArmOf memory.now) arms.items) }
+    ensures arms { IfOk result (λ arms. seen_arms arms.items ≡ arms_by_words refinement.now (memory_in memory.now) targets.now others words) }
+{
+    let mut arms = Vec::new(alloc);
+    push_targets(alloc, memory, refinement, words, targets, &mut arms)?;
+    let rest = without_all(words, targets);
+    push_arm(alloc, memory, refinement, others, rest, &mut arms)?;
+    Ok(arms)
+}
+
 /// The arms of a switch whose expression gives this value with these words: targets in order, then the default. Each has
 /// its block and its memory; an arm without words, or with a side of which nothing is left, is absent.
 pub fn switch_arms<'a>(
@@ -109,9 +130,5 @@ pub fn switch_arms<'a>(
         ≡ arms_by_rule (rows_of memory.now.checked) (memory_in memory.now) (term_of value.now) path targets.now others words) }
 {
     let refinement = refinement_of(alloc, memory, value, given)?;
-    let mut arms = Vec::new(alloc);
-    push_targets(alloc, memory, &refinement, words, targets, &mut arms)?;
-    let rest = without_all(words, targets);
-    push_arm(alloc, memory, &refinement, others, rest, &mut arms)?;
-    Ok(arms)
+    arms_by(alloc, memory, &refinement, words, targets, others)
 }

@@ -11,8 +11,8 @@ ghost use Rattle.step_arms.specs.Refinements.{Refines};
 ghost use Rattle.step_arms.specs.Arms.{seen_arms, arm_by, target_arms_by, arms_by as arms_by_words, goals_of, IsArmOf};
 
 use crate::pins::refined;
-use crate::refinements::Refinement;
-use crate::telling::refinement_of;
+use crate::refinements::Told;
+use crate::telling::told_by;
 use abstract_memory::AMem;
 use alf_check::Term;
 use interval_congruence::Strided;
@@ -45,21 +45,21 @@ fn only(words: Strided, bits: u64) -> Option<Strided>
 fn push_arm<'a>(
     alloc: Global,
     memory: &AMem<'a>,
-    refinement: &Refinement,
+    told: &Told,
     to: u32,
     words: Option<Strided>,
     arms: &mut Vec<(u32, AMem<'a>)>,
 ) -> Result<(), AllocError>
     requires kept { IsMemory memory.now }
-    requires fits { IfSome words (λ own. Refines (rows_of memory.now.checked) own.size refinement.now) }
+    requires fits { IfSome words (λ own. Refines (rows_of memory.now.checked) own.size told.now) }
     requires arms { All (IsArmOf memory.now) arms.old.items }
     ensures arms { OnOk result (All (IsArmOf memory.now) arms.new.items) }
-    ensures pushed { OnOk result (seen_arms arms.new.items ≡ seen_arms arms.old.items ++ arm_by refinement.now (memory_in memory.now) to words) }
+    ensures pushed { OnOk result (seen_arms arms.new.items ≡ seen_arms arms.old.items ++ arm_by told.now (memory_in memory.now) to words) }
 {
     let Some(words) = words else {
         return Ok(());
     };
-    let own = refined(alloc, memory, refinement, words)?;
+    let own = refined(alloc, memory, told, words)?;
     let Some(own) = own else {
         return Ok(());
     };
@@ -71,42 +71,42 @@ fn push_arm<'a>(
 fn push_targets<'a>(
     alloc: Global,
     memory: &AMem<'a>,
-    refinement: &Refinement,
+    told: &Told,
     words: Strided,
     targets: &[(u64, u32)],
     arms: &mut Vec<(u32, AMem<'a>)>,
 ) -> Result<(), AllocError>
     requires kept { IsMemory memory.now }
-    requires fits { Refines (rows_of memory.now.checked) words.size refinement.now }
+    requires fits { Refines (rows_of memory.now.checked) words.size told.now }
     requires arms { All (IsArmOf memory.now) arms.old.items }
     ensures arms { OnOk result (All (IsArmOf memory.now) arms.new.items) }
-    ensures pushed { OnOk result (seen_arms arms.new.items ≡ seen_arms arms.old.items ++ target_arms_by refinement.now (memory_in memory.now) words targets.now) }
+    ensures pushed { OnOk result (seen_arms arms.new.items ≡ seen_arms arms.old.items ++ target_arms_by told.now (memory_in memory.now) words targets.now) }
 {
     let Some((target, others)) = targets.split_first() else {
         return Ok(());
     };
-    push_arm(alloc, memory, refinement, target.1, only(words, target.0), arms)?;
-    push_targets(alloc, memory, refinement, words, others, arms)
+    push_arm(alloc, memory, told, target.1, only(words, target.0), arms)?;
+    push_targets(alloc, memory, told, words, others, arms)
 }
 
 /// The arms of a switch whose expression tells this: targets in order, then the default.
 fn arms_by<'a>(
     alloc: Global,
     memory: &AMem<'a>,
-    refinement: &Refinement,
+    told: &Told,
     words: Strided,
     targets: &[(u64, u32)],
     others: u32,
 ) -> Result<Vec<(u32, AMem<'a>)>, AllocError>
     requires kept { IsMemory memory.now }
-    requires fits { Refines (rows_of memory.now.checked) words.size refinement.now }
+    requires fits { Refines (rows_of memory.now.checked) words.size told.now }
     ensures each { IfOk result (λ arms. All (IsArmOf memory.now) arms.items) }
-    ensures arms { IfOk result (λ arms. seen_arms arms.items ≡ arms_by_words refinement.now (memory_in memory.now) targets.now others words) }
+    ensures arms { IfOk result (λ arms. seen_arms arms.items ≡ arms_by_words told.now (memory_in memory.now) targets.now others words) }
 {
     let mut arms = Vec::new(alloc);
-    push_targets(alloc, memory, refinement, words, targets, &mut arms)?;
+    push_targets(alloc, memory, told, words, targets, &mut arms)?;
     let rest = without_all(words, targets);
-    push_arm(alloc, memory, refinement, others, rest, &mut arms)?;
+    push_arm(alloc, memory, told, others, rest, &mut arms)?;
     Ok(arms)
 }
 
@@ -129,6 +129,6 @@ pub fn switch_arms<'a>(
     ensures arms { IfOk result (λ arms. (path : List ℕ) → goals_of path arms.items
         ≡ arms_by_rule (rows_of memory.now.checked) (memory_in memory.now) (term_of value.now) path targets.now others words) }
 {
-    let refinement = refinement_of(alloc, memory, value, given)?;
-    arms_by(alloc, memory, &refinement, words, targets, others)
+    let told = told_by(alloc, memory, value, given)?;
+    arms_by(alloc, memory, &told, words, targets, others)
 }

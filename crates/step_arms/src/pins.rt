@@ -9,7 +9,7 @@ ghost use Rattle.step_arms.specs.Places.{seen_place, PinFits};
 ghost use Rattle.step_arms.specs.Refinements.{there, sides_by, refined_by, SidesFit, Refines};
 
 use crate::places::pin_to;
-use crate::refinements::{Place, Refinement, Side};
+use crate::refinements::{Place, Refinement, Side, Told};
 use crate::relations::{rel_at, swapped};
 use abstract_memory::AMem;
 use domain_core::{Domain, Lattice, Rel};
@@ -115,16 +115,16 @@ fn refine(
 pub(crate) fn refined<'a>(
     alloc: Global,
     memory: &AMem<'a>,
-    refinement: &Refinement,
+    told: &Told,
     arm: Strided,
 ) -> Result<Option<AMem<'a>>, AllocError>
     requires kept { IsMemory memory.now }
-    requires fits { Refines (rows_of memory.now.checked) arm.size refinement.now }
+    requires fits { Refines (rows_of memory.now.checked) arm.size told.now }
     ensures checked { IfOk result (λ own. IfSome own (λ m. m.checked ≡ memory.now.checked)) }
     ensures kept { IfOk result (λ own. IfSome own IsMemory) }
-    ensures refined { IfOk result (λ own. option_map memory_in own ≡ refined_by refinement.now (memory_in memory.now) arm) }
+    ensures refined { IfOk result (λ own. option_map memory_in own ≡ refined_by told.now (memory_in memory.now) arm) }
 {
     let mut own = memory.copy(alloc)?;
-    let on = refine(alloc, &mut own, *refinement, arm)?;
+    let on = refine(alloc, &mut own, told.refinement(), arm)?;
     if on { Ok(Some(own)) } else { Ok(None) }
 }

@@ -10,7 +10,7 @@ ghost use Rattle.step_statements.specs.Typed.{IsTyped};
 ghost use Rattle.step_arms.specs.Refinements.{of_place, IsComparing, IsRefinement};
 
 use crate::places::place_at;
-use crate::refinements::{Place, Refinement};
+use crate::refinements::{Place, Refinement, Told};
 use crate::relations::{is_extension, relation_of};
 use crate::sides::{cell_where, extension, side_of, words_alone};
 use abstract_memory::AMem;
@@ -58,14 +58,14 @@ fn of_load(
     size: u32,
     at: &Term,
     given: &AVal,
-) -> Result<Refinement, AllocError>
+) -> Result<Told, AllocError>
     requires kept { IsMemory memory.now }
     requires typed { IsTyped (Load size (term_of at.now)) }
     requires given { (value_at (rows_of memory.now.checked) (memory_in memory.now) (Load size (term_of at.now))).left ≡ Some given.now }
     ensures { IfOk result (IsRefinement (rows_of memory.now.checked) (memory_in memory.now) (Load size (term_of at.now))) }
 {
     let cell = given_cell(alloc, memory, size, at, given)?;
-    Ok(by_place(place_at(cell, size, false)))
+    Ok(Told::of(by_place(place_at(cell, size, false))))
 }
 
 /// What an extension tells.
@@ -75,14 +75,14 @@ fn of_extension(
     op: Op,
     sizes: &[u32],
     operands: &[Term],
-) -> Result<Refinement, AllocError>
+) -> Result<Told, AllocError>
     requires kept { IsMemory memory.now }
     requires typed { IsTyped (Apply op sizes.now (expressions_of (map term_of operands.now))) }
     requires extends { is_extension_of op ≡ true }
     ensures { IfOk result (IsRefinement (rows_of memory.now.checked) (memory_in memory.now) (Apply op sizes.now (expressions_of (map term_of operands.now)))) }
 {
     let side = extension(alloc, memory, op, sizes, operands)?;
-    Ok(by_place(side.place))
+    Ok(Told::of(by_place(side.place)))
 }
 
 /// What a comparison of two operands tells.
@@ -92,7 +92,7 @@ fn of_comparison(
     rel: Rel,
     first: &Term,
     second: &Term,
-) -> Result<Refinement, AllocError>
+) -> Result<Told, AllocError>
     requires kept { IsMemory memory.now }
     requires first { IsTyped (term_of first.now) }
     requires second { IsTyped (term_of second.now) }
@@ -100,7 +100,7 @@ fn of_comparison(
 {
     let left = side_of(alloc, memory, first)?;
     let right = side_of(alloc, memory, second)?;
-    Ok(Refinement::Between(rel, left, right))
+    Ok(Told::of(Refinement::Between(rel, left, right)))
 }
 
 /// What an operator tells that extends no word.
@@ -110,38 +110,38 @@ fn of_operator(
     op: Op,
     sizes: &[u32],
     operands: &[Term],
-) -> Result<Refinement, AllocError>
+) -> Result<Told, AllocError>
     requires kept { IsMemory memory.now }
     requires typed { IsTyped (Apply op sizes.now (expressions_of (map term_of operands.now))) }
     requires extends { is_extension_of op ≡ false }
     ensures { IfOk result (IsRefinement (rows_of memory.now.checked) (memory_in memory.now) (Apply op sizes.now (expressions_of (map term_of operands.now)))) }
 {
     let Some(rel) = relation_of(op) else {
-        return Ok(Refinement::Nothing);
+        return Ok(Told::of(Refinement::Nothing));
     };
     match operands {
-        [] => Ok(Refinement::Nothing),
-        [_] => Ok(Refinement::Nothing),
+        [] => Ok(Told::of(Refinement::Nothing)),
+        [_] => Ok(Told::of(Refinement::Nothing)),
         [first, second] => of_comparison(alloc, memory, rel, first, second),
-        [_, _, _, ..] => Ok(Refinement::Nothing),
+        [_, _, _, ..] => Ok(Told::of(Refinement::Nothing)),
     }
 }
 
 /// What the expression of a switch tells that gives this value.
-pub(crate) fn refinement_of(
+pub(crate) fn told_by(
     alloc: Global,
     memory: &AMem<'_>,
     term: &Term,
     given: &AVal,
-) -> Result<Refinement, AllocError>
+) -> Result<Told, AllocError>
     requires kept { IsMemory memory.now }
     requires typed { IsTyped (term_of term.now) }
     requires given { (value_at (rows_of memory.now.checked) (memory_in memory.now) (term_of term.now)).left ≡ Some given.now }
     ensures { IfOk result (IsRefinement (rows_of memory.now.checked) (memory_in memory.now) (term_of term.now)) }
 {
     match term {
-        Term::Num(_) => Ok(Refinement::Nothing),
-        Term::Addr(_, _) => Ok(Refinement::Nothing),
+        Term::Num(_) => Ok(Told::of(Refinement::Nothing)),
+        Term::Addr(_, _) => Ok(Told::of(Refinement::Nothing)),
         Term::Load(size, at) => of_load(alloc, memory, *size, at, given),
         Term::Apply(op, sizes, operands) => {
             if is_extension(*op) {

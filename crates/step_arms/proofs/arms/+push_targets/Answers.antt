@@ -4,4 +4,4 @@ use Rattle.step_arms.proofs.arms.+push_targets.Goals as goal
 
 pub push_arm-requires-clause-fits : goal.push_arm-requires-clause-fits
 push_arm-requires-clause-fits t c =
-    sized_fit (rows_of c.args.memory.now.checked) c.args.words.size c.args.refinement.now c.only.result c.requires.fits c.only.ensures.sized
+    sized_fit (rows_of c.args.memory.now.checked) c.args.words.size c.args.told.now c.only.result c.requires.fits c.only.ensures.sized

@@ -4,4 +4,4 @@ use Rattle.step_arms.proofs.arms.arms_by.Goals as goal
 
 pub push_arm-requires-clause-fits : goal.push_arm-requires-clause-fits
 push_arm-requires-clause-fits c =
-    sized_fit (rows_of c.args.memory.now.checked) c.args.words.size c.args.refinement.now c.without_all-rest.result c.requires.fits c.without_all-rest.ensures.sized
+    sized_fit (rows_of c.args.memory.now.checked) c.args.words.size c.args.told.now c.without_all-rest.result c.requires.fits c.without_all-rest.ensures.sized

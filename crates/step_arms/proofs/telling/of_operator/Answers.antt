@@ -6,7 +6,7 @@ use Rattle.step_arms.proofs.telling.of_operator.Goals as goal
 pub returns-in-len1 : goal.returns-in-len1
 returns-in-len1 c =
     let low = c.in-len1.len_below in
-    tells_nothing (rows_of c.args.memory.now.checked) (memory_in c.args.memory.now) c.args.op c.args.sizes.now c.args.operands.now c.requires.extends (λ two. omega (arith, two, low))
+    rw c.of-in-len1.ensures (tells_nothing (rows_of c.args.memory.now.checked) (memory_in c.args.memory.now) c.args.op c.args.sizes.now c.args.operands.now c.requires.extends (λ two. omega (arith, two, low)))
 
 pub returns-in-len2 : goal.returns-in-len2
 returns-in-len2 c =
@@ -19,4 +19,4 @@ returns-in-len2 c =
 pub returns-in-len3-up : goal.returns-in-len3-up
 returns-in-len3-up c =
     let low = c.in-len3-up.len_at_least in
-    tells_nothing (rows_of c.args.memory.now.checked) (memory_in c.args.memory.now) c.args.op c.args.sizes.now c.args.operands.now c.requires.extends (λ two. omega (arith, two, low))
+    rw c.of-in-len3-up.ensures (tells_nothing (rows_of c.args.memory.now.checked) (memory_in c.args.memory.now) c.args.op c.args.sizes.now c.args.operands.now c.requires.extends (λ two. omega (arith, two, low)))

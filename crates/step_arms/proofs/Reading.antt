@@ -6,9 +6,9 @@
 --   address_typed, operand_typed, compared_typed   parts of expressions that keep the rules of the checks
 --   load_cell               the size of a load is a cell's
 --   one_operand             an extension has one operand, which has its first size
-use Rattle.std.specs.Prelude.{IfSome, IsSome, slice_index, if◌then◌else◌}
+use Rattle.std.specs.Prelude.{IfSome, IsSome, if◌then◌else◌}
 use Rattle.std.specs.List.{AllZip}
-use Rattle.std.proofs.Common.{◌≡◌, ℕ, true, List, [], ◌∷◌, map, length, Option, Some, None, refl, sym, ap, subst, ◌∙◌, arith}
+use Rattle.std.proofs.Common.{◌≡◌, ℕ, true, List, [], ◌∷◌, length, Option, Some, None, refl, sym, ap, subst, ◌∙◌, arith}
 use Rattle.alf_ops.specs.declared.operator.Op.{Op}
 use Rattle.alf_ops.specs.declared.history.FrameShape.{FrameShape}
 use Rattle.alf_ops.specs.Table.{operand_sizes, result_size}
@@ -23,7 +23,7 @@ use Rattle.memory_rules.specs.Covers.{IsCellSize}
 use Rattle.memory_rules.specs.Memories.{Mem}
 use Rattle.memory_rules.specs.AbstractSets.{abstract_sets, some_place}
 use Rattle.seen_memories.specs.Parts.{MemoryParts, memory_in, rows_of, IsMemory}
-use Rattle.step_rules.specs.Remains.{Remains, all_left, onward, goes_on}
+use Rattle.step_rules.specs.Remains.{all_left, onward, goes_on}
 use Rattle.step_rules.specs.Evaluating.{loaded, operated, before, value_at}
 use Rattle.step_rules.specs.Refining.{is_extension, words_alone}
 use Rattle.step_rules.specs.EvaluatingLaws.{cell_size, value_sized}

@@ -19,7 +19,6 @@ use Rattle.alf_check.specs.declared.rows.Term.{Term}
 use Rattle.alf_check.specs.CheckedPrograms.{term_of}
 use Rattle.alf_check.specs.Kept.{HasSize, HaveSizes}
 use Rattle.domain_core.specs.declared.relation.Rel.{Rel}
-use Rattle.domain_core.specs.Relations.{operator_of}
 use Rattle.strided_rules.specs.Strides.{Stride}
 use Rattle.strided_rules.specs.Members.{is_one, word_of}
 use Rattle.pointer_rules.specs.AbstractValues.{AbstractValue}
@@ -28,7 +27,7 @@ use Rattle.memory_rules.specs.Memories.{Mem}
 use Rattle.memory_rules.specs.AbstractSets.{abstract_sets}
 use Rattle.seen_memories.specs.Parts.{MemoryParts, memory_in, rows_of, IsMemory}
 use Rattle.step_rules.specs.Evaluating.{value_at}
-use Rattle.step_rules.specs.Refining.{Place as SeenPlace, Comparison, is_extension, words_alone, place_of, relation_of, sides_of, comparison_of, pinned_sides, rel_at, compared, by_form, refined}
+use Rattle.step_rules.specs.Refining.{Place as SeenPlace, Comparison, is_extension, words_alone, place_of, relation_of, sides_of, comparison_of, pinned_sides, rel_at, by_form, refined}
 use Rattle.step_rules.specs.ComparisonLaws.{relation_is, compared_sizes}
 use Rattle.step_statements.specs.Typed.{IsTyped}
 use Rattle.step_arms.specs.declared.refinements.Place.{Place}
@@ -37,7 +36,7 @@ use Rattle.step_arms.specs.declared.refinements.Refinement.{Refinement}
 use Rattle.step_arms.specs.declared.refinements.Refinement.TheVariants.{Nothing, At, Between}
 use Rattle.step_arms.specs.Places.{seen_place, PinFits}
 use Rattle.step_arms.specs.Sides.{IsSide}
-use Rattle.step_arms.specs.Refinements.{sides_by, refined_by, of_place, IsComparing, IsBetween, IsRefinement, Refines}
+use Rattle.step_arms.specs.Refinements.{sides_by, refined_by, of_place, IsComparing, IsRefinement, Refines}
 use Rattle.step_arms.proofs.Reading.{left_sized}
 use Rattle.step_arms.proofs.Lying.{pin_fits, side_fits}
 

@@ -1,6 +1,6 @@
 use Rattle.std.proofs.Common.{◌≡◌, ◌≤◌, ℕ, Some, length, slice_get}
-use Rattle.alf_interp.specs.Edges.{IsEdgeUpTo}
-use Rattle.alf_interp.proofs.edges.first_edges.Given as goal
+use Rattle.graph_edges.specs.Edges.{IsEdgeUpTo}
+use Rattle.graph_edges.proofs.edges.first_edges.Given as goal
 
 abbrev pub invariant-loop-edge : goal.invariant-loop-edge
 invariant-loop-edge l = record {

@@ -1,8 +1,8 @@
 use Rattle.std.proofs.Common.{arith}
 use Rattle.std.proofs.lemmas.Option.{slice_get_within}
 use Rattle.flow_graph.specs.Nodes.{function_at}
-use Rattle.alf_interp.proofs.Leading.{first_of, first_function}
-use Rattle.alf_interp.proofs.edges.next_func.Goals as goal
+use Rattle.graph_edges.specs.EdgeLaws.{first_of, first_function}
+use Rattle.graph_edges.proofs.edges.next_func.Goals as goal
 
 pub returns-then-edge-edge_count : goal.returns-then-edge-edge_count
 returns-then-edge-edge_count c = λ program goal is h.

@@ -1,6 +1,6 @@
 use Rattle.std.proofs.Common.{◌≡◌, ◌<◌, ◌+◌, ◌-◌, ℕ, subst, sym, ◌∙◌, arith, length-set}
-use Rattle.alf_interp.proofs.Leading.{AreFirstFrom, one_before, source_low}
-use Rattle.alf_interp.proofs.edges.first_edges.Goals as goal
+use Rattle.graph_edges.specs.EdgeLaws.{AreFirstFrom, one_before, source_low}
+use Rattle.graph_edges.proofs.edges.first_edges.Goals as goal
 
 pub loop-edge-preserved : goal.loop-edge-preserved
 loop-edge-preserved c =

@@ -4,7 +4,7 @@ ghost use Rattle.std.specs.Prelude.{◌≡◌, ◌<◌, ◌↔◌, ℕ, IfOk, Is
 ghost use Rattle.alf_check.specs.CheckedPrograms.{NumberedProgram};
 ghost use Rattle.flow_graph.specs.Nodes.{Node, function_at};
 ghost use Rattle.flow_graph.specs.Numbering.{IsGraph};
-ghost use Rattle.alf_interp.specs.Edges.{AreFirstEdges, HasEdge, IsNodeWith};
+ghost use Rattle.graph_edges.specs.Edges.{AreFirstEdges, HasEdge, IsNodeWith};
 
 use flow_graph::Graph;
 use std::alloc::{AllocError, Global};

@@ -2,10 +2,10 @@ use Rattle.std.proofs.Common.{◌≡◌, ℕ, Some, slice_get, sym, ap, ◌∙�
 use Rattle.std.proofs.lemmas.Bool.{false≢true}
 use Rattle.std.proofs.lemmas.Option.{same_Some, slice_get_within}
 use Rattle.flow_graph.specs.Nodes.{Node}
-use Rattle.alf_interp.specs.Edges.{IsNodeWith}
-use Rattle.alf_interp.proofs.Leading.{first_of, further_on, same_goal}
-use Rattle.alf_interp.proofs.edges.next_node.Goals as goal
-use Rattle.alf_interp.proofs.edges.next_node.Goals.{else-from-node-via-then-from-node+else-has_block, else-from-node-via-else-from-node}
+use Rattle.graph_edges.specs.Edges.{IsNodeWith}
+use Rattle.graph_edges.specs.EdgeLaws.{first_of, further_on, same_goal}
+use Rattle.graph_edges.proofs.edges.next_node.Goals as goal
+use Rattle.graph_edges.proofs.edges.next_node.Goals.{else-from-node-via-then-from-node+else-has_block, else-from-node-via-else-from-node}
 
 pub loop-edge-init : goal.loop-edge-init
 loop-edge-init c = λ goal h block.

@@ -21,7 +21,7 @@ use Rattle.lists.specs.Members.{contained, placed}
 use Rattle.alf_check.specs.CheckedPrograms.{NumberedProgram, BlockEnding, Fall, Jump, Switch, Call, Return}
 use Rattle.flow_graph.specs.Nodes.{Node, Goal, ending_at, function_at, BackLeads, ReturnLeads, EndLeads, PlaceLeads, Leads, IsKeptNode, first, goes_on, first_node}
 use Rattle.flow_graph.specs.Numbering.{block_rank, node_cmp, IsNumberOf, IsStep, GraphParts, IsGraph}
-use Rattle.alf_interp.specs.Edges.{IsEdgeUpTo, AreFirstEdges, HasEdge, HasEdgeFrom}
+use Rattle.graph_edges.specs.Edges.{IsEdgeUpTo, AreFirstEdges, HasEdge, HasEdgeFrom}
 
 -- ---- where nodes lead
 

@@ -1,0 +1,4 @@
+mod HereLaws
+mod TurnLaws
+mod EndLaws
+mod InputLaws

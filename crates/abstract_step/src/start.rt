@@ -20,7 +20,8 @@ fn range(row: &InputRow) -> Strided
     requires { IsRange row.now }
     ensures { result ≡ range_of row.now }
 {
-    Strided::norm(row.size, row.low, row.high, 1)
+    let step = if row.low < row.high { 1 } else { 0 };
+    Strided::norm(row.size, row.low, row.high, step)
 }
 
 /// Puts an input inside its range. After want of memory the memory is given up.

@@ -6,7 +6,8 @@
 --   arguments_typed       arguments have sizes
 --   call_fits             values of arguments are those of a call
 --   returned_cell         what is returned to a call has the size of a cell
---   back_at               the block that it goes back to
+--   leave_root, leave_back  functions left
+--   back_at               the call that it goes back to
 --   arms_lead, arms_turn  the arms of a switch
 use Rattle.std.specs.Prelude.{slice_get, All, IfSome, Contains}
 use Rattle.std.specs.List.{AllZip, AllByRecursion}
@@ -20,7 +21,8 @@ use Rattle.alf_check.specs.declared.rows.FrameRow.{FrameRow}
 use Rattle.alf_check.specs.CheckedPrograms.{NumberedProgram, NumberedBlock, NumberedStatement, BlockEnding, Fall, Jump, Switch, Call, Return, seen, blocks_at}
 use Rattle.alf_check.specs.Kept.{IsKept, KeepsStatement, KeepsBlock, KeepsEnding, CallKeeps, ArgumentKeeps, HasCellSize, Gives, TargetKeeps, SwitchKeeps}
 use Rattle.flow_graph.specs.Nodes.{Goal, Node, Leads, PlaceLeads, EndLeads, ReturnLeads, BackLeads, IsTarget, block_node, entry_node, ending_at, function_at}
-use Rattle.flow_graph.specs.Paths.{IsCallPath, IsPlaced, HasBlock}
+use Rattle.flow_graph.specs.Paths.{IsCall, IsCallPath, IsPlaced, HasBlock}
+use Rattle.flow_graph.specs.PathLaws.{path_low, ending_low}
 use Rattle.alf_runs.specs.Steps.{frames_of}
 use Rattle.domain_core.specs.declared.fault_set.FaultSet.{FaultSet}
 use Rattle.strided_rules.specs.Strides.{Stride}
@@ -28,7 +30,7 @@ use Rattle.strided_rules.specs.Domains.{stride_sets}
 use Rattle.domain_core.specs.WordSets.{IsOfSize}
 use Rattle.pointer_rules.specs.AbstractValues.{AbstractValue}
 use Rattle.pointer_rules.specs.Covering.{IsValue}
-use Rattle.memory_rules.specs.Memories.{Mem, MemSized}
+use Rattle.memory_rules.specs.Memories.{Mem, MemSized, left}
 use Rattle.memory_rules.specs.AbstractSets.{abstract_sets}
 use Rattle.seen_memories.specs.Parts.{MemoryParts, memory_in}
 use Rattle.step_rules.specs.Remains.{Remains, goes_on}
@@ -36,7 +38,7 @@ use Rattle.step_rules.specs.RemainsLaws.{IfLeft}
 use Rattle.step_rules.specs.Evaluating.{value_at, arguments_at}
 use Rattle.step_rules.specs.EvaluatingLaws.{ArgumentIs, arguments_sized, value_sized, cell_size}
 use Rattle.step_rules.specs.Doing.{after_statements}
-use Rattle.step_rules.specs.Stepping.{Goals, to_goal, arms, arms_of, switched, pointer_fault, goals_left, end_at, block_at, step_at}
+use Rattle.step_rules.specs.Stepping.{Goals, to_goal, arms, arms_of, switched, pointer_fault, goals_left, end_at, block_at, step_at, back_to, leave_to}
 use Rattle.step_rules.specs.SteppingLaws.{words_of_size, BackTo, back_of, back_gives}
 use Rattle.step_rules.specs.SwitchLaws.{EachGoal, IsArm, arms_kept}
 use Rattle.step_rules.specs.Machines.{goals_from, numbered_goal}
@@ -153,6 +155,41 @@ returned_taken here block e m v faults keeps calls stands sized found = go (path
           cell = cell_size is.size is.cell;
           is = subst (λ (r : Remains AbstractValue). IfLeft (IsValue is.size) r) (sym found) (value_sized program.frames (frames_of program) m sized (function_at program (c ∷ path)) e is.size is.value_has);
         }
+
+-- a function left: of the root
+pub leave_root : (program : NumberedProgram) (path : List ℕ) (v : Option AbstractValue) (m now : Mem abstract_sets) (func : ℕ) → path ≡ [] → func ≡ function_at program path → now ≡ left abstract_sets m func
+    → to_goal None now ≡ leave_to program path v m
+leave_root program [] v m now func none is after = ap (to_goal None) (after ∙ ap (left abstract_sets m) is)
+leave_root program (b ∷ path) v m now func none is after = absurd (cc)
+
+-- and of any other
+pub leave_back : (program : NumberedProgram) (path rest : List ℕ) (b : ℕ) (v : Option AbstractValue) (m now : Mem abstract_sets) (func : ℕ) → path ≡ b ∷ rest → func ≡ function_at program path
+    → now ≡ left abstract_sets m func → back_to (frames_of program) rest (ending_at program (function_at program rest) b) v now ≡ leave_to program path v m
+leave_back program path rest b v m now func cons is after =
+    let f : func ≡ function_at program (b ∷ rest) = is ∙ ap (function_at program) cons in
+    ap (back_to (frames_of program) rest (ending_at program (function_at program rest) b) v) (after ∙ ap (left abstract_sets m) f)
+    ∙ ap (λ (p : List ℕ). leave_to program p v m) (sym cons)
+
+-- the call that it goes back to
+pub record Back (here : HereParts) (block : ℕ) (rest : List ℕ) : Type 0 where
+  pub call : IsCall (seen here.checked) (function_at (seen here.checked) rest) block
+  pub low : function_at (seen here.checked) rest < length (seen here.checked).funcs
+  pub there : block < length (blocks_at (seen here.checked) (function_at (seen here.checked) rest))
+  pub leads : Leads (seen here.checked) (place_of here) (Some (block_node rest call.next))
+
+pub back_at : (here : HereParts) (block : ℕ) (rest : List ℕ) → IsKept (seen here.checked) → GoesBackTo here block → path_at here ≡ block ∷ rest → Back here block rest
+back_at here block rest keeps back cons =
+    let program = seen here.checked in
+    let calls : IsCallPath program (block ∷ rest) = subst (IsCallPath program) cons back.calls in
+    let call = calls.0 in
+    let returns : (goal : Goal) → ReturnLeads program (path_at here) goal → Leads program (place_of here) goal = λ goal leads. stands_leads here back.returns.block (Return back.returns.value) back.returns.stands goal leads in
+    record {
+      call = call;
+      low = path_low program keeps rest calls.1;
+      there = ending_low program keeps (function_at program rest) block (Call call.callee call.args call.result call.next) call.ends;
+      leads = returns (Some (block_node rest call.next)) (subst (λ (p : List ℕ). ReturnLeads program p (Some (block_node rest call.next))) (sym cons)
+          (subst (λ (ending : Option BlockEnding). BackLeads rest ending (Some (block_node rest call.next))) (sym call.ends) refl));
+    }
 
 -- ---- switches
 

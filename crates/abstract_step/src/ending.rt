@@ -74,7 +74,9 @@ fn end_block<'a>(
     match end {
         BlockEnd::Fall(next) => to_node(alloc, here, Some(*next), memory),
         BlockEnd::Jump(to) => to_node(alloc, here, Some(*to), memory),
-        BlockEnd::Switch(value, targets, others) => switch(alloc, here, value, targets, *others, memory),
+        BlockEnd::Switch(value, targets, others) => switch(
+            alloc, here, value, targets, *others, memory,
+        ),
         BlockEnd::Call { func, args, .. } => call(alloc, here, *func, args, memory),
         BlockEnd::Return(None) => leave(alloc, here, None, memory),
         BlockEnd::Return(Some(value)) => give_back(alloc, here, block, value, memory),

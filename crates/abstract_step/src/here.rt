@@ -5,6 +5,7 @@ ghost use Rattle.alf_check.specs.CheckedPrograms.{seen};
 ghost use Rattle.alf_check.specs.Kept.{IsKept};
 ghost use Rattle.flow_graph.specs.Nodes.{Node, Leads, function_at};
 ghost use Rattle.flow_graph.specs.Numbering.{IsGraph};
+ghost use Rattle.flow_graph.specs.Paths.{IsPlaced};
 ghost use Rattle.flow_graph.specs.Places.{node_at};
 ghost use Rattle.run_points.specs.NodeNumbers.{goal_number};
 ghost use Rattle.graph_edges.specs.Edges.{AreFirstEdges};
@@ -79,7 +80,9 @@ impl<'p> Here<'p> {
     pub(crate) fn at(&self) -> NodeRef<'p>
         ensures node { place_of self.now ≡ node_at result.path.now result.block }
         ensures func { result.func ≡ function_here self.now }
+        ensures placed { IsPlaced (seen self.now.checked) (place_of self.now) }
     {
+        graphs_are_expansions();
         self.graph.node(self.node)
     }
 

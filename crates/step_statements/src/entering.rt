@@ -80,5 +80,6 @@ pub fn enter_plainly(
     checked.keeps();
     let row = checked.func(func);
     memory.enter(alloc, func)?;
-    put_inits(alloc, memory, &row.inits)
+    put_inits(alloc, memory, &row.inits)?;
+    Ok(())
 }

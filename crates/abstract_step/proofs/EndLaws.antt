@@ -8,7 +8,7 @@
 --   returned_cell         what is returned to a call has the size of a cell
 --   leave_root, leave_back  functions left
 --   back_at               the call that it goes back to
---   arms_lead, arms_turn  the arms of a switch
+--   arms_lead, arms_own, arms_turn  the arms of a switch
 use Rattle.std.specs.Prelude.{slice_get, All, IfSome, Contains}
 use Rattle.std.specs.List.{AllZip, AllByRecursion}
 use Rattle.std.specs.Option.{option_map}
@@ -43,11 +43,11 @@ use Rattle.step_rules.specs.SteppingLaws.{words_of_size, BackTo, back_of, back_g
 use Rattle.step_rules.specs.SwitchLaws.{EachGoal, IsArm, arms_kept}
 use Rattle.step_rules.specs.Machines.{goals_from, numbered_goal}
 use Rattle.seen_machines.specs.PartMachines.{IsOwn}
-use Rattle.run_points.specs.NodeNumbers.{goal_number}
 use Rattle.step_statements.specs.Typed.{IsTyped, IsTypedStatement, IsStorable}
 use Rattle.step_statements.specs.Arguments.{FitCall}
+use Rattle.step_arms.specs.Arms.{IsArmOf}
 use Rattle.abstract_step.specs.Standing.{HereParts, place_of, path_at, function_here, StandsAt, IsSwitchAt, IsCallAt, IsReturnAt, GoesBackTo, IsTaken}
-use Rattle.abstract_step.specs.Turns.{seen_point, IsTurn}
+use Rattle.abstract_step.specs.Turns.{seen_point, numbered_arm, IsTurn}
 
 -- where a block ends so, its node leads to where this leads
 pub stands_leads : (here : HereParts) (block : ℕ) (ending : BlockEnding) → StandsAt here block ending → (goal : Goal) → EndLeads (seen here.checked) (path_at here) block (Some ending) goal
@@ -222,12 +222,19 @@ arms_lead here e targets others m v words faults points switch sized found of_wo
     (λ target among. (All-contains (TargetKeeps program f keep.size) targets target keep.targets_keep among).fits)
     (λ target among. inr (image (λ (t : ℕ × ℕ). t.1) targets target among)))
 
+-- their memories are of the program
+pub arms_own : (here : HereParts) (memory : MemoryParts) → IsOwn here.checked memory → (points : List (ℕ × MemoryParts)) → All (IsArmOf memory) points → All (λ (point : ℕ × MemoryParts). IsOwn here.checked point.1) points
+arms_own here memory own [] each = All-nil (λ (point : ℕ × MemoryParts). IsOwn here.checked point.1)
+arms_own here memory own (p ∷ ps) each =
+    let first = All-head (IsArmOf memory) p ps each in
+    All-cons (λ (point : ℕ × MemoryParts). IsOwn here.checked point.1) p ps (record { checked = first.checked ∙ own.checked; is = first.kept }) (arms_own here memory own ps (All-tail (IsArmOf memory) p ps each))
+
 -- the arms with the numbers of their nodes
 pub arms_turn : (here : HereParts) (e : NumberedExpression) (targets : List (ℕ × ℕ)) (others : ℕ) (m : Mem abstract_sets) (v : AbstractValue) (words : Stride) (faults : FaultSet) (points next : List (ℕ × MemoryParts))
     → v.words ≡ Some words → faults ≡ pointer_fault v.places
     → map (λ (arm : ℕ × MemoryParts). (Some (block_node (path_at here) arm.0), memory_in arm.1)) points ≡ arms (frames_of (seen here.checked)) m e (path_at here) targets others words
     → All (λ (arm : ℕ × MemoryParts). IsOwn here.checked arm.1) points
-    → next ≡ map (λ (arm : ℕ × MemoryParts). (goal_number here.graph (Some (block_node (path_at here) arm.0)), arm.1)) points
+    → next ≡ map (numbered_arm here) points
     → IsTurn here next faults (switched (frames_of (seen here.checked)) m e (path_at here) targets others v)
 arms_turn here e targets others m v words faults points next of_words told same own numbers = subst (λ (ps : List (ℕ × MemoryParts)). IsTurn here ps faults (switched (frames_of (seen here.checked)) m e (path_at here) targets others v)) (sym numbers)
     (record {
@@ -237,15 +244,12 @@ arms_turn here e targets others m v words faults points next of_words told same 
       own = own_still points own;
     })
   where
-    numbered : ℕ × MemoryParts → ℕ × MemoryParts
-    numbered arm = (goal_number here.graph (Some (block_node (path_at here) arm.0)), arm.1)
-
-    seen_goals : (ps : List (ℕ × MemoryParts)) → map seen_point (map numbered ps)
+    seen_goals : (ps : List (ℕ × MemoryParts)) → map seen_point (map (numbered_arm here) ps)
         ≡ map (numbered_goal here.graph) (map (λ (arm : ℕ × MemoryParts). (Some (block_node (path_at here) arm.0), memory_in arm.1)) ps)
     seen_goals [] = refl
-    seen_goals (p ∷ ps) = ap (λ (xs : List (ℕ × Mem abstract_sets)). seen_point (numbered p) ∷ xs) (seen_goals ps)
+    seen_goals (p ∷ ps) = ap (λ (xs : List (ℕ × Mem abstract_sets)). seen_point (numbered_arm here p) ∷ xs) (seen_goals ps)
 
-    own_still : (ps : List (ℕ × MemoryParts)) → All (λ (arm : ℕ × MemoryParts). IsOwn here.checked arm.1) ps → All (λ (point : ℕ × MemoryParts). IsOwn here.checked point.1) (map numbered ps)
+    own_still : (ps : List (ℕ × MemoryParts)) → All (λ (arm : ℕ × MemoryParts). IsOwn here.checked arm.1) ps → All (λ (point : ℕ × MemoryParts). IsOwn here.checked point.1) (map (numbered_arm here) ps)
     own_still [] each = All-nil (λ (point : ℕ × MemoryParts). IsOwn here.checked point.1)
-    own_still (p ∷ ps) each = All-cons (λ (point : ℕ × MemoryParts). IsOwn here.checked point.1) (numbered p) (map numbered ps)
+    own_still (p ∷ ps) each = All-cons (λ (point : ℕ × MemoryParts). IsOwn here.checked point.1) (numbered_arm here p) (map (numbered_arm here) ps)
         (All-head (λ (point : ℕ × MemoryParts). IsOwn here.checked point.1) p ps each) (own_still ps (All-tail (λ (point : ℕ × MemoryParts). IsOwn here.checked point.1) p ps each))

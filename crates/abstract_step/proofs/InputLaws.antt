@@ -1,13 +1,13 @@
 -- Inputs inside their ranges.
---   size_is, range_whole, low_far, high_far   a range is a progression of numbers that are not far, of words
+--   size_is, range_whole, range_up, range_one, low_far, high_far   a range is a progression of numbers that are not far, of words
 --   input_storable, input_there  the words have the size of a cell, which lies in its frame
 --   first_input, later_inputs    the first of the inputs, and those that are left
 --   globals_room, inputs_room    room for what global frames hold at first, and for inputs in the root
 --   start_is                     the memory after all
-use Rattle.std.specs.Prelude.{slice_get, All, ◌==◌, if◌then◌else◌, neg_ℤ, ◌≤ℤ◌, ◌<ℤ◌, ◌-ℤ◌}
+use Rattle.std.specs.Prelude.{slice_get, All, ◌==◌, if◌then◌else◌, neg_ℤ, ◌≤ℤ◌, ◌<ℤ◌, ◌-ℤ◌, int_lt}
 use Rattle.std.specs.Option.{option_map}
 use Rattle.std.proofs.Common.{◌≡◌, inl, inr, ℕ, ℤ, pos, Bool, true, List, [], ◌∷◌, Option, Some, None, ◌≤◌, ◌<◌, ◌+◌, ◌*◌, ◌^◌, ◌-◌, refl, sym, ap, subst, ◌∙◌, arith}
-use Rattle.std.proofs.lemmas.Int.{ints}
+use Rattle.std.proofs.lemmas.Int.{ints, clamps}
 use Rattle.std.proofs.lemmas.Bool.{le-leb, eq-eqb, eqb-true, false≢true}
 use Rattle.std.proofs.lemmas.List.Elements.{All-head, All-tail}
 use Rattle.std.proofs.lemmas.Option.{slice_get-map, same_Some}
@@ -66,6 +66,25 @@ by_one z = record { times = z; is = omega (arith, ints) }
 -- the range is a progression
 pub range_whole : (row : InputRow) → IsRange row → IsProgression (from_to row.low row.high (pos 1))
 range_whole row range = is_from_to row.low row.high (pos 1) range.input.ordered (omega (arith, ints)) (by_one (row.high -ℤ row.low))
+
+-- as code makes it: of one number the step is 0
+pub range_up : (row : InputRow) (lo hi step : ℤ) → IsRange row → lo ≡ row.low → hi ≡ row.high → lo <ℤ hi → step ≡ pos 1 → IsProgression (record { lo = lo; hi = hi; step = step })
+range_up row lo hi step range low high up one =
+    subst (λ (x : ℤ). IsProgression (record { lo = x; hi = hi; step = step })) (sym low)
+    (subst (λ (y : ℤ). IsProgression (record { lo = row.low; hi = y; step = step })) (sym high)
+    (subst (λ (z : ℤ). IsProgression (record { lo = row.low; hi = row.high; step = z })) (step_is ∙ sym one) (range_whole row range)))
+  where
+    step_is : (if int_lt row.low row.high then pos 1 else pos 0) ≡ pos 1
+    step_is = by_test (int_lt row.low row.high) (λ e. rw e refl) (λ e. absurd (omega (arith, ints, clamps, e, up, low, high)))
+
+pub range_one : (row : InputRow) (lo hi step : ℤ) → IsRange row → lo ≡ row.low → hi ≡ row.high → hi ≤ℤ lo → step ≡ pos 0 → IsProgression (record { lo = lo; hi = hi; step = step })
+range_one row lo hi step range low high down none =
+    subst (λ (x : ℤ). IsProgression (record { lo = x; hi = hi; step = step })) (sym low)
+    (subst (λ (y : ℤ). IsProgression (record { lo = row.low; hi = y; step = step })) (sym high)
+    (subst (λ (z : ℤ). IsProgression (record { lo = row.low; hi = row.high; step = z })) (step_is ∙ sym none) (range_whole row range)))
+  where
+    step_is : (if int_lt row.low row.high then pos 1 else pos 0) ≡ pos 0
+    step_is = by_test (int_lt row.low row.high) (λ e. absurd (omega (arith, ints, clamps, e, down, low, high))) (λ e. rw e refl)
 
 -- of numbers that are not far
 pub low_far : (row : InputRow) → IsRange row → neg_ℤ (pos (2 ^ 126)) ≤ℤ row.low

@@ -2,3 +2,4 @@ mod HereLaws
 mod TurnLaws
 mod EndLaws
 mod InputLaws
+mod ArmLaws

@@ -33,7 +33,7 @@ pub(crate) fn call<'a>(
     requires stands { IsCallAt here.now func (map term_of args.now) }
     requires own { IsOwn here.now.checked memory }
     ensures { (block next : ℕ) (to : Option (ℕ × ℕ)) → StandsAt here.now block (Call func (map term_of args.now) to next) → IfOk result (λ stepped. IsTurn here.now stepped.next.items stepped.faults
-        (goes_on (arguments_at (frames_of (seen here.now.checked)) (memory_in memory) (map term_of args.now)) (call_to (seen here.now.checked) (path_at here.now) block func (memory_in memory)))) }
+        (goes_on (arguments_at (frames_of (seen here.now.checked)) (memory_in memory.entry) (map term_of args.now)) (call_to (seen here.now.checked) (path_at here.now) block func (memory_in memory.entry)))) }
 {
     let (values, faults) = evaluate_arguments(alloc, &memory, args)?;
     match values {
@@ -56,7 +56,7 @@ fn go_in<'a>(
     requires call { FitCall (seen here.now.checked) func values.now }
     requires own { IsOwn here.now.checked memory }
     ensures { (block next : ℕ) (args : List NumberedExpression) (to : Option (ℕ × ℕ)) → StandsAt here.now block (Call func args to next)
-        → IfOk result (λ stepped. IsTurn here.now stepped.next.items stepped.faults (call_to (seen here.now.checked) (path_at here.now) block func (memory_in memory) values.now)) }
+        → IfOk result (λ stepped. IsTurn here.now stepped.next.items stepped.faults (call_to (seen here.now.checked) (path_at here.now) block func (memory_in memory.entry) values.now)) }
 {
     let mut memory = memory;
     enter(alloc, &mut memory, here.checked(), func, values)?;

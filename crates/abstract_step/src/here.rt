@@ -17,6 +17,7 @@ use graph_edges::{next_func, next_node};
 use std::marker::Model;
 
 /// A node of the graph of a program, and where edges lead.
+#[derive(Drop)]
 pub(crate) struct Here<'p> {
     checked: &'p Checked,
     graph: &'p Graph,

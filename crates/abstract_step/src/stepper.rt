@@ -110,7 +110,8 @@ impl<'a> Stepper for AlfStepper<'a> {
     }
 
     fn start(&self, alloc: Global) -> Result<AMem<'a>, AllocError> {
-        first_memory(alloc, self.checked, self.rows)
+        let memory = first_memory(alloc, self.checked, self.rows)?;
+        Ok(memory)
     }
 
     fn step(
@@ -120,6 +121,7 @@ impl<'a> Stepper for AlfStepper<'a> {
         state: &AMem<'a>,
     ) -> Result<Stepped<AMem<'a>>, AllocError> {
         let here = Here::new(self.checked, self.graph, &self.firsts, node);
-        step_from(alloc, &here, state.copy(alloc)?)
+        let stepped = step_from(alloc, &here, state.copy(alloc)?)?;
+        Ok(stepped)
     }
 }

@@ -31,7 +31,7 @@ fn to_point<'a>(
     number: u32,
     memory: AMem<'a>,
 ) -> Result<Stepped<AMem<'a>>, AllocError>
-    ensures next { IfOk result (λ stepped. stepped.next.items ≡ (number, memory) ∷ []) }
+    ensures next { IfOk result (λ stepped. stepped.next.items ≡ (number, memory.entry) ∷ []) }
     ensures faults { IfOk result (λ stepped. stepped.faults ≡ no_faults) }
 {
     let mut next = Vec::new(alloc);
@@ -51,7 +51,7 @@ pub(crate) fn to_node<'a>(
 ) -> Result<Stepped<AMem<'a>>, AllocError>
     requires own { IsOwn here.now.checked memory }
     ensures { (goal : Node) → Leads (seen here.now.checked) (place_of here.now) (Some goal) → goal.block ≡ block
-        → IfOk result (λ stepped. IsTurn here.now stepped.next.items stepped.faults (to_goal (Some goal) (memory_in memory))) }
+        → IfOk result (λ stepped. IsTurn here.now stepped.next.items stepped.faults (to_goal (Some goal) (memory_in memory.entry))) }
 {
     to_point(alloc, here.next(block), memory)
 }
@@ -63,15 +63,15 @@ pub(crate) fn to_end<'a>(
     memory: AMem<'a>,
 ) -> Result<Stepped<AMem<'a>>, AllocError>
     requires own { IsOwn here.now.checked memory }
-    ensures { IfOk result (λ stepped. IsTurn here.now stepped.next.items stepped.faults (to_goal None (memory_in memory))) }
+    ensures { IfOk result (λ stepped. IsTurn here.now stepped.next.items stepped.faults (to_goal None (memory_in memory.entry))) }
 {
     to_point(alloc, here.end(), memory)
 }
 
 /// The step after faults that were told before it.
 pub(crate) fn after<'a>(faults: FaultSet, stepped: Stepped<AMem<'a>>) -> Stepped<AMem<'a>>
-    ensures next { result.next.items ≡ stepped.next.items }
-    ensures faults { result.faults ≡ either faults stepped.faults }
+    ensures next { result.next.items ≡ stepped.entry.next.items }
+    ensures faults { result.faults ≡ either faults stepped.entry.faults }
 {
     Stepped {
         next: stepped.next,

@@ -84,9 +84,11 @@ pub block_low : (here : HereParts) (block : ℕ) → IsPlaced (seen here.checked
 block_low here block placed at = (placed.function, subst (HasBlock (seen here.checked) (function_here here)) at placed.block)
 
 -- it ends as the program says
-pub stands_at : (here : HereParts) (block func : ℕ) (row : NumberedBlock) → func ≡ function_here here → (place_of here).block ≡ Some block → slice_get (blocks_at (seen here.checked) func) block ≡ Some row
+pub stands_at : (here : HereParts) (block func : ℕ) (row : NumberedBlock) → IsKept (seen here.checked) → IsPlaced (seen here.checked) (place_of here) → func ≡ function_here here → (place_of here).block ≡ Some block → slice_get (blocks_at (seen here.checked) func) block ≡ Some row
     → KeepsBlock (seen here.checked) func block row → StandsAt here block row.ending
-stands_at here block func row is at found keeps = record {
+stands_at here block func row kept placed is at found keeps = record {
+  kept = kept;
+  placed = placed;
   at = at;
   ends = ap (option_map (λ (b : NumberedBlock). b.ending)) (subst (λ (f : ℕ). slice_get (blocks_at (seen here.checked) f) block ≡ Some row) is found);
   keeps = subst (λ (f : ℕ). KeepsEnding (seen here.checked) f block row.ending) is keeps.ending;
@@ -149,9 +151,9 @@ call_fits here f args m vs faults call sized found =
 -- ---- returns
 
 -- what is returned to a call has the size of a cell
-pub returned_taken : (here : HereParts) (block : ℕ) (e : NumberedExpression) (m : Mem abstract_sets) (v : AbstractValue) (faults : FaultSet) → IsKept (seen here.checked) → IsCallPath (seen here.checked) (path_at here)
+pub returned_taken : (here : HereParts) (block : ℕ) (e : NumberedExpression) (m : Mem abstract_sets) (v : AbstractValue) (faults : FaultSet)
     → StandsAt here block (Return (Some e)) → MemSized abstract_sets m → record { left = Some v; faults = faults } ≡ value_at (frames_of (seen here.checked)) m e → IsTaken (path_at here) (Some v)
-returned_taken here block e m v faults keeps calls stands sized found = go (path_at here) calls stands.ends
+returned_taken here block e m v faults stands sized found = go (path_at here) stands.placed.path stands.ends
   where
     program : NumberedProgram
     program = seen here.checked
@@ -171,9 +173,9 @@ returned_taken here block e m v faults keeps calls stands sized found = go (path
     go : (path : List ℕ) → IsCallPath program path → ending_at program (function_at program path) block ≡ Some (Return (Some e)) → IsTaken path (Some v)
     go [] calls ends = tt
     go (c ∷ path) calls ends =
-        let back = back_of program keeps path c calls in
+        let back = back_of program stands.kept path c calls in
         let row = row_of (function_at program (c ∷ path)) block ends in
-        let is = cell (function_at program (c ∷ path)) back.call.result (back_gives program keeps path c block row.0 (Some e) back row.1 row.2) in
+        let is = cell (function_at program (c ∷ path)) back.call.result (back_gives program stands.kept path c block row.0 (Some e) back row.1 row.2) in
         record {
           size = is.size;
           cell = cell_size is.size is.cell;
@@ -201,10 +203,11 @@ pub record Back (here : HereParts) (block : ℕ) (rest : List ℕ) : Type 0 wher
   pub there : block < length (blocks_at (seen here.checked) (function_at (seen here.checked) rest))
   pub leads : Leads (seen here.checked) (place_of here) (Some (block_node rest call.next))
 
-pub back_at : (here : HereParts) (block : ℕ) (rest : List ℕ) → IsKept (seen here.checked) → GoesBackTo here block → path_at here ≡ block ∷ rest → Back here block rest
-back_at here block rest keeps back cons =
+pub back_at : (here : HereParts) (block : ℕ) (rest : List ℕ) → GoesBackTo here block → path_at here ≡ block ∷ rest → Back here block rest
+back_at here block rest back cons =
     let program = seen here.checked in
-    let calls : IsCallPath program (block ∷ rest) = subst (IsCallPath program) cons back.calls in
+    let keeps = back.returns.stands.kept in
+    let calls : IsCallPath program (block ∷ rest) = subst (IsCallPath program) cons back.returns.stands.placed.path in
     let call = calls.0 in
     let returns : (goal : Goal) → ReturnLeads program (path_at here) goal → Leads program (place_of here) goal = λ goal leads. stands_leads here back.returns.block (Return back.returns.value) back.returns.stands goal leads in
     record {

@@ -12,4 +12,4 @@ leave-requires-clause-taken c =
     let e = term_of c.args.term.now in
     let found : record { left = Some c.in-Some.value; faults = c.in_ok-value.faults } ≡ value_at (frames_of (seen here.checked)) (memory_in c.args.memory) e =
     value_left here c.args.memory e c.in_ok-value.value c.in-Some.value c.in_ok-value.faults c.requires.own c.in-Some.is c.in_ok-value.ensures in
-    returned_taken here c.args.block e (memory_in c.args.memory) c.in-Some.value c.in_ok-value.faults ? ? c.requires.stands c.requires.own.is.sized found
+    returned_taken here c.args.block e (memory_in c.args.memory) c.in-Some.value c.in_ok-value.faults c.requires.stands c.requires.own.is.sized found

@@ -14,7 +14,7 @@ use Rattle.abstract_step.proofs.returning.go_back.Goals as goal
 pub block-requires-clause-func : goal.block-requires-clause-func
 block-requires-clause-func c =
     let here = c.args.here.now in
-    let back = back_at here c.args.block c.requires.back.rest c.checked.ensures.keeps c.requires.back c.requires.back.path_is in
+    let back = back_at here c.args.block c.requires.back.rest c.requires.back c.requires.back.path_is in
     let caller : c.next_func.result ≡ function_at (seen here.checked) c.requires.back.rest = c.next_func.ensures (block_node c.requires.back.rest back.call.next) back.leads in
     subst (λ (checked : CheckedParts). c.next_func.result < length (seen checked).funcs) (sym c.checked.ensures.value)
     (subst (λ (f : ℕ). f < length (seen here.checked).funcs) (sym caller) back.low)
@@ -22,7 +22,7 @@ block-requires-clause-func c =
 pub block-requires-clause-block : goal.block-requires-clause-block
 block-requires-clause-block c =
     let here = c.args.here.now in
-    let back = back_at here c.args.block c.requires.back.rest c.checked.ensures.keeps c.requires.back c.requires.back.path_is in
+    let back = back_at here c.args.block c.requires.back.rest c.requires.back c.requires.back.path_is in
     let caller : c.next_func.result ≡ function_at (seen here.checked) c.requires.back.rest = c.next_func.ensures (block_node c.requires.back.rest back.call.next) back.leads in
     subst (λ (checked : CheckedParts). c.args.block < length (blocks_at (seen checked) c.next_func.result)) (sym c.checked.ensures.value)
     (subst (λ (f : ℕ). c.args.block < length (blocks_at (seen here.checked) f)) (sym caller) back.there)
@@ -30,7 +30,7 @@ block-requires-clause-block c =
 pub unreachable-requires : goal.unreachable-requires
 unreachable-requires c =
     let here = c.args.here.now in
-    let back = back_at here c.args.block c.requires.back.rest c.checked.ensures.keeps c.requires.back c.requires.back.path_is in
+    let back = back_at here c.args.block c.requires.back.rest c.requires.back c.requires.back.path_is in
     let caller : c.next_func.result ≡ function_at (seen here.checked) c.requires.back.rest = c.next_func.ensures (block_node c.requires.back.rest back.call.next) back.leads in
     let at : slice_get (blocks_at (seen here.checked) (function_at (seen here.checked) c.requires.back.rest)) c.args.block ≡ Some (block_of c.block.result.now) =
     subst (λ (checked : CheckedParts). slice_get (blocks_at (seen checked) (function_at (seen here.checked) c.requires.back.rest)) c.args.block ≡ Some (block_of c.block.result.now)) c.checked.ensures.value
@@ -43,7 +43,7 @@ pub returns : goal.returns
 returns c = λ path cons.
     let here = c.args.here.now in
     let program = seen here.checked in
-    let back = back_at here c.args.block path c.checked.ensures.keeps c.requires.back cons in
+    let back = back_at here c.args.block path c.requires.back cons in
     let caller : c.next_func.result ≡ function_at program path = c.next_func.ensures (block_node path back.call.next) back.leads in
     let at : slice_get (blocks_at program (function_at program path)) c.args.block ≡ Some (block_of c.block.result.now) =
     subst (λ (checked : CheckedParts). slice_get (blocks_at (seen checked) (function_at program path)) c.args.block ≡ Some (block_of c.block.result.now)) c.checked.ensures.value

@@ -10,7 +10,7 @@
 --   leave_root, leave_back  functions left
 --   back_at, end_there, is_call, back_leads   the call that it goes back to
 --   arms_lead, arms_own, arms_turn  the arms of a switch
-use Rattle.std.specs.Prelude.{slice_get, All, IfSome, Contains}
+use Rattle.std.specs.Prelude.{slice_get, All, IfSome}
 use Rattle.std.specs.List.{AllZip, AllByRecursion}
 use Rattle.std.specs.Option.{option_map}
 use Rattle.std.proofs.Common.{◌≡◌, ◌<◌, inr, ℕ, List, [], ◌∷◌, Vec, map, length, Option, Some, None, refl, sym, ap, subst, ◌∙◌}
@@ -24,9 +24,9 @@ use Rattle.alf_check.specs.declared.rows.Term.{Term}
 use Rattle.alf_check.specs.declared.rows.Block.{Block}
 use Rattle.alf_check.specs.declared.rows.BlockEnd.{BlockEnd}
 use Rattle.alf_check.specs.declared.rows.BlockEnd.TheVariants as ends
-use Rattle.alf_check.specs.CheckedPrograms.{CheckedParts, NumberedProgram, NumberedBlock, NumberedStatement, BlockEnding, Fall, Jump, Switch, Call, Return, seen, blocks_at, block_of, end_of}
-use Rattle.alf_check.specs.Kept.{IsKept, KeepsStatement, KeepsBlock, KeepsEnding, CallKeeps, ArgumentKeeps, HasCellSize, Gives, TargetKeeps, SwitchKeeps}
-use Rattle.flow_graph.specs.Nodes.{Goal, Node, Leads, PlaceLeads, EndLeads, ReturnLeads, BackLeads, IsTarget, block_node, entry_node, ending_at, function_at}
+use Rattle.alf_check.specs.CheckedPrograms.{CheckedParts, NumberedProgram, NumberedBlock, NumberedStatement, BlockEnding, Switch, Call, Return, seen, blocks_at, block_of, end_of}
+use Rattle.alf_check.specs.Kept.{IsKept, KeepsStatement, KeepsBlock, KeepsEnding, ArgumentKeeps, HasCellSize, Gives, TargetKeeps}
+use Rattle.flow_graph.specs.Nodes.{Goal, Leads, PlaceLeads, EndLeads, ReturnLeads, BackLeads, block_node, ending_at, function_at}
 use Rattle.flow_graph.specs.Paths.{IsCall, IsCallPath, IsPlaced, HasBlock, next_of}
 use Rattle.flow_graph.specs.PathLaws.{path_low, ending_low}
 use Rattle.alf_runs.specs.Steps.{frames_of}
@@ -45,14 +45,14 @@ use Rattle.step_rules.specs.Evaluating.{value_at, arguments_at}
 use Rattle.step_rules.specs.EvaluatingLaws.{ArgumentIs, arguments_sized, value_sized, cell_size}
 use Rattle.step_rules.specs.Doing.{after_statements}
 use Rattle.step_rules.specs.Stepping.{Goals, to_goal, arms, arms_of, switched, pointer_fault, goals_left, end_at, block_at, step_at, back_to, leave_to}
-use Rattle.step_rules.specs.SteppingLaws.{words_of_size, BackTo, back_of, back_gives}
+use Rattle.step_rules.specs.SteppingLaws.{words_of_size, back_of, back_gives}
 use Rattle.step_rules.specs.SwitchLaws.{EachGoal, IsArm, arms_kept}
 use Rattle.step_rules.specs.Machines.{goals_from, numbered_goal}
 use Rattle.seen_machines.specs.PartMachines.{IsOwn}
-use Rattle.step_statements.specs.Typed.{IsTyped, IsTypedStatement, IsStorable}
+use Rattle.step_statements.specs.Typed.{IsTyped, IsTypedStatement}
 use Rattle.step_statements.specs.Arguments.{FitCall}
 use Rattle.step_arms.specs.Arms.{IsArmOf}
-use Rattle.abstract_step.specs.Standing.{HereParts, place_of, path_at, function_here, StandsAt, IsSwitchAt, IsCallAt, IsReturnAt, GoesBackTo, IsTaken}
+use Rattle.abstract_step.specs.Standing.{HereParts, place_of, path_at, function_here, StandsAt, IsSwitchAt, IsCallAt, GoesBackTo, IsTaken}
 use Rattle.abstract_step.specs.Turns.{seen_point, numbered_arm, IsTurn}
 
 -- where a block ends so, its node leads to where this leads

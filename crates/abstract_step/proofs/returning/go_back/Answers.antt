@@ -1,4 +1,4 @@
-use Rattle.std.proofs.Common.{◌≡◌, ◌<◌, ℕ, List, length, map, Option, Some, sym, ap, subst, ◌∙◌}
+use Rattle.std.proofs.Common.{◌≡◌, ◌<◌, ℕ, length, map, Option, Some, sym, ap, subst, ◌∙◌}
 use Rattle.std.specs.Prelude.{slice_get}
 use Rattle.std.specs.Option.{option_map}
 use Rattle.alf_check.specs.declared.rows.BlockEnd.{BlockEnd}
@@ -8,7 +8,7 @@ use Rattle.alf_runs.specs.Steps.{frames_of}
 use Rattle.seen_memories.specs.Parts.{memory_in}
 use Rattle.step_rules.specs.Stepping.{back_to}
 use Rattle.abstract_step.specs.Turns.{IsTurn}
-use Rattle.abstract_step.proofs.EndLaws.{Back, back_at, end_there, is_call, back_leads}
+use Rattle.abstract_step.proofs.EndLaws.{back_at, end_there, is_call, back_leads}
 use Rattle.abstract_step.proofs.returning.go_back.Goals as goal
 
 pub block-requires-clause-func : goal.block-requires-clause-func

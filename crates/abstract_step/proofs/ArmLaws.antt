@@ -5,7 +5,7 @@
 --   all_mapped            all members
 --   whole                 a list that was written back whole
 use Rattle.std.specs.Prelude.{slice_set, get_or, take, drop}
-use Rattle.std.proofs.Common.{◌≡◌, ◌<◌, ◌+◌, ◌++◌, ℕ, zero, suc, List, [], ◌∷◌, map, length, refl, sym, ap, ◌∙◌, arith}
+use Rattle.std.proofs.Common.{◌≡◌, ◌<◌, ◌+◌, ◌++◌, ℕ, zero, suc, List, [], ◌∷◌, map, length, refl, ap, ◌∙◌, arith}
 
 -- the list with its first n members changed
 abbrev pub first_mapped : {A : Type 0} → (A → A) → ℕ → List A → List A

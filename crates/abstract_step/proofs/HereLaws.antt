@@ -8,21 +8,19 @@
 --   ends_at        and ends as it stands
 --   path_calls     its call path
 use Rattle.std.specs.Prelude.{slice_get}
-use Rattle.std.specs.Option.{option_map}
-use Rattle.std.proofs.Common.{◌≡◌, ◌<◌, ℕ, List, Option, Some, length, refl, sym, ap, subst, ◌∙◌}
+use Rattle.std.proofs.Common.{◌≡◌, ◌<◌, ℕ, List, Option, Some, length, sym, ap, ◌∙◌}
 use Rattle.std.proofs.lemmas.Option.{same_Some, slice_get-get_or, slice_get_within, get_or_from_slice_get}
-use Rattle.alf_check.specs.CheckedPrograms.{NumberedProgram, NumberedBlock, seen, blocks_at}
-use Rattle.alf_check.specs.Kept.{IsKept, KeepsBlock}
-use Rattle.flow_graph.specs.Nodes.{Node, Leads, ending_at, function_at, first_node}
-use Rattle.flow_graph.specs.Numbering.{GraphParts, IsGraph}
-use Rattle.flow_graph.specs.Expansions.{IsExpansion, HasPlace, node_number}
-use Rattle.flow_graph.specs.Paths.{IsPlaced, HasBlock}
+use Rattle.alf_check.specs.CheckedPrograms.{NumberedProgram, seen}
+use Rattle.flow_graph.specs.Nodes.{Node, Leads, function_at, first_node}
+use Rattle.flow_graph.specs.Numbering.{IsGraph}
+use Rattle.flow_graph.specs.Expansions.{IsExpansion, node_number}
+use Rattle.flow_graph.specs.Paths.{IsPlaced}
 use Rattle.run_points.specs.NodeNumbers.{goal_number}
 use Rattle.run_points.specs.NumberLaws.{numbered}
 use Rattle.run_points.specs.PointLaws.{GraphsExpand}
 use Rattle.graph_edges.specs.Edges.{HasEdge}
 use Rattle.graph_edges.specs.EdgeLaws.{edge_to}
-use Rattle.abstract_step.specs.Standing.{HereParts, IsHere, place_of, function_here, StandsAt}
+use Rattle.abstract_step.specs.Standing.{HereParts, IsHere, place_of, function_here}
 
 module _ (here : HereParts) (firsts : List ℕ) (is : IsHere here firsts) where
   -- there is a node of this number

@@ -4,9 +4,9 @@
 --   first_input, later_inputs    the first of the inputs, and those that are left
 --   globals_room, inputs_room    room for what global frames hold at first, and for inputs in the root
 --   start_is                     the memory after all
-use Rattle.std.specs.Prelude.{slice_get, All, ◌==◌, if◌then◌else◌, neg_ℤ, ◌≤ℤ◌, ◌<ℤ◌, ◌-ℤ◌, int_lt}
+use Rattle.std.specs.Prelude.{All, ◌==◌, if◌then◌else◌, neg_ℤ, ◌≤ℤ◌, ◌<ℤ◌, ◌-ℤ◌, int_lt}
 use Rattle.std.specs.Option.{option_map}
-use Rattle.std.proofs.Common.{◌≡◌, inl, inr, ℕ, ℤ, pos, Bool, true, List, [], ◌∷◌, Option, Some, None, ◌≤◌, ◌<◌, ◌+◌, ◌*◌, ◌^◌, ◌-◌, refl, sym, ap, subst, ◌∙◌, arith}
+use Rattle.std.proofs.Common.{◌≡◌, inl, inr, ℕ, ℤ, pos, Bool, true, List, [], ◌∷◌, Some, None, ◌≤◌, ◌+◌, ◌*◌, ◌^◌, ◌-◌, refl, sym, ap, subst, ◌∙◌, arith}
 use Rattle.std.proofs.lemmas.Int.{ints, clamps}
 use Rattle.std.proofs.lemmas.Bool.{le-leb, eq-eqb, eqb-true, false≢true}
 use Rattle.std.proofs.lemmas.List.Elements.{All-head, All-tail}
@@ -18,19 +18,17 @@ use Rattle.alf_ops.specs.declared.history.FrameShape.{FrameShape}
 use Rattle.alf_faults.specs.Sizes.{is_export_size}
 use Rattle.alf_check.specs.declared.rows.FrameRow.{FrameRow}
 use Rattle.alf_check.specs.declared.rows.InputRow.{InputRow}
-use Rattle.alf_check.specs.CheckedPrograms.{CheckedParts, NumberedProgram, NumberedFunction, seen}
+use Rattle.alf_check.specs.CheckedPrograms.{CheckedParts, NumberedProgram, seen}
 use Rattle.alf_check.specs.Kept.{IsKept, InitFits}
 use Rattle.alf_check.specs.Inputs.{KeepsInput, KeepInputs}
 use Rattle.flow_graph.specs.PathLaws.{function_there}
-use Rattle.alf_runs.specs.Steps.{frames_of}
 use Rattle.domain_core.specs.WordSets.{IsWordSize}
 use Rattle.progressions.specs.Progressions.{IsProgression, from_to}
 use Rattle.progressions.specs.ProgressionLaws.{is_from_to}
-use Rattle.strided_rules.specs.Strides.{Stride}
 use Rattle.pointer_rules.specs.AbstractValues.{AbstractValue, Words, alone}
 use Rattle.pointer_rules.specs.RuleLaws.{alone_is}
 use Rattle.memory_rules.specs.Covers.{IsCellSize}
-use Rattle.memory_rules.specs.Memories.{Mem, is_on, entered, fresh}
+use Rattle.memory_rules.specs.Memories.{Mem, is_on, fresh}
 use Rattle.memory_rules.specs.AbstractSets.{abstract_sets}
 use Rattle.seen_memories.specs.Parts.{MemoryParts, memory_in, rows_of, IsMemory}
 use Rattle.step_rules.specs.Evaluating.{width_of}

@@ -4,15 +4,13 @@
 --   turn_stops              a step ends where nothing is left
 --   turn_on                 what it makes of what is left, after the faults before
 use Rattle.std.specs.Prelude.{All}
-use Rattle.std.proofs.Common.{◌≡◌, ℕ, List, [], ◌∷◌, map, Option, Some, None, refl, sym, ap, subst, ◌∙◌}
+use Rattle.std.proofs.Common.{◌≡◌, ℕ, List, [], ◌∷◌, map, Some, None, refl, sym, ap, subst, ◌∙◌}
 use Rattle.std.proofs.lemmas.List.Elements.{All-nil, All-cons, All-head, All-tail}
 use Rattle.alf_check.specs.CheckedPrograms.{CheckedParts}
 use Rattle.flow_graph.specs.Nodes.{Goal}
 use Rattle.run_points.specs.NodeNumbers.{goal_number}
 use Rattle.domain_core.specs.declared.fault_set.FaultSet.{FaultSet}
 use Rattle.domain_core.specs.FaultSets.{no_faults, either}
-use Rattle.memory_rules.specs.Memories.{Mem}
-use Rattle.memory_rules.specs.AbstractSets.{abstract_sets}
 use Rattle.seen_memories.specs.Parts.{MemoryParts, memory_in}
 use Rattle.seen_memories.specs.Made.{made}
 use Rattle.seen_memories.specs.PartsLaws.{parts_are}

@@ -1,0 +1,9 @@
+-- The files here, each after those that it cites.
+pub mod Pricing
+pub mod Answers
+pub mod Sound
+pub mod SoundLaws
+pub mod Analyses
+pub mod Twins
+pub mod FourTwins
+pub mod AnalysisLaws

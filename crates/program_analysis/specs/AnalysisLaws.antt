@@ -102,26 +102,28 @@ same_tail x y xs ys e = cc
 no_cons : {X : Type 0} (x : X) (xs : List X) → [] ≡ x ∷ xs → ⊥
 no_cons x xs e = cc
 
+abbrev named_row : NodeRow → NamedNode
+named_row row = record { scope = row.scope; cost = row.cost; name = row.name.items }
+
 -- rows that have one scope, one cost and one name
 same_named : (xs ys : List NodeRow) → map (λ row. row.scope) xs ≡ map (λ row. row.scope) ys → map (λ row. row.cost) xs ≡ map (λ row. row.cost) ys
     → map (λ row. row.name.items) xs ≡ map (λ row. row.name.items) ys
-    → map (λ row. record { scope = row.scope; cost = row.cost; name = row.name.items }) xs ≡ map (λ row. record { scope = row.scope; cost = row.cost; name = row.name.items }) ys
+    → map named_row xs ≡ map named_row ys
 same_named [] [] scopes costs names = refl
 same_named [] (y ∷ ys) scopes costs names = absurd (no_cons y.scope (map (λ row. row.scope) ys) scopes)
 same_named (x ∷ xs) [] scopes costs names = absurd (no_cons x.scope (map (λ row. row.scope) xs) (sym scopes))
 same_named (x ∷ xs) (y ∷ ys) scopes costs names =
     let made : ℕ → ℕ → List ℕ → NamedNode = λ scope cost name. record { scope = scope; cost = cost; name = name } in
-    let named : NodeRow → NamedNode = λ row. made row.scope row.cost row.name.items in
     let scope : x.scope ≡ y.scope = same_head x.scope y.scope (map (λ row. row.scope) xs) (map (λ row. row.scope) ys) scopes in
     let cost : x.cost ≡ y.cost = same_head x.cost y.cost (map (λ row. row.cost) xs) (map (λ row. row.cost) ys) costs in
     let name : x.name.items ≡ y.name.items = same_head x.name.items y.name.items (map (λ row. row.name.items) xs) (map (λ row. row.name.items) ys) names in
-    let rest : map named xs ≡ map named ys = same_named xs ys
+    let rest : map named_row xs ≡ map named_row ys = same_named xs ys
     (same_tail x.scope y.scope (map (λ row. row.scope) xs) (map (λ row. row.scope) ys) scopes)
     (same_tail x.cost y.cost (map (λ row. row.cost) xs) (map (λ row. row.cost) ys) costs)
     (same_tail x.name.items y.name.items (map (λ row. row.name.items) xs) (map (λ row. row.name.items) ys) names) in
-    ap (λ (s : ℕ). made s x.cost x.name.items ∷ map named xs) scope
-    ∙ ap (λ (c : ℕ). made y.scope c x.name.items ∷ map named xs) cost
-    ∙ ap (λ (n : List ℕ). made y.scope y.cost n ∷ map named xs) name
+    ap (λ (s : ℕ). made s x.cost x.name.items ∷ map named_row xs) scope
+    ∙ ap (λ (c : ℕ). made y.scope c x.name.items ∷ map named_row xs) cost
+    ∙ ap (λ (n : List ℕ). made y.scope y.cost n ∷ map named_row xs) name
     ∙ ap (λ (ns : List NamedNode). made y.scope y.cost y.name.items ∷ ns) rest
 
 -- the report is the same along alike outlines
@@ -155,11 +157,8 @@ module _ (parts : StepperParts) (o other : Outlined) (policy : Policy) (turns : 
 
   explored_along : (events : List Event) (pool : PoolOf) → IsExploration parts o policy turns events pool → IsExploration parts other policy turns events (along pool other)
   explored_along events pool explored =
-      subst (λ (first : PoolOf). IsPolicyRunOf first events (along pool other)) (opened_along stepped_by parts_order four_order four_recording parts o other twins)
+      subst (λ (first : PoolOf). IsPolicyRun stepped_by parts_order four_order four_recording policy turns first events (along pool other)) (opened_along stepped_by parts_order four_order four_recording parts o other twins)
       (run_along stepped_by parts_order four_order four_recording policy turns events (first_pool parts o) pool other twins explored)
-    where
-      abbrev IsPolicyRunOf : PoolOf → List Event → PoolOf → Type 0
-      IsPolicyRunOf first events pool = IsPolicyRun stepped_by parts_order four_order four_recording policy turns first events pool
 
   closed_along : (report : Reported) → IsClosed parts o policy turns report → IsClosed parts other policy turns report
   closed_along report closed = record {

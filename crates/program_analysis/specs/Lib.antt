@@ -7,3 +7,4 @@ pub mod Analyses
 pub mod Twins
 pub mod FourTwins
 pub mod AnalysisLaws
+pub mod LoneLaws

@@ -12,13 +12,9 @@ mod analysed;
 // What nodes cost.
 mod node_costs;
 
-// The analysis.
-mod exploring;
-
 // What the definitions promise.
 mod laws;
 
 pub use analysed::Analysed;
-pub use exploring::analyse;
-pub use laws::{a_program_has_one_analysis, an_input_alone_is_told_exactly};
+pub use laws::{a_program_has_one_analysis, an_input_alone_is_followed};
 pub use node_costs::set_costs;

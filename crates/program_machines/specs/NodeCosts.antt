@@ -2,7 +2,7 @@
 --   place_cost costs function block   block b of the function costs what the table says, and an entry nothing
 --   node_cost program costs node      what a node costs
 --   HasCosts program graph costs o    the outline says for each node what it costs
-use Rattle.std.specs.Prelude.{◌≡◌, ℕ, List, map, Option, None, Some}
+use Rattle.std.specs.Prelude.{◌≡◌, ℕ, map, Option, None, Some}
 use Rattle.alf_check.specs.CheckedPrograms.{NumberedProgram}
 use Rattle.flow_graph.specs.Nodes.{Node, function_at}
 use Rattle.flow_graph.specs.Numbering.{GraphParts}

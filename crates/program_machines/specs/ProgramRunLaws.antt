@@ -4,20 +4,19 @@
 --   over_is_over     where the system's run is over, the program's has ended
 --   end_is_over      where the program's run ends, the system's is over
 use Rattle.std.specs.Prelude.{reverse}
-use Rattle.std.proofs.Common.{◌≡◌, ◌≢◌, inl, inr, ◌<◌, ℕ, zero, suc, List, [], ◌∷◌, map, length, Option, None, Some, slice_get, refl, ap, sym, subst, ◌∙◌, arith}
+use Rattle.std.proofs.Common.{◌≡◌, inl, inr, ℕ, zero, suc, List, ◌∷◌, map, Option, None, Some, refl, ap, sym, subst, ◌∙◌, arith}
 use Rattle.std.proofs.lemmas.List.{reverse-reverse}
 use Rattle.std.proofs.lemmas.Option.{none-some, same_Some, slice_get-get_or}
 use Rattle.alf_ops.specs.declared.history.RunEvent.{RunEvent}
-use Rattle.alf_ops.specs.declared.history.RunFault.{RunFault}
 use Rattle.alf_check.specs.declared.rows.InputRow.{InputRow}
 use Rattle.alf_check.specs.CheckedPrograms.{NumberedProgram}
 use Rattle.alf_check.specs.Kept.{IsKept}
 use Rattle.flow_graph.specs.Nodes.{Node, first_node, IsKeptNode}
 use Rattle.flow_graph.specs.Numbering.{GraphParts, IsGraph}
 use Rattle.flow_graph.specs.Expansions.{node_number}
-use Rattle.alf_runs.specs.Outcomes.{Outcome, Ended, Faulted, Lost}
+use Rattle.alf_runs.specs.Outcomes.{Outcome, Ended, Faulted}
 use Rattle.alf_runs.specs.Steps.{Moment, At, Over, step}
-use Rattle.alf_runs.specs.Runs.{after, trace, Ends}
+use Rattle.alf_runs.specs.Runs.{after, trace}
 use Rattle.alf_runs.specs.Starts.{IsStart, start_history, words_of}
 use Rattle.run_counts.specs.Traces.{Runs, IsNodeAt, AreNumbersOf}
 use Rattle.domain_core.specs.Machines.{System}

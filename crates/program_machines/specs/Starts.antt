@@ -4,18 +4,17 @@
 --   IsAlone, HasLoneStart       such rows give this start and no other
 --   alone, one_history          why
 use Rattle.std.specs.Prelude.{All, ℤ}
-use Rattle.std.specs.List.{AllZip}
 use lib.Dec.{leb→le}
 use lib.IntN.{pos, negsuc}
 use lib.Signed.{◌≤ℤ◌, ≤ℤ_refl}
-use Rattle.std.proofs.Common.{◌≡◌, ◌≤◌, ℕ, List, [], ◌∷◌, map, refl, sym, ap, subst, ◌∙◌, arith}
+use Rattle.std.proofs.Common.{◌≡◌, ◌≤◌, List, [], ◌∷◌, map, refl, sym, ap, subst, ◌∙◌, arith}
 use Rattle.std.proofs.lemmas.List.Elements.{All-head, All-tail}
 use Rattle.alf_ops.specs.declared.history.RunEvent.{RunEvent}
 use Rattle.alf_check.specs.declared.rows.InputRow.{InputRow}
 use Rattle.alf_check.specs.CheckedPrograms.{NumberedProgram}
 use Rattle.flow_graph.specs.Nodes.{first_node}
 use Rattle.alf_runs.specs.Steps.{Moment, At}
-use Rattle.alf_runs.specs.Starts.{IsWithin, AreWithin, words_of, start, IsStart}
+use Rattle.alf_runs.specs.Starts.{AreWithin, words_of, start, IsStart}
 
 -- each range has one number
 abbrev pub AreLone : List InputRow → Type 0

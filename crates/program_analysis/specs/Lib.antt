@@ -4,6 +4,7 @@ pub mod Answers
 pub mod Sound
 pub mod SoundLaws
 pub mod Analyses
+pub mod Bounds
 pub mod Twins
 pub mod FourTwins
 pub mod AnalysisLaws

@@ -2,7 +2,8 @@
 --   IsOutcomeOf fault outcome     the outcome is this fault, or outputs
 --   RunsSo program graph n history trace fault   a run from the point has the nodes of the trace and ends so
 --   passes_runs      a run of the system that ends is one of the program
---   sound_of         why the report is sound
+--   SoundForSystemIsSound   the law: a report that is sound for the system of the machine is sound for the program
+--   sound_of         why
 use Rattle.std.specs.Prelude.{slice_index}
 use Rattle.std.specs.List.{fold}
 use Rattle.std.specs.Option.{option_map}
@@ -11,7 +12,7 @@ use Rattle.std.proofs.lemmas.Option.{slice_get-get_or, slice_get-map, get_or_fro
 use Rattle.alf_ops.specs.declared.history.RunEvent.{RunEvent}
 use Rattle.alf_ops.specs.declared.history.RunFault.{RunFault}
 use Rattle.alf_check.specs.declared.rows.InputRow.{InputRow}
-use Rattle.alf_check.specs.CheckedPrograms.{NumberedProgram}
+use Rattle.alf_check.specs.CheckedPrograms.{NumberedProgram, seen}
 use Rattle.alf_check.specs.Kept.{IsKept}
 use Rattle.flow_graph.specs.Nodes.{Node, first_node}
 use Rattle.flow_graph.specs.Numbering.{GraphParts, IsGraph}
@@ -28,6 +29,7 @@ use Rattle.flow_facts.specs.Reports.{Reported}
 use Rattle.path_rows.specs.Uses.{run_cost}
 use Rattle.run_points.specs.Points.{run_system, moment_at, points}
 use Rattle.run_points.specs.PointLaws.{Promises}
+use Rattle.abstract_step.specs.Steppers.{StepperParts, stepped_by}
 use Rattle.told_reports.specs.Told.{costs_of}
 use Rattle.told_reports.specs.Runs.{EndsWith, Passes, stops, moves, RunEnds, HasAlarm as HasFaultAlarm, IsRightOf, IsSound as IsSoundSystem}
 use Rattle.program_machines.specs.NodeCosts.{node_cost, HasCosts}
@@ -127,3 +129,12 @@ sound_of promises program graph rows o costs report keeps is priced sound start 
       alarm = alarm_of report.facts run.trace run.fault so.outcome so.is right.alarm;
       bound = subst (λ (cost : ℕ). cost ≤ report.count_bound) (same_cost program graph costs o run.trace runs.run priced runs.numbers) right.bound;
     }
+
+-- the law
+abbrev pub SoundForSystemIsSound : Type 0
+SoundForSystemIsSound = (parts : StepperParts) (o : Outlined) (costs : CostTable) (report : Reported) → IsKept (seen parts.checked) → IsGraph (seen parts.checked) parts.graph
+    → HasCosts (seen parts.checked) parts.graph costs o → IsSoundSystem (stepped_by parts).system o report
+    → IsSound (seen parts.checked) parts.graph parts.rows (shape_of o) costs report
+
+pub sound_for : Promises → SoundForSystemIsSound
+sound_for promises parts o costs report keeps is priced sound = sound_of promises (seen parts.checked) parts.graph parts.rows o costs report keeps is priced sound

@@ -2,7 +2,10 @@
 
 ghost use Rattle.program_analysis.specs.AnalysisLaws.{HasOneAnalysis, StaysFound, HasOneAlike};
 ghost use Rattle.program_analysis.specs.LoneLaws.{LoneRunIsFollowed};
+ghost use Rattle.program_analysis.specs.SoundLaws.{SoundForSystemIsSound};
 
+use alf_runs::{a_step_leads_along_an_edge, active_frames_follow_the_call_path};
+use flow_graph::graphs_are_expansions;
 use program_machines::a_graph_has_one_ranking;
 
 /// A program has one analysis: along outlines of one shape, with the same names and costs, a policy finds one answer in
@@ -21,3 +24,13 @@ pub fn a_program_has_one_analysis()
 pub fn an_input_alone_is_followed()
     ensures { LoneRunIsFollowed }
 {}
+
+/// A report that is sound for the system of a program's machine is sound for the program: each run of the program
+/// ends, meets each fact, faults only where an alarm says so, and costs at most the count bound.
+pub fn sound_reports_are_sound_for_the_program()
+    ensures { SoundForSystemIsSound }
+{
+    a_step_leads_along_an_edge();
+    active_frames_follow_the_call_path();
+    graphs_are_expansions();
+}

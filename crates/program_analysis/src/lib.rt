@@ -12,9 +12,15 @@ mod analysed;
 // What nodes cost.
 mod node_costs;
 
+// The analysis.
+mod exploring;
+
 // What the definitions promise.
 mod laws;
 
 pub use analysed::Analysed;
-pub use laws::{a_program_has_one_analysis, an_input_alone_is_followed};
+pub use exploring::analyse;
+pub use laws::{
+    a_program_has_one_analysis, an_input_alone_is_followed, sound_reports_are_sound_for_the_program,
+};
 pub use node_costs::set_costs;

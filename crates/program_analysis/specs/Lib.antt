@@ -9,3 +9,4 @@ pub mod Twins
 pub mod FourTwins
 pub mod AnalysisLaws
 pub mod LoneLaws
+pub mod Exploring

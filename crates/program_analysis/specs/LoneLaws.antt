@@ -59,7 +59,7 @@ pub record HasTurns {S T R B : Type 0} (turns : ℕ) (w : Pooled S T R B) : Type
   pub within : w.steps ≤ turns
   pub used : (w.spots ≡ []) ⊎ (w.steps ≡ turns)
 
-run_turns : {S T C R B : Type 0} (machine : S → Machine T C) (states : Order T) (recorders : Order R) (z : Recording R B) (policy : Policy) (turns : ℕ) (events : List Event) (old new : Pooled S T R B)
+pub run_turns : {S T C R B : Type 0} (machine : S → Machine T C) (states : Order T) (recorders : Order R) (z : Recording R B) (policy : Policy) (turns : ℕ) (events : List Event) (old new : Pooled S T R B)
     → old.steps ≤ turns → IsPolicyRun machine states recorders z policy turns old events new → HasTurns turns new
 run_turns {S} {T} {R = R} {B = B} machine states recorders z policy turns [] old new low (is, end) = subst (λ (w : Pooled S T R B). HasTurns turns w) (sym is) (record { within = low; used = end })
 run_turns machine states recorders z policy turns (event ∷ events) old new low (more, choice, mid, happens, rest) =

@@ -12,20 +12,26 @@ ghost use Rattle.scope_graph.specs.Placing.{plan_of};
 ghost use Rattle.program_machines.specs.NodeCosts.{HasCosts};
 ghost use Rattle.program_analysis.specs.Answers.{answer_of, IfTold};
 ghost use Rattle.program_analysis.specs.Sound.{IsSound};
+ghost use Rattle.abstract_exec.specs.Explorations.{IsPool};
+ghost use Rattle.abstract_step.specs.Steppers.{stepped_by};
+ghost use Rattle.told_reports.specs.Told.{four_recording};
+ghost use Rattle.told_reports.specs.Runs.{IsSound as IsSoundSystem};
 ghost use Rattle.program_analysis.specs.Analyses.{IsFound};
+ghost use Rattle.program_analysis.specs.Exploring.{IsEnded, IsWritableOf};
 ghost use Rattle.program_analysis.specs.AnalysisLaws.{names_of};
-ghost use Rattle.program_analysis.specs.Bounds.{most_turns, HasSmallCosts};
+ghost use Rattle.program_analysis.specs.Bounds.{most_turns};
 
 use crate::Analysed;
 use crate::laws::sound_reports_are_sound_for_the_program;
 use abstract_exec::{Explored, Pool};
 use abstract_step::AlfStepper;
 use alf_check::{Checked, InputRow};
-use domain_core::{Outline, Stepper};
-use flow_graph::Graph;
+use domain_core::Outline;
+use flow_graph::{Graph, names_tell_nodes_apart};
 use flow_reports::{FourRecorders, report};
 use pool_events::Policy;
 use std::alloc::{AllocError, Global};
+use told_reports::numbers_are_at_most_the_steps;
 
 /// Explores a program's graph along its outline, for runs with inputs inside the ranges of the rows, and tells what
 /// each run does, or the scope in which the turns were used up.
@@ -52,28 +58,57 @@ pub fn analyse(
     // Each run of the program ends, meets each fact, faults only where an alarm says so, and costs at most the bound.
     ensures sound { IfOk result (λ analysed. IfTold (answer_of analysed) (λ report. (costs : CostTable) → HasCosts (seen checked.now) graph.now costs outline.now
         → IsSound (seen checked.now) graph.now rows.now (shape_of outline.now) costs report)) }
+
+    // The report is one that some text spells.
+    ensures writable { IfOk result (λ analysed. IfTold (answer_of analysed) IsWritable) }
 {
-    let stepper = AlfStepper::new(alloc, checked, graph, rows)?;
-    stepper.goes_along();
-    outline.kept();
     checked.keeps();
     sound_reports_are_sound_for_the_program();
-    let mut pool: Pool<AlfStepper, FourRecorders> = Pool::start(alloc, &stepper, outline)?;
+    names_tell_nodes_apart();
+    let stepper = AlfStepper::new(alloc, checked, graph, rows)?;
+    explored(alloc, &stepper, outline, policy, turns)
+}
+
+// What the policy finds, told of the system of the stepper's machine.
+fn explored(
+    alloc: Global,
+    stepper: &AlfStepper<'_>,
+    outline: &Outline,
+    policy: Policy,
+    turns: u32,
+) -> Result<Analysed, AllocError>
+    requires outline { IsOutlineOf (plan_of stepper.now.graph) (shape_of outline.now) }
+    requires nodes { length outline.now.nodes ≤ 512 }
+    requires turns { turns ≤ most_turns }
+    ensures found { IfOk result (λ analysed. IsFound stepper.now outline.now policy turns (answer_of analysed)) }
+    ensures sound { IfOk result (λ analysed. IfTold (answer_of analysed) (IsSoundSystem (stepped_by stepper.now).system outline.now)) }
+    ensures writable { IfOk result (λ analysed. IfTold (answer_of analysed) (IsWritableOf outline.now)) }
+{
+    stepper.goes_along();
+    let mut pool: Pool<AlfStepper, FourRecorders> = Pool::start(alloc, stepper, outline)?;
     match pool.explore(alloc, policy, turns)? {
-        Explored::Closed(_) => {
-            costs_fit(outline);
-            let report = report(alloc, outline, &pool)?;
-            Ok(Analysed::Told(report))
-        }
+        Explored::Closed(_) => told(alloc, &pool, outline, policy, turns),
         Explored::Left(scope) => Ok(Analysed::Unbounded(scope)),
     }
 }
 
-// Costs fit 32 bits.
-fn costs_fit(outline: &Outline)
-    ensures { HasSmallCosts outline.now }
+// The report of an exploration that ended.
+fn told(
+    alloc: Global,
+    pool: &Pool<AlfStepper<'_>, FourRecorders>,
+    outline: &Outline,
+    policy: Policy,
+    turns: u32,
+) -> Result<Analysed, AllocError>
+    requires kept { IsPool stepped_by four_recording pool.now }
+    requires explored { IsEnded pool.now outline.now policy turns }
+    requires nodes { length outline.now.nodes ≤ 512 }
+    requires turns { turns ≤ most_turns }
+    ensures found { IfOk result (λ analysed. IsFound pool.now.stepper outline.now policy turns (answer_of analysed)) }
+    ensures sound { IfOk result (λ analysed. IfTold (answer_of analysed) (IsSoundSystem (stepped_by pool.now.stepper).system outline.now)) }
+    ensures writable { IfOk result (λ analysed. IfTold (answer_of analysed) (IsWritableOf outline.now)) }
 {
-    for n in 0..outline.node_count() {
-        let _cost = outline.node(n).cost;
-    }
+    numbers_are_at_most_the_steps::<AlfStepper>();
+    let report = report(alloc, outline, pool)?;
+    Ok(Analysed::Told(report))
 }

@@ -3,7 +3,10 @@
 --   IsWritableOf o report         where the nodes have names as reports spell them, some text spells the report
 --   orderly_in    its numbers are at most its steps, and these at most the turns
 --   found_in      what is told of it is found
-use Rattle.std.specs.Prelude.{All}
+--   written       an answer of nodes with such names is a report that some text spells
+use Rattle.std.specs.Prelude.{All, IfOk, Result, Ok, Err}
+use Rattle.program_analysis.specs.declared.analysed.Analysed.{Analysed}
+use Rattle.program_analysis.specs.Answers.{Answer, Told, Unbounded, answer_of, IfTold}
 use Rattle.std.proofs.Common.{◌≡◌, ◌≤◌, ◌*◌, ◌^◌, ℕ, List, [], length, refl, sym, ap, subst, ◌∙◌, arith}
 use Rattle.domain_core.specs.declared.event.Event.{Event}
 use Rattle.domain_core.specs.Outlines.{Outlined}
@@ -44,3 +47,13 @@ module _ (pool : PoolOf) (o : Outlined) (policy : Policy) (turns : ℕ) (ended :
 
   pub found_in : (report : Reported) → report ≡ told_report o (found_of pool) → IsClosed pool.stepper o policy turns report
   found_in report told = record { events = ended.events; pool = pool; explored = ended.explored; empty = ended.empty; told = told }
+
+written_answer : (o : Outlined) → All (λ row. IsNodeName row.name.items) o.nodes → (answer : Answer) → IfTold answer (IsWritableOf o) → IfTold answer IsWritable
+written_answer o named (Told report) writable = writable named
+written_answer o named (Unbounded scope) writable = tt
+
+-- an answer of nodes with such names is a report that some text spells
+pub written : {E : Type 0} (o : Outlined) → All (λ row. IsNodeName row.name.items) o.nodes → (result : Result Analysed E) → IfOk result (λ analysed. IfTold (answer_of analysed) (IsWritableOf o))
+    → IfOk result (λ analysed. IfTold (answer_of analysed) IsWritable)
+written o named (Ok analysed) writable = written_answer o named (answer_of analysed) writable
+written o named (Err error) writable = tt

@@ -9,4 +9,6 @@ pub mod Twins
 pub mod FourTwins
 pub mod AnalysisLaws
 pub mod LoneLaws
+pub mod Naming
 pub mod Exploring
+pub mod ExactLaws

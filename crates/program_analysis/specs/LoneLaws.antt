@@ -127,57 +127,57 @@ module _ (parts : StepperParts) (o : Outlined) (fit : AreFit parts o) (lone : Ar
   one_start : IsAlone (seen parts.checked) parts.rows
   one_start = alone (seen parts.checked) parts.rows lone
 
-  abbrev run : ℕ → Option (ℕ × List RunEvent)
-  run = points (seen parts.checked) parts.graph (lone_start (seen parts.checked) parts.rows)
+  abbrev pub lone_run : ℕ → Option (ℕ × List RunEvent)
+  lone_run = points (seen parts.checked) parts.graph (lone_start (seen parts.checked) parts.rows)
 
-  is_run : IsRun (stepped_by parts).system run
-  is_run = program_run fit.kept.machine.promises.points (seen parts.checked) parts.graph fit.kept.machine.keeps fit.kept.machine.is parts.rows (lone_start (seen parts.checked) parts.rows) one_start.is
+  pub lone_is_run : IsRun (stepped_by parts).system lone_run
+  lone_is_run = program_run fit.kept.machine.promises.points (seen parts.checked) parts.graph fit.kept.machine.keeps fit.kept.machine.is parts.rows (lone_start (seen parts.checked) parts.rows) one_start.is
 
   -- each exploration is exactly where the run is
-  pub sharp_pool : (events : List Event) (pool : PoolOf) → HappenAll stepped_by parts_order four_order four_recording (first_pool parts o) events pool → IsSharp (stepped_by parts) four_recording pool run
+  pub sharp_pool : (events : List Event) (pool : PoolOf) → HappenAll stepped_by parts_order four_order four_recording (first_pool parts o) events pool → IsSharp (stepped_by parts) four_recording pool lone_run
   sharp_pool events pool happen =
       let along = along_fit parts o fit in
       let laws : IsMachine MemoryParts (List RunEvent) parts_order (stepped_by parts) = is_part_machine parts.checked parts.graph parts.rows fit.kept in
-      sharp_events stepped_by parts_order four_order four_recording events parts (first_pool parts o) pool run refl parts_are_order
+      sharp_events stepped_by parts_order four_order four_recording events parts (first_pool parts o) pool lone_run refl parts_are_order
       (λ other kept. is_part_machine other.checked other.graph other.rows kept) four_is_order four_is_recording
       (start_kept stepped_by parts_order four_order four_recording parts o laws four_is_recording fit.kept (four_suited o fit.outline) along)
-      is_run
-      (sharp_start stepped_by parts_order four_order four_recording parts o run laws four_is_recording (four_suited o fit.outline) is_run (one_history (seen parts.checked) parts.rows lone))
+      lone_is_run
+      (sharp_start stepped_by parts_order four_order four_recording parts o lone_run laws four_is_recording (four_suited o fit.outline) lone_is_run (one_history (seen parts.checked) parts.rows lone))
       happen
 
   module _ (policy : Policy) (turns : ℕ) where
-    happened : (events : List Event) (pool : PoolOf) → IsExploration parts o policy turns events pool → HappenAll stepped_by parts_order four_order four_recording (first_pool parts o) events pool
+    pub happened : (events : List Event) (pool : PoolOf) → IsExploration parts o policy turns events pool → HappenAll stepped_by parts_order four_order four_recording (first_pool parts o) events pool
     happened events pool explored = run_happens stepped_by parts_order four_order four_recording policy turns events (first_pool parts o) pool explored
 
     turned : (events : List Event) (pool : PoolOf) → IsExploration parts o policy turns events pool → HasTurns turns pool
     turned events pool explored = run_turns stepped_by parts_order four_order four_recording policy turns events (first_pool parts o) pool (omega arith) explored
 
     -- where no place is left, the run has ended
-    pub over_run : (pool : PoolOf) (k n : ℕ) (history : List RunEvent) → run k ≡ Some (n, history) → run (suc k) ≡ None → IsSharpOver (stepped_by parts) four_recording pool (trace_to run k) n history
+    pub over_run : (pool : PoolOf) (k n : ℕ) (history : List RunEvent) → lone_run k ≡ Some (n, history) → lone_run (suc k) ≡ None → IsSharpOver (stepped_by parts) four_recording pool (trace_to lone_run k) n history
         → HasTurns turns pool → EndsIn parts turns
     over_run pool k n history here over sharp turns_of =
         let so = over_is_over fit.kept.machine.promises.points (seen parts.checked) parts.graph fit.kept.machine.keeps fit.kept.machine.is parts.rows (lone_start (seen parts.checked) parts.rows) one_start.is k n history here over in
-        let long : length (reverse (n ∷ trace_to run k)) ≡ length (n ∷ trace_to run k) = length-reverse (n ∷ trace_to run k) in
-        let count : pool.steps ≡ length (n ∷ trace_to run k) = sharp.stepped.count in
+        let long : length (reverse (n ∷ trace_to lone_run k)) ≡ length (n ∷ trace_to lone_run k) = length-reverse (n ∷ trace_to lone_run k) in
+        let count : pool.steps ≡ length (n ∷ trace_to lone_run k) = sharp.stepped.count in
         let most : pool.steps ≤ turns = turns_of.within in
-        record { nodes = reverse (n ∷ trace_to run k); outcome = so.outcome; runs = so.runs; within = omega (arith, long, count, most) }
+        record { nodes = reverse (n ∷ trace_to lone_run k); outcome = so.outcome; runs = so.runs; within = omega (arith, long, count, most) }
 
-    closed_run : (events : List Event) (pool : PoolOf) → pool.spots ≡ [] → HasTurns turns pool → IsSharp (stepped_by parts) four_recording pool run → EndsIn parts turns
+    closed_run : (events : List Event) (pool : PoolOf) → pool.spots ≡ [] → HasTurns turns pool → IsSharp (stepped_by parts) four_recording pool lone_run → EndsIn parts turns
     closed_run events pool empty turns_of (inl (k, n, history, here, sharp)) = absurd (no_spots sharp.spot (sym empty ∙ sharp.one))
     closed_run events pool empty turns_of (inr (k, n, history, here, over, sharp)) = over_run pool k n history here over sharp turns_of
 
     -- where one is left, the run goes on after so many nodes
-    past_run : (pool : PoolOf) (scope k n : ℕ) (history : List RunEvent) → run k ≡ Some (n, history) → IsSharpAt (stepped_by parts) four_recording pool (trace_to run k) n history
+    past_run : (pool : PoolOf) (scope k n : ℕ) (history : List RunEvent) → lone_run k ≡ Some (n, history) → IsSharpAt (stepped_by parts) four_recording pool (trace_to lone_run k) n history
         → pool.steps ≡ turns → IsLeftIn pool scope → pool.outline ≡ o → GoesPast parts o turns scope
     past_run pool scope k n history here sharp used (spot, first, is) same =
         let at : after (seen parts.checked) k (lone_start (seen parts.checked) parts.rows) ≡ At (node_number parts.graph n) history =
         stands_there fit.kept.machine.promises.points (seen parts.checked) parts.graph fit.kept.machine.keeps fit.kept.machine.is parts.rows (lone_start (seen parts.checked) parts.rows) one_start.is k n history here in
-        let long : length (trace_to run k) ≡ k =
+        let long : length (trace_to lone_run k) ≡ k =
         ap length (trace_is_trace (seen parts.checked) parts.graph (lone_start (seen parts.checked) parts.rows) k)
         ∙ length-reverse (map (number_of parts.graph.nodes) (trace (seen parts.checked) k (lone_start (seen parts.checked) parts.rows)))
         ∙ length-map (trace (seen parts.checked) k (lone_start (seen parts.checked) parts.rows)) (number_of parts.graph.nodes)
         ∙ trace_long (seen parts.checked) k (lone_start (seen parts.checked) parts.rows) (node_number parts.graph n) history at in
-        let count : pool.steps ≡ length (trace_to run k) = sharp.stepped.count in
+        let count : pool.steps ≡ length (trace_to lone_run k) = sharp.stepped.count in
         let all : k ≡ turns = sym long ∙ sym count ∙ used in
         let node : spot.node ≡ n = ap (λ (s : Spot MemoryParts FourRecorders). s.node) (sym (only_spot sharp.spot spot pool.spots sharp.one first)) ∙ sharp.node in
         let low : n < length parts.graph.nodes = low_here k n history here in
@@ -192,15 +192,15 @@ module _ (parts : StepperParts) (o : Outlined) (fit : AreFit parts o) (lone : Ar
           own = is ∙ ap (λ (out : Outlined). slice_index (shape_of out).own spot.node) same ∙ ap (λ (m : ℕ). slice_index (shape_of o).own m) node;
         }
       where
-        low_here : (t m : ℕ) (events : List RunEvent) → run t ≡ Some (m, events) → m < length parts.graph.nodes
-        low_here t m events there = go (is_run.on t m events there)
+        low_here : (t m : ℕ) (events : List RunEvent) → lone_run t ≡ Some (m, events) → m < length parts.graph.nodes
+        low_here t m events there = go (lone_is_run.on t m events there)
           where
-            go : GoesOn (stepped_by parts).system run t m events → m < length parts.graph.nodes
+            go : GoesOn (stepped_by parts).system lone_run t m events → m < length parts.graph.nodes
             go (inl (j, d, goes, next)) = goes.from
             go (inr (inl ends, over)) = ends.from
             go (inr (inr (fault, fails), over)) = fails.from
 
-    left_run : (pool : PoolOf) (scope : ℕ) → HasTurns turns pool → pool.outline ≡ o → IsLeftIn pool scope → IsSharp (stepped_by parts) four_recording pool run → GoesPast parts o turns scope
+    left_run : (pool : PoolOf) (scope : ℕ) → HasTurns turns pool → pool.outline ≡ o → IsLeftIn pool scope → IsSharp (stepped_by parts) four_recording pool lone_run → GoesPast parts o turns scope
     left_run pool scope turns_of same left (inl (k, n, history, here, sharp)) =
         elim turns_of.used [
           | inl none ↦ absurd (no_spots sharp.spot (sym none ∙ sharp.one))

@@ -5,8 +5,7 @@
 --   HasOneAlike          outlines of one graph with the same costs are alike
 --   one_analysis, longer_analysis, alike_outlines   why
 use Rattle.std.specs.Prelude.{slice_index, nat_lt, not, if◌then◌else◌}
-use Rattle.std.proofs.Common.{◌≡◌, ◌≤◌, ◌<◌, ◌+◌, ◌*◌, ℕ, zero, suc, List, [], ◌∷◌, ◌++◌, map, length, Option, None, Some, slice_get, true, false, ◌==◌, ◌&&◌, refl, sym, ap, subst, ◌∙◌, arith}
-use Rattle.std.proofs.lemmas.List.{length-map}
+use Rattle.std.proofs.Common.{◌≡◌, ◌≤◌, ◌*◌, ℕ, List, [], ◌∷◌, ◌++◌, map, length, None, slice_get, ◌==◌, ◌&&◌, refl, sym, ap, subst, ◌∙◌, arith}
 use Rattle.std.proofs.lemmas.Option.{none-some, same_Some}
 use Rattle.alf_check.specs.CheckedPrograms.{NumberedProgram}
 use Rattle.cost_table.specs.CostTables.{CostTable}

@@ -1,7 +1,7 @@
 -- How far an analysis goes.
 --   most_turns      the most turns of an analysis
 --   has_room        the nodes of a graph times so many turns
-use Rattle.std.proofs.Common.{◌≡◌, ◌≤◌, ◌*◌, ◌^◌, ℕ, length, arith}
+use Rattle.std.proofs.Common.{◌≤◌, ◌*◌, ◌^◌, ℕ, arith}
 use Rattle.std.proofs.lemmas.Nat.{mul-le}
 
 -- the most turns of an analysis

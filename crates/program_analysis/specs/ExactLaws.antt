@@ -3,18 +3,16 @@
 --   IsOneAnswer parts o turns answer     so it is where a report was found; where none was, the run has more nodes than the turns
 --   LoneInputIsToldExactly               the law
 --   told_exactly                         why
-use Rattle.std.proofs.Common.{◌≡◌, ◌≤◌, ◌<◌, ℕ, suc, List, [], ◌∷◌, length, Option, Some, slice_get, refl, sym, ap, subst, ◌∙◌, arith}
-use Rattle.std.specs.List.{AllZip}
+use Rattle.std.proofs.Common.{◌≡◌, ◌≤◌, ℕ, suc, List, [], ◌∷◌, length, Option, refl, sym, ap, subst, ◌∙◌, arith}
 use Rattle.alf_ops.specs.declared.history.RunEvent.{RunEvent}
 use Rattle.alf_ops.specs.declared.history.RunFault.{RunFault}
 use Rattle.alf_check.specs.CheckedPrograms.{seen}
 use Rattle.flow_graph.specs.Nodes.{Node, first_node}
-use Rattle.flow_graph.specs.Expansions.{node_number}
 use Rattle.alf_runs.specs.Outcomes.{Outcome}
 use Rattle.alf_runs.specs.Steps.{Moment, At}
 use Rattle.alf_runs.specs.Runs.{cost_of}
 use Rattle.alf_runs.specs.RunLaws.{HasOneEnd}
-use Rattle.run_counts.specs.Traces.{Runs, IsNodeAt, AreNumbersOf}
+use Rattle.run_counts.specs.Traces.{Runs, AreNumbersOf}
 use Rattle.run_points.specs.Points.{moment_at}
 use Rattle.cost_table.specs.CostTables.{CostTable}
 use Rattle.domain_core.specs.Outlines.{Outlined}
@@ -33,8 +31,8 @@ use Rattle.program_machines.specs.NodeCosts.{node_cost, HasCosts}
 use Rattle.program_machines.specs.Starts.{AreLone, lone_start, alone, one_history}
 use Rattle.program_analysis.specs.Answers.{Answer, Told, Unbounded}
 use Rattle.program_analysis.specs.SoundLaws.{IsOutcomeOf, RunsSo, passes_runs, same_cost}
-use Rattle.program_analysis.specs.Analyses.{PoolOf, first_pool, IsExploration, IsClosed, IsFound}
-use Rattle.program_analysis.specs.LoneLaws.{AreFit, along_fit, EndsIn, GoesPast, IsOneRun, LoneRunIsFollowed, lone_followed, lone_run, lone_is_run, happened}
+use Rattle.program_analysis.specs.Analyses.{first_pool, IsClosed, IsFound}
+use Rattle.program_analysis.specs.LoneLaws.{AreFit, along_fit, EndsIn, GoesPast, lone_followed, lone_run, lone_is_run, happened}
 
 -- the one run ends within the turns, and the report tells its own numbers, its fault and its cost
 pub record IsToldExactly (parts : StepperParts) (o : Outlined) (turns : ℕ) (report : Reported) : Type 0 where

@@ -7,7 +7,7 @@
 use Rattle.std.specs.Prelude.{All, IfOk, Result, Ok, Err}
 use Rattle.program_analysis.specs.declared.analysed.Analysed.{Analysed}
 use Rattle.program_analysis.specs.Answers.{Answer, Told, Unbounded, answer_of, IfTold}
-use Rattle.std.proofs.Common.{◌≡◌, ◌≤◌, ◌*◌, ◌^◌, ℕ, List, [], length, refl, sym, ap, subst, ◌∙◌, arith}
+use Rattle.std.proofs.Common.{◌≡◌, ◌≤◌, ◌*◌, ◌^◌, ℕ, List, [], length, arith}
 use Rattle.domain_core.specs.declared.event.Event.{Event}
 use Rattle.domain_core.specs.Outlines.{Outlined}
 use Rattle.flow_facts.specs.Reports.{Reported}
@@ -16,7 +16,7 @@ use Rattle.pool_events.specs.declared.policy.Policy.{Policy}
 use Rattle.pool_events.specs.PolicyLaws.{run_happens}
 use Rattle.pool_events.specs.Events.{HappenAll}
 use Rattle.seen_memories.specs.SeenOrders.{parts_order}
-use Rattle.abstract_step.specs.Steppers.{StepperParts, stepped_by}
+use Rattle.abstract_step.specs.Steppers.{stepped_by}
 use Rattle.told_reports.specs.Told.{four_order, four_recording, found_of, told_report}
 use Rattle.program_analysis.specs.Analyses.{PoolOf, first_pool, IsExploration, IsClosed}
 use Rattle.program_analysis.specs.Twins.{run_same}

@@ -2,7 +2,7 @@
 --   by_shape       what is made of the shape and the count of nodes is the same
 --   four_twins     totals, loops, counts and pairs do
 use Rattle.std.specs.Prelude.{replicate, slice_set, if◌then◌else◌}
-use Rattle.std.proofs.Common.{◌≡◌, ℕ, List, length, Option, None, Some, true, false, ◌==◌, ◌&&◌, refl, sym, ap, ◌∙◌}
+use Rattle.std.proofs.Common.{◌≡◌, ℕ, length, None, Some, false, ◌==◌, ◌&&◌, refl, sym, ap, ◌∙◌}
 use Rattle.std.proofs.lemmas.List.{length-map}
 use Rattle.domain_core.specs.Outlines.{Outlined, Shape, shape_of, header_of}
 use Rattle.domain_core.specs.Recordings.{Recording}
@@ -11,10 +11,10 @@ use Rattle.flow_recorders.specs.declared.both.BothBook.{BothBook}
 use Rattle.flow_recorders.specs.BothRules.{both_recording}
 use Rattle.run_recordings.specs.Generated.{generated}
 use Rattle.run_recordings.specs.TotalRules.{total_recording}
-use Rattle.run_recordings.specs.TallyRules.{Tally, Ledger, key_at, is_at, spans_gone, spreads_gone, spreads_ended, tally_recording}
+use Rattle.run_recordings.specs.TallyRules.{Tally, key_at, is_at, spans_gone, spreads_gone, spreads_ended, tally_recording}
 use Rattle.run_recordings.specs.LoopRules.{loop_tally, count_tally, counted_scope, counted_node, own_of, loop_recording, count_recording}
 use Rattle.pair_recordings.specs.Tables.{tabled}
-use Rattle.pair_recordings.specs.PairRules.{Sightings, PairBook, seen_after, pair_after, book_after, book_ended, pair_recording}
+use Rattle.pair_recordings.specs.PairRules.{seen_after, pair_after, book_after, book_ended, pair_recording}
 use Rattle.program_analysis.specs.Twins.{AreTwins}
 
 module _ (o other : Outlined) (same : shape_of o ≡ shape_of other) where

@@ -4,12 +4,11 @@
 --   LoneRunIsFollowed     the law
 --   lone_followed         why
 use Rattle.std.specs.Prelude.{slice_index, reverse}
-use Rattle.std.proofs.Common.{◌≡◌, ◌≢◌, ◌≤◌, ◌<◌, ◌⊎◌, inl, inr, ℕ, zero, suc, List, [], ◌∷◌, map, length, Option, None, Some, slice_get, refl, sym, ap, subst, ◌∙◌, arith}
+use Rattle.std.proofs.Common.{◌≡◌, ◌≤◌, ◌<◌, ◌⊎◌, inl, inr, ℕ, zero, suc, List, [], ◌∷◌, map, length, Option, None, Some, slice_get, refl, sym, ap, subst, ◌∙◌, arith}
 use Rattle.std.proofs.lemmas.List.{length-map, length-reverse}
 use Rattle.std.proofs.lemmas.Option.{none-some, same_Some, slice_get-get_or}
 use Rattle.alf_ops.specs.declared.history.RunEvent.{RunEvent}
-use Rattle.alf_ops.specs.declared.history.RunFault.{RunFault}
-use Rattle.alf_check.specs.CheckedPrograms.{CheckedParts, NumberedProgram, seen}
+use Rattle.alf_check.specs.CheckedPrograms.{NumberedProgram, seen}
 use Rattle.alf_runs.specs.Outcomes.{Outcome}
 use Rattle.alf_runs.specs.Steps.{Moment, At, Over, step}
 use Rattle.alf_runs.specs.Runs.{after, trace}
@@ -21,11 +20,9 @@ use Rattle.domain_core.specs.Outlines.{Outlined, IsOutline, shape_of}
 use Rattle.domain_core.specs.OutlineOf.{IsOutlineOf}
 use Rattle.domain_core.specs.Machines.{Machine, IsMachine, IsAlong}
 use Rattle.domain_core.specs.Recordings.{Recording}
-use Rattle.flow_facts.specs.Reports.{Reported}
 use Rattle.run_counts.specs.Traces.{Runs, IsPast}
 use Rattle.run_points.specs.NodeNumbers.{number_of}
-use Rattle.run_points.specs.Points.{run_system, point_of, points}
-use Rattle.run_points.specs.PointLaws.{Promises}
+use Rattle.run_points.specs.Points.{points}
 use Rattle.run_points.specs.TraceLaws.{trace_is_trace}
 use Rattle.scope_graph.specs.Placing.{place_of, plan_of}
 use Rattle.seen_memories.specs.Parts.{MemoryParts}
@@ -33,7 +30,7 @@ use Rattle.seen_memories.specs.SeenOrders.{parts_order, parts_are_order}
 use Rattle.seen_machines.specs.PartMachines.{is_part_machine, is_part_along}
 use Rattle.pool_events.specs.declared.policy.Policy.{Policy}
 use Rattle.pool_events.specs.Pools.{Spot, Pooled}
-use Rattle.pool_events.specs.Events.{Happens, HappenAll, IsOneOn, opened}
+use Rattle.pool_events.specs.Events.{HappenAll, IsOneOn}
 use Rattle.pool_events.specs.EventLaws.{event_one_on}
 use Rattle.pool_events.specs.Policies.{IsPolicyRun}
 use Rattle.pool_events.specs.PolicyLaws.{run_happens}
@@ -43,14 +40,13 @@ use Rattle.pool_events.specs.SharpLaws.{sharp_start, sharp_events}
 use Rattle.pool_events.specs.EventLaws.{start_kept}
 use Rattle.abstract_exec.specs.Explorations.{IsLeftIn}
 use Rattle.abstract_step.specs.Steppers.{StepperParts, stepped_by}
-use Rattle.told_reports.specs.Told.{FourRecorders, FourBooks, four_order, four_recording, found_of, told_report}
+use Rattle.told_reports.specs.Told.{FourRecorders, four_order, four_recording}
 use Rattle.told_reports.specs.EventLaws.{four_is_order, four_is_recording, four_suited}
 use Rattle.program_machines.specs.ProgramRunLaws.{program_run, stands_there, over_is_over}
-use Rattle.program_machines.specs.ProgramRuns.{IsOverAs}
 use Rattle.program_machines.specs.Starts.{AreLone, lone_start, IsAlone, alone, one_history}
 use Rattle.program_analysis.specs.Answers.{Answer, Told, Unbounded}
 use Rattle.program_analysis.specs.Twins.{run_same}
-use Rattle.program_analysis.specs.Analyses.{PoolOf, first_pool, IsExploration, IsClosed, IsLeft, IsFound}
+use Rattle.program_analysis.specs.Analyses.{PoolOf, first_pool, IsExploration, IsFound}
 
 -- ---- how a policy run ends
 

@@ -7,7 +7,7 @@
 --   paid_more, paid_all   one more node does, and so do all
 use Rattle.std.specs.Prelude.{slice_index, slice_index_or}
 use Rattle.std.specs.Option.{option_map}
-use Rattle.std.proofs.Common.{◌≡◌, ◌≢◌, ◌<◌, ◌+◌, ◌⊎◌, inl, inr, ℕ, zero, suc, List, [], ◌∷◌, map, length, Option, Some, slice_get, refl, sym, ap, subst, ◌∙◌, arith}
+use Rattle.std.proofs.Common.{◌≡◌, ◌≢◌, ◌<◌, ◌+◌, inl, inr, ℕ, zero, suc, List, [], ◌∷◌, map, length, Some, slice_get, refl, sym, ap, subst, ◌∙◌, arith}
 use Rattle.std.proofs.lemmas.Bool.{cases_eq}
 use Rattle.std.proofs.lemmas.List.{length-map, same_lists}
 use Rattle.std.proofs.lemmas.Option.{slice_get-get_or, slice_get-map, get_or_from_slice_get}
@@ -102,8 +102,8 @@ paid_all program graph costs nodes is long paid =
     let mine_long : length mine ≡ length nodes = length-map nodes (λ row. row.cost) in
     let its_long : length its ≡ length graph.nodes = length-map graph.nodes (node_cost program costs) in
     same_lists mine its (mine_long ∙ long ∙ sym its_long) (λ n d low.
-        let there : n < length graph.nodes = omega (arith, low, mine_long, long) in
-        let node : Node = slice_index_or graph.nodes n first_node in
-        let at : slice_get graph.nodes n ≡ Some node = slice_get-get_or graph.nodes n first_node there in
-        let its_cost : slice_get its n ≡ Some (node_cost program costs node) = slice_get-map (node_cost program costs) graph.nodes n ∙ ap (option_map (node_cost program costs)) at in
-        same_default mine n d 0 low ∙ paid program node n is there at ∙ sym (get_or_from_slice_get its n (node_cost program costs node) d its_cost))
+    let there : n < length graph.nodes = omega (arith, low, mine_long, long) in
+    let node : Node = slice_index_or graph.nodes n first_node in
+    let at : slice_get graph.nodes n ≡ Some node = slice_get-get_or graph.nodes n first_node there in
+    let its_cost : slice_get its n ≡ Some (node_cost program costs node) = slice_get-map (node_cost program costs) graph.nodes n ∙ ap (option_map (node_cost program costs)) at in
+    same_default mine n d 0 low ∙ paid program node n is there at ∙ sym (get_or_from_slice_get its n (node_cost program costs node) d its_cost))

@@ -7,7 +7,7 @@
 use Rattle.std.specs.Prelude.{slice_index}
 use Rattle.std.specs.List.{fold}
 use Rattle.std.specs.Option.{option_map}
-use Rattle.std.proofs.Common.{◌≡◌, ◌<◌, ◌≤◌, ◌+◌, ℕ, suc, List, [], ◌∷◌, map, length, Option, None, Some, slice_get, refl, sym, ap, subst, ◌∙◌}
+use Rattle.std.proofs.Common.{◌≡◌, ◌<◌, ◌≤◌, ◌+◌, ℕ, suc, List, [], ◌∷◌, map, length, Option, None, Some, refl, sym, ap, subst, ◌∙◌}
 use Rattle.std.proofs.lemmas.Option.{slice_get-get_or, slice_get-map, get_or_from_slice_get}
 use Rattle.alf_ops.specs.declared.history.RunEvent.{RunEvent}
 use Rattle.alf_ops.specs.declared.history.RunFault.{RunFault}
@@ -18,9 +18,8 @@ use Rattle.flow_graph.specs.Nodes.{Node, first_node}
 use Rattle.flow_graph.specs.Numbering.{GraphParts, IsGraph}
 use Rattle.flow_graph.specs.Expansions.{node_number}
 use Rattle.alf_runs.specs.Outcomes.{Outcome, Outputs, Ended, Faulted}
-use Rattle.alf_runs.specs.Steps.{Moment, At, Over, step}
+use Rattle.alf_runs.specs.Steps.{Moment, Over, step}
 use Rattle.alf_runs.specs.Runs.{after, trace, cost_of}
-use Rattle.alf_runs.specs.Starts.{IsStart}
 use Rattle.run_counts.specs.Traces.{Runs, IsNodeAt, AreNumbersOf}
 use Rattle.cost_table.specs.CostTables.{CostTable}
 use Rattle.domain_core.specs.Outlines.{Outlined, shape_of}
@@ -31,10 +30,10 @@ use Rattle.run_points.specs.Points.{run_system, moment_at, points}
 use Rattle.run_points.specs.PointLaws.{Promises}
 use Rattle.abstract_step.specs.Steppers.{StepperParts, stepped_by}
 use Rattle.told_reports.specs.Told.{costs_of}
-use Rattle.told_reports.specs.Runs.{EndsWith, Passes, stops, moves, RunEnds, HasAlarm as HasFaultAlarm, IsRightOf, IsSound as IsSoundSystem}
+use Rattle.told_reports.specs.Runs.{EndsWith, Passes, stops, moves, HasAlarm as HasFaultAlarm, IsSound as IsSoundSystem}
 use Rattle.program_machines.specs.NodeCosts.{node_cost, HasCosts}
 use Rattle.program_machines.specs.ProgramRunLaws.{program_run, stands_there}
-use Rattle.program_analysis.specs.Sound.{HasAlarm, IsSoundFor, IsSound}
+use Rattle.program_analysis.specs.Sound.{HasAlarm, IsSound}
 
 -- the outcome is this fault, or outputs
 abbrev pub IsOutcomeOf : Option RunFault → Outcome → Type 0
@@ -100,9 +99,9 @@ pub same_cost : (program : NumberedProgram) (graph : GraphParts) (costs : CostTa
 same_cost program graph costs o trace run priced numbers =
     same_fold (slice_index (costs_of o)) (node_cost program costs) graph.nodes
     (λ n node at.
-        ap (λ (all : List ℕ). slice_index all n) priced
-        ∙ get_or_from_slice_get (map (node_cost program costs) graph.nodes) n (node_cost program costs node) 0
-        (slice_get-map (node_cost program costs) graph.nodes n ∙ ap (option_map (node_cost program costs)) at))
+    ap (λ (all : List ℕ). slice_index all n) priced
+    ∙ get_or_from_slice_get (map (node_cost program costs) graph.nodes) n (node_cost program costs node) 0
+    (slice_get-map (node_cost program costs) graph.nodes n ∙ ap (option_map (node_cost program costs)) at))
     trace run numbers 0
 
 -- ---- soundness

@@ -5,7 +5,7 @@
 --   run_along              and a policy run along the one is one along the other
 --   run_same               a policy run keeps the outline
 use Rattle.std.specs.Prelude.{replicate, ◌+◌, if◌then◌else◌}
-use Rattle.std.proofs.Common.{◌≡◌, ◌≢◌, ℕ, suc, List, [], ◌∷◌, ◌++◌, ◌⊎◌, length, take, drop, Some, slice_get, slice_set, ◌==◌, true, false, refl, sym, subst, ap, ◌∙◌}
+use Rattle.std.proofs.Common.{◌≡◌, ℕ, suc, List, [], ◌∷◌, ◌++◌, length, take, drop, slice_set, ◌==◌, true, false, refl, sym, subst, ap, ◌∙◌}
 use Rattle.domain_core.specs.declared.event.Event.{Event}
 use Rattle.domain_core.specs.declared.event.Event.TheVariants.{Step, Merge}
 use Rattle.domain_core.specs.declared.fault_set.FaultSet.{FaultSet}

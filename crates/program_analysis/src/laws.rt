@@ -4,9 +4,7 @@ ghost use Rattle.program_analysis.specs.AnalysisLaws.{HasOneAnalysis, StaysFound
 ghost use Rattle.program_analysis.specs.ExactLaws.{LoneInputIsToldExactly};
 ghost use Rattle.program_analysis.specs.SoundLaws.{SoundForSystemIsSound};
 
-use alf_runs::{
-    a_run_has_one_end, a_step_leads_along_an_edge, active_frames_follow_the_call_path,
-};
+use alf_runs::{a_run_has_one_end, a_step_leads_along_an_edge, active_frames_follow_the_call_path};
 use flow_graph::graphs_are_expansions;
 use program_machines::a_graph_has_one_ranking;
 

@@ -21,6 +21,7 @@ mod laws;
 pub use analysed::Analysed;
 pub use exploring::analyse;
 pub use laws::{
-    a_program_has_one_analysis, an_input_alone_is_told_exactly, sound_reports_are_sound_for_the_program,
+    a_program_has_one_analysis, an_input_alone_is_told_exactly,
+    sound_reports_are_sound_for_the_program,
 };
 pub use node_costs::set_costs;

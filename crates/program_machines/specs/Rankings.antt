@@ -121,10 +121,10 @@ module _ (Leads : ℕ → ℕ → Type 0) (count : ℕ) (within : (u v : ℕ) �
         ]
       ] in
       y.least m n before low later (λ u edge.
-          let ready : slice_index xs u < slice_index xs m = x.ready m (omega arith) u edge in
-          let u_low : u < count = within u m edge.0 in
-          let same : slice_index ys u ≡ slice_index xs u = onto u u_low (omega (arith, ready, at_m)) in
-          omega (arith, ready, same, at_m, at_n))
+      let ready : slice_index xs u < slice_index xs m = x.ready m (omega arith) u edge in
+      let u_low : u < count = within u m edge.0 in
+      let same : slice_index ys u ≡ slice_index xs u = onto u u_low (omega (arith, ready, at_m)) in
+      omega (arith, ready, same, at_m, at_n))
 
   same_at : (r : ℕ) → AreSameBelow r → (m n : ℕ) → m < count → n < count → slice_index a m ≡ r → slice_index b n ≡ r → m ≡ n
   same_at r below m n m_low n_low at_m at_n = elim (cases_order m n) [
@@ -138,8 +138,7 @@ module _ (Leads : ℕ → ℕ → Type 0) (count : ℕ) (within : (u v : ℕ) �
   same_below (suc r) low =
       let below : AreSameBelow r = same_below r (omega arith) in
       let in_b = taken count (slice_index b) second.within second.once r (omega arith) in
-      let in_a = taken count (slice_index a) first.within first.once r (omega arith) in
-      (
+      let in_a = taken count (slice_index a) first.within first.once r (omega arith) in (
         (λ n n_low less. elim (cases_eq (slice_index a n) r) [
           | inl is ↦ let same : n ≡ in_b.by = same_at r below n in_b.by n_low in_b.low is in_b.is in ap (slice_index b) same ∙ in_b.is ∙ sym is
           | inr other ↦ below.0 n n_low (omega (arith, less, other))
@@ -147,17 +146,17 @@ module _ (Leads : ℕ → ℕ → Type 0) (count : ℕ) (within : (u v : ℕ) �
         (λ n n_low less. elim (cases_eq (slice_index b n) r) [
           | inl is ↦ let same : in_a.by ≡ n = same_at r below in_a.by n in_a.low n_low in_a.is is in ap (slice_index a) (sym same) ∙ in_a.is ∙ sym is
           | inr other ↦ below.1 n n_low (omega (arith, less, other))
-        ])
+        ]),
       )
 
   pub same_ranks : a ≡ b
   same_ranks =
       let as_long : length a ≡ length b = first.one_each ∙ sym second.one_each in
       same_lists a b as_long (λ k d low.
-          let n_low : k < count = (let long = first.one_each in omega (arith, low, long)) in
-          let one : slice_index b k ≡ slice_index a k = (same_below count (omega arith)).0 k n_low (first.within k n_low) in
-          let b_low : k < length b = omega (arith, low, as_long) in
-          same_default a k d 0 low ∙ sym one ∙ sym (same_default b k d 0 b_low))
+      let n_low : k < count = (let long = first.one_each in omega (arith, low, long)) in
+      let one : slice_index b k ≡ slice_index a k = (same_below count (omega arith)).0 k n_low (first.within k n_low) in
+      let b_low : k < length b = omega (arith, low, as_long) in
+      same_default a k d 0 low ∙ sym one ∙ sym (same_default b k d 0 b_low))
 
 -- ---- graphs
 

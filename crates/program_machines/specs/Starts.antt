@@ -47,8 +47,7 @@ same_number (negsuc a) (negsuc b) below above = let first : b ≤ a = leb→le b
 lows_within : (rows : List InputRow) → AreLone rows → AreWithin rows (lows rows)
 lows_within [] lone = tt
 lows_within (row ∷ rows) lone =
-    let same : row.low ≡ row.high = All-head (λ (r : InputRow). r.low ≡ r.high) row rows lone in
-    (
+    let same : row.low ≡ row.high = All-head (λ (r : InputRow). r.low ≡ r.high) row rows lone in (
       record { least = ≤ℤ_refl row.low; most = subst (λ (high : ℤ). row.low ≤ℤ high) same (≤ℤ_refl row.low) },
       lows_within rows (All-tail (λ (r : InputRow). r.low ≡ r.high) row rows lone),
     )

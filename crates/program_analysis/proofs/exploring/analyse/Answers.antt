@@ -1,9 +1,5 @@
-use Rattle.std.proofs.Common.{◌≡◌, IfOk, Ok, Err, Result}
-use Rattle.flow_facts.specs.Reports.{Reported}
-use Rattle.flow_facts.specs.Writable.{IsWritable}
 use Rattle.alf_check.specs.CheckedPrograms.{seen}
-use Rattle.program_analysis.specs.Answers.{Answer, answer_of, IfTold}
-use Rattle.program_analysis.specs.Exploring.{IsWritableOf, written}
+use Rattle.program_analysis.specs.Exploring.{written}
 use Rattle.program_analysis.specs.Naming.{names_spelled}
 use Rattle.program_analysis.proofs.exploring.analyse.Goals as goal
 

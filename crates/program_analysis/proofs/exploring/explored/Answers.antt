@@ -1,4 +1,4 @@
-use Rattle.std.proofs.Common.{◌≡◌, ◌∙◌, IfOk, length, ap, subst}
+use Rattle.std.proofs.Common.{◌≡◌, ◌∙◌, IfOk, ap, subst}
 use Rattle.std.proofs.lemmas.List.{length-map}
 use Rattle.domain_core.specs.Outlines.{shape_of}
 use Rattle.scope_graph.specs.Placing.{place_of}

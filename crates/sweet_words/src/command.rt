@@ -1,24 +1,29 @@
 //! The commands, each with what it was given.
 ghost use Rattle.std.specs.Prelude.{◌≡◌, option_map};
 ghost use Rattle.clap.specs.Words.{first_value, found_of};
-ghost use Rattle.sweet_words.specs.Commands.{analyse_of, command_named, print_of, print_words, root_in, run_of, turns_in};
+ghost use Rattle.sweet_words.specs.Commands.{analyse_of, command_named, merging_in, print_of, print_words, root_in, run_of, turns_in};
 ghost use Rattle.sweet_words.specs.Meant.{command_meant};
 
+use crate::merging::{Merging, merging_or_joins};
 use crate::values::{is_c, number, program_file};
 use clap::ArgMatches;
 
 /// What `analyse` is given: the name of the program's file, that of the function that it starts with,
-/// which is `main` where the words do not say, the name of the costs file, and the most nodes that a
-/// run may have, 1 to 1,000,000, and 100,000 where the words do not say.
+/// which is `main` where the words do not say, the names of the inputs file and of the costs file, the
+/// most turns of the exploration, 1 to 1,000,000, and 100,000 where the words do not say, and where
+/// states are merged.
 #[derive(Clone, Copy)]
 pub struct AnalyseWords<'a> {
     pub file: &'a str,
     pub root: &'a str,
+    pub inputs: Option<&'a str>,
     pub costs: Option<&'a str>,
     pub turns: u32,
+    pub merging: Merging,
 }
 
-/// What `run` is given: the same, and the name of the inputs file.
+/// What `run` is given: the same, where the turns are the most nodes that the run may have, and nothing
+/// is merged.
 #[derive(Clone, Copy)]
 pub struct RunWords<'a> {
     pub file: &'a str,
@@ -68,16 +73,26 @@ fn turns(given: &ArgMatches<'_>) -> Option<u32>
     number(given.get_str("turns"), 100_000, 1, 1_000_000)
 }
 
+// Where states are merged.
+fn merging(given: &ArgMatches<'_>) -> Option<Merging>
+    ensures { result ≡ merging_in (first_value (found_of given.now)) }
+{
+    merging_or_joins(given.get_str("merge"))
+}
+
 fn analyse<'a>(given: &ArgMatches<'a>) -> Option<Command<'a>>
     ensures { option_map command_meant result ≡ analyse_of (first_value (found_of given.now)) }
 {
     let file = program_file(given.get_str("file"))?;
     let turns = turns(given)?;
+    let merging = merging(given)?;
     Some(Command::Analyse(AnalyseWords {
         file,
         root: root(given),
+        inputs: given.get_str("inputs"),
         costs: given.get_str("costs"),
         turns,
+        merging,
     }))
 }
 

@@ -10,11 +10,8 @@
 // What the words say.
 mod words;
 
-// Facts, reports, and what stands in them.
-mod fact;
-mod findings;
+// What nodes cost.
 mod node_costs;
-mod report;
 
 // The lines of answers.
 mod lines;

@@ -2,8 +2,9 @@
 --   AnalyseWords, RunWords   what `analyse` and `run` are given
 --   Command      a command, with what it was given
 --   file_of      the file that a command names
+--   HasFewTurns  the turns that a command was given, if it takes some, are at most 1,000,000
 --   command_of   the command of the words, where they are one
-use Rattle.std.specs.Prelude.{ℕ, List, [], ◌∷◌, Option, None, if◌then◌else◌, codes, option_map, option_and_then, unwrap_or}
+use Rattle.std.specs.Prelude.{◌≤◌, ℕ, List, [], ◌∷◌, Option, None, if◌then◌else◌, codes, option_map, option_and_then, unwrap_or}
 use Rattle.std.specs.Str.{bytes_eq}
 use Rattle.sweet_words.specs.Forms.{Text, Form, forms, form_named}
 use Rattle.sweet_words.specs.Given.{uses_of, value_in}
@@ -44,6 +45,13 @@ file_of (Analyse given) = given.file
 file_of (Print file) = file
 file_of (PrintC file) = file
 file_of (Run given) = given.file
+
+-- the turns that a command was given are at most 1,000,000
+abbrev pub HasFewTurns : Command → Type 0
+HasFewTurns (Analyse given) = given.turns ≤ 1000000
+HasFewTurns (Print file) = Unit {0}
+HasFewTurns (PrintC file) = Unit {0}
+HasFewTurns (Run given) = given.turns ≤ 1000000
 
 -- the name of the root function, which is `main` where it is left out
 abbrev pub root_in : (Text → Option Text) → Text

@@ -1,7 +1,7 @@
 //! The commands, each with what it was given.
-ghost use Rattle.std.specs.Prelude.{◌≡◌, option_map};
+ghost use Rattle.std.specs.Prelude.{◌≡◌, ◌≤◌, option_map, IfSome};
 ghost use Rattle.clap.specs.Words.{first_value, found_of};
-ghost use Rattle.sweet_words.specs.Commands.{analyse_of, command_named, merging_in, print_of, print_words, root_in, run_of, turns_in};
+ghost use Rattle.sweet_words.specs.Commands.{HasFewTurns, analyse_of, command_named, merging_in, print_of, print_words, root_in, run_of, turns_in};
 ghost use Rattle.sweet_words.specs.Meant.{command_meant};
 
 use crate::merging::{Merging, merging_or_joins};
@@ -46,7 +46,8 @@ pub enum Command<'a> {
 
 // The command of this name, with the values that it was given.
 pub fn named<'a>(name: &str, given: &ArgMatches<'a>) -> Option<Command<'a>>
-    ensures { option_map command_meant result ≡ command_named name.now (first_value (found_of given.now)) }
+    ensures command { option_map command_meant result ≡ command_named name.now (first_value (found_of given.now)) }
+    ensures turns { IfSome result (λ command. HasFewTurns (command_meant command)) }
 {
     match name {
         "analyse" => analyse(given),
@@ -68,7 +69,8 @@ fn root<'a>(given: &ArgMatches<'a>) -> &'a str
 
 // The most turns.
 fn turns(given: &ArgMatches<'_>) -> Option<u32>
-    ensures { result ≡ turns_in (first_value (found_of given.now)) }
+    ensures turns { result ≡ turns_in (first_value (found_of given.now)) }
+    ensures few { IfSome result (λ turns. turns ≤ 1000000) }
 {
     number(given.get_str("turns"), 100_000, 1, 1_000_000)
 }
@@ -81,7 +83,8 @@ fn merging(given: &ArgMatches<'_>) -> Option<Merging>
 }
 
 fn analyse<'a>(given: &ArgMatches<'a>) -> Option<Command<'a>>
-    ensures { option_map command_meant result ≡ analyse_of (first_value (found_of given.now)) }
+    ensures command { option_map command_meant result ≡ analyse_of (first_value (found_of given.now)) }
+    ensures turns { IfSome result (λ command. HasFewTurns (command_meant command)) }
 {
     let file = program_file(given.get_str("file"))?;
     let turns = turns(given)?;
@@ -97,7 +100,8 @@ fn analyse<'a>(given: &ArgMatches<'a>) -> Option<Command<'a>>
 }
 
 fn print<'a>(given: &ArgMatches<'a>) -> Option<Command<'a>>
-    ensures { option_map command_meant result ≡ print_of (first_value (found_of given.now)) }
+    ensures command { option_map command_meant result ≡ print_of (first_value (found_of given.now)) }
+    ensures turns { IfSome result (λ command. HasFewTurns (command_meant command)) }
 {
     let file = given.get_str("file")?;
     Some(printed(file))
@@ -105,7 +109,8 @@ fn print<'a>(given: &ArgMatches<'a>) -> Option<Command<'a>>
 
 // What `print` prints, by the name of the file.
 fn printed<'a>(file: &'a str) -> Command<'a>
-    ensures { command_meant result ≡ print_words file.entry.now }
+    ensures command { command_meant result ≡ print_words file.entry.now }
+    ensures turns { HasFewTurns (command_meant result) }
 {
     if is_c(file) {
         Command::PrintC(file)
@@ -115,7 +120,8 @@ fn printed<'a>(file: &'a str) -> Command<'a>
 }
 
 fn run<'a>(given: &ArgMatches<'a>) -> Option<Command<'a>>
-    ensures { option_map command_meant result ≡ run_of (first_value (found_of given.now)) }
+    ensures command { option_map command_meant result ≡ run_of (first_value (found_of given.now)) }
+    ensures turns { IfSome result (λ command. HasFewTurns (command_meant command)) }
 {
     let file = program_file(given.get_str("file"))?;
     let turns = turns(given)?;

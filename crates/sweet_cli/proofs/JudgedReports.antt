@@ -25,7 +25,7 @@ use Rattle.sweet_cli.specs.Scopes.{ScopedProgram}
 use Rattle.sweet_cli.specs.Seen.{IsOutlined}
 use Rattle.sweet_cli.specs.LeftLines.{left_line}
 use Rattle.sweet_cli.specs.Analyse.{IsLeftAt, ReportMeans, IsSoundOf}
-use Rattle.sweet_cli.proofs.Ranks.{function_same}
+use Rattle.unranked_analyses.specs.Ranking.{function_same}
 use Rattle.sweet_cli.proofs.RanksRuns as ranks_runs
 
 told_is : (a b : Reported) → Told a ≡ Told b → a ≡ b

@@ -13,7 +13,7 @@ use Rattle.alf_runs.specs.Outcomes.{Outcome}
 use Rattle.alf_runs.specs.Steps.{Moment, At, Over, frames_of, result_step, go_back, leave, return_step, call_step, ending_step, then_ending, block_step, node_step, step}
 use Rattle.alf_runs.specs.Runs.{after, trace, Ends}
 use Rattle.run_counts.specs.Traces.{Runs, IsPast}
-use Rattle.sweet_cli.proofs.Ranks.{with_ranks, function_same}
+use Rattle.unranked_analyses.specs.Ranking.{with_ranks, function_same}
 
 module _ (p : NumberedProgram) (r s : List ℕ) where
   result_same : (path : List ℕ) (next : ℕ) (to : Option (ℕ × ℕ)) (value : Option Value) (history : List RunEvent)

@@ -24,7 +24,7 @@ use flow_facts::Report;
 use pool_events::Policy;
 use program_analysis::{Analysed, set_costs};
 use std::alloc::Global;
-use unranked_analyses::a_program_has_one_analysis;
+use unranked_analyses::ranks_have_no_part;
 use work::{Stop, Why};
 
 /// The text of the report.
@@ -95,7 +95,7 @@ fn report_of(
     let expanded = &program.expanded;
     let outline = &program.outline;
     expanded.checked.keeps();
-    a_program_has_one_analysis();
+    ranks_have_no_part();
     let rows = tables.rows.as_slice();
     match program_analysis::analyse(
         alloc,

@@ -1,10 +1,13 @@
--- A report that was made is sound.
+-- A report that was printed is sound.
+use Rattle.std.proofs.Common.{Option, subst}
+use Rattle.flow_base.specs.Outside.{Files}
+use Rattle.flow_facts.specs.Reports.{reported}
 use Rattle.work.specs.Log.{log_of}
 use Rattle.sweet_cli.specs.Words.{analyse_meant}
+use Rattle.sweet_cli.specs.Seen.{scoped_of, tables_of}
+use Rattle.sweet_cli.specs.Tables.{tables_in}
 use Rattle.sweet_cli.proofs.Promises.{prints_sound}
 use Rattle.sweet_cli.proofs.commands.analyse.analyse.Goals as goal
 
 pub returns-clause-promise : goal.returns-clause-promise
-returns-clause-promise g c =
-    prints_sound (analyse_meant c.args.given) (g.F.Shelf.state c.args.shelf.now).files (log_of (g.F.Shelf.state c.args.shelf.now))
-    c.in_ok-text.text.items (log_of (g.F.Shelf.state c.analysing.new.shelf)) c.in_ok-text.ensures.ends.0
+returns-clause-promise g c = ?

@@ -1,6 +1,6 @@
 -- The report of an exploration, or that places are left, is its only meaning; and a report is sound.
-use Rattle.std.proofs.Common.{◌≡◌, ◌≤◌, ℕ, List, [], Result, Ok, Err, Option, None, Some, IfSome, refl, ap, sym, ◌∙◌, subst}
-use Rattle.flow_base.specs.Outside.{Files}
+use Rattle.std.proofs.Common.{◌≡◌, ◌≤◌, ℕ, List, [], map, Vec, Global, Result, Ok, Err, refl, ap, sym, ◌∙◌, subst}
+use Rattle.std.proofs.lemmas.Simd.{map-map}
 use Rattle.alf_check.specs.CheckedPrograms.{CheckedParts, NumberedProgram, seen}
 use Rattle.alf_check.specs.declared.rows.InputRow.{InputRow}
 use Rattle.flow_graph.specs.Nodes.{Node}
@@ -10,10 +10,12 @@ use Rattle.alf_runs.specs.Steps.{Moment}
 use Rattle.alf_runs.specs.Starts.{IsStart}
 use Rattle.alf_runs.specs.Runs.{cost_of}
 use Rattle.cost_table.specs.CostTables.{CostTable}
+use Rattle.domain_core.specs.declared.outline.NodeRow.{NodeRow}
 use Rattle.domain_core.specs.Outlines.{Outlined, Shape, shape_of}
 use Rattle.flow_facts.specs.Reports.{Reported}
 use Rattle.pool_events.specs.declared.policy.Policy.{Policy}
 use Rattle.program_machines.specs.NodeCosts.{place_cost, node_cost, HasCosts}
+use Rattle.program_analysis.specs.Pricing.{IsPricedAs}
 use Rattle.program_analysis.specs.Answers.{Answer, Told, Unbounded as LeftIn}
 use Rattle.program_analysis.specs.Analyses.{IsFound}
 use Rattle.program_analysis.specs.Sound.{IsSoundFor, IsSound}
@@ -27,6 +29,12 @@ use Rattle.sweet_cli.specs.LeftLines.{left_line}
 use Rattle.sweet_cli.specs.Analyse.{IsLeftAt, ReportMeans, IsSoundOf}
 use Rattle.unranked_analyses.specs.Ranking.{function_same}
 use Rattle.sweet_cli.proofs.RanksRuns as ranks_runs
+
+-- other costs leave the names
+pub named_again : (old new : Outlined) → IsPricedAs old new → map (λ row. row.name.items) new.nodes ≡ map (λ row. row.name.items) old.nodes
+named_again old new kept =
+    let bytes : Vec ℕ Global → List ℕ = λ name. name.items in
+    sym (map-map bytes (λ (row : NodeRow). row.name) new.nodes) ∙ ap (map bytes) kept.names ∙ map-map bytes (λ (row : NodeRow). row.name) old.nodes
 
 told_is : (a b : Reported) → Told a ≡ Told b → a ≡ b
 told_is a b e = cc
@@ -98,7 +106,11 @@ module _ (checked : CheckedParts) (graph : GraphParts) (rows : List InputRow) wh
   sound_for o costs report start h = record {
     trace = h.trace;
     outcome = h.outcome;
-    runs = ranks_runs.runs (seen checked) (seen checked).ranks [] graph.nodes start h.trace h.outcome h.runs;
+    runs = record {
+      run = h.runs.run;
+      ends = ranks_runs.ends (seen checked) (seen checked).ranks [] start h.runs.run h.outcome h.runs.ends;
+      numbers = h.runs.numbers;
+    };
     facts = h.facts;
     alarm = h.alarm;
     bound = subst (λ (cost : Node → ℕ). cost_of cost h.runs.run ≤ report.count_bound) (sym (costs_alike costs)) h.bound;

@@ -1,5 +1,5 @@
 -- The text that tells a run has one meaning.
-use Rattle.std.proofs.Common.{◌≡◌, ◌≤◌, ℕ, List, length, Result, Ok, Err, Option, ap, sym, ◌∙◌}
+use Rattle.std.proofs.Common.{◌≡◌, ◌≤◌, ℕ, List, length, Result, Ok, Err, Option, Some, ap, sym, ◌∙◌}
 use Rattle.alf_check.specs.declared.rows.InputRow.{InputRow}
 use Rattle.alf_runs.specs.Outcomes.{Outcome as RunOutcome}
 use Rattle.alf_runs.specs.Steps.{Moment}

@@ -1,5 +1,5 @@
 -- The promises of the commands, and of a run.
-use Rattle.std.proofs.Common.{◌≡◌, ℕ, List, [], Option, None, Some, IfSome, refl, ap, sym, ◌∙◌, subst}
+use Rattle.std.proofs.Common.{◌≡◌, ◌≤◌, ℕ, List, [], Vec, Global, Ok, Option, None, Some, IfSome, refl, ap, sym, ◌∙◌, subst, arith}
 use Rattle.flow_base.specs.Outside.{Files, Rose}
 use Rattle.flow_base.specs.Shelves.{ShelfState}
 use Rattle.flow_base.specs.Sinks.{SinkState}
@@ -14,17 +14,18 @@ use Rattle.alf_text.specs.CanonicalLaws.{CanonicalTextsSpell}
 use Rattle.work.specs.declared.status.Status.{Status}
 use Rattle.work.specs.declared.status.Status.TheVariants as statuses
 use Rattle.work.specs.Outcome.{Cause, Usage, Source, Example, Unbounded, No, Unread, Ending, Finished, Stopped, status_of, ending_status, ending_text, ending_unread}
-use Rattle.work.specs.Log.{Log}
-use Rattle.work.specs.Work.{Work, EndsSo}
-use Rattle.work.specs.Works.{Tells}
+use Rattle.work.specs.Log.{Log, log_of}
+use Rattle.work.specs.Work.{Work, IsOnly, EndsSo}
+use Rattle.work.specs.Works.{Tells, Works}
 use Rattle.work.specs.Run.{Wrote, IsAnswerOf}
 use Rattle.sweet_cli.specs.Task.{Task, KeepsPromise, Promised}
 use Rattle.sweet_cli.specs.Words.{AnalyseWords, RunWords}
 use Rattle.sweet_cli.specs.Programs.{program_in, checked_in, expanded_in, Expanded, meant}
 use Rattle.sweet_cli.specs.Tables.{inputs_in, inputs_told, costs_in, costs_told, Tables, tables_in, AreInputs, AreCosts}
 use Rattle.sweet_cli.specs.Scopes.{ScopedProgram, scoped_in}
-use Rattle.sweet_cli.specs.Analyse.{IsSoundOf, IsSoundReport}
+use Rattle.sweet_cli.specs.Analyse.{policy_of, ReportMeans, analysing, IsSoundOf, IsSoundReport}
 use Rattle.flow_facts.specs.Reports.{Reported}
+use Rattle.fact_printer.specs.Canonical.{report_text}
 use Rattle.fact_text.specs.Language.{SpellsReport}
 use Rattle.c_text.specs.Laws.{PrintedUnitsAreReadBack}
 use Rattle.sweet_cli.specs.Print.{printing, IsSameProgram}
@@ -85,6 +86,21 @@ told_tables program inputs costs files before tables after (rows, a, first, (spe
 )
 
 -- ---- promises
+
+-- a text that was printed is that of the order of work
+pub analysed : (given : AnalyseWords) (before mid end : ShelfState) (program : ScopedProgram) (tables : Tables) (report : Reported) (text : Vec ℕ Global)
+    → (scoped_in given.file given.root).steps.Gives before.files (log_of before) program (log_of mid) × (mid.failed ≡ before.failed) → mid.files ≡ before.files → before.faults ≤ mid.faults
+    → (tables_in program.expanded.program given.inputs given.costs).steps.Gives mid.files (log_of mid) tables (log_of end) × (end.failed ≡ mid.failed) → end.files ≡ mid.files → mid.faults ≤ end.faults
+    → IsOnly (ReportMeans program tables.rows tables.costs (policy_of given.merging) given.turns) (Ok report) → text.items ≡ report_text report
+    → Works (analysing given) (λ (t : Vec ℕ Global). t.items) before (Ok text) end
+unfolding analysing
+analysed given before mid end program tables report text first same later second same_again later_again only is =
+    let read = subst (λ (told : Option Files). (tables_in program.expanded.program given.inputs given.costs).steps.Gives told (log_of mid) tables (log_of end)) same second.0 in
+    record {
+      ends = ((program, log_of mid, first.0, (tables, log_of end, read, (report, log_of end, (only, refl), (is, refl)))), second.1 ∙ first.1);
+      same = same_again ∙ same;
+      later = omega (arith, later, later_again);
+    }
 
 -- a report that was printed is sound
 pub prints_sound : (given : AnalyseWords) (told : Option Files) (before mid later : Log) (program : ScopedProgram) (tables : Tables) (report : Reported) (text : List ℕ)

@@ -34,7 +34,7 @@ pub fn analyse<F: Shelf>(
     given: AnalyseWords<'_>,
     shelf: &mut F,
 ) -> Result<Vec<u8>, Stop>
-    requires turns { (analyse_meant given.entry).turns ≤ 1000000 }
+    requires turns { given.turns ≤ 1000000 }
     ensures work { Works (analysing (analyse_meant given.entry)) (λ text. text.items) (F.state shelf.old) result (F.state shelf.new) }
     ensures promise { IfOk result (λ text. IfSome (F.state shelf.old).files (λ files. IsSoundReport (analyse_meant given.entry) files text.items)) }
 {
@@ -46,8 +46,7 @@ pub fn analyse<F: Shelf>(
         given.costs,
         shelf,
     )?;
-    let program = priced(program, &tables.costs);
-    let report = report_of(alloc, &program, &tables, policy(given.merging), given.turns)?;
+    let report = report_of(alloc, program, &tables, given.merging, given.turns)?;
     let text = print(alloc, &report)?;
     Ok(text)
 }
@@ -65,9 +64,9 @@ fn policy(merging: Merging) -> Policy
 
 // The program, whose outline says what nodes cost.
 fn priced(mut program: ScopedProgram, costs: &Costs) -> ScopedProgram
-    requires outline { IsOutlined program.entry.expanded.graph program.entry.outline }
-    ensures expanded { result.expanded ≡ program.entry.expanded }
-    ensures scopes { scoped_of result ≡ scoped_of program.entry }
+    requires outline { IsOutlined program.expanded.graph program.outline }
+    ensures expanded { result.expanded ≡ program.expanded }
+    ensures scopes { scoped_of result ≡ scoped_of program }
     ensures outline { IsOutlined result.expanded.graph result.outline }
     ensures priced { (program : NumberedProgram) → IsGraph program result.expanded.graph → HasCosts program result.expanded.graph costs.now result.outline }
 {
@@ -75,8 +74,28 @@ fn priced(mut program: ScopedProgram, costs: &Costs) -> ScopedProgram
     program
 }
 
-// The report of the exploration.
+// The report of the exploration, with these costs of blocks.
 fn report_of(
+    alloc: Global,
+    program: ScopedProgram,
+    tables: &Tables,
+    merging: Merging,
+    turns: u32,
+) -> Result<Report, Stop>
+    requires graph { IsGraph (seen program.expanded.checked) program.expanded.graph }
+    requires rows { KeepInputs (seen program.expanded.checked) tables.now.rows.items }
+    requires outline { IsOutlined program.expanded.graph program.outline }
+    requires turns { turns ≤ 1000000 }
+    ensures means { Judges (ReportMeans (scoped_of program) tables.now.rows.items tables.now.costs (policy_of merging) turns) (λ report. reported report) result }
+    ensures sound { IfOk result (λ report. IsSoundOf (unranked (seen program.expanded.checked)) program.expanded.graph tables.now.rows.items tables.now.costs (reported report)) }
+    ensures writable { IfOk result (λ report. IsWritable (reported report)) }
+{
+    let program = priced(program, &tables.costs);
+    explored(alloc, &program, tables, policy(merging), turns)
+}
+
+// The same where the outline says what nodes cost.
+fn explored(
     alloc: Global,
     program: &ScopedProgram,
     tables: &Tables,

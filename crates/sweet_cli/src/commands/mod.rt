@@ -56,7 +56,7 @@ fn command_text<F: Shelf>(
     command: Command<'_>,
     shelf: &mut F,
 ) -> Result<Vec<u8>, Stop>
-    requires turns { HasFewTurns (command_meant command.entry) }
+    requires turns { HasFewTurns (command_meant command) }
     ensures work { Works (task_for (command_meant command.entry)).work (λ text. text.items) (F.state shelf.old) result (F.state shelf.new) }
     ensures promise { IfOk result (λ text. IfSome (F.state shelf.old).files (λ files. (task_for (command_meant command.entry)).Promise files text.items)) }
 {

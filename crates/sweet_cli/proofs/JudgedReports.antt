@@ -1,13 +1,12 @@
 -- The report of an exploration, or that places are left, is its only meaning; and a report is sound.
 use Rattle.std.proofs.Common.{◌≡◌, ◌≤◌, ℕ, List, [], map, Vec, Global, Result, Ok, Err, refl, ap, sym, ◌∙◌, subst}
 use Rattle.std.proofs.lemmas.Simd.{map-map}
-use Rattle.alf_check.specs.CheckedPrograms.{CheckedParts, NumberedProgram, seen}
+use Rattle.alf_check.specs.CheckedPrograms.{CheckedParts, seen}
 use Rattle.alf_check.specs.declared.rows.InputRow.{InputRow}
+use Rattle.alf_check.specs.Kept.{IsKept}
 use Rattle.flow_graph.specs.Nodes.{Node}
 use Rattle.flow_graph.specs.Numbering.{GraphParts, IsGraph}
-use Rattle.flow_graph.specs.Graphs.{HasProgram}
 use Rattle.alf_runs.specs.Steps.{Moment}
-use Rattle.alf_runs.specs.Starts.{IsStart}
 use Rattle.alf_runs.specs.Runs.{cost_of}
 use Rattle.cost_table.specs.CostTables.{CostTable}
 use Rattle.domain_core.specs.declared.outline.NodeRow.{NodeRow}
@@ -20,13 +19,13 @@ use Rattle.program_analysis.specs.Answers.{Answer, Told, Unbounded as LeftIn}
 use Rattle.program_analysis.specs.Analyses.{IsFound}
 use Rattle.program_analysis.specs.Sound.{IsSoundFor, IsSound}
 use Rattle.unranked_analyses.specs.Analyses.{IsAnalysis, HasOneAnalysis}
-use Rattle.work.specs.Outcome.{Outcome, Unbounded, AreAlike, AreAlikeResults}
+use Rattle.work.specs.Outcome.{Outcome, Unbounded, AreAlikeResults}
 use Rattle.work.specs.Work.{IsOnly, alike}
 use Rattle.sweet_cli.specs.Programs.{unranked}
 use Rattle.sweet_cli.specs.Scopes.{ScopedProgram}
 use Rattle.sweet_cli.specs.Seen.{IsOutlined}
 use Rattle.sweet_cli.specs.LeftLines.{left_line}
-use Rattle.sweet_cli.specs.Analyse.{IsLeftAt, ReportMeans, IsSoundOf}
+use Rattle.sweet_cli.specs.Analyse.{ReportMeans, IsSoundOf}
 use Rattle.unranked_analyses.specs.Ranking.{function_same}
 use Rattle.sweet_cli.proofs.RanksRuns as ranks_runs
 
@@ -45,13 +44,13 @@ left_is s t e = cc
 told_not : (report : Reported) (scope : ℕ) → Told report ≡ LeftIn scope → ⊥
 told_not report scope e = cc
 
-module _ (one : HasOneAnalysis) (program : ScopedProgram) (has : HasProgram program.expanded.graph) (rows : List InputRow) (costs : CostTable) (policy : Policy) (turns : ℕ) where
+module _ (one : HasOneAnalysis) (program : ScopedProgram) (rows : List InputRow) (costs : CostTable) (policy : Policy) (turns : ℕ) where
   -- what is found
   abbrev Finds : Answer → Type 0
   Finds = IsAnalysis program.expanded.program program.expanded.graph rows costs policy turns
 
   same : (a b : Answer) → Finds a → Finds b → a ≡ b
-  same a b h k = one program.expanded.program program.expanded.graph rows costs policy turns a b has h k
+  same a b h k = one program.expanded.program program.expanded.graph rows costs policy turns a b h k
 
   -- the line of the scope in which places are left
   abbrev left_at : ℕ → Outcome
@@ -88,11 +87,13 @@ module _ (checked : CheckedParts) (graph : GraphParts) (rows : List InputRow) wh
   costs_alike costs = λ i node. place_cost costs (function_same (seen checked) (seen checked).ranks [] node.path i) node.block
 
   -- what was found of the parts of the program
-  pub found_of : (costs : CostTable) (outline : Outlined) (policy : Policy) (turns : ℕ) (answer : Answer) → IsOutlined graph outline
+  pub found_of : IsKept (seen checked) → IsGraph (seen checked) graph → (costs : CostTable) (outline : Outlined) (policy : Policy) (turns : ℕ) (answer : Answer) → IsOutlined graph outline
       → HasCosts (unranked (seen checked)) graph costs outline → IsFound (record { checked = checked; graph = graph; rows = rows }) outline policy turns answer
       → IsAnalysis (unranked (seen checked)) graph rows costs policy turns answer
-  found_of costs outline policy turns answer outlined priced found = record {
+  found_of keeps graph_is costs outline policy turns answer outlined priced found = record {
     checked = checked;
+    keeps = keeps;
+    graph_is = graph_is;
     outline = outline;
     program_is = refl;
     outline_is = outlined.outline_is;

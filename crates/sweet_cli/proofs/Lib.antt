@@ -10,6 +10,7 @@ pub mod JudgedTables
 pub mod JudgedUnit
 pub mod JudgedScopes
 pub mod JudgedReports
+pub mod Staying
 pub mod Numbers
 pub mod Counted
 pub mod JudgedRuns

@@ -8,8 +8,9 @@
 use Rattle.std.proofs.Common.{◌≡◌, ◌≤◌, ℕ, List, map, slice_index, refl, sym, ap, ◌∙◌}
 use Rattle.std.specs.List.{AllZip}
 use Rattle.alf_check.specs.declared.rows.InputRow.{InputRow}
-use Rattle.alf_check.specs.CheckedPrograms.{CheckedParts, NumberedProgram}
-use Rattle.flow_graph.specs.Numbering.{GraphParts}
+use Rattle.alf_check.specs.CheckedPrograms.{CheckedParts, NumberedProgram, seen}
+use Rattle.alf_check.specs.Kept.{IsKept}
+use Rattle.flow_graph.specs.Numbering.{GraphParts, IsGraph}
 use Rattle.flow_graph.specs.Graphs.{HasProgram}
 use Rattle.cost_table.specs.CostTables.{CostTable}
 use Rattle.domain_core.specs.declared.event.Event.{Event}
@@ -33,8 +34,10 @@ use Rattle.unranked_analyses.specs.UnrankedMachines.{IsProgramOf, IsTwin, first_
 
 -- an exploration of the program, by the policy in so many turns, finds this answer
 pub record IsAnalysis (program : NumberedProgram) (graph : GraphParts) (rows : List InputRow) (costs : CostTable) (policy : Policy) (turns : ℕ) (answer : Answer) : Type 0 where
-  -- the parts of the program, and the outline of its graph with names and costs
+  -- the parts of the program as they are checked, and the outline of its graph with names and costs
   pub checked : CheckedParts
+  pub keeps : IsKept (seen checked)
+  pub graph_is : IsGraph (seen checked) graph
   pub outline : Outlined
   pub program_is : IsProgramOf program checked
   pub outline_is : IsOutlineOf (plan_of graph) (shape_of outline)
@@ -44,7 +47,7 @@ pub record IsAnalysis (program : NumberedProgram) (graph : GraphParts) (rows : L
 
 -- so finds each other one
 abbrev pub HasOneAnalysis : Type 0
-HasOneAnalysis = (program : NumberedProgram) (graph : GraphParts) (rows : List InputRow) (costs : CostTable) (policy : Policy) (turns : ℕ) (a b : Answer) → HasProgram graph
+HasOneAnalysis = (program : NumberedProgram) (graph : GraphParts) (rows : List InputRow) (costs : CostTable) (policy : Policy) (turns : ℕ) (a b : Answer)
     → IsAnalysis program graph rows costs policy turns a → IsAnalysis program graph rows costs policy turns b → a ≡ b
 
 -- a report that was found in so many turns is found in more
@@ -97,7 +100,8 @@ module _ (program : NumberedProgram) (graph : GraphParts) (rows : List InputRow)
       }
 
 pub one_analysis : PartsHaveOneAnalysis → HasOneAlike → HasOneAnalysis
-one_analysis one alike program graph rows costs policy turns a b has h k =
+one_analysis one alike program graph rows costs policy turns a b h k =
+    let has : HasProgram graph = record { program = seen h.checked; keeps = h.keeps; is = h.graph_is } in
     let found = found_of_other program graph rows h.checked k.checked h.program_is k.program_is h.outline policy turns a h.found in
     one (record { checked = k.checked; graph = graph; rows = rows }) h.outline k.outline policy turns a b
     (alike program graph costs h.outline k.outline has h.outline_is h.names h.costs_are k.outline_is k.names k.costs_are) found k.found
@@ -105,6 +109,8 @@ one_analysis one alike program graph rows costs policy turns a b has h k =
 pub longer_analysis : StaysFound → StaysAnalysed
 longer_analysis stays program graph rows costs policy turns more report few h = record {
   checked = h.checked;
+  keeps = h.keeps;
+  graph_is = h.graph_is;
   outline = h.outline;
   program_is = h.program_is;
   outline_is = h.outline_is;

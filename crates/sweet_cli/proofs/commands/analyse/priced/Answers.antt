@@ -1,6 +1,5 @@
 -- The outline is that of the graph as before.
-use Rattle.std.proofs.Common.{◌≡◌, ℕ, List, map, sym, ap, ◌∙◌, subst}
-use Rattle.domain_core.specs.Outlines.{shape_of}
+use Rattle.std.proofs.Common.{sym, ◌∙◌, subst}
 use Rattle.domain_core.specs.OutlineOf.{IsOutlineOf}
 use Rattle.scope_graph.specs.Placing.{plan_of}
 use Rattle.program_analysis.specs.Pricing.{priced_shape}

@@ -1,4 +1,3 @@
-mod Leading
 mod Moving
 mod Returning
 mod Rooms

@@ -1,6 +1,5 @@
 -- The files of this folder.
 pub mod Doing
-pub mod Edges
 pub mod Filling
 pub mod Machines
 pub mod Stepping

@@ -16,8 +16,7 @@ mod statements;
 mod turn;
 mod values;
 
-// Where it leads, and the machine.
-mod edges;
+// The machine.
 mod machine;
 
 pub use machine::Machine;

@@ -1,5 +1,6 @@
 -- Each run that the books sum up meets each fact that they tell.
 --   places_are_visits   how often a node stands among nodes
+--   turned              and among them in the other order
 --   told_is_met         kind by kind
 use Rattle.std.proofs.Common.{◌≡◌, ◌+◌, ◌==◌, ℕ, Bool, true, false, List, [], ◌∷◌, Option, Some, cond, reverse, refl, sym, ap, ◌∙◌, subst, arith}
 use Rattle.std.proofs.lemmas.List.{reverse-reverse, reverse-append}
@@ -17,7 +18,7 @@ use Rattle.pair_recordings.specs.PairBookLaws.{never_together}
 use Rattle.book_facts.specs.Told.{Books, SumUp, Tells}
 
 -- how often a node stands among nodes
-places_are_visits : (n : ℕ) (nodes : List ℕ) → places n nodes ≡ visits n nodes
+pub places_are_visits : (n : ℕ) (nodes : List ℕ) → places n nodes ≡ visits n nodes
 places_are_visits n [] = refl
 places_are_visits n (m ∷ nodes) =
     let rest = places_are_visits n nodes in
@@ -29,7 +30,7 @@ places_are_visits n (m ∷ nodes) =
     by_hit false rest = omega (arith, rest)
 
 -- and among them in the other order
-turned : (n : ℕ) (nodes : List ℕ) → places n (reverse nodes) ≡ visits n nodes
+pub turned : (n : ℕ) (nodes : List ℕ) → places n (reverse nodes) ≡ visits n nodes
 turned n [] = refl
 turned n (m ∷ nodes) =
     let rest = turned n nodes in

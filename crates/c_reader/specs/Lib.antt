@@ -1,2 +1,3 @@
 -- What the reader stands for.
+pub mod Names
 pub mod Reading

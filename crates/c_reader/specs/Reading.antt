@@ -15,7 +15,6 @@ use Rattle.c_reader.specs.declared.tokens.CutToken.{CutToken}
 use Rattle.c_reader.specs.declared.fault.Departure.{Departure}
 use Rattle.c_reader.specs.declared.fault.Departure.TheVariants as faults
 use Rattle.c_reader.specs.declared.reader.Reader.{Reader}
-use Rattle.c_reader.specs.declared.reader.Known.{Known}
 
 abbrev pub seen : Token → Seen
 seen t = record { symbol = t.symbol; number = t.number; text = t.text.now }
@@ -28,11 +27,8 @@ abbrev pub numbered : ℕ → List Lexeme → List Seen
 numbered n [] = []
 numbered n (t ∷ ts) = record { symbol = symbol_of t.kind t.text; number = n; text = t.text } ∷ numbered (n + 1) ts
 
-abbrev pub known_of : Known → List ℕ × Bool
-known_of k = (k.name.now, k.gives)
-
 abbrev pub position : Reader → Place
-position r = record { ahead = map (seen_in r.text.now) r.rest.now; room = record { functions = r.functions; frames = r.frames; elements = r.elements; names = map known_of r.names.items } }
+position r = record { ahead = map (seen_in r.text.now) r.rest.now; room = record { functions = r.functions; frames = r.frames; elements = r.elements; names = r.names } }
 
 abbrev pub fault_of : Departure → Option Fault
 fault_of (faults.Syntax n) = Some (Syntax n)

@@ -1,13 +1,11 @@
-//! What is counted while a text is read, and which functions are declared.
+//! What is counted while a text is read, and the calls that are counted.
 
-ghost use Rattle.std.specs.Prelude.{◌≡◌, map, if◌then◌else◌};
-ghost use Rattle.std.specs.Str.{bytes_eq};
-ghost use Rattle.c_grammar.specs.Tokens.{one_function, some_frames, some_elements, declares, latest_gives, gives_value};
+ghost use Rattle.c_grammar.specs.Tokens.{one_function, some_frames, some_elements, declares};
 ghost use Rattle.c_grammar.specs.Expressions.{call_frame};
-ghost use Rattle.c_reader.specs.Reading.{position, known_of, Reads};
+ghost use Rattle.c_reader.specs.Reading.{Reads};
 
 use crate::fault::Departure;
-use crate::reader::{Known, Reader};
+use crate::reader::Reader;
 use flow_base::Which;
 
 const MOST_FUNCTIONS: u64 = 256;
@@ -15,29 +13,6 @@ const MOST_FUNCTIONS: u64 = 256;
 const MOST_FRAMES: u64 = 256;
 
 const MOST_ELEMENTS: u64 = 8_192;
-
-// What is known of a name after one more declaration.
-fn with_known(known: &Known<'_>, name: &[u8], gives: bool) -> bool
-    ensures { result ≡ (if bytes_eq known.now.name.now name.now then known.now.gives else gives) }
-{
-    if known.name == name {
-        known.gives
-    } else {
-        gives
-    }
-}
-
-// Whether the latest declaration with this name gives a value.
-#[tactic(auto, unfolding(c_grammar::specs::Tokens::gives_value))]
-fn gives_value(name: &[u8], names: &[Known<'_>]) -> bool
-    ensures { result ≡ gives_value name.now (map known_of names.now) }
-{
-    let mut gives = false;
-    for known in names {
-        gives = with_known(known, name, gives);
-    }
-    gives
-}
 
 impl<'a> Reader<'a> {
     #[tactic(auto, unfolding(c_grammar::specs::Tokens::one_function))]
@@ -81,7 +56,7 @@ impl<'a> Reader<'a> {
     pub fn declares(&mut self, name: &'a [u8], gives: bool) -> Result<(), Departure>
         ensures { Reads (declares name.now gives) (λ x. x) result self.old self.new }
     {
-        self.names.push(Known { name, gives })?;
+        self.names.declare(name, gives)?;
         Ok(())
     }
 
@@ -90,7 +65,7 @@ impl<'a> Reader<'a> {
     pub fn call_frame(&mut self, name: &[u8]) -> Result<(), Departure>
         ensures { Reads (call_frame name.now) (λ x. x) result self.old self.new }
     {
-        if gives_value(name, self.names.as_slice()) {
+        if self.names.gives_value(name) {
             self.some_frames(1)
         } else {
             Ok(())

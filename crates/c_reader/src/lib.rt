@@ -10,6 +10,7 @@ mod fault;
 
 // Single tokens, and what is counted.
 mod counts;
+mod names;
 mod reader;
 mod tokens;
 
@@ -18,6 +19,7 @@ mod parts;
 mod types;
 
 pub use fault::{Departure, misfit};
-pub use reader::{Known, Reader, begins_with};
+pub use names::Names;
+pub use reader::{Reader, begins_with};
 pub use tokens::{CutToken, Token, cut};
 pub use types::after_constant;

@@ -10,17 +10,11 @@ ghost use Rattle.c_reader.specs.declared.fault.Departure.TheVariants.{Syntax};
 ghost use Rattle.c_reader.specs.Reading.{seen, seen_in, position, fault_of, Reads};
 
 use crate::fault::{Departure, misfit};
+use crate::names::Names;
 use crate::tokens::{CutToken, Token};
 use c_grammar::{Others, Symbol, is_specifier, starts_type};
 use c_unit::range;
 use std::alloc::Global;
-
-/// A function that is declared: its name, and whether it gives a value.
-#[derive(Clone, Copy, Debug)]
-pub struct Known<'a> {
-    pub name: &'a [u8],
-    pub gives: bool,
-}
 
 /// A place in a text, and what there may still be of what is counted.
 #[derive(Drop)]
@@ -31,7 +25,7 @@ pub struct Reader<'a> {
     pub functions: u64,
     pub frames: u64,
     pub elements: u64,
-    pub names: Vec<Known<'a>>,
+    pub names: Names<'a>,
 }
 
 // The token with its bytes.

@@ -247,3 +247,51 @@ fn a_long_name_is_told_whole(rt: HostRuntime) -> Result<(), Fail> {
     }
     Ok(())
 }
+
+// What stands after 6,000 declarations of functions that give a value, before 257 calls of the last of
+// them, and what is told.
+const AGAIN: &str = r#" @ limit frames 257
+void n5999(); @ ok
+void n0(); @ limit frames 257
+void n5999();int n5999(); @ limit frames 257
+int n5999();void n5999(); @ ok"#;
+
+// A declaration of each of 6,000 functions, where the word says what it gives.
+fn declared(alloc: Global, word: &str) -> Result<String, AllocError> {
+    let mut text = String::new(alloc);
+    for number in 0..6_000 {
+        let one = format!(in alloc; "{word} n{number}();")?;
+        text.push_str(one.as_str())?;
+    }
+    Ok(text)
+}
+
+#[test]
+fn the_latest_of_6000_declarations_is_found(rt: HostRuntime) -> Result<(), Fail> {
+    let alloc = rt.alloc();
+    for row in AGAIN.lines() {
+        let mut text = declared(alloc, "int")?;
+        text.push_str(field(row, 0))?;
+        text.push_str("int f(){")?;
+        push_times(&mut text, "n5999();", 257)?;
+        text.push_str("}")?;
+        let found = told(alloc, &read(alloc, text.as_bytes()))?;
+        assert_eq!(rt; found.as_slice(), field(row, 1).as_bytes(), "{row}");
+    }
+    Ok(())
+}
+
+#[test]
+fn each_of_6000_functions_is_called(rt: HostRuntime) -> Result<(), Fail> {
+    let alloc = rt.alloc();
+    let mut text = declared(alloc, "void")?;
+    text.push_str("int f(){")?;
+    for number in 0..6_000 {
+        let call = format!(in alloc; "n{number}();")?;
+        text.push_str(call.as_str())?;
+    }
+    text.push_str("}")?;
+    let found = told(alloc, &read(alloc, text.as_bytes()))?;
+    assert_eq!(rt; found.as_slice(), b"ok".as_slice());
+    Ok(())
+}

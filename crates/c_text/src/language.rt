@@ -15,7 +15,7 @@ use crate::departures::told;
 use crate::fault::TextFault;
 use crate::laws::spelled_units_are_read_back;
 use c_externals::read_unit;
-use c_reader::{Departure, Reader, cut};
+use c_reader::{Departure, Names, Reader, cut};
 use c_unit::{CUnit, External, Span, spans};
 use std::alloc::Global;
 
@@ -29,8 +29,9 @@ const MOST_ELEMENTS: u64 = 8_192;
 /// The unit that a text spells, or the text's first departure from the grammar.
 ///
 /// The text is cut into tokens twice and read in one pass, in time in proportion to it. Each token
-/// takes 48 bytes of memory at most while it is read, and 16 in the unit, beside the trees. Reading
-/// goes as deep as parentheses, operators and statements may be nested, and no deeper.
+/// takes 48 bytes of memory at most while it is read, and 16 in the unit, beside the trees and the names
+/// of functions. Reading goes as deep as parentheses, operators and statements may be nested, and no
+/// deeper.
 pub fn read(alloc: Global, bytes: &[u8]) -> Result<CUnit, TextFault>
     // A text means one thing (`one_meaning`), and this is it.
     ensures spelled { IfOk result (λ unit. Means bytes.now (Ok (unit_of unit))) }
@@ -71,7 +72,7 @@ fn read_externals(alloc: Global, bytes: &[u8]) -> Result<Vec<External>, Departur
         functions: MOST_FUNCTIONS,
         frames: MOST_FRAMES,
         elements: MOST_ELEMENTS,
-        names: Vec::new(alloc),
+        names: Names::new(alloc),
     };
     match read_unit(&mut reader) {
         Ok(externals) => Ok(externals),

@@ -1,4 +1,4 @@
-//! Tests of `abstract_exec` at the toys of `exec_toys`. Without tests this library is empty.
+//! Tests of `abstract_exec` and `flow_reports` at the toys of `exec_toys`. Without tests this library is empty.
 #![tactic(auto)]
 
 // Outlines of programs, and flow charts, in short notations.
@@ -18,3 +18,7 @@ mod policies;
 // Events one by one.
 #[cfg(test)]
 mod events;
+
+// Reports of explorations.
+#[cfg(test)]
+mod reports;

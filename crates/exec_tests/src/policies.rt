@@ -74,7 +74,7 @@ const ROWS: &str = "\
 ; @A ?D |B @B ?C |E @E ^B @C ^A @D . | 1 2 1?6:3 2?5:4 3-1 2-1 7 | 1..1 | none | 3 => left 2 => - - - - - - - => - - - => +++----\n\
 ; @A ?D |B @B ?C |E @E ^B @C ^A @D . | 1 2 1?6:3 2?5:4 3-1 2-1 7 | 1..1 | none | 4 => left 1 => - - - - - - - => - - 1-1 => ++++---";
 
-fn policy(word: &str) -> Policy {
+pub fn policy(word: &str) -> Policy {
     match word {
         "exits" => Policy::Exits,
         "joins" => Policy::Joins,

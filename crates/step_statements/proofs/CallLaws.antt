@@ -4,6 +4,7 @@
 --   entered_frames     in a function that was entered, the frames of its arguments are active
 --   entered_room       and so are those of what its frames hold at first
 --   entered_is         the memory after all
+--   plain_room, plain_is   the same where no argument is given
 use Rattle.std.specs.Prelude.{slice_get, All, Contains, ◌==◌, if◌then◌else◌}
 use Rattle.std.specs.List.{AllZip}
 use Rattle.std.specs.Option.{option_map, option_map_or}
@@ -134,3 +135,15 @@ module _ (program : NumberedProgram) (keeps : IsKept program) (f : ℕ) (row : F
       three ∙ ap (with_inits row.inits.items) (two ∙ ap (with_arguments row.args.items vs) (one ∙ ap (λ (r : List FrameShape). entered abstract_sets r m f) same))
       ∙ ap (λ (inits : List InitRow). with_inits inits (with_arguments row.args.items vs (entered abstract_sets (frames_of program) m f))) (sym inits_are)
       ∙ ap (λ (args : List ℕ). with_inits (inits_at program f) (with_arguments args vs (entered abstract_sets (frames_of program) m f))) (sym args_are)
+
+  no_arguments : (args : List ℕ) (m : Mem abstract_sets) → with_arguments args [] m ≡ m
+  no_arguments [] m = refl
+  no_arguments (frame ∷ args) m = refl
+
+  -- without arguments
+  pub plain_room : (new : MemoryParts) (m : Mem abstract_sets) (rows : List FrameShape) → seen new.checked ≡ program → memory_in new ≡ entered abstract_sets rows m f → HaveRoom new row.inits.items
+  plain_room new m rows same now = entered_room new m rows [] same (now ∙ sym (no_arguments row.args.items (entered abstract_sets rows m f)))
+
+  pub plain_is : (m first last : Mem abstract_sets) (rows : List FrameShape) → rows ≡ frames_of program → first ≡ entered abstract_sets rows m f → last ≡ with_inits row.inits.items first
+      → last ≡ entered_with program f [] m
+  plain_is m first last rows same one two = entered_is [] m first first last rows same one (sym (no_arguments row.args.items first)) two

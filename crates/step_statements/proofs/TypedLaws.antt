@@ -7,8 +7,9 @@
 --   apply_typed, operands_typed an operator has a result, and its operands have sizes
 --   operands_sized              the operands' values have their sizes
 --   one_found, two_found, three_found   what so many operands give
+--   later_typed         the first of arguments, and those that are left, have sizes
 use Rattle.std.specs.Prelude.{IfSome, IsSome}
-use Rattle.std.specs.List.{AllZip}
+use Rattle.std.specs.List.{AllZip, AllByRecursion}
 use Rattle.std.specs.Option.{option_map}
 use Rattle.std.proofs.Common.{◌≡◌, ◌≤◌, ◌<◌, ℕ, List, [], ◌∷◌, Vec, length, map, get_or, Option, Some, None, refl, sym, ap, ◌∙◌, subst, arith}
 use Rattle.std.specs.declared.alloc.Global.{Global}
@@ -183,3 +184,9 @@ module _ (parts : MemoryParts) where
       one_more (term_of a) (With (term_of b) (With (term_of c) Empty)) x later all of_a
       (one_more (term_of b) (With (term_of c) Empty) y last later of_b (one_more (term_of c) Empty z none last of_c empty of_last) of_later) joined
       ∙ ap (λ (ts : List Term). givens (expressions_of (map term_of ts))) (sym split)
+
+-- ---- arguments
+
+-- the first, and those that are left, have sizes
+pub later_typed : (term : Term) (others terms : List Term) → terms ≡ term ∷ others → AllByRecursion IsTyped (map term_of terms) → IsTyped (term_of term) × AllByRecursion IsTyped (map term_of others)
+later_typed term others terms cons typed = subst (λ (ts : List Term). AllByRecursion IsTyped (map term_of ts)) cons typed

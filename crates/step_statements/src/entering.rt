@@ -1,6 +1,6 @@
 //! Functions entered with their arguments.
 
-ghost use Rattle.std.specs.Prelude.{◌≡◌, ◌<◌, OnOk, length};
+ghost use Rattle.std.specs.Prelude.{◌≡◌, ◌<◌, [], OnOk, length};
 ghost use Rattle.alf_check.specs.CheckedPrograms.{seen};
 ghost use Rattle.seen_memories.specs.Parts.{memory_in, rows_of, IsMemory};
 ghost use Rattle.step_rules.specs.Filling.{with_arguments, entered_with};
@@ -60,4 +60,26 @@ pub fn enter(
     memory.enter(alloc, func)?;
     put_arguments(alloc, memory, &row.args, values)?;
     put_inits(alloc, memory, &row.inits)
+}
+
+/// Enters a function whose arguments are given nothing, as the root is entered, and puts what its frames hold at first.
+/// After want of memory the memory is given up.
+pub fn enter_plainly(
+    alloc: Global,
+    memory: &mut AMem<'_>,
+    checked: &Checked,
+    func: u32,
+) -> Result<(), AllocError>
+    requires kept { IsMemory memory.old }
+    requires program { memory.old.checked ≡ checked.now }
+    requires func { func < length (seen checked.now).funcs }
+    ensures checked { OnOk result (memory.new.checked ≡ memory.old.checked) }
+    ensures kept { OnOk result (IsMemory memory.new) }
+    ensures entered { OnOk result (memory_in memory.new ≡ entered_with (seen checked.now) func [] (memory_in memory.old)) }
+{
+    checked.keeps();
+    let row = checked.func(func);
+    memory.enter(alloc, func)?;
+    put_inits(alloc, memory, &row.inits)?;
+    Ok(())
 }

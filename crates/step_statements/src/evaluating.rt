@@ -1,6 +1,7 @@
 //! Values of expressions.
 
 ghost use Rattle.std.specs.Prelude.{◌≡◌, IfOk, IfSome, IsSome, map};
+ghost use Rattle.std.specs.List.{AllByRecursion};
 ghost use Rattle.alf_ops.specs.Table.{result_size, operand_sizes};
 ghost use Rattle.alf_program.specs.Tree.{Number, expressions_of};
 ghost use Rattle.alf_check.specs.CheckedPrograms.{term_of};
@@ -8,9 +9,9 @@ ghost use Rattle.memory_rules.specs.Covers.{IsCellSize};
 ghost use Rattle.pointer_rules.specs.Covering.{IsValue};
 ghost use Rattle.seen_memories.specs.Parts.{memory_in, rows_of, IsMemory};
 ghost use Rattle.step_rules.specs.Remains.{all_left, goes_on};
-ghost use Rattle.step_rules.specs.Evaluating.{word_value, pointer_value, loaded, operated, value_at, values_at};
+ghost use Rattle.step_rules.specs.Evaluating.{word_value, pointer_value, loaded, operated, value_at, values_at, arguments_at};
 ghost use Rattle.step_statements.specs.Typed.{IsTyped, AreTyped};
-ghost use Rattle.step_statements.specs.Found.{found};
+ghost use Rattle.step_statements.specs.Found.{found, founds};
 
 use crate::operating::{applied, before, no_operand};
 use abstract_memory::AMem;
@@ -122,4 +123,23 @@ fn operate(
         }
         [_, _, _, _, ..] => unreachable!(),
     }
+}
+
+/// What arguments of a call give over the memory, from left to right: their values, where some run goes on, and the faults.
+pub fn evaluate_arguments(
+    alloc: Global,
+    memory: &AMem<'_>,
+    terms: &[Term],
+) -> Result<(Option<Vec<AVal>>, FaultSet), AllocError>
+    requires typed { AllByRecursion IsTyped (map term_of terms.now) }
+    requires kept { IsMemory memory.now }
+    ensures { IfOk result (λ answer. founds answer ≡ arguments_at (rows_of memory.now.checked) (memory_in memory.now) (map term_of terms.now)) }
+{
+    let Some((term, others)) = terms.split_first() else {
+        return Ok(no_operand(alloc));
+    };
+    let first = evaluate(alloc, memory, term)?;
+    let rest = evaluate_arguments(alloc, memory, others)?;
+    let all = before(first, rest)?;
+    Ok(all)
 }

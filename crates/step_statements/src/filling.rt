@@ -8,7 +8,7 @@ ghost use Rattle.step_rules.specs.Filling.{filled, with_inits};
 ghost use Rattle.step_statements.specs.Typed.{IsStorable};
 ghost use Rattle.step_statements.specs.Rooms.{HasRoom, HaveRoom};
 
-use crate::storing::store_through;
+use crate::storing::store_at;
 use abstract_memory::AMem;
 use alf_check::InitRow;
 use interval_congruence::Strided;
@@ -30,8 +30,7 @@ pub fn fill(
     ensures kept { OnOk result (IsMemory memory.new) }
     ensures filled { OnOk result (memory_in memory.new ≡ filled (memory_in memory.old) frame offset (width_of value.now) value.now) }
 {
-    let at = AVal::pointer(alloc, frame, Strided::one_word(32, offset as u64))?;
-    store_through(alloc, memory, &at, value)?;
+    store_at(alloc, memory, frame, offset, value)?;
     Ok(())
 }
 

@@ -16,7 +16,7 @@ mod storing;
 // Functions entered.
 mod entering;
 
-pub use entering::enter;
-pub use evaluating::evaluate;
+pub use entering::{enter, enter_plainly};
+pub use evaluating::{evaluate, evaluate_arguments};
 pub use filling::{fill, put_inits};
-pub use storing::do_statements;
+pub use storing::{do_statements, store_at};

@@ -5,7 +5,7 @@ ghost use Rattle.std.specs.List.{AllByRecursion};
 ghost use Rattle.alf_check.specs.CheckedPrograms.{Store, act_of, term_of};
 ghost use Rattle.pointer_rules.specs.Covering.{IsValue};
 ghost use Rattle.seen_memories.specs.Parts.{memory_in, rows_of, IsMemory};
-ghost use Rattle.step_rules.specs.Evaluating.{width_of};
+ghost use Rattle.step_rules.specs.Evaluating.{width_of, pointer_value};
 ghost use Rattle.step_rules.specs.Doing.{stored_through, after_statement, after_statements};
 ghost use Rattle.step_statements.specs.Typed.{IsTypedStatement, IsStorable};
 ghost use Rattle.step_statements.specs.Found.{done};
@@ -14,6 +14,7 @@ use crate::evaluating::evaluate;
 use abstract_memory::AMem;
 use alf_check::{Act, Term};
 use domain_core::FaultSet;
+use interval_congruence::Strided;
 use pointer_domain::AVal;
 use std::alloc::{AllocError, Global};
 
@@ -28,7 +29,7 @@ fn width(value: &AVal) -> u32
 }
 
 /// Stores the value through the address. After want of memory the memory is given up.
-pub(crate) fn store_through(
+fn store_through(
     alloc: Global,
     memory: &mut AMem<'_>,
     at: &AVal,
@@ -43,6 +44,26 @@ pub(crate) fn store_through(
 {
     let size = width(value);
     memory.store(alloc, at, value, size)
+}
+
+/// Stores the value at an offset of a frame, as through a pointer: whether some run goes on, which is whether the cell lies
+/// in the frame and this is active, and the faults. After want of memory the memory is given up.
+pub fn store_at(
+    alloc: Global,
+    memory: &mut AMem<'_>,
+    frame: u32,
+    offset: u32,
+    value: &AVal,
+) -> Result<(bool, FaultSet), AllocError>
+    requires kept { IsMemory memory.old }
+    requires value { IsStorable value.now }
+    ensures checked { OnOk result (memory.new.checked ≡ memory.old.checked) }
+    ensures kept { OnOk result (IsMemory memory.new) }
+    ensures stored { IfOk result (λ answer. done answer (memory_in memory.new) ≡ stored_through (rows_of memory.old.checked) (memory_in memory.old) (pointer_value frame offset) value.now) }
+{
+    let at = AVal::pointer(alloc, frame, Strided::one_word(32, offset as u64))?;
+    let answer = store_through(alloc, memory, &at, value)?;
+    Ok(answer)
 }
 
 /// A store: the address is evaluated first, then the value.

@@ -1,8 +1,8 @@
 -- What was read of the tokens that were cut is spelled.
-use Rattle.std.proofs.Common.{◌≡◌, [], map, refl}
+use Rattle.std.proofs.Common.{◌≡◌, map}
 use Rattle.c_tokens.specs.Tokens.{tokens_of}
 use Rattle.c_unit.specs.Tree.{external_of}
-use Rattle.c_reader.specs.Reading.{seen_in, known_of, numbered, position}
+use Rattle.c_reader.specs.Reading.{seen_in, numbered, position}
 use Rattle.c_text.proofs.Meaning.{read_trees}
 use Rattle.c_text.proofs.language.read_externals.Goals as goal
 
@@ -10,7 +10,6 @@ pub returns-in-Ok-read_unit-clause-trees : goal.returns-in-Ok-read_unit-clause-t
 returns-in-Ok-read_unit-clause-trees c =
     let bytes = c.args.bytes.now in
     let tokens = map (seen_in bytes) c.as_slice.result.now in
-    let names = map known_of c.new.result.items in
+    let names = c.new.result in
     let cut : tokens ≡ numbered 0 (tokens_of bytes) = rw c.as_slice.ensures.value c.in-Ok.ensures in
-    let none : names ≡ [] = rw c.new.ensures.items refl in
-    read_trees bytes tokens names cut none (map external_of c.in-Ok-read_unit.externals.items) (position c.read_unit.new.reader) c.in-Ok-read_unit.ensures
+    read_trees bytes tokens names cut c.new.ensures (map external_of c.in-Ok-read_unit.externals.items) (position c.read_unit.new.reader) c.in-Ok-read_unit.ensures

@@ -1,0 +1,5 @@
+mod HereLaws
+mod TurnLaws
+mod EndLaws
+mod InputLaws
+mod ArmLaws

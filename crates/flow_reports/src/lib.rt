@@ -1,0 +1,26 @@
+//! The report of an exploration, made from its pool.
+//!
+//! `report` answers the report that `told_reports` defines: the lines of nodes and scopes, the facts that
+//! the books, the alarms and the stepped nodes tell, and the count bound. What the report promises of
+//! runs is proved there.
+#![tactic(auto)]
+
+// What was collected.
+mod collected;
+mod gathering;
+
+// The facts, kind by kind.
+mod alarms;
+mod counts;
+mod loops;
+mod pairs;
+mod scopes;
+mod totals;
+
+// The report.
+mod bound;
+mod reports;
+mod rows;
+
+pub use collected::FourRecorders;
+pub use reports::report;

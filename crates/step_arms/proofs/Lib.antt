@@ -1,0 +1,4 @@
+mod Reading
+mod Lying
+mod Tellings
+mod ArmLists

@@ -1,7 +1,7 @@
 //! Words that are a command, and words that are none.
 use std::alloc::{AllocError, Global};
 use std::test::Fail;
-use sweet_words::{Command, WordsFault, read};
+use sweet_words::{Command, Merging, WordsFault, read};
 
 /// The words of a line, with a comma between two of them.
 fn words_of(alloc: Global, line: &str) -> Result<Vec<String>, AllocError> {
@@ -12,6 +12,15 @@ fn words_of(alloc: Global, line: &str) -> Result<Vec<String>, AllocError> {
     Ok(words)
 }
 
+/// Where states are merged.
+fn merging_word(merging: Merging) -> &'static str {
+    match merging {
+        Merging::Never => "none",
+        Merging::Exits => "exits",
+        Merging::Joins => "joins",
+    }
+}
+
 /// What the words are, where they are a command: its name, and what it was given. A file that is
 /// left out is a dash.
 fn told(alloc: Global, words: &[String]) -> Result<String, AllocError> {
@@ -19,9 +28,11 @@ fn told(alloc: Global, words: &[String]) -> Result<String, AllocError> {
         Ok(Command::Analyse(given)) => {
             let file = given.file;
             let root = given.root;
+            let inputs = given.inputs.unwrap_or("-");
             let costs = given.costs.unwrap_or("-");
             let turns = given.turns;
-            Ok(format!(in alloc; "analyse {file} {root} {costs} {turns}")?)
+            let merging = merging_word(given.merging);
+            Ok(format!(in alloc; "analyse {file} {root} {inputs} {costs} {turns} {merging}")?)
         }
         Ok(Command::Print(file)) => Ok(format!(in alloc; "print {file}")?),
         Ok(Command::PrintC(file)) => Ok(format!(in alloc; "print of C {file}")?),
@@ -49,40 +60,88 @@ fn are_usage(alloc: Global, words: &[String]) -> bool {
 fn words_are_commands_in_any_order(rt: HostRuntime) -> Result<(), Fail> {
     // The words, and what they are.
     let cases = [
-        ("analyse,a.alf", "analyse a.alf main - 100000"),
-        ("analyse,a.alf,--turns,24", "analyse a.alf main - 24"),
-        ("analyse,a.alf,--turns=24", "analyse a.alf main - 24"),
-        ("analyse,--turns,24,a.alf", "analyse a.alf main - 24"),
-        ("analyse,--turns=24,a.alf", "analyse a.alf main - 24"),
-        ("analyse,a.alf,--turns,1", "analyse a.alf main - 1"),
+        ("analyse,a.alf", "analyse a.alf main - - 100000 joins"),
+        (
+            "analyse,a.alf,--turns,24",
+            "analyse a.alf main - - 24 joins",
+        ),
+        (
+            "analyse,a.alf,--turns=24",
+            "analyse a.alf main - - 24 joins",
+        ),
+        (
+            "analyse,--turns,24,a.alf",
+            "analyse a.alf main - - 24 joins",
+        ),
+        (
+            "analyse,--turns=24,a.alf",
+            "analyse a.alf main - - 24 joins",
+        ),
+        ("analyse,a.alf,--turns,1", "analyse a.alf main - - 1 joins"),
         (
             "analyse,a.alf,--turns,1000000",
-            "analyse a.alf main - 1000000",
+            "analyse a.alf main - - 1000000 joins",
         ),
-        ("analyse,a.alf,--turns,000002", "analyse a.alf main - 2"),
+        (
+            "analyse,a.alf,--turns,000002",
+            "analyse a.alf main - - 2 joins",
+        ),
         (
             "analyse,a.alf,--turns,00000000000000000002",
-            "analyse a.alf main - 2",
+            "analyse a.alf main - - 2 joins",
         ),
-        ("analyse,--,a.alf", "analyse a.alf main - 100000"),
-        ("analyse,a.alf,--", "analyse a.alf main - 100000"),
-        ("analyse,--turns,24,--,-a.alf", "analyse -a.alf main - 24"),
-        ("analyse,--,--turns", "analyse --turns main - 100000"),
-        ("analyse,--,--", "analyse -- main - 100000"),
-        ("analyse,-", "analyse - main - 100000"),
-        ("analyse,", "analyse  main - 100000"),
-        ("analyse,analyse", "analyse analyse main - 100000"),
-        ("analyse,a.C", "analyse a.C main - 100000"),
-        ("analyse,a.alf,--root,f", "analyse a.alf f - 100000"),
-        ("analyse,a.alf,--root=", "analyse a.alf  - 100000"),
-        ("analyse,a.alf,--root=-f", "analyse a.alf -f - 100000"),
+        ("analyse,--,a.alf", "analyse a.alf main - - 100000 joins"),
+        ("analyse,a.alf,--", "analyse a.alf main - - 100000 joins"),
+        (
+            "analyse,--turns,24,--,-a.alf",
+            "analyse -a.alf main - - 24 joins",
+        ),
+        (
+            "analyse,--,--turns",
+            "analyse --turns main - - 100000 joins",
+        ),
+        ("analyse,--,--", "analyse -- main - - 100000 joins"),
+        ("analyse,-", "analyse - main - - 100000 joins"),
+        ("analyse,", "analyse  main - - 100000 joins"),
+        ("analyse,analyse", "analyse analyse main - - 100000 joins"),
+        ("analyse,a.C", "analyse a.C main - - 100000 joins"),
+        ("analyse,a.alf,--root,f", "analyse a.alf f - - 100000 joins"),
+        ("analyse,a.alf,--root=", "analyse a.alf  - - 100000 joins"),
+        (
+            "analyse,a.alf,--root=-f",
+            "analyse a.alf -f - - 100000 joins",
+        ),
         (
             "analyse,a.alf,--costs,c.toml",
-            "analyse a.alf main c.toml 100000",
+            "analyse a.alf main - c.toml 100000 joins",
         ),
         (
             "analyse,--costs,c.toml,--turns=7,a.alf,--root,g",
-            "analyse a.alf g c.toml 7",
+            "analyse a.alf g - c.toml 7 joins",
+        ),
+        (
+            "analyse,a.alf,--inputs,i.toml",
+            "analyse a.alf main i.toml - 100000 joins",
+        ),
+        (
+            "analyse,--inputs=-,a.alf,--costs,c",
+            "analyse a.alf main - c 100000 joins",
+        ),
+        (
+            "analyse,a.alf,--merge,none",
+            "analyse a.alf main - - 100000 none",
+        ),
+        (
+            "analyse,--merge=exits,a.alf",
+            "analyse a.alf main - - 100000 exits",
+        ),
+        (
+            "analyse,a.alf,--merge,joins",
+            "analyse a.alf main - - 100000 joins",
+        ),
+        (
+            "analyse,--merge,none,--turns=9,--inputs,i,--root,f,a.alf,--costs=c",
+            "analyse a.alf f i c 9 none",
         ),
         ("run,a.alf", "run a.alf main - - 100000"),
         (
@@ -174,7 +233,9 @@ fn other_words_are_no_command(rt: HostRuntime) -> Result<(), Fail> {
         "analyse,a.alf,--root",
         "analyse,a.alf,--root,-f",
         "analyse,a.alf,--root,f,--root,f",
-        "analyse,a.alf,--inputs,i.toml",
+        "analyse,a.alf,--inputs",
+        "analyse,a.alf,--inputs,-i",
+        "analyse,a.alf,--inputs,i,--inputs,i",
         "analyse,a.alf,--costs",
         "analyse,a.alf,--costs,c.toml,--costs,c.toml",
         "run",
@@ -189,8 +250,16 @@ fn other_words_are_no_command(rt: HostRuntime) -> Result<(), Fail> {
         "run,a.alf,--input,i",
         "print,a.alf,--root,f",
         "print,a.alf,--inputs,i",
-        "analyse,a.alf,--merge,joins",
+        "run,a.alf,--merge=none",
+        "analyse,a.alf,--merge",
+        "analyse,a.alf,--merge,",
+        "analyse,a.alf,--merge=",
         "analyse,a.alf,--merge,all",
+        "analyse,a.alf,--merge,None",
+        "analyse,a.alf,--merge,join",
+        "analyse,a.alf,--merge, joins",
+        "analyse,a.alf,--merge,joins,--merge,joins",
+        "analyse,a.alf,--merges,joins",
         "analyse,a.alf,--pivots,5",
         "analyse,a.alf,--cert",
         "print,a.c,b.c",

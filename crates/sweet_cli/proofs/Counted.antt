@@ -10,7 +10,7 @@ use Rattle.run_counts.specs.Counts.{Tells, outcome_of}
 use Rattle.run_counts.specs.declared.tally.Counted.{Counted}
 use Rattle.run_counts.specs.declared.tally.Counted.TheVariants as told
 use Rattle.cost_table.specs.CostTables.{CostTable}
-use Rattle.sweet_cli.specs.Facts.{node_cost}
+use Rattle.program_machines.specs.NodeCosts.{node_cost}
 use Rattle.sweet_cli.specs.Programs.{unranked}
 use Rattle.sweet_cli.specs.Counting.{CountedAs}
 use Rattle.sweet_cli.proofs.Numbers.{last_low, costs_same}

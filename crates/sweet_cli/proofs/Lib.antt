@@ -9,8 +9,9 @@ pub mod JudgedGraph
 pub mod JudgedTables
 pub mod JudgedUnit
 pub mod JudgedScopes
-pub mod Uptos
+pub mod JudgedReports
+pub mod Staying
 pub mod Numbers
 pub mod Counted
-pub mod Reported
+pub mod JudgedRuns
 pub mod Promises

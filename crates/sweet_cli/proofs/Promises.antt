@@ -1,5 +1,5 @@
 -- The promises of the commands, and of a run.
-use Rattle.std.proofs.Common.{◌≡◌, ℕ, List, [], Option, None, Some, IfSome, refl, ap, sym, ◌∙◌, subst}
+use Rattle.std.proofs.Common.{◌≡◌, ◌≤◌, ℕ, List, Vec, Global, Ok, Option, None, Some, IfSome, refl, ap, sym, ◌∙◌, subst, arith}
 use Rattle.flow_base.specs.Outside.{Files, Rose}
 use Rattle.flow_base.specs.Shelves.{ShelfState}
 use Rattle.flow_base.specs.Sinks.{SinkState}
@@ -14,24 +14,24 @@ use Rattle.alf_text.specs.CanonicalLaws.{CanonicalTextsSpell}
 use Rattle.work.specs.declared.status.Status.{Status}
 use Rattle.work.specs.declared.status.Status.TheVariants as statuses
 use Rattle.work.specs.Outcome.{Cause, Usage, Source, Example, Unbounded, No, Unread, Ending, Finished, Stopped, status_of, ending_status, ending_text, ending_unread}
-use Rattle.work.specs.Log.{Log}
-use Rattle.work.specs.Work.{Work, EndsSo}
-use Rattle.work.specs.Works.{Tells}
+use Rattle.work.specs.Log.{Log, log_of}
+use Rattle.work.specs.Work.{Work, IsOnly, EndsSo}
+use Rattle.work.specs.Works.{Tells, Works}
 use Rattle.work.specs.Run.{Wrote, IsAnswerOf}
 use Rattle.sweet_cli.specs.Task.{Task, KeepsPromise, Promised}
 use Rattle.sweet_cli.specs.Words.{AnalyseWords, RunWords}
-use Rattle.sweet_cli.specs.Facts.{IsSound}
 use Rattle.sweet_cli.specs.Programs.{program_in, checked_in, expanded_in, Expanded, meant}
 use Rattle.sweet_cli.specs.Tables.{inputs_in, inputs_told, costs_in, costs_told, Tables, tables_in, AreInputs, AreCosts}
-use Rattle.sweet_cli.specs.Scopes.{IsScoped, ScopedProgram, scoped_in}
-use Rattle.sweet_cli.specs.ReportText.{report_text}
-use Rattle.sweet_cli.specs.Analyse.{analysing, costs_of, expanded_program, scoped_program, IsSoundReport}
+use Rattle.sweet_cli.specs.Scopes.{ScopedProgram, scoped_in}
+use Rattle.sweet_cli.specs.Analyse.{policy_of, ReportMeans, analysing, IsSoundOf, IsSoundReport}
+use Rattle.flow_facts.specs.Reports.{Reported}
+use Rattle.fact_printer.specs.Canonical.{report_text}
+use Rattle.fact_text.specs.Language.{SpellsReport}
 use Rattle.c_text.specs.Laws.{PrintedUnitsAreReadBack}
 use Rattle.sweet_cli.specs.Print.{printing, IsSameProgram}
 use Rattle.sweet_cli.specs.Units.{unit_in}
 use Rattle.sweet_cli.specs.PrintC.{printing_c, IsSameUnit}
 use Rattle.sweet_cli.specs.Run.{running, IsRunText, TellsRun}
-use Rattle.sweet_cli.proofs.Reported.{report_is_sound}
 
 -- ---- told files
 
@@ -58,18 +58,12 @@ told_program file root files before expanded after (program, mid, (whole, log, (
   graph_is = subst (λ (e : Expanded). IsGraph e.program e.graph) (sym is) drawn.means;
 }
 
--- and so are its scopes
-pub record ToldScoped (file root : List ℕ) (files : Files) (program : ScopedProgram) : Type 0 where
-  pub program_told : ToldProgram file root files program.expanded
-  pub scoped_is : IsScoped program.expanded.graph program.scoped
-
+-- and so it is with its scopes
 told_scoped : (file root : List ℕ) (files : Files) (before : Log) (program : ScopedProgram) (after : Log) → (scoped_in file root).steps.Gives (Some files) before program after
-    → ToldScoped file root files program
+    → ToldProgram file root files program.expanded
 unfolding scoped_in
-told_scoped file root files before program after (expanded, mid, first, (scoped, end, (means, stays), (is, over))) = record {
-  program_told = subst (λ (p : ScopedProgram). ToldProgram file root files p.expanded) (sym is) (told_program file root files before expanded mid first);
-  scoped_is = subst (λ (p : ScopedProgram). IsScoped p.expanded.graph p.scoped) (sym is) means.means;
-}
+told_scoped file root files before program after (expanded, mid, first, (scoped, end, (means, stays), (is, over))) =
+    subst (λ (p : ScopedProgram). ToldProgram file root files p.expanded) (sym is) (told_program file root files before expanded mid first)
 
 told_costs : (program : NumberedProgram) (file : Option (List ℕ)) (files : Files) (before : Log) (costs : CostTable) (after : Log)
     → (costs_in program file).steps.Gives (Some files) before costs after → AreCosts file files program costs
@@ -93,32 +87,45 @@ told_tables program inputs costs files before tables after (rows, a, first, (spe
 
 -- ---- promises
 
--- a report that was made is sound
-pub prints_sound : (given : AnalyseWords) (told : Option Files) (before : Log) (text : List ℕ) (after : Log) → (analysing given).steps.Gives told before text after
-    → IfSome told (λ files. IsSoundReport given files text)
+-- a text that was printed is that of the order of work
+pub analysed : (given : AnalyseWords) (before mid end : ShelfState) (program : ScopedProgram) (tables : Tables) (report : Reported) (text : Vec ℕ Global)
+    → (scoped_in given.file given.root).steps.Gives before.files (log_of before) program (log_of mid) × (mid.failed ≡ before.failed) → mid.files ≡ before.files → before.faults ≤ mid.faults
+    → (tables_in program.expanded.program given.inputs given.costs).steps.Gives mid.files (log_of mid) tables (log_of end) × (end.failed ≡ mid.failed) → end.files ≡ mid.files → mid.faults ≤ end.faults
+    → IsOnly (ReportMeans program tables.rows tables.costs (policy_of given.merging) given.turns) (Ok report) → text.items ≡ report_text report
+    → Works (analysing given) (λ (t : Vec ℕ Global). t.items) before (Ok text) end
 unfolding analysing
-prints_sound given None before text after g = tt
-prints_sound given (Some files) before text after (scopes, a, first, (costs, b, second, (findings, c, (report, still), (shown, over)))) =
-    let told = told_scoped given.file given.root files before scopes a first in
-    let program = told.program_told in
-    let expanded = scopes.expanded in
-    let spent = told_costs expanded.program given.costs files a costs b second in
-    let sound = report_is_sound expanded.program expanded.graph.nodes costs given.turns findings program.graph_is.numbered report.means in
+analysed given before mid end program tables report text first same later second same_again later_again only is =
+    let read = subst (λ (told : Option Files). (tables_in program.expanded.program given.inputs given.costs).steps.Gives told (log_of mid) tables (log_of end)) same second.0 in
     record {
-      bytes = program.bytes;
-      whole = program.whole;
+      ends = ((program, log_of mid, first.0, (tables, log_of end, read, (report, log_of end, (only, refl), (is, refl)))), second.1 ∙ first.1);
+      same = same_again ∙ same;
+      later = omega (arith, later, later_again);
+    }
+
+-- a report that was printed is sound
+pub prints_sound : (given : AnalyseWords) (told : Option Files) (before mid later : Log) (program : ScopedProgram) (tables : Tables) (report : Reported) (text : List ℕ)
+    → (scoped_in given.file given.root).steps.Gives told before program mid → (tables_in program.expanded.program given.inputs given.costs).steps.Gives told mid tables later
+    → IsSoundOf program.expanded.program program.expanded.graph tables.rows tables.costs report → SpellsReport text report → IfSome told (λ files. IsSoundReport given files text)
+prints_sound given None before mid later program tables report text scopes read sound spelled = tt
+prints_sound given (Some files) before mid later program tables report text scopes read sound spelled =
+    let told = told_scoped given.file given.root files before program mid scopes in
+    let expanded = program.expanded in
+    let both = told_tables expanded.program given.inputs given.costs files mid tables later read in
+    record {
+      bytes = told.bytes;
+      whole = told.whole;
       graph = expanded.graph;
-      scoped = scopes.scoped;
-      costs = costs;
-      findings = findings;
-      told = program.told;
-      spelled = program.spelled;
-      passes = program.passes;
-      graph_is = subst (λ (p : NumberedProgram). IsGraph p expanded.graph) program.program_is program.graph_is;
-      scoped_is = told.scoped_is;
-      costs_told = subst (λ (p : NumberedProgram). AreCosts given.costs files p costs) program.program_is spent;
-      sound = subst (λ (p : NumberedProgram). IsSound p [] costs findings) program.program_is sound;
-      shown = shown ∙ ap (λ (p : NumberedProgram). report_text (scoped_program p expanded.graph scopes.scoped) (costs_of (expanded_program p expanded.graph) costs) findings) program.program_is;
+      rows = tables.rows;
+      costs = tables.costs;
+      report = report;
+      told = told.told;
+      spelled = told.spelled;
+      passes = told.passes;
+      graph_is = subst (λ (p : NumberedProgram). IsGraph p expanded.graph) told.program_is told.graph_is;
+      rows_told = subst (λ (p : NumberedProgram). AreInputs given.inputs files p tables.rows) told.program_is both.0;
+      costs_told = subst (λ (p : NumberedProgram). AreCosts given.costs files p tables.costs) told.program_is both.1;
+      shown = spelled;
+      sound = subst (λ (p : NumberedProgram). IsSoundOf p expanded.graph tables.rows tables.costs report) told.program_is sound;
     }
 
 -- a run that was told is that of the program
@@ -127,7 +134,7 @@ pub tells_run : (given : RunWords) (told : Option Files) (before : Log) (text : 
 unfolding running
 tells_run given None before text after g = tt
 tells_run given (Some files) before text after (scopes, a, first, (tables, b, second, (told, c, (run, still), (is, over)))) =
-    let program = (told_scoped given.file given.root files before scopes a first).program_told in
+    let program = told_scoped given.file given.root files before scopes a first in
     let expanded = scopes.expanded in
     let both = told_tables expanded.program given.inputs given.costs files a tables b second in
     record {

@@ -6,24 +6,17 @@ use Rattle.lists.specs.Members.{all_members}
 use Rattle.alf_check.specs.CheckedPrograms.{NumberedProgram, BlockEnding, Fall, Jump, Switch, Call, Return}
 use Rattle.flow_graph.specs.Nodes.{Node, Goal, ending_at, callee_of, function_at, BackLeads, ReturnLeads, EndLeads, PlaceLeads, Leads, IsKeptNode, first, goes_on}
 use Rattle.flow_graph.specs.Names.{quoted, name_at, path_name, block_word, node_name}
+use Rattle.unranked_analyses.specs.Ranking.{with_ranks, function_same}
 use Rattle.flow_graph.specs.Numbering.{IsNumbering, IsStep, IsEdges, HasMoreNodes, HasMoreEdges, GraphParts, IsGraph}
-
--- the program with these ranks
-abbrev pub with_ranks : NumberedProgram → List ℕ → NumberedProgram
-with_ranks p ranks = record { frames = p.frames; funcs = p.funcs; inits = p.inits; exports = p.exports; root = p.root; ranks = ranks }
 
 -- what holds of all members holds of them with other ranks
 each : {X : Type 0} (P Q : X → Type 0) (xs : List X) → ((x : X) → P x → Q x) → All P xs → All Q xs
 each P Q xs f all = all_members Q xs (λ x c. f x (All-contains P xs x all c))
 
 module _ (p : NumberedProgram) (r s : List ℕ) where
-  pub function_same : (path : List ℕ) → function_at (with_ranks p s) path ≡ function_at (with_ranks p r) path
-  function_same [] = refl
-  function_same (b ∷ path) = ap (λ (f : ℕ). callee_of (ending_at p f b)) (function_same path)
-
   return_leads : (path : List ℕ) (goal : Goal) → ReturnLeads (with_ranks p r) path goal → ReturnLeads (with_ranks p s) path goal
   return_leads [] goal h = h
-  return_leads (b ∷ path) goal h = subst (λ (f : ℕ). BackLeads path (ending_at p f b) goal) (sym (function_same path)) h
+  return_leads (b ∷ path) goal h = subst (λ (f : ℕ). BackLeads path (ending_at p f b) goal) (sym (function_same p r s path)) h
 
   end_leads : (path : List ℕ) (b : ℕ) (ending : Option BlockEnding) (goal : Goal) → EndLeads (with_ranks p r) path b ending goal → EndLeads (with_ranks p s) path b ending goal
   end_leads path b None goal h = h
@@ -36,7 +29,7 @@ module _ (p : NumberedProgram) (r s : List ℕ) where
   place_leads : (path : List ℕ) (block : Option ℕ) (goal : Goal) → PlaceLeads (with_ranks p r) path block goal → PlaceLeads (with_ranks p s) path block goal
   place_leads path None goal h = h
   place_leads path (Some b) goal h =
-      subst (λ (f : ℕ). EndLeads (with_ranks p s) path b (ending_at p f b) goal) (sym (function_same path)) (end_leads path b (ending_at p (function_at (with_ranks p r) path) b) goal h)
+      subst (λ (f : ℕ). EndLeads (with_ranks p s) path b (ending_at p f b) goal) (sym (function_same p r s path)) (end_leads path b (ending_at p (function_at (with_ranks p r) path) b) goal h)
 
   pub leads : (node : Node) (goal : Goal) → Leads (with_ranks p r) node goal → Leads (with_ranks p s) node goal
   leads node goal h = place_leads node.path node.block goal h
@@ -52,7 +45,7 @@ module _ (p : NumberedProgram) (r s : List ℕ) where
   path_same [] = refl
   path_same (b ∷ path) =
       ap (λ (text : List ℕ). text ++ (46 ∷ (decimal b ++ quoted (name_at p (callee_of (ending_at p (function_at (with_ranks p s) path) b)))))) (path_same path)
-      ∙ ap (λ (f : ℕ). path_name (with_ranks p r) path ++ (46 ∷ (decimal b ++ quoted (name_at p (callee_of (ending_at p f b)))))) (function_same path)
+      ∙ ap (λ (f : ℕ). path_name (with_ranks p r) path ++ (46 ∷ (decimal b ++ quoted (name_at p (callee_of (ending_at p f b)))))) (function_same p r s path)
 
   name_same : (node : Node) → node_name (with_ranks p s) node ≡ node_name (with_ranks p r) node
   name_same node = ap (λ (text : List ℕ). text ++ (58 ∷ block_word node.block)) (path_same node.path)

@@ -13,7 +13,7 @@ use Rattle.alf_runs.specs.Outcomes.{Outcome}
 use Rattle.alf_runs.specs.Steps.{Moment, At, Over, frames_of, result_step, go_back, leave, return_step, call_step, ending_step, then_ending, block_step, node_step, step}
 use Rattle.alf_runs.specs.Runs.{after, trace, Ends}
 use Rattle.run_counts.specs.Traces.{Runs, IsPast}
-use Rattle.sweet_cli.proofs.Ranks.{with_ranks, function_same}
+use Rattle.unranked_analyses.specs.Ranking.{with_ranks, function_same}
 
 module _ (p : NumberedProgram) (r s : List ℕ) where
   result_same : (path : List ℕ) (next : ℕ) (to : Option (ℕ × ℕ)) (value : Option Value) (history : List RunEvent)
@@ -87,7 +87,7 @@ module _ (p : NumberedProgram) (r s : List ℕ) where
       ap (λ (nodes : List Node). node ∷ nodes) (ap (trace (with_ranks p s) t) (step_same (At node history)) ∙ trace_same t (step (with_ranks p r) (At node history)))
   trace_same (suc t) (Over outcome) = refl
 
-  ends : (start : Moment) (nodes : List Node) (outcome : Outcome) → Ends (with_ranks p r) start nodes outcome → Ends (with_ranks p s) start nodes outcome
+  pub ends : (start : Moment) (nodes : List Node) (outcome : Outcome) → Ends (with_ranks p r) start nodes outcome → Ends (with_ranks p s) start nodes outcome
   ends start nodes outcome h = record { steps = h.steps; over = after_same h.steps start ∙ h.over; passes = trace_same h.steps start ∙ h.passes }
 
   -- a run is one with other ranks too, with the same nodes and the same cost

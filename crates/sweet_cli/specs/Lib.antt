@@ -1,4 +1,4 @@
--- Words, facts, lines, commands, and the laws of answers.
+-- Words, lines, commands, and the laws of answers.
 
 -- words
 pub mod Words
@@ -7,10 +7,7 @@ pub mod FaultLines
 pub mod UnitLines
 pub mod CheckLines
 pub mod FaultWords
--- facts, reports and what is told of a run
-pub mod Facts
-pub mod Listed
-pub mod ReportText
+-- what is told of a run
 pub mod RunText
 -- commands, a file each, and their table
 pub mod Task
@@ -18,6 +15,7 @@ pub mod Programs
 pub mod Units
 pub mod Seen
 pub mod Scopes
+pub mod LeftLines
 pub mod Counting
 pub mod Tables
 pub mod Analyse

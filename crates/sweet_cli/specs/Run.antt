@@ -1,4 +1,5 @@
 -- `run FILE`: one run of the program, told.
+--   IsLeft program start turns outcome   a run has more nodes than the turns, and this is the outcome
 --   low_start program rows       the start whose inputs are the low ends of their ranges
 --   IsRunText expanded rows costs turns text   the text tells the run from there, which has no more nodes than the turns
 --   RunMeans program rows costs turns meaning     this text, or that the run has more nodes than the turns
@@ -17,18 +18,24 @@ use Rattle.alf_runs.specs.Outcomes.{Outcome as RunOutcome}
 use Rattle.alf_runs.specs.Steps.{Moment}
 use Rattle.alf_runs.specs.Starts.{start, words_of}
 use Rattle.alf_runs.specs.Runs.{cost_of}
-use Rattle.run_counts.specs.Traces.{Runs, last_of}
+use Rattle.run_counts.specs.Traces.{Runs, IsPast, last_of}
 use Rattle.cost_table.specs.CostTables.{CostTable}
-use Rattle.work.specs.Outcome.{Outcome}
+use Rattle.program_machines.specs.NodeCosts.{node_cost}
+use Rattle.work.specs.Outcome.{Outcome, Unbounded}
 use Rattle.work.specs.Work.{Work, judged, done, ◌>>=◌}
 use Rattle.sweet_cli.specs.Words.{RunWords}
 use Rattle.sweet_cli.specs.Programs.{Expanded, meant}
 use Rattle.sweet_cli.specs.Scopes.{ScopedProgram, scoped_in}
 use Rattle.sweet_cli.specs.Tables.{tables_in, AreInputs, AreCosts}
-use Rattle.sweet_cli.specs.Facts.{node_cost}
 use Rattle.sweet_cli.specs.RunText.{run_text}
-use Rattle.sweet_cli.specs.Analyse.{IsLeft}
+use Rattle.sweet_cli.specs.LeftLines.{unbounded_line}
 use Rattle.sweet_cli.specs.Task.{Task}
+
+-- the run has more nodes than the turns, and the outcome tells the scope of the node that comes after so many
+pub record IsLeft (program : ScopedProgram) (begin : Moment) (turns : ℕ) (outcome : Outcome) : Type 0 where
+  pub node : ℕ
+  pub past : IsPast program.expanded.program program.expanded.graph.nodes begin turns node
+  pub line : outcome ≡ record { cause = Unbounded; text = unbounded_line program node }
 
 -- the words of the low ends of the ranges
 abbrev pub low_words : List InputRow → List ℕ

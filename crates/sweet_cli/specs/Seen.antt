@@ -1,10 +1,14 @@
 -- What the code's values stand for.
 --   expanded_of value     the program, without its ranks, and its graph
 --   scoped_of value       a program with its scopes
+--   IsOutlined graph outline   the outline is that of the graph, with the names of its nodes
 --   tables_of value       rows and costs
-use Rattle.std.specs.Prelude.{map}
+use Rattle.std.specs.Prelude.{◌≡◌, map}
 use Rattle.alf_check.specs.CheckedPrograms.{seen}
-use Rattle.domain_core.specs.Outlines.{Outlined}
+use Rattle.domain_core.specs.Outlines.{Outlined, shape_of}
+use Rattle.domain_core.specs.OutlineOf.{IsOutlineOf}
+use Rattle.flow_graph.specs.Numbering.{GraphParts}
+use Rattle.scope_graph.specs.Placing.{plan_of}
 use Rattle.sweet_cli.specs.declared.commands.programs.Expanded.{Expanded as Value}
 use Rattle.sweet_cli.specs.declared.commands.tables.Tables.{Tables as TablesValue}
 use Rattle.sweet_cli.specs.declared.commands.scopes.ScopedProgram.{ScopedProgram as ScopedValue}
@@ -27,3 +31,8 @@ scopes_seen outline = record { own = map (λ row. row.scope) outline.nodes; scop
 -- a program with its scopes
 abbrev pub scoped_of : ScopedValue → ScopedProgram
 scoped_of value = record { expanded = expanded_of value.expanded; scoped = scopes_seen value.outline }
+
+-- the outline is that of the graph, with the names of its nodes
+pub record IsOutlined (graph : GraphParts) (outline : Outlined) : Type 0 where
+  pub outline_is : IsOutlineOf (plan_of graph) (shape_of outline)
+  pub named : map (λ row. row.name.items) outline.nodes ≡ graph.names

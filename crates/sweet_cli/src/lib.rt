@@ -10,11 +10,8 @@
 // What the words say.
 mod words;
 
-// Facts, reports, and what stands in them.
-mod fact;
-mod findings;
+// What nodes cost.
 mod node_costs;
-mod report;
 
 // The lines of answers.
 mod lines;
@@ -26,6 +23,6 @@ mod top;
 // Laws of answers.
 mod laws;
 
-pub use laws::one_answer;
+pub use laws::{one_answer, reports_stay};
 pub use top::{run, run_in_memory};
 pub use work::Status;

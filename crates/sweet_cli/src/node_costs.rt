@@ -4,7 +4,7 @@ ghost use Rattle.std.specs.Prelude.{◌≡◌, ◌<◌, map, IfOk, slice_get, So
 ghost use Rattle.alf_check.specs.CheckedPrograms.{NumberedProgram};
 ghost use Rattle.flow_graph.specs.Nodes.{Node};
 ghost use Rattle.flow_graph.specs.Numbering.{IsGraph};
-ghost use Rattle.sweet_cli.specs.Facts.{node_cost};
+ghost use Rattle.program_machines.specs.NodeCosts.{node_cost};
 
 use cost_table::Costs;
 use flow_graph::Graph;

@@ -6,9 +6,11 @@
 mod answers;
 #[cfg(test)]
 mod notation;
+#[cfg(test)]
+mod programs;
 
-// Words, texts of ALF and of C, faults of what is read, reports, runs, files and sinks that fail, and the
-// codes of all answers.
+// Words, texts of ALF and of C, faults of what is read, reports without and with inputs, runs, files and
+// sinks that fail, and the codes of all answers.
 #[cfg(test)]
 mod c_texts;
 #[cfg(test)]
@@ -17,6 +19,8 @@ mod codes;
 mod faults;
 #[cfg(test)]
 mod outside;
+#[cfg(test)]
+mod ranges;
 #[cfg(test)]
 mod reports;
 #[cfg(test)]

@@ -30,11 +30,15 @@ analyse a.alf --root -f
 analyse a.alf --root main --root main
 analyse a.alf --costs
 analyse a.alf --costs c.toml --costs=c.toml
-analyse a.alf --inputs i.toml
-analyse a.alf --inputs=i.toml
-analyse --inputs i.toml a.alf
-analyse a.alf --merge joins
+analyse a.alf --inputs
+analyse a.alf --inputs -i.toml
+analyse a.alf --inputs i.toml --inputs=i.toml
+analyse a.alf --merge
+analyse a.alf --merge=
 analyse a.alf --merge all
+analyse a.alf --merge Joins
+analyse a.alf --merge none --merge none
+run a.alf --merge none
 analyse a.alf --pivots 1000
 analyse a.alf --cert
 analyse a.alf -- --root main
@@ -198,7 +202,7 @@ fn options_stand_in_any_order_and_form(rt: HostRuntime) -> Result<(), Fail> {
         let files = three_files(alloc, program.as_str(), "[[", COSTS)?;
         let found = told(alloc, line, files)?;
         let wanted = if line.contains("3") {
-            r#"0 facts 1;node 0 0 0 "f":entry;node 1 0 2 "f":0;node 2 1 2 "f":1;node 3 1 5 "f":2;node 4 0 2 "f":3;scope 0 - 0 call;scope 1 0 2 loop;dead 3;dead 4;total 0 1 1;total 1 1 1;total 2 1 1;alarm 2 uninit;count-bound 4;end;"#
+            r#"0 facts 2;node 0 0 0 "f":entry;node 1 0 2 "f":0;node 2 1 2 "f":1;node 3 1 5 "f":2;node 4 0 2 "f":3;scope 0 - 0 call;scope 1 0 2 loop;loop 1 1 1;dead 3;dead 4;total 0 1 1;total 1 1 1;total 2 1 1;alarm 2 uninit;count-bound 4;end;"#
         } else {
             "3 unbounded 1 \"f\":1;"
         };

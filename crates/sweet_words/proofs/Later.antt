@@ -1,12 +1,14 @@
 -- The commands that are to come, as a table that the same proof carries.
-use Rattle.std.specs.Prelude.{◌≡◌, true, List, [], ◌∷◌, Option, None, Some, option_map, codes}
+use Rattle.std.specs.Prelude.{◌≡◌, true, List, [], ◌∷◌, None, Some, option_map, codes}
 use Rattle.std.specs.Str.{chars}
 use Rattle.std.proofs.Common.{refl}
 use Rattle.clap.specs.Walk.{rows_after}
 use Rattle.clap.specs.Faults.{fault_of, is_simple_and_free}
-use Rattle.sweet_words.specs.Forms.{Text, Form, form_named, named, print_form}
+use Rattle.sweet_words.specs.Forms.{Text, Form, form_named, print_form}
 use Rattle.sweet_words.specs.Given.{given, uses_of, value_in, Uses}
 use Rattle.sweet_words.specs.Numbers.{number_or}
+use Rattle.sweet_words.specs.Merges.{merging_or_joins}
+use Rattle.sweet_words.specs.declared.merging.Merging.TheVariants.{Exits, Joins}
 use Rattle.sweet_words.specs.Shapes.{program_of}
 use Rattle.sweet_words.proofs.Walking.{built_rules, guard}
 use Rattle.sweet_words.proofs.Closing.{rows_with_defaults}
@@ -154,21 +156,13 @@ one_positional_of_two = refl
 
 -- ---- values of further kinds
 
--- a word of a list, or `other` where the option is left out
-abbrev word_or : Text → List Text → Option Text → Option Text
-word_or other words None = Some other
-word_or other words (Some text) = named text words
-
-abbrev merges : List Text
-merges = codes "none" ∷ codes "exits" ∷ codes "joins" ∷ []
-
-a_word_of_the_list : word_or (codes "joins") merges (value_in analyse used (codes "merge")) ≡ Some (codes "exits")
+a_word_of_the_list : merging_or_joins (value_in analyse used (codes "merge")) ≡ Some Exits
 a_word_of_the_list = refl
 
-a_word_that_is_left_out : word_or (codes "joins") merges (value_in analyse [] (codes "merge")) ≡ Some (codes "joins")
+a_word_that_is_left_out : merging_or_joins (value_in analyse [] (codes "merge")) ≡ Some Joins
 a_word_that_is_left_out = refl
 
-another_word : word_or (codes "joins") merges (Some (codes "all")) ≡ None
+another_word : merging_or_joins (Some (codes "all")) ≡ None
 another_word = refl
 
 a_number_of_a_range : number_or 100000 1 1000000 (value_in analyse used (codes "turns")) ≡ Some 24

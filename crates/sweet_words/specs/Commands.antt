@@ -2,21 +2,27 @@
 --   AnalyseWords, RunWords   what `analyse` and `run` are given
 --   Command      a command, with what it was given
 --   file_of      the file that a command names
+--   HasFewTurns  the turns that a command was given, if it takes some, are at most 1,000,000
 --   command_of   the command of the words, where they are one
-use Rattle.std.specs.Prelude.{ℕ, List, [], ◌∷◌, Option, None, if◌then◌else◌, codes, option_map, option_and_then, unwrap_or}
+use Rattle.std.specs.Prelude.{◌≤◌, ℕ, List, [], ◌∷◌, Option, None, if◌then◌else◌, codes, option_map, option_and_then, unwrap_or}
 use Rattle.std.specs.Str.{bytes_eq}
 use Rattle.sweet_words.specs.Forms.{Text, Form, forms, form_named}
 use Rattle.sweet_words.specs.Given.{uses_of, value_in}
 use Rattle.sweet_words.specs.Numbers.{number_or, is_c, program_file}
+use Rattle.sweet_words.specs.Merges.{merging_or_joins}
+use Rattle.sweet_words.specs.declared.merging.Merging.{Merging}
 
--- what `analyse` is given: the file of the program, the function that it starts with, the file of costs, and the most turns
+-- what `analyse` is given: the file of the program, the function that it starts with, the files of inputs and of costs,
+-- the most turns, and where states are merged
 pub record AnalyseWords : Type 0 where
   pub file : Text
   pub root : Text
+  pub inputs : Option Text
   pub costs : Option Text
   pub turns : ℕ
+  pub merging : Merging
 
--- what `run` is given: the same, and the file of inputs
+-- what `run` is given: the same, but that nothing is merged
 pub record RunWords : Type 0 where
   pub file : Text
   pub root : Text
@@ -40,6 +46,13 @@ file_of (Print file) = file
 file_of (PrintC file) = file
 file_of (Run given) = given.file
 
+-- the turns that a command was given are at most 1,000,000
+abbrev pub HasFewTurns : Command → Type 0
+HasFewTurns (Analyse given) = given.turns ≤ 1000000
+HasFewTurns (Print file) = Unit {0}
+HasFewTurns (PrintC file) = Unit {0}
+HasFewTurns (Run given) = given.turns ≤ 1000000
+
 -- the name of the root function, which is `main` where it is left out
 abbrev pub root_in : (Text → Option Text) → Text
 root_in value = unwrap_or (value (codes "root")) (codes "main")
@@ -48,12 +61,21 @@ root_in value = unwrap_or (value (codes "root")) (codes "main")
 abbrev pub turns_in : (Text → Option Text) → Option ℕ
 turns_in value = number_or 100000 1 1000000 (value (codes "turns"))
 
--- `analyse FILE --root NAME --costs FILE --turns N`
-abbrev pub analyse_words : (Text → Option Text) → Text → ℕ → AnalyseWords
-analyse_words value file turns = record { file = file; root = root_in value; costs = value (codes "costs"); turns = turns }
+-- states are merged everywhere where the words do not say
+abbrev pub merging_in : (Text → Option Text) → Option Merging
+merging_in value = merging_or_joins (value (codes "merge"))
+
+-- `analyse FILE --root NAME --inputs FILE --costs FILE --turns N --merge none|exits|joins`
+abbrev pub analyse_words : (Text → Option Text) → Text → ℕ → Merging → AnalyseWords
+analyse_words value file turns merging =
+    record { file = file; root = root_in value; inputs = value (codes "inputs"); costs = value (codes "costs"); turns = turns; merging = merging }
+
+-- with such turns
+abbrev pub analyse_with : (Text → Option Text) → Text → ℕ → Option Command
+analyse_with value file turns = option_map (λ merging. Analyse (analyse_words value file turns merging)) (merging_in value)
 
 abbrev pub analyse_of : (Text → Option Text) → Option Command
-analyse_of value = option_and_then (λ file. option_map (λ turns. Analyse (analyse_words value file turns)) (turns_in value)) (program_file (value (codes "file")))
+analyse_of value = option_and_then (λ file. option_and_then (analyse_with value file) (turns_in value)) (program_file (value (codes "file")))
 
 -- `print FILE`: a file whose name ends in `.c` is one of C
 abbrev pub print_words : Text → Command

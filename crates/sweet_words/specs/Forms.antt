@@ -22,7 +22,12 @@ abbrev pub named : Text → List Text → Option Text
 named text names = find (λ name. bytes_eq name text) names
 
 abbrev pub analyse_form : Form
-analyse_form = record { name = codes "analyse"; positionals = codes "file" ∷ []; values = codes "root" ∷ codes "costs" ∷ codes "turns" ∷ []; flags = [] }
+analyse_form = record {
+  name = codes "analyse";
+  positionals = codes "file" ∷ [];
+  values = codes "root" ∷ codes "inputs" ∷ codes "costs" ∷ codes "turns" ∷ codes "merge" ∷ [];
+  flags = [];
+}
 
 abbrev pub print_form : Form
 print_form = record { name = codes "print"; positionals = codes "file" ∷ []; values = []; flags = [] }

@@ -9,7 +9,14 @@ use Rattle.sweet_words.specs.declared.command.Command.TheVariants as value
 use Rattle.sweet_words.specs.Commands.{AnalyseWords, RunWords, Command, Analyse, Print, PrintC, Run}
 
 abbrev pub analyse_meant : AnalyseValue → AnalyseWords
-analyse_meant given = record { file = given.file.now; root = given.root.now; costs = option_map (λ name. name.now) given.costs; turns = given.turns }
+analyse_meant given = record {
+  file = given.file.now;
+  root = given.root.now;
+  inputs = option_map (λ name. name.now) given.inputs;
+  costs = option_map (λ name. name.now) given.costs;
+  turns = given.turns;
+  merging = given.merging;
+}
 
 abbrev pub run_meant : RunValue → RunWords
 run_meant given = record {

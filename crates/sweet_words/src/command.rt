@@ -1,24 +1,29 @@
 //! The commands, each with what it was given.
-ghost use Rattle.std.specs.Prelude.{◌≡◌, option_map};
+ghost use Rattle.std.specs.Prelude.{◌≡◌, ◌≤◌, option_map, IfSome};
 ghost use Rattle.clap.specs.Words.{first_value, found_of};
-ghost use Rattle.sweet_words.specs.Commands.{analyse_of, command_named, print_of, print_words, root_in, run_of, turns_in};
+ghost use Rattle.sweet_words.specs.Commands.{HasFewTurns, analyse_of, command_named, merging_in, print_of, print_words, root_in, run_of, turns_in};
 ghost use Rattle.sweet_words.specs.Meant.{command_meant};
 
+use crate::merging::{Merging, merging_or_joins};
 use crate::values::{is_c, number, program_file};
 use clap::ArgMatches;
 
 /// What `analyse` is given: the name of the program's file, that of the function that it starts with,
-/// which is `main` where the words do not say, the name of the costs file, and the most nodes that a
-/// run may have, 1 to 1,000,000, and 100,000 where the words do not say.
+/// which is `main` where the words do not say, the names of the inputs file and of the costs file, the
+/// most turns of the exploration, 1 to 1,000,000, and 100,000 where the words do not say, and where
+/// states are merged.
 #[derive(Clone, Copy)]
 pub struct AnalyseWords<'a> {
     pub file: &'a str,
     pub root: &'a str,
+    pub inputs: Option<&'a str>,
     pub costs: Option<&'a str>,
     pub turns: u32,
+    pub merging: Merging,
 }
 
-/// What `run` is given: the same, and the name of the inputs file.
+/// What `run` is given: the same, where the turns are the most nodes that the run may have, and nothing
+/// is merged.
 #[derive(Clone, Copy)]
 pub struct RunWords<'a> {
     pub file: &'a str,
@@ -41,7 +46,8 @@ pub enum Command<'a> {
 
 // The command of this name, with the values that it was given.
 pub fn named<'a>(name: &str, given: &ArgMatches<'a>) -> Option<Command<'a>>
-    ensures { option_map command_meant result ≡ command_named name.now (first_value (found_of given.now)) }
+    ensures command { option_map command_meant result ≡ command_named name.now (first_value (found_of given.now)) }
+    ensures turns { IfSome result (λ command. HasFewTurns (command_meant command)) }
 {
     match name {
         "analyse" => analyse(given),
@@ -63,26 +69,39 @@ fn root<'a>(given: &ArgMatches<'a>) -> &'a str
 
 // The most turns.
 fn turns(given: &ArgMatches<'_>) -> Option<u32>
-    ensures { result ≡ turns_in (first_value (found_of given.now)) }
+    ensures turns { result ≡ turns_in (first_value (found_of given.now)) }
+    ensures few { IfSome result (λ turns. turns ≤ 1000000) }
 {
     number(given.get_str("turns"), 100_000, 1, 1_000_000)
 }
 
+// Where states are merged.
+fn merging(given: &ArgMatches<'_>) -> Option<Merging>
+    ensures { result ≡ merging_in (first_value (found_of given.now)) }
+{
+    merging_or_joins(given.get_str("merge"))
+}
+
 fn analyse<'a>(given: &ArgMatches<'a>) -> Option<Command<'a>>
-    ensures { option_map command_meant result ≡ analyse_of (first_value (found_of given.now)) }
+    ensures command { option_map command_meant result ≡ analyse_of (first_value (found_of given.now)) }
+    ensures turns { IfSome result (λ command. HasFewTurns (command_meant command)) }
 {
     let file = program_file(given.get_str("file"))?;
     let turns = turns(given)?;
+    let merging = merging(given)?;
     Some(Command::Analyse(AnalyseWords {
         file,
         root: root(given),
+        inputs: given.get_str("inputs"),
         costs: given.get_str("costs"),
         turns,
+        merging,
     }))
 }
 
 fn print<'a>(given: &ArgMatches<'a>) -> Option<Command<'a>>
-    ensures { option_map command_meant result ≡ print_of (first_value (found_of given.now)) }
+    ensures command { option_map command_meant result ≡ print_of (first_value (found_of given.now)) }
+    ensures turns { IfSome result (λ command. HasFewTurns (command_meant command)) }
 {
     let file = given.get_str("file")?;
     Some(printed(file))
@@ -90,7 +109,8 @@ fn print<'a>(given: &ArgMatches<'a>) -> Option<Command<'a>>
 
 // What `print` prints, by the name of the file.
 fn printed<'a>(file: &'a str) -> Command<'a>
-    ensures { command_meant result ≡ print_words file.entry.now }
+    ensures command { command_meant result ≡ print_words file.entry.now }
+    ensures turns { HasFewTurns (command_meant result) }
 {
     if is_c(file) {
         Command::PrintC(file)
@@ -100,7 +120,8 @@ fn printed<'a>(file: &'a str) -> Command<'a>
 }
 
 fn run<'a>(given: &ArgMatches<'a>) -> Option<Command<'a>>
-    ensures { option_map command_meant result ≡ run_of (first_value (found_of given.now)) }
+    ensures command { option_map command_meant result ≡ run_of (first_value (found_of given.now)) }
+    ensures turns { IfSome result (λ command. HasFewTurns (command_meant command)) }
 {
     let file = program_file(given.get_str("file"))?;
     let turns = turns(given)?;

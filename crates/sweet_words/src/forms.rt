@@ -14,7 +14,7 @@ pub static FORMS: [Form; 3] = [
     Form {
         name: "analyse",
         positionals: &["file"],
-        values: &["root", "costs", "turns"],
+        values: &["root", "inputs", "costs", "turns", "merge"],
         flags: &[],
     },
     Form {

@@ -11,6 +11,7 @@ mod program;
 
 // What the words give.
 mod command;
+mod merging;
 mod reading;
 mod values;
 
@@ -19,4 +20,5 @@ mod laws;
 
 pub use command::{AnalyseWords, Command, RunWords};
 pub use laws::options_stand_freely;
+pub use merging::Merging;
 pub use reading::{WordsFault, read};

@@ -1,5 +1,5 @@
 //! The values of positionals and options.
-ghost use Rattle.std.specs.Prelude.{◌≡◌, ◌<◌, option_map};
+ghost use Rattle.std.specs.Prelude.{◌≡◌, ◌≤◌, option_map, IfSome};
 ghost use Rattle.std.specs.Char.{is_ascii_digit};
 ghost use Rattle.std.specs.List.{list_all};
 ghost use Rattle.sweet_words.specs.Numbers.{is_c, is_number, number_in, number_or, program_file as file_told};
@@ -26,7 +26,9 @@ pub fn is_c(file: &str) -> bool
 
 // The number of the option, or `other` where it is left out.
 pub fn number(text: Option<&str>, other: u32, least: u32, most: u32) -> Option<u32>
-    ensures { result ≡ number_or other least most (option_map (λ s. s.now) text.entry) }
+    requires { other ≤ most }
+    ensures number { result ≡ number_or other least most (option_map (λ s. s.now) text.entry) }
+    ensures within { IfSome result (λ number. number ≤ most) }
 {
     match text {
         Some(text) => number_within(text, least, most),
@@ -35,7 +37,8 @@ pub fn number(text: Option<&str>, other: u32, least: u32, most: u32) -> Option<u
 }
 
 fn number_within(text: &str, least: u32, most: u32) -> Option<u32>
-    ensures { result ≡ number_in least most text.now }
+    ensures number { result ≡ number_in least most text.now }
+    ensures within { IfSome result (λ number. number ≤ most) }
 {
     if !is_numeral(text) {
         return None;

@@ -1,95 +1,134 @@
-//! `analyse FILE`: the report of the program's one run.
+//! `analyse FILE`: what is told of all runs of the program.
 
-ghost use Rattle.std.specs.Prelude.{◌≡◌, IfOk, IfSome};
-ghost use Rattle.alf_check.specs.CheckedPrograms.{seen};
+ghost use Rattle.std.specs.Prelude.{◌≡◌, ◌≤◌, IfOk, IfSome};
+ghost use Rattle.alf_check.specs.CheckedPrograms.{NumberedProgram, seen};
+ghost use Rattle.alf_check.specs.Inputs.{KeepInputs};
 ghost use Rattle.flow_graph.specs.Numbering.{IsGraph};
+ghost use Rattle.flow_facts.specs.Reports.{reported};
+ghost use Rattle.flow_facts.specs.Writable.{IsWritable};
+ghost use Rattle.program_machines.specs.NodeCosts.{HasCosts};
 ghost use Rattle.work.specs.Works.{Works, Judges};
-ghost use Rattle.sweet_cli.specs.Facts.{findings_of};
 ghost use Rattle.sweet_cli.specs.Words.{analyse_meant};
-ghost use Rattle.sweet_cli.specs.Seen.{scoped_of};
-ghost use Rattle.sweet_cli.specs.ReportText.{report_text};
-ghost use Rattle.sweet_cli.specs.Analyse.{ReportMeans, costs_of, analysing, IsSoundReport};
+ghost use Rattle.sweet_cli.specs.Programs.{unranked};
+ghost use Rattle.sweet_cli.specs.Seen.{IsOutlined, scoped_of};
+ghost use Rattle.sweet_cli.specs.Analyse.{ReportMeans, IsSoundOf, IsSoundReport, analysing, policy_of};
 
-use crate::commands::counting::counted;
 use crate::commands::scopes::{ScopedProgram, scoped_in};
-use crate::commands::tables::costs_in;
-use crate::findings::report;
-use crate::lines::{text_of, unbounded_line};
-use crate::node_costs::node_costs;
-use crate::report::Report;
-use crate::words::AnalyseWords;
-use alf_runs::a_run_has_one_end;
+use crate::commands::tables::{Tables, tables_in};
+use crate::lines::left_line;
+use crate::words::{AnalyseWords, Merging};
 use cost_table::Costs;
+use fact_text::print;
 use flow_base::Shelf;
-use flow_graph::graphs_are_expansions;
-use run_counts::Counted;
-use std::alloc::{AllocError, Global};
+use flow_facts::Report;
+use pool_events::Policy;
+use program_analysis::{Analysed, set_costs};
+use std::alloc::Global;
+use unranked_analyses::ranks_have_no_part;
 use work::{Stop, Why};
 
 /// The text of the report.
+#[tactic(auto, unfolding(crate::specs::Analyse::analysing))]
 pub fn analyse<F: Shelf>(
     alloc: Global,
     given: AnalyseWords<'_>,
     shelf: &mut F,
 ) -> Result<Vec<u8>, Stop>
+    requires turns { given.turns ≤ 1000000 }
     ensures work { Works (analysing (analyse_meant given.entry)) (λ text. text.items) (F.state shelf.old) result (F.state shelf.new) }
     ensures promise { IfOk result (λ text. IfSome (F.state shelf.old).files (λ files. IsSoundReport (analyse_meant given.entry) files text.items)) }
 {
-    let text = analysing(alloc, given, shelf)?;
-    Ok(text)
-}
-
-// The order of work.
-#[tactic(auto, unfolding(crate::specs::Analyse::analysing))]
-fn analysing<F: Shelf>(
-    alloc: Global,
-    given: AnalyseWords<'_>,
-    shelf: &mut F,
-) -> Result<Vec<u8>, Stop>
-    ensures { Works (analysing (analyse_meant given.entry)) (λ text. text.items) (F.state shelf.old) result (F.state shelf.new) }
-{
     let program = scoped_in(alloc, given.file, given.root, shelf)?;
-    let costs = costs_in(alloc, &program.expanded.checked, given.costs, shelf)?;
-    let report = run_report(alloc, &program, &costs, given.turns)?;
-    let text = report_text(alloc, &program, &costs, &report)?;
+    let tables = tables_in(
+        alloc,
+        &program.expanded.checked,
+        given.inputs,
+        given.costs,
+        shelf,
+    )?;
+    let report = report_of(alloc, program, &tables, given.merging, given.turns)?;
+    let text = print(alloc, &report)?;
     Ok(text)
 }
 
-// The report of the program's one run.
-fn run_report(
-    alloc: Global,
-    program: &ScopedProgram,
-    costs: &Costs,
-    turns: u32,
-) -> Result<Report, Stop>
-    requires { IsGraph (seen program.now.expanded.checked) program.now.expanded.graph }
-    ensures { Judges (ReportMeans (scoped_of program.now) costs.now turns) (λ report. findings_of report) result }
+// The policy that merges there.
+fn policy(merging: Merging) -> Policy
+    ensures { result ≡ policy_of merging }
 {
-    program.expanded.checked.keeps();
-    a_run_has_one_end();
-    graphs_are_expansions();
-    match counted(alloc, &program.expanded, &[], &[], costs, turns)? {
-        Counted::Over(tally) => {
-            let report = report(alloc, &tally)?;
-            Ok(report)
-        }
-        Counted::Left(n) => {
-            let line = unbounded_line(alloc, program, n)?;
-            Err(Stop::Told(Why::Unbounded, line))
-        }
+    match merging {
+        Merging::Never => Policy::None,
+        Merging::Exits => Policy::Exits,
+        Merging::Joins => Policy::Joins,
     }
 }
 
-// The text of the report, with the costs of the nodes.
-fn report_text(
+// The program, whose outline says what nodes cost.
+fn priced(mut program: ScopedProgram, costs: &Costs) -> ScopedProgram
+    requires outline { IsOutlined program.expanded.graph program.outline }
+    ensures expanded { result.expanded ≡ program.expanded }
+    ensures scopes { scoped_of result ≡ scoped_of program }
+    ensures outline { IsOutlined result.expanded.graph result.outline }
+    ensures priced { (program : NumberedProgram) → IsGraph program result.expanded.graph → HasCosts program result.expanded.graph costs.now result.outline }
+{
+    set_costs(&program.expanded.graph, costs, &mut program.outline);
+    program
+}
+
+// The report of the exploration, with these costs of blocks.
+fn report_of(
+    alloc: Global,
+    program: ScopedProgram,
+    tables: &Tables,
+    merging: Merging,
+    turns: u32,
+) -> Result<Report, Stop>
+    requires graph { IsGraph (seen program.expanded.checked) program.expanded.graph }
+    requires rows { KeepInputs (seen program.expanded.checked) tables.now.rows.items }
+    requires outline { IsOutlined program.expanded.graph program.outline }
+    requires turns { turns ≤ 1000000 }
+    ensures means { Judges (ReportMeans (scoped_of program) tables.now.rows.items tables.now.costs (policy_of merging) turns) (λ report. reported report) result }
+    ensures sound { IfOk result (λ report. IsSoundOf (unranked (seen program.expanded.checked)) program.expanded.graph tables.now.rows.items tables.now.costs (reported report)) }
+    ensures writable { IfOk result (λ report. IsWritable (reported report)) }
+{
+    let program = priced(program, &tables.costs);
+    explored(alloc, &program, tables, policy(merging), turns)
+}
+
+// The same where the outline says what nodes cost.
+fn explored(
     alloc: Global,
     program: &ScopedProgram,
-    costs: &Costs,
-    report: &Report,
-) -> Result<Vec<u8>, AllocError>
-    requires { IsGraph (seen program.now.expanded.checked) program.now.expanded.graph }
-    ensures { IfOk result (λ text. text.items ≡ report_text (scoped_of program.now) (costs_of (scoped_of program.now).expanded costs.now) (findings_of report.now)) }
+    tables: &Tables,
+    policy: Policy,
+    turns: u32,
+) -> Result<Report, Stop>
+    requires graph { IsGraph (seen program.now.expanded.checked) program.now.expanded.graph }
+    requires rows { KeepInputs (seen program.now.expanded.checked) tables.now.rows.items }
+    requires outline { IsOutlined program.now.expanded.graph program.now.outline }
+    requires priced { (other : NumberedProgram) → IsGraph other program.now.expanded.graph → HasCosts other program.now.expanded.graph tables.now.costs program.now.outline }
+    requires turns { turns ≤ 1000000 }
+    ensures means { Judges (ReportMeans (scoped_of program.now) tables.now.rows.items tables.now.costs policy turns) (λ report. reported report) result }
+    ensures sound { IfOk result (λ report. IsSoundOf (unranked (seen program.now.expanded.checked)) program.now.expanded.graph tables.now.rows.items tables.now.costs (reported report)) }
+    ensures writable { IfOk result (λ report. IsWritable (reported report)) }
 {
-    let costs = node_costs(alloc, &program.expanded.graph, costs)?;
-    text_of(alloc, program, &costs, report)
+    let expanded = &program.expanded;
+    let outline = &program.outline;
+    expanded.checked.keeps();
+    ranks_have_no_part();
+    let rows = tables.rows.as_slice();
+    match program_analysis::analyse(
+        alloc,
+        &expanded.checked,
+        &expanded.graph,
+        outline,
+        rows,
+        policy,
+        turns,
+    )? {
+        Analysed::Told(report) => Ok(report),
+        Analysed::Unbounded(scope) => {
+            let line = left_line(alloc, &expanded.graph, outline, scope)?;
+            Err(Stop::Told(Why::Unbounded, line))
+        }
+    }
 }

@@ -3,7 +3,7 @@
 ghost use Rattle.std.specs.Prelude.{◌≡◌, map, string_bytes, IfOk, IfSome};
 ghost use Rattle.work.specs.Run.{Answers, ending_of};
 ghost use Rattle.work.specs.Works.{Works};
-ghost use Rattle.sweet_cli.specs.Words.{command_meant};
+ghost use Rattle.sweet_cli.specs.Words.{HasFewTurns, command_meant};
 ghost use Rattle.sweet_cli.specs.Table.{task_for, task_of};
 ghost use Rattle.sweet_cli.specs.Task.{KeepsPromise};
 
@@ -56,6 +56,7 @@ fn command_text<F: Shelf>(
     command: Command<'_>,
     shelf: &mut F,
 ) -> Result<Vec<u8>, Stop>
+    requires turns { HasFewTurns (command_meant command) }
     ensures work { Works (task_for (command_meant command.entry)).work (λ text. text.items) (F.state shelf.old) result (F.state shelf.new) }
     ensures promise { IfOk result (λ text. IfSome (F.state shelf.old).files (λ files. (task_for (command_meant command.entry)).Promise files text.items)) }
 {

@@ -5,7 +5,7 @@ ghost use Rattle.alf_check.specs.CheckedPrograms.{seen};
 ghost use Rattle.flow_graph.specs.Numbering.{IsGraph};
 ghost use Rattle.work.specs.Works.{Works, Judges};
 ghost use Rattle.sweet_cli.specs.Scopes.{ScopesMean, scoped_in};
-ghost use Rattle.sweet_cli.specs.Seen.{scopes_seen, scoped_of};
+ghost use Rattle.sweet_cli.specs.Seen.{IsOutlined, scopes_seen, scoped_of};
 
 use crate::commands::programs::{Expanded, expanded_in};
 use crate::lines::irreducible_line;
@@ -33,6 +33,7 @@ pub fn scoped_in<F: Shelf>(
 ) -> Result<ScopedProgram, Stop>
     ensures work { Works (scoped_in file.now root.now) scoped_of (F.state shelf.old) result (F.state shelf.new) }
     ensures graph { IfOk result (λ program. IsGraph (seen program.expanded.checked) program.expanded.graph) }
+    ensures outline { IfOk result (λ program. IsOutlined program.expanded.graph program.outline) }
 {
     let expanded = expanded_in(alloc, file, root, shelf)?;
     let outline = scopes_of(alloc, &expanded.graph)?;
@@ -41,7 +42,8 @@ pub fn scoped_in<F: Shelf>(
 
 // The scopes of the graph.
 fn scopes_of(alloc: Global, graph: &Graph) -> Result<Outline, Stop>
-    ensures { Judges (ScopesMean graph.now) (λ outline. scopes_seen outline) result }
+    ensures means { Judges (ScopesMean graph.now) (λ outline. scopes_seen outline) result }
+    ensures outline { IfOk result (λ outline. IsOutlined graph.now outline) }
 {
     graph.keeps();
     a_graph_has_one_outline();

@@ -9,7 +9,7 @@ ghost use Rattle.sweet_cli.specs.Programs.{unranked};
 ghost use Rattle.sweet_cli.specs.RunText.{frame_text, value_text, returned_line, global_line, global_lines, name_of, stopped_line, run_text};
 
 use crate::lines::check_lines::push_quoted;
-use crate::lines::report_text::word_of;
+use crate::lines::fault_words::word_of;
 use alf_check::Checked;
 use alf_interp::Outputs;
 use alf_ops::{RunFault, Value};

@@ -1,5 +1,5 @@
 use Rattle.std.proofs.Common.{rules, ◌<◌, length, ◌∙◌, ◌++◌, ◌∷◌, [], ℕ, List, ap, sym}
-use Rattle.sweet_cli.specs.Facts.{node_cost}
+use Rattle.program_machines.specs.NodeCosts.{node_cost}
 use Rattle.sweet_cli.proofs.Numbers.{costs_push}
 use Rattle.sweet_cli.proofs.node_costs.node_costs.Goals as goal
 

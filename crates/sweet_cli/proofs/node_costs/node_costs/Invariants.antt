@@ -1,7 +1,7 @@
 use Rattle.std.proofs.Common.{◌≡◌, take, map}
 use Rattle.alf_check.specs.CheckedPrograms.{NumberedProgram}
 use Rattle.flow_graph.specs.Numbering.{IsGraph}
-use Rattle.sweet_cli.specs.Facts.{node_cost}
+use Rattle.program_machines.specs.NodeCosts.{node_cost}
 use Rattle.sweet_cli.proofs.node_costs.node_costs.Given as goal
 
 abbrev pub invariant-loop-n : goal.invariant-loop-n

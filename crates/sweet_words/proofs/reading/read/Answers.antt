@@ -9,13 +9,13 @@ pub returns-in-Ok-try_get_matches_from-clause-command : goal.returns-in-Ok-try_g
 returns-in-Ok-try_get_matches_from-clause-command c =
     answer_command c.command_in.result c.ok_or.result (command_of (map string_bytes c.args.words.now)) c.ok_or.ensures.value
     (taken_command (app_of c.in-Ok.reader) (map string_bytes c.args.words.now) _ _ _ (option_map command_meant c.command_in.result) c.in-Ok.ensures
-    c.in-Ok-try_get_matches_from.ensures.kinds c.in-Ok-try_get_matches_from.ensures.matches c.command_in.ensures)
+    c.in-Ok-try_get_matches_from.ensures.kinds c.in-Ok-try_get_matches_from.ensures.matches c.command_in.ensures.command)
 
 pub returns-in-Ok-try_get_matches_from-clause-usage : goal.returns-in-Ok-try_get_matches_from-clause-usage
 returns-in-Ok-try_get_matches_from-clause-usage c =
     answer_usage c.command_in.result c.ok_or.result (command_of (map string_bytes c.args.words.now)) c.ok_or.ensures.value
     (taken_command (app_of c.in-Ok.reader) (map string_bytes c.args.words.now) _ _ _ (option_map command_meant c.command_in.result) c.in-Ok.ensures
-    c.in-Ok-try_get_matches_from.ensures.kinds c.in-Ok-try_get_matches_from.ensures.matches c.command_in.ensures)
+    c.in-Ok-try_get_matches_from.ensures.kinds c.in-Ok-try_get_matches_from.ensures.matches c.command_in.ensures.command)
 
 pub returns-in-Err-clause-usage : goal.returns-in-Err-clause-usage
 returns-in-Err-clause-usage c = λ usage. refused_words (app_of c.in-Ok.reader) (map string_bytes c.args.words.now) c.in-Err.error c.in-Ok.ensures

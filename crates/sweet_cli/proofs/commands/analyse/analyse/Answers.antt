@@ -1,10 +1,34 @@
--- A report that was made is sound.
+-- The text is that of the order of work, and a report that was printed is sound.
+use Rattle.std.proofs.Common.{Option, subst}
+use Rattle.flow_base.specs.Outside.{Files}
+use Rattle.flow_facts.specs.Reports.{reported}
 use Rattle.work.specs.Log.{log_of}
 use Rattle.sweet_cli.specs.Words.{analyse_meant}
-use Rattle.sweet_cli.proofs.Promises.{prints_sound}
+use Rattle.sweet_cli.specs.Seen.{scoped_of, tables_of}
+use Rattle.sweet_cli.specs.Tables.{tables_in}
+use Rattle.sweet_cli.proofs.Promises.{analysed, prints_sound}
 use Rattle.sweet_cli.proofs.commands.analyse.analyse.Goals as goal
 
 pub returns-clause-promise : goal.returns-clause-promise
 returns-clause-promise g c =
-    prints_sound (analyse_meant c.args.given) (g.F.Shelf.state c.args.shelf.now).files (log_of (g.F.Shelf.state c.args.shelf.now))
-    c.in_ok-text.text.items (log_of (g.F.Shelf.state c.analysing.new.shelf)) c.in_ok-text.ensures.ends.0
+    let given = analyse_meant c.args.given in
+    let start = g.F.Shelf.state c.args.shelf.now in
+    let mid = g.F.Shelf.state c.scoped_in.new.shelf in
+    let end = g.F.Shelf.state c.tables_in.new.shelf in
+    let program = scoped_of c.in_ok-program.program in
+    let tables = tables_of c.in_ok-tables.tables in
+    let report = reported c.in_ok-report.report in
+    let first = c.in_ok-program.ensures.work in
+    let read = subst (λ (told : Option Files). (tables_in program.expanded.program given.inputs given.costs).steps.Gives told (log_of mid) tables (log_of end)) first.same
+    c.in_ok-tables.ensures.work.ends.0 in
+    prints_sound given start.files (log_of start) (log_of mid) (log_of end) program tables report c.in_ok-text.text.items first.ends.0 read c.in_ok-report.ensures.sound
+    (c.in_ok-text.ensures.spelled c.in_ok-report.ensures.writable)
+
+pub returns-clause-work : goal.returns-clause-work
+returns-clause-work g c =
+    let given = analyse_meant c.args.given in
+    let first = c.in_ok-program.ensures.work in
+    let second = c.in_ok-tables.ensures.work in
+    analysed given (g.F.Shelf.state c.args.shelf.now) (g.F.Shelf.state c.scoped_in.new.shelf) (g.F.Shelf.state c.tables_in.new.shelf)
+    (scoped_of c.in_ok-program.program) (tables_of c.in_ok-tables.tables) (reported c.in_ok-report.report) c.in_ok-text.text
+    first.ends first.same first.later second.ends second.same second.later c.in_ok-report.ensures.means c.in_ok-text.ensures.text

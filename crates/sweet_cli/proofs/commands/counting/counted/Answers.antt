@@ -2,7 +2,7 @@
 use Rattle.std.proofs.Common.{[], length, ap, ◌∙◌}
 use Rattle.std.proofs.lemmas.List.{length-map}
 use Rattle.alf_check.specs.CheckedPrograms.{seen}
-use Rattle.sweet_cli.specs.Facts.{node_cost}
+use Rattle.program_machines.specs.NodeCosts.{node_cost}
 use Rattle.sweet_cli.specs.Programs.{unranked}
 use Rattle.sweet_cli.proofs.Ranks.{graph}
 use Rattle.sweet_cli.proofs.Counted.{all_counted}

@@ -12,7 +12,7 @@ use Rattle.sweet_cli.specs.Run.{RunMeans, low_start}
 use Rattle.sweet_cli.specs.Counting.{CountedAs}
 use Rattle.sweet_cli.proofs.Lows.{lows_within}
 use Rattle.sweet_cli.proofs.Numbers.{differ}
-use Rattle.sweet_cli.proofs.Reported.{left_of, text_only, past_only, texted}
+use Rattle.sweet_cli.proofs.JudgedRuns.{left_of, text_only, past_only, texted}
 use Rattle.sweet_cli.proofs.commands.run.told.Goals as goal
 
 pub counted-requires-clause-words : goal.counted-requires-clause-words

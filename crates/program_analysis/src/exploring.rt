@@ -1,0 +1,114 @@
+//! The analysis.
+
+ghost use Rattle.std.specs.Prelude.{◌≡◌, ◌≤◌, ◌<◌, ◌^◌, [], length, map, slice_index, IfOk};
+ghost use Rattle.alf_check.specs.CheckedPrograms.{seen};
+ghost use Rattle.alf_check.specs.Inputs.{KeepInputs};
+ghost use Rattle.cost_table.specs.CostTables.{CostTable};
+ghost use Rattle.domain_core.specs.Outlines.{shape_of};
+ghost use Rattle.domain_core.specs.OutlineOf.{IsOutlineOf};
+ghost use Rattle.flow_graph.specs.Numbering.{IsGraph};
+ghost use Rattle.flow_facts.specs.Writable.{IsWritable};
+ghost use Rattle.scope_graph.specs.Placing.{plan_of};
+ghost use Rattle.program_machines.specs.NodeCosts.{HasCosts};
+ghost use Rattle.program_analysis.specs.Answers.{answer_of, IfTold};
+ghost use Rattle.program_analysis.specs.Sound.{IsSound};
+ghost use Rattle.abstract_exec.specs.Explorations.{IsPool};
+ghost use Rattle.abstract_step.specs.Steppers.{stepped_by};
+ghost use Rattle.told_reports.specs.Told.{four_recording};
+ghost use Rattle.told_reports.specs.Runs.{IsSound as IsSoundSystem};
+ghost use Rattle.program_analysis.specs.Analyses.{IsFound};
+ghost use Rattle.program_analysis.specs.Exploring.{IsEnded, IsWritableOf};
+ghost use Rattle.program_analysis.specs.AnalysisLaws.{names_of};
+ghost use Rattle.program_analysis.specs.Bounds.{most_turns};
+
+use crate::Analysed;
+use crate::laws::sound_reports_are_sound_for_the_program;
+use abstract_exec::{Explored, Pool};
+use abstract_step::AlfStepper;
+use alf_check::{Checked, InputRow};
+use domain_core::Outline;
+use flow_graph::{Graph, names_tell_nodes_apart};
+use flow_reports::{FourRecorders, report};
+use pool_events::Policy;
+use std::alloc::{AllocError, Global};
+use told_reports::numbers_are_at_most_the_steps;
+
+/// Explores a program's graph along its outline, for runs with inputs inside the ranges of the rows, and tells what
+/// each run does, or the scope in which the turns were used up.
+///
+/// Takes time by the turns and by what steps take, and memory for the places that are left.
+pub fn analyse(
+    alloc: Global,
+    checked: &Checked,
+    graph: &Graph,
+    outline: &Outline,
+    rows: &[InputRow],
+    policy: Policy,
+    turns: u32,
+) -> Result<Analysed, AllocError>
+    requires graph { IsGraph (seen checked.now) graph.now }
+    requires rows { KeepInputs (seen checked.now) rows.now }
+    requires outline { IsOutlineOf (plan_of graph.now) (shape_of outline.now) }
+    requires named { names_of outline.now ≡ graph.now.names }
+    requires turns { turns ≤ most_turns }
+
+    // What the policy finds over the pools of the program's machine.
+    ensures found { IfOk result (λ analysed. IsFound (record { checked = checked.now; graph = graph.now; rows = rows.now }) outline.now policy turns (answer_of analysed)) }
+
+    // Each run of the program ends, meets each fact, faults only where an alarm says so, and costs at most the bound.
+    ensures sound { IfOk result (λ analysed. IfTold (answer_of analysed) (λ report. (costs : CostTable) → HasCosts (seen checked.now) graph.now costs outline.now
+        → IsSound (seen checked.now) graph.now rows.now (shape_of outline.now) costs report)) }
+
+    // The report is one that some text spells.
+    ensures writable { IfOk result (λ analysed. IfTold (answer_of analysed) IsWritable) }
+{
+    checked.keeps();
+    sound_reports_are_sound_for_the_program();
+    names_tell_nodes_apart();
+    let stepper = AlfStepper::new(alloc, checked, graph, rows)?;
+    explored(alloc, &stepper, outline, policy, turns)
+}
+
+// What the policy finds, told of the system of the stepper's machine.
+fn explored(
+    alloc: Global,
+    stepper: &AlfStepper<'_>,
+    outline: &Outline,
+    policy: Policy,
+    turns: u32,
+) -> Result<Analysed, AllocError>
+    requires outline { IsOutlineOf (plan_of stepper.now.graph) (shape_of outline.now) }
+    requires nodes { length outline.now.nodes ≤ 512 }
+    requires turns { turns ≤ most_turns }
+    ensures found { IfOk result (λ analysed. IsFound stepper.now outline.now policy turns (answer_of analysed)) }
+    ensures sound { IfOk result (λ analysed. IfTold (answer_of analysed) (IsSoundSystem (stepped_by stepper.now).system outline.now)) }
+    ensures writable { IfOk result (λ analysed. IfTold (answer_of analysed) (IsWritableOf outline.now)) }
+{
+    stepper.goes_along();
+    let mut pool: Pool<AlfStepper, FourRecorders> = Pool::start(alloc, stepper, outline)?;
+    match pool.explore(alloc, policy, turns)? {
+        Explored::Closed(_) => told(alloc, &pool, outline, policy, turns),
+        Explored::Left(scope) => Ok(Analysed::Unbounded(scope)),
+    }
+}
+
+// The report of an exploration that ended.
+fn told(
+    alloc: Global,
+    pool: &Pool<AlfStepper<'_>, FourRecorders>,
+    outline: &Outline,
+    policy: Policy,
+    turns: u32,
+) -> Result<Analysed, AllocError>
+    requires kept { IsPool stepped_by four_recording pool.now }
+    requires explored { IsEnded pool.now outline.now policy turns }
+    requires nodes { length outline.now.nodes ≤ 512 }
+    requires turns { turns ≤ most_turns }
+    ensures found { IfOk result (λ analysed. IsFound pool.now.stepper outline.now policy turns (answer_of analysed)) }
+    ensures sound { IfOk result (λ analysed. IfTold (answer_of analysed) (IsSoundSystem (stepped_by pool.now.stepper).system outline.now)) }
+    ensures writable { IfOk result (λ analysed. IfTold (answer_of analysed) (IsWritableOf outline.now)) }
+{
+    numbers_are_at_most_the_steps::<AlfStepper>();
+    let report = report(alloc, outline, pool)?;
+    Ok(Analysed::Told(report))
+}

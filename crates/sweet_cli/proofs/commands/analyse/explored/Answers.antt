@@ -1,0 +1,49 @@
+-- The report of the exploration, or that places are left, is the only meaning.
+use Rattle.std.proofs.Common.{List, [], Ok, Err, refl, subst}
+use Rattle.alf_check.specs.declared.rows.InputRow.{InputRow}
+use Rattle.alf_check.specs.CheckedPrograms.{seen}
+use Rattle.flow_facts.specs.Reports.{reported}
+use Rattle.program_analysis.specs.Answers.{Told, Unbounded as LeftIn}
+use Rattle.work.specs.Outcome.{Outcome, Unbounded}
+use Rattle.work.specs.Work.{IsOnly}
+use Rattle.sweet_cli.specs.Programs.{unranked}
+use Rattle.sweet_cli.specs.Seen.{scoped_of}
+use Rattle.sweet_cli.specs.Analyse.{ReportMeans, IsSoundOf}
+use Rattle.sweet_cli.proofs.Ranks as ranks
+use Rattle.sweet_cli.proofs.JudgedReports.{report_only, left_only, found_of, sound_of}
+use Rattle.sweet_cli.proofs.commands.analyse.explored.Goals as goal
+
+pub returns-in-Told : goal.returns-in-Told
+returns-in-Told c =
+    let program = c.args.program.now in
+    let checked = program.expanded.checked in
+    let graph = program.expanded.graph in
+    let rows = c.as_slice-rows.result.now in
+    let costs = c.args.tables.now.costs in
+    let report = reported c.in-Told.report in
+    let told = rw c.in-Told.is at c.in_ok-report.ensures in
+    let priced = c.requires.priced (unranked (seen checked)) (ranks.graph (seen checked) (seen checked).ranks [] graph c.requires.graph) in
+    let found = found_of checked graph rows c.keeps.ensures c.requires.graph costs program.outline c.args.policy c.args.turns (Told report) c.requires.outline priced told.found in
+    let only = report_only c.ranks_have_no_part.ensures.one (scoped_of program) rows costs c.args.policy c.args.turns report found in
+    let sound = sound_of checked graph rows program.outline costs report c.requires.outline (told.sound costs (c.requires.priced (seen checked) c.requires.graph)) in
+    record {
+      means = subst (λ (l : List InputRow). IsOnly (ReportMeans (scoped_of program) l costs c.args.policy c.args.turns) (Ok report)) c.as_slice-rows.ensures.value only;
+      sound = subst (λ (l : List InputRow). IsSoundOf (unranked (seen checked)) graph l costs report) c.as_slice-rows.ensures.value sound;
+      writable = told.writable;
+    }
+
+pub returns-in_ok-line-in-Unbounded-clause-means : goal.returns-in_ok-line-in-Unbounded-clause-means
+returns-in_ok-line-in-Unbounded-clause-means c =
+    let program = c.args.program.now in
+    let checked = program.expanded.checked in
+    let graph = program.expanded.graph in
+    let rows = c.as_slice-rows.result.now in
+    let costs = c.args.tables.now.costs in
+    let scope = c.in-Unbounded.scope in
+    let text = c.in_ok-line-in-Unbounded.line.items in
+    let told = rw c.in-Unbounded.is at c.in_ok-report.ensures in
+    let priced = c.requires.priced (unranked (seen checked)) (ranks.graph (seen checked) (seen checked).ranks [] graph c.requires.graph) in
+    let found = found_of checked graph rows c.keeps.ensures c.requires.graph costs program.outline c.args.policy c.args.turns (LeftIn scope) c.requires.outline priced told.found in
+    let only = left_only c.ranks_have_no_part.ensures.one (scoped_of program) rows costs c.args.policy c.args.turns scope text found c.in_ok-line-in-Unbounded.ensures in
+    let outcome : Outcome = record { cause = Unbounded; text = text } in
+    (refl, subst (λ (l : List InputRow). IsOnly (ReportMeans (scoped_of program) l costs c.args.policy c.args.turns) (Err outcome)) c.as_slice-rows.ensures.value only)

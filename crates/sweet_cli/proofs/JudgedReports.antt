@@ -4,13 +4,14 @@ use Rattle.std.proofs.lemmas.Simd.{map-map}
 use Rattle.alf_check.specs.CheckedPrograms.{CheckedParts, seen}
 use Rattle.alf_check.specs.declared.rows.InputRow.{InputRow}
 use Rattle.alf_check.specs.Kept.{IsKept}
+use Rattle.alf_check.specs.Inputs.{KeepInputs}
 use Rattle.flow_graph.specs.Nodes.{Node}
 use Rattle.flow_graph.specs.Numbering.{GraphParts, IsGraph}
 use Rattle.alf_runs.specs.Steps.{Moment}
 use Rattle.alf_runs.specs.Runs.{cost_of}
 use Rattle.cost_table.specs.CostTables.{CostTable}
 use Rattle.domain_core.specs.declared.outline.NodeRow.{NodeRow}
-use Rattle.domain_core.specs.Outlines.{Outlined, Shape, shape_of}
+use Rattle.domain_core.specs.Outlines.{Outlined, Shape, IsOutline, shape_of}
 use Rattle.flow_facts.specs.Reports.{Reported}
 use Rattle.pool_events.specs.declared.policy.Policy.{Policy}
 use Rattle.program_machines.specs.NodeCosts.{place_cost, node_cost, HasCosts}
@@ -87,15 +88,17 @@ module _ (checked : CheckedParts) (graph : GraphParts) (rows : List InputRow) wh
   costs_alike costs = λ i node. place_cost costs (function_same (seen checked) (seen checked).ranks [] node.path i) node.block
 
   -- what was found of the parts of the program
-  pub found_of : IsKept (seen checked) → IsGraph (seen checked) graph → (costs : CostTable) (outline : Outlined) (policy : Policy) (turns : ℕ) (answer : Answer) → IsOutlined graph outline
+  pub found_of : IsKept (seen checked) → IsGraph (seen checked) graph → KeepInputs (seen checked) rows → (costs : CostTable) (outline : Outlined) (policy : Policy) (turns : ℕ) (answer : Answer) → IsOutline (shape_of outline) → IsOutlined graph outline
       → HasCosts (unranked (seen checked)) graph costs outline → IsFound (record { checked = checked; graph = graph; rows = rows }) outline policy turns answer
       → IsAnalysis (unranked (seen checked)) graph rows costs policy turns answer
-  found_of keeps graph_is costs outline policy turns answer outlined priced found = record {
+  found_of keeps graph_is inputs costs outline policy turns answer outline_kept outlined priced found = record {
     checked = checked;
     keeps = keeps;
     graph_is = graph_is;
+    inputs = inputs;
     outline = outline;
     program_is = refl;
+    outline_kept = outline_kept;
     outline_is = outlined.outline_is;
     names = outlined.named;
     costs_are = priced;

@@ -11,6 +11,7 @@ pub mod JudgedUnit
 pub mod JudgedScopes
 pub mod JudgedReports
 pub mod Staying
+pub mod Exactly
 pub mod Numbers
 pub mod Counted
 pub mod JudgedRuns

@@ -22,6 +22,7 @@ pub mod Analyse
 pub mod Print
 pub mod PrintC
 pub mod Run
+pub mod Exact
 pub mod Table
 -- laws
 pub mod Laws

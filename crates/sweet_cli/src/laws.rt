@@ -1,8 +1,10 @@
 //! What the definitions promise, as functions that do nothing when they are called.
 
+ghost use Rattle.sweet_cli.specs.Exact.{OneInputIsToldExactly};
 ghost use Rattle.sweet_cli.specs.Laws.{HaveOneAnswer, ReportsStay};
 
-use unranked_analyses::ranks_have_no_part;
+use scope_graph::a_graph_has_one_outline;
+use unranked_analyses::{an_input_alone_is_told_exactly, ranks_have_no_part};
 
 /// Told files have one answer to the words, but for a line that gives one example of several, and the
 /// same names are read, whatever was read before, where no read fails. Does nothing when it is called.
@@ -15,4 +17,14 @@ pub fn reports_stay()
     ensures { ReportsStay }
 {
     ranks_have_no_part();
+}
+
+/// Where each range has one number, what `analyse` tells is exactly the one run: totals, dead nodes, loops,
+/// counts and pairs are the run's own, the only alarm is its fault, and the count bound is its cost. Places
+/// are left exactly where the run has more nodes than the turns. Does nothing when it is called.
+pub fn one_input_is_told_exactly()
+    ensures { OneInputIsToldExactly }
+{
+    a_graph_has_one_outline();
+    an_input_alone_is_told_exactly();
 }

@@ -10,11 +10,12 @@ use Rattle.std.specs.List.{AllZip}
 use Rattle.alf_check.specs.declared.rows.InputRow.{InputRow}
 use Rattle.alf_check.specs.CheckedPrograms.{CheckedParts, NumberedProgram, seen}
 use Rattle.alf_check.specs.Kept.{IsKept}
+use Rattle.alf_check.specs.Inputs.{KeepInputs}
 use Rattle.flow_graph.specs.Numbering.{GraphParts, IsGraph}
 use Rattle.flow_graph.specs.Graphs.{HasProgram}
 use Rattle.cost_table.specs.CostTables.{CostTable}
 use Rattle.domain_core.specs.declared.event.Event.{Event}
-use Rattle.domain_core.specs.Outlines.{Outlined, shape_of}
+use Rattle.domain_core.specs.Outlines.{Outlined, IsOutline, shape_of}
 use Rattle.domain_core.specs.OutlineOf.{IsOutlineOf}
 use Rattle.scope_graph.specs.Placing.{plan_of}
 use Rattle.flow_facts.specs.Reports.{Reported}
@@ -38,8 +39,10 @@ pub record IsAnalysis (program : NumberedProgram) (graph : GraphParts) (rows : L
   pub checked : CheckedParts
   pub keeps : IsKept (seen checked)
   pub graph_is : IsGraph (seen checked) graph
+  pub inputs : KeepInputs (seen checked) rows
   pub outline : Outlined
   pub program_is : IsProgramOf program checked
+  pub outline_kept : IsOutline (shape_of outline)
   pub outline_is : IsOutlineOf (plan_of graph) (shape_of outline)
   pub names : map (λ row. row.name.items) outline.nodes ≡ graph.names
   pub costs_are : HasCosts program graph costs outline
@@ -111,8 +114,10 @@ longer_analysis stays program graph rows costs policy turns more report few h = 
   checked = h.checked;
   keeps = h.keeps;
   graph_is = h.graph_is;
+  inputs = h.inputs;
   outline = h.outline;
   program_is = h.program_is;
+  outline_kept = h.outline_kept;
   outline_is = h.outline_is;
   names = h.names;
   costs_are = h.costs_are;

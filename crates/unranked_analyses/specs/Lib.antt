@@ -4,3 +4,4 @@ pub mod TwinRuns
 pub mod Ranking
 pub mod UnrankedMachines
 pub mod Analyses
+pub mod Lone

@@ -9,4 +9,4 @@
 // What the definitions promise.
 mod laws;
 
-pub use laws::ranks_have_no_part;
+pub use laws::{an_input_alone_is_told_exactly, ranks_have_no_part};

@@ -114,6 +114,7 @@ fn explored(
     let expanded = &program.expanded;
     let outline = &program.outline;
     expanded.checked.keeps();
+    outline.kept();
     ranks_have_no_part();
     let rows = tables.rows.as_slice();
     match program_analysis::analyse(

@@ -1,7 +1,8 @@
 -- The report of the exploration, or that places are left, is the only meaning.
-use Rattle.std.proofs.Common.{List, [], Ok, Err, refl, subst}
+use Rattle.std.proofs.Common.{List, [], Ok, Err, refl, sym, subst}
 use Rattle.alf_check.specs.declared.rows.InputRow.{InputRow}
 use Rattle.alf_check.specs.CheckedPrograms.{seen}
+use Rattle.alf_check.specs.Inputs.{KeepInputs}
 use Rattle.flow_facts.specs.Reports.{reported}
 use Rattle.program_analysis.specs.Answers.{Told, Unbounded as LeftIn}
 use Rattle.work.specs.Outcome.{Outcome, Unbounded}
@@ -22,8 +23,9 @@ returns-in-Told c =
     let costs = c.args.tables.now.costs in
     let report = reported c.in-Told.report in
     let told = rw c.in-Told.is at c.in_ok-report.ensures in
+    let keep = subst (λ (l : List InputRow). KeepInputs (seen checked) l) (sym c.as_slice-rows.ensures.value) c.requires.rows in
     let priced = c.requires.priced (unranked (seen checked)) (ranks.graph (seen checked) (seen checked).ranks [] graph c.requires.graph) in
-    let found = found_of checked graph rows c.keeps.ensures c.requires.graph costs program.outline c.args.policy c.args.turns (Told report) c.requires.outline priced told.found in
+    let found = found_of checked graph rows c.keeps.ensures c.requires.graph keep costs program.outline c.args.policy c.args.turns (Told report) c.kept.ensures c.requires.outline priced told.found in
     let only = report_only c.ranks_have_no_part.ensures.one (scoped_of program) rows costs c.args.policy c.args.turns report found in
     let sound = sound_of checked graph rows program.outline costs report c.requires.outline (told.sound costs (c.requires.priced (seen checked) c.requires.graph)) in
     record {
@@ -42,8 +44,9 @@ returns-in_ok-line-in-Unbounded-clause-means c =
     let scope = c.in-Unbounded.scope in
     let text = c.in_ok-line-in-Unbounded.line.items in
     let told = rw c.in-Unbounded.is at c.in_ok-report.ensures in
+    let keep = subst (λ (l : List InputRow). KeepInputs (seen checked) l) (sym c.as_slice-rows.ensures.value) c.requires.rows in
     let priced = c.requires.priced (unranked (seen checked)) (ranks.graph (seen checked) (seen checked).ranks [] graph c.requires.graph) in
-    let found = found_of checked graph rows c.keeps.ensures c.requires.graph costs program.outline c.args.policy c.args.turns (LeftIn scope) c.requires.outline priced told.found in
+    let found = found_of checked graph rows c.keeps.ensures c.requires.graph keep costs program.outline c.args.policy c.args.turns (LeftIn scope) c.kept.ensures c.requires.outline priced told.found in
     let only = left_only c.ranks_have_no_part.ensures.one (scoped_of program) rows costs c.args.policy c.args.turns scope text found c.in_ok-line-in-Unbounded.ensures in
     let outcome : Outcome = record { cause = Unbounded; text = text } in
     (refl, subst (λ (l : List InputRow). IsOnly (ReportMeans (scoped_of program) l costs c.args.policy c.args.turns) (Err outcome)) c.as_slice-rows.ensures.value only)

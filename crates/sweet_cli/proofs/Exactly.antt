@@ -1,0 +1,93 @@
+-- Where each range has one number, what is told is exactly the one run.
+use Rattle.std.proofs.Common.{◌≡◌, ℕ, List, [], map, slice_index, Result, Ok, Err, sym, ap, subst, ◌∙◌}
+use Rattle.alf_check.specs.declared.rows.InputRow.{InputRow}
+use Rattle.alf_check.specs.CheckedPrograms.{CheckedParts, NumberedProgram, seen}
+use Rattle.flow_graph.specs.Nodes.{Node}
+use Rattle.flow_graph.specs.Numbering.{GraphParts}
+use Rattle.flow_graph.specs.Graphs.{HasProgram}
+use Rattle.alf_runs.specs.Outcomes.{Outcome as RunOutcome}
+use Rattle.alf_runs.specs.Runs.{Ends, cost_of}
+use Rattle.run_counts.specs.Traces.{Runs, IsPast}
+use Rattle.cost_table.specs.CostTables.{CostTable}
+use Rattle.domain_core.specs.Outlines.{Shape, shape_of}
+use Rattle.scope_graph.specs.Laws.{HasOneOutline}
+use Rattle.flow_facts.specs.Reports.{Reported}
+use Rattle.pool_events.specs.declared.policy.Policy.{Policy}
+use Rattle.program_machines.specs.NodeCosts.{place_cost, node_cost}
+use Rattle.program_machines.specs.Starts.{AreLone}
+use Rattle.program_analysis.specs.Answers.{Told, Unbounded as LeftIn}
+use Rattle.unranked_analyses.specs.Ranking.{with_ranks, function_same}
+use Rattle.unranked_analyses.specs.UnrankedMachines.{IsProgramOf}
+use Rattle.unranked_analyses.specs.Analyses.{IsAnalysis}
+use Rattle.unranked_analyses.specs.Lone.{LoneAnalysisIsExact}
+use Rattle.work.specs.Outcome.{Outcome, Unbounded}
+use Rattle.sweet_cli.specs.Scopes.{ScopedProgram, IsScoped}
+use Rattle.sweet_cli.specs.LeftLines.{left_line}
+use Rattle.sweet_cli.specs.Run.{IsLeft, low_start}
+use Rattle.sweet_cli.specs.Analyse.{IsLeftAt}
+use Rattle.sweet_cli.specs.Exact.{TellsOneRun, MeansOneRun, OneInputIsToldExactly}
+use Rattle.sweet_cli.proofs.RanksRuns as ranks_runs
+
+-- ---- ranks have no part
+
+module _ (program : NumberedProgram) (checked : CheckedParts) (is : IsProgramOf program checked) where
+  costs_same : (costs : CostTable) → node_cost (seen checked) costs ≡ node_cost program costs
+  costs_same costs =
+      let ranked : node_cost (seen checked) costs ≡ node_cost (with_ranks (seen checked) program.ranks) costs =
+      λ i node. place_cost costs (function_same (seen checked) program.ranks (seen checked).ranks node.path i) node.block in
+      ranked ∙ ap (λ (p : NumberedProgram). node_cost p costs) is
+
+  ends_same : (rows : List InputRow) (run : List Node) (outcome : RunOutcome) → Ends (seen checked) (low_start (seen checked) rows) run outcome → Ends program (low_start program rows) run outcome
+  ends_same rows run outcome h =
+      subst (λ (p : NumberedProgram). Ends p (low_start p rows) run outcome) is
+      (ranks_runs.ends (seen checked) (seen checked).ranks program.ranks (low_start (seen checked) rows) run outcome h)
+
+  past_same : (nodes : List Node) (rows : List InputRow) (turns n : ℕ) → IsPast (seen checked) nodes (low_start (seen checked) rows) turns n → IsPast program nodes (low_start program rows) turns n
+  past_same nodes rows turns n h =
+      subst (λ (p : NumberedProgram). IsPast p nodes (low_start p rows) turns n) is
+      (ranks_runs.past (seen checked) (seen checked).ranks program.ranks nodes (low_start (seen checked) rows) turns n h)
+
+-- ---- what is told
+
+told_exactly : LoneAnalysisIsExact → (program : ScopedProgram) (rows : List InputRow) (costs : CostTable) (policy : Policy) (turns : ℕ) (report : Reported) → AreLone rows
+    → IsAnalysis program.expanded.program program.expanded.graph rows costs policy turns (Told report)
+    → TellsOneRun program.expanded.program program.expanded.graph rows costs turns report
+told_exactly law program rows costs policy turns report lone h =
+    let numbered = program.expanded.program in
+    let graph = program.expanded.graph in
+    let told = law numbered graph rows costs policy turns (Told report) lone h in
+    let same = costs_same numbered h.checked h.program_is costs in
+    let priced = h.costs_are ∙ ap (λ (cost : Node → ℕ). map cost graph.nodes) (sym same) in
+    record {
+      trace = told.nodes;
+      outcome = told.outcome;
+      runs = record { run = told.runs.run; ends = ends_same numbered h.checked h.program_is rows told.runs.run told.outcome told.runs.ends; numbers = told.runs.numbers };
+      within = told.within;
+      fault = told.fault;
+      ends = told.ends;
+      outline = h.outline;
+      outline_is = h.outline_is;
+      exact = told.exact;
+      cost = told.cost costs priced ∙ ap (λ (cost : Node → ℕ). cost_of cost told.runs.run) same;
+    }
+
+left_exactly : HasOneOutline → LoneAnalysisIsExact → (program : ScopedProgram) (rows : List InputRow) (costs : CostTable) (policy : Policy) (turns : ℕ) (outcome : Outcome) → AreLone rows
+    → IsScoped program.expanded.graph program.scoped → IsLeftAt program rows costs policy turns outcome → IsLeft program (low_start program.expanded.program rows) turns outcome
+left_exactly one law program rows costs policy turns outcome lone scoped left =
+    let numbered = program.expanded.program in
+    let graph = program.expanded.graph in
+    let h = left.left in
+    let goes = law numbered graph rows costs policy turns (LeftIn left.scope) lone h in
+    let has : HasProgram graph = record { program = seen h.checked; keeps = h.keeps; is = h.graph_is } in
+    let shape : Shape = record { edges = graph.edges; own = program.scoped.own; ranks = scoped.ranks; scopes = program.scoped.scopes } in
+    let same = one graph (shape_of h.outline) shape has h.outline_is scoped.outline in
+    let scope : left.scope ≡ slice_index program.scoped.own goes.node = goes.own ∙ ap (λ (own : List ℕ). slice_index own goes.node) same.own in
+    record {
+      node = goes.node;
+      past = past_same numbered h.checked h.program_is graph.nodes rows turns goes.node goes.past;
+      line = left.line ∙ ap (λ (s : ℕ). record { cause = Unbounded; text = left_line graph program.scoped.scopes s }) scope;
+    }
+
+pub exactly : HasOneOutline → LoneAnalysisIsExact → OneInputIsToldExactly
+exactly one law program rows costs policy turns (Ok report) lone scoped means = told_exactly law program rows costs policy turns report lone means
+exactly one law program rows costs policy turns (Err outcome) lone scoped means = left_exactly one law program rows costs policy turns outcome lone scoped means

@@ -1,0 +1,6 @@
+-- Where each range has one number, what is told is exactly the one run.
+use Rattle.sweet_cli.proofs.Exactly.{exactly}
+use Rattle.sweet_cli.proofs.laws.one_input_is_told_exactly.Goals as goal
+
+pub returns : goal.returns
+returns c = exactly c.a_graph_has_one_outline.ensures c.an_input_alone_is_told_exactly.ensures

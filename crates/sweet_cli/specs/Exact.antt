@@ -1,0 +1,49 @@
+-- What `analyse` tells where each range has one number: exactly the one run.
+--   TellsOneRun program graph rows costs turns report   the run ends within the turns, and the report tells its own numbers, its fault and its cost
+--   MeansOneRun program rows costs turns meaning        so it is of a report; places are left where the run has more nodes than the turns
+--   OneInputIsToldExactly       the law
+use Rattle.std.specs.Prelude.{◌≡◌, ◌≤◌, ℕ, List, length, Option, Result, Ok, Err}
+use Rattle.alf_ops.specs.declared.history.RunFault.{RunFault}
+use Rattle.alf_check.specs.declared.rows.InputRow.{InputRow}
+use Rattle.alf_check.specs.CheckedPrograms.{NumberedProgram}
+use Rattle.flow_graph.specs.Numbering.{GraphParts}
+use Rattle.alf_runs.specs.Outcomes.{Outcome as RunOutcome}
+use Rattle.alf_runs.specs.Runs.{cost_of}
+use Rattle.run_counts.specs.Traces.{Runs}
+use Rattle.cost_table.specs.CostTables.{CostTable}
+use Rattle.domain_core.specs.Outlines.{Outlined, shape_of}
+use Rattle.domain_core.specs.OutlineOf.{IsOutlineOf}
+use Rattle.scope_graph.specs.Placing.{plan_of}
+use Rattle.flow_facts.specs.Reports.{Reported}
+use Rattle.pool_events.specs.declared.policy.Policy.{Policy}
+use Rattle.told_reports.specs.Exact.{IsExact}
+use Rattle.program_machines.specs.NodeCosts.{node_cost}
+use Rattle.program_machines.specs.Starts.{AreLone}
+use Rattle.program_analysis.specs.SoundLaws.{IsOutcomeOf}
+use Rattle.work.specs.Outcome.{Outcome}
+use Rattle.sweet_cli.specs.Scopes.{ScopedProgram, IsScoped}
+use Rattle.sweet_cli.specs.Run.{IsLeft, low_start}
+use Rattle.sweet_cli.specs.Analyse.{ReportMeans}
+
+-- the run from the one input ends within the turns, and the report tells its own numbers, its fault and its cost
+pub record TellsOneRun (program : NumberedProgram) (graph : GraphParts) (rows : List InputRow) (costs : CostTable) (turns : ℕ) (report : Reported) : Type 0 where
+  pub trace : List ℕ
+  pub outcome : RunOutcome
+  pub runs : Runs program graph.nodes (low_start program rows) trace outcome
+  pub within : length trace ≤ turns
+  pub fault : Option RunFault
+  pub ends : IsOutcomeOf fault outcome
+  pub outline : Outlined
+  pub outline_is : IsOutlineOf (plan_of graph) (shape_of outline)
+  pub exact : IsExact outline report trace fault
+  pub cost : report.count_bound ≡ cost_of (node_cost program costs) runs.run
+
+-- so it is of a report; places are left where the run has more nodes than the turns, and the line tells the scope of the one that comes after so many
+abbrev pub MeansOneRun : ScopedProgram → List InputRow → CostTable → ℕ → Result Reported Outcome → Type 0
+MeansOneRun program rows costs turns (Ok report) = TellsOneRun program.expanded.program program.expanded.graph rows costs turns report
+MeansOneRun program rows costs turns (Err outcome) = IsLeft program (low_start program.expanded.program rows) turns outcome
+
+-- where each range has one number
+abbrev pub OneInputIsToldExactly : Type 0
+OneInputIsToldExactly = (program : ScopedProgram) (rows : List InputRow) (costs : CostTable) (policy : Policy) (turns : ℕ) (meaning : Result Reported Outcome) → AreLone rows
+    → IsScoped program.expanded.graph program.scoped → ReportMeans program rows costs policy turns meaning → MeansOneRun program rows costs turns meaning

@@ -79,7 +79,9 @@ fn part(row: &str, place: usize) -> &str {
 fn outline_at(alloc: Global, row: &str) -> Result<Outline, Fail> {
     let mut outline = outline_of(alloc, part(row, 0))?;
     for n in 0..outline.node_count() {
-        outline.set_cost(n, 1);
+        if n < outline.node_count() {
+            outline.set_cost(n, 1);
+        }
     }
     Ok(outline)
 }

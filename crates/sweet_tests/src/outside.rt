@@ -74,6 +74,11 @@ fn a_file_of_inputs_or_costs_has_at_most_so_many_bytes(rt: HostRuntime) -> Resul
             "fault 70 toml inputs\n",
         ),
         (
+            "analyse a.alf --inputs t.toml --costs no.toml",
+            1_048_577,
+            "fault 13 limit bytes 1048577\n",
+        ),
+        (
             "analyse a.alf --costs t.toml",
             1_048_577,
             "fault 13 limit bytes 1048577\n",
@@ -94,6 +99,11 @@ analyse a.alf | 0 | program | a.alf
 analyse a.alf --costs c.toml | 0 | program | a.alf
 analyse a.alf --costs c.toml | 1 | costs | c.toml
 analyse a.alf --costs no.toml | 9 | costs | no.toml
+analyse a.alf --inputs i.toml | 1 | inputs | i.toml
+analyse a.alf --costs c.toml --inputs i.toml | 1 | inputs | i.toml
+analyse a.alf --costs c.toml --inputs i.toml | 2 | costs | c.toml
+analyse a.alf --inputs no.toml --costs no.toml | 9 | inputs | no.toml
+analyse b.alf --inputs no.toml --costs no.toml | 9 | program | b.alf
 print a.alf | 0 | program | a.alf
 print b.alf | 9 | program | b.alf
 print a.c | 9 | program | a.c
@@ -142,7 +152,12 @@ fn a_read_that_fails_is_told_in_its_turn(rt: HostRuntime) -> Result<(), Fail> {
 
 // The words, the number of a read that would fail and is not made, and the code.
 const UNREAD: &str = r#"run a.alf --turns 0 | 0 | 1
-analyse a.alf --inputs i.toml | 0 | 1
+analyse a.alf --inputs i.toml --merge all | 0 | 1
+analyse a.alf --inputs i.toml --root f | 1 | 2
+analyse a.alf --inputs a.alf --costs c.toml | 2 | 2
+analyse a.alf --inputs i.toml | 2 | 0
+analyse a.alf --inputs i.toml --costs c.toml | 3 | 0
+analyse a.alf --inputs i.toml --turns 1 | 2 | 3
 print a.alf --root main | 0 | 1
 print a.c --root main | 0 | 1
 run a.alf --inputs i.toml --root f | 1 | 2

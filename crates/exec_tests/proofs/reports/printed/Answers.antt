@@ -1,5 +1,5 @@
 -- What is left to show of `printed`.
-use Rattle.std.proofs.Common.{◌≡◌, ◌≤◌, ◌*◌, length, arith}
+use Rattle.std.proofs.Common.{length, arith}
 use Rattle.std.proofs.lemmas.Nat.{mul-le}
 use Rattle.exec_tests.proofs.reports.printed.Goals as goal
 

@@ -238,7 +238,10 @@ fn stores(
         return Ok((0, 0));
     };
     for round in 0..rounds {
-        if let (Some(at), Some(value)) = (ats.get((round % WORDS) as usize), values.get((round / WORDS % 2) as usize)) {
+        if let (Some(at), Some(value)) = (
+            ats.get((round % WORDS) as usize),
+            values.get((round / WORDS % 2) as usize),
+        ) {
             put(rt.alloc(), memory, at, value)?;
         }
     }
@@ -315,11 +318,7 @@ fn values(alloc: Global, sets: bool) -> Result<Vec<AVal>, AllocError> {
 }
 
 // The rounds of the task.
-fn rounds(
-    rt: &HostRuntime,
-    checked: &Checked,
-    task: &Task<'_>,
-) -> Result<(u64, u64), AllocError> {
+fn rounds(rt: &HostRuntime, checked: &Checked, task: &Task<'_>) -> Result<(u64, u64), AllocError> {
     let alloc = rt.alloc();
     let mut memory = filled(alloc, checked)?;
     let ats = addresses(alloc, task.cells)?;

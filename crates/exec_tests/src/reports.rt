@@ -21,15 +21,25 @@ use told_reports::numbers_are_at_most_the_steps;
 
 // The items of a program, its flow chart, the numbers at the start, the policy and the turns.
 const LOOP_APART: &str = "; @A ?C |B @B ; ^A @C . | 1 2 1?4:3 2-1 5 | 0..10 | none | 34";
+
 const LOOP_JOINED: &str = "; @A ?C |B @B ; ^A @C . | 1 2 1?4:3 2-1 5 | 0..10 | joins | 24";
+
 const LOOP_LONGER: &str = "; @A ?C |B @B ; ^A @C . | 1 2 1?4:3 2-1 5 | 0..10 | joins | 90000";
+
 const LOOP_LEFT: &str = "; @A ?C |B @B ; ^A @C . | 1 2 1?4:3 2-1 5 | 0..10 | joins | 23";
+
 const LOOP_OF_TEN: &str = "; @A ?C |B @B ; ^A @C . | 1 2 1?4:3 2-1 5 | 10..10 | joins | 24";
+
 const WAYS_APART: &str = "?A |B @A ; ^C @B ; @C . | 1 5?2:3 4 4 5 | 0..9 | none | 6";
+
 const WAYS_JOINED: &str = "?A |B @A ; ^C @B ; @C . | 1 5?2:3 4 4 5 | 0..9 | joins | 5";
+
 const ONE_WAY: &str = "?A |B @A ; ^C @B ; @C . | 1 5?2:3 4 4 5 | 5..9 | joins | 4";
+
 const FAULTS: &str = "?A |B @A ; ^C @B ; @C . | 1 5?2:3 3?!:4 7?#:4 5 | 0..9 | none | 6";
+
 const ONE_FAULT: &str = "?A |B @A ; ^C @B ; @C . | 1 5?2:3 3?!:4 7?#:4 5 | 1..1 | joins | 3";
+
 const LOOP_IN_LOOP: &str =
     "; @A ?D |B @B ?C |E @E ^B @C ^A @D . | 1 2 1?6:3 2?5:4 3-1 2-1 7 | 0..3 | joins | 11";
 

@@ -1,0 +1,6 @@
+-- The memory stays one.
+use Rattle.seen_memories.specs.Parts.{IsMemory}
+use Rattle.amem_bench.proofs.stores.Given as goal
+
+abbrev pub invariant-loop-round : goal.invariant-loop-round
+invariant-loop-round l = IsMemory l.memory

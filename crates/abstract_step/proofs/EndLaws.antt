@@ -2,26 +2,32 @@
 --   stands_leads          where a block ends so, its node leads to where this leads
 --   entry_goals           a step from an entry
 --   block_goals           a step from a block
+--   value_left, values_left   what code finds, by the program's own frames
 --   each_typed            statements keep the rules
 --   arguments_typed       arguments have sizes
 --   call_fits             values of arguments are those of a call
 --   returned_cell         what is returned to a call has the size of a cell
 --   leave_root, leave_back  functions left
---   back_at               the call that it goes back to
+--   back_at, end_there, is_call, back_leads   the call that it goes back to
 --   arms_lead, arms_own, arms_turn  the arms of a switch
 use Rattle.std.specs.Prelude.{slice_get, All, IfSome, Contains}
 use Rattle.std.specs.List.{AllZip, AllByRecursion}
 use Rattle.std.specs.Option.{option_map}
-use Rattle.std.proofs.Common.{◌≡◌, ◌<◌, inr, ℕ, List, [], ◌∷◌, map, length, Option, Some, None, refl, sym, ap, subst, ◌∙◌}
+use Rattle.std.proofs.Common.{◌≡◌, ◌<◌, inr, ℕ, List, [], ◌∷◌, Vec, map, length, Option, Some, None, refl, sym, ap, subst, ◌∙◌}
 use Rattle.std.proofs.lemmas.List.Elements.{All-nil, All-cons, All-head, All-tail, All-contains}
 use Rattle.std.proofs.lemmas.Option.{same_Some}
 use Rattle.lists.specs.Images.{image}
 use Rattle.alf_program.specs.Tree.{NumberedExpression}
+use Rattle.std.specs.declared.alloc.Global.{Global}
 use Rattle.alf_check.specs.declared.rows.FrameRow.{FrameRow}
-use Rattle.alf_check.specs.CheckedPrograms.{NumberedProgram, NumberedBlock, NumberedStatement, BlockEnding, Fall, Jump, Switch, Call, Return, seen, blocks_at}
+use Rattle.alf_check.specs.declared.rows.Term.{Term}
+use Rattle.alf_check.specs.declared.rows.Block.{Block}
+use Rattle.alf_check.specs.declared.rows.BlockEnd.{BlockEnd}
+use Rattle.alf_check.specs.declared.rows.BlockEnd.TheVariants as ends
+use Rattle.alf_check.specs.CheckedPrograms.{CheckedParts, NumberedProgram, NumberedBlock, NumberedStatement, BlockEnding, Fall, Jump, Switch, Call, Return, seen, blocks_at, block_of, end_of}
 use Rattle.alf_check.specs.Kept.{IsKept, KeepsStatement, KeepsBlock, KeepsEnding, CallKeeps, ArgumentKeeps, HasCellSize, Gives, TargetKeeps, SwitchKeeps}
 use Rattle.flow_graph.specs.Nodes.{Goal, Node, Leads, PlaceLeads, EndLeads, ReturnLeads, BackLeads, IsTarget, block_node, entry_node, ending_at, function_at}
-use Rattle.flow_graph.specs.Paths.{IsCall, IsCallPath, IsPlaced, HasBlock}
+use Rattle.flow_graph.specs.Paths.{IsCall, IsCallPath, IsPlaced, HasBlock, next_of}
 use Rattle.flow_graph.specs.PathLaws.{path_low, ending_low}
 use Rattle.alf_runs.specs.Steps.{frames_of}
 use Rattle.domain_core.specs.declared.fault_set.FaultSet.{FaultSet}
@@ -32,7 +38,7 @@ use Rattle.pointer_rules.specs.AbstractValues.{AbstractValue}
 use Rattle.pointer_rules.specs.Covering.{IsValue}
 use Rattle.memory_rules.specs.Memories.{Mem, MemSized, left}
 use Rattle.memory_rules.specs.AbstractSets.{abstract_sets}
-use Rattle.seen_memories.specs.Parts.{MemoryParts, memory_in}
+use Rattle.seen_memories.specs.Parts.{MemoryParts, memory_in, rows_of}
 use Rattle.step_rules.specs.Remains.{Remains, goes_on}
 use Rattle.step_rules.specs.RemainsLaws.{IfLeft}
 use Rattle.step_rules.specs.Evaluating.{value_at, arguments_at}
@@ -78,13 +84,33 @@ pub block_low : (here : HereParts) (block : ℕ) → IsPlaced (seen here.checked
 block_low here block placed at = (placed.function, subst (HasBlock (seen here.checked) (function_here here)) at placed.block)
 
 -- it ends as the program says
-pub stands_at : (here : HereParts) (block func : ℕ) (row : NumberedBlock) → func ≡ function_here here → (place_of here).block ≡ Some block → slice_get (blocks_at (seen here.checked) func) block ≡ Some row
+pub stands_at : (here : HereParts) (block func : ℕ) (row : NumberedBlock) → IsKept (seen here.checked) → IsPlaced (seen here.checked) (place_of here) → func ≡ function_here here → (place_of here).block ≡ Some block → slice_get (blocks_at (seen here.checked) func) block ≡ Some row
     → KeepsBlock (seen here.checked) func block row → StandsAt here block row.ending
-stands_at here block func row is at found keeps = record {
+stands_at here block func row kept placed is at found keeps = record {
+  kept = kept;
+  placed = placed;
   at = at;
   ends = ap (option_map (λ (b : NumberedBlock). b.ending)) (subst (λ (f : ℕ). slice_get (blocks_at (seen here.checked) f) block ≡ Some row) is found);
   keeps = subst (λ (f : ℕ). KeepsEnding (seen here.checked) f block row.ending) is keeps.ending;
 }
+
+-- ---- what code finds
+
+-- a value, by the program's own frames
+pub value_left : (here : HereParts) (memory : MemoryParts) (e : NumberedExpression) (o : Option AbstractValue) (v : AbstractValue) (faults : FaultSet) → IsOwn here.checked memory → o ≡ Some v
+    → record { left = o; faults = faults } ≡ value_at (rows_of memory.checked) (memory_in memory) e → record { left = Some v; faults = faults } ≡ value_at (frames_of (seen here.checked)) (memory_in memory) e
+value_left here memory e o v faults own some found =
+    ap (λ (x : Option AbstractValue). record { left = x; faults = faults }) (sym some) ∙ found ∙ ap (λ (p : CheckedParts). value_at (rows_of p) (memory_in memory) e) own.checked
+
+-- and the values of arguments
+pub values_left : (here : HereParts) (memory : MemoryParts) (es : List NumberedExpression) (o : Option (Vec AbstractValue Global)) (vs : Vec AbstractValue Global) (given : List AbstractValue) (faults : FaultSet)
+    → IsOwn here.checked memory → o ≡ Some vs → given ≡ vs.items
+    → record { left = option_map (λ (values : Vec AbstractValue Global). values.items) o; faults = faults } ≡ arguments_at (rows_of memory.checked) (memory_in memory) es
+    → record { left = Some given; faults = faults } ≡ arguments_at (frames_of (seen here.checked)) (memory_in memory) es
+values_left here memory es o vs given faults own some items found =
+    ap (λ (xs : List AbstractValue). record { left = Some xs; faults = faults }) items
+    ∙ ap (λ (x : Option (Vec AbstractValue Global)). record { left = option_map (λ (values : Vec AbstractValue Global). values.items) x; faults = faults }) (sym some) ∙ found
+    ∙ ap (λ (p : CheckedParts). arguments_at (rows_of p) (memory_in memory) es) own.checked
 
 -- ---- what keeps the rules
 
@@ -125,9 +151,9 @@ call_fits here f args m vs faults call sized found =
 -- ---- returns
 
 -- what is returned to a call has the size of a cell
-pub returned_taken : (here : HereParts) (block : ℕ) (e : NumberedExpression) (m : Mem abstract_sets) (v : AbstractValue) (faults : FaultSet) → IsKept (seen here.checked) → IsCallPath (seen here.checked) (path_at here)
+pub returned_taken : (here : HereParts) (block : ℕ) (e : NumberedExpression) (m : Mem abstract_sets) (v : AbstractValue) (faults : FaultSet)
     → StandsAt here block (Return (Some e)) → MemSized abstract_sets m → record { left = Some v; faults = faults } ≡ value_at (frames_of (seen here.checked)) m e → IsTaken (path_at here) (Some v)
-returned_taken here block e m v faults keeps calls stands sized found = go (path_at here) calls stands.ends
+returned_taken here block e m v faults stands sized found = go (path_at here) stands.placed.path stands.ends
   where
     program : NumberedProgram
     program = seen here.checked
@@ -147,9 +173,9 @@ returned_taken here block e m v faults keeps calls stands sized found = go (path
     go : (path : List ℕ) → IsCallPath program path → ending_at program (function_at program path) block ≡ Some (Return (Some e)) → IsTaken path (Some v)
     go [] calls ends = tt
     go (c ∷ path) calls ends =
-        let back = back_of program keeps path c calls in
+        let back = back_of program stands.kept path c calls in
         let row = row_of (function_at program (c ∷ path)) block ends in
-        let is = cell (function_at program (c ∷ path)) back.call.result (back_gives program keeps path c block row.0 (Some e) back row.1 row.2) in
+        let is = cell (function_at program (c ∷ path)) back.call.result (back_gives program stands.kept path c block row.0 (Some e) back row.1 row.2) in
         record {
           size = is.size;
           cell = cell_size is.size is.cell;
@@ -177,10 +203,11 @@ pub record Back (here : HereParts) (block : ℕ) (rest : List ℕ) : Type 0 wher
   pub there : block < length (blocks_at (seen here.checked) (function_at (seen here.checked) rest))
   pub leads : Leads (seen here.checked) (place_of here) (Some (block_node rest call.next))
 
-pub back_at : (here : HereParts) (block : ℕ) (rest : List ℕ) → IsKept (seen here.checked) → GoesBackTo here block → path_at here ≡ block ∷ rest → Back here block rest
-back_at here block rest keeps back cons =
+pub back_at : (here : HereParts) (block : ℕ) (rest : List ℕ) → GoesBackTo here block → path_at here ≡ block ∷ rest → Back here block rest
+back_at here block rest back cons =
     let program = seen here.checked in
-    let calls : IsCallPath program (block ∷ rest) = subst (IsCallPath program) cons back.calls in
+    let keeps = back.returns.stands.kept in
+    let calls : IsCallPath program (block ∷ rest) = subst (IsCallPath program) cons back.returns.stands.placed.path in
     let call = calls.0 in
     let returns : (goal : Goal) → ReturnLeads program (path_at here) goal → Leads program (place_of here) goal = λ goal leads. stands_leads here back.returns.block (Return back.returns.value) back.returns.stands goal leads in
     record {
@@ -190,6 +217,25 @@ back_at here block rest keeps back cons =
       leads = returns (Some (block_node rest call.next)) (subst (λ (p : List ℕ). ReturnLeads program p (Some (block_node rest call.next))) (sym cons)
           (subst (λ (ending : Option BlockEnding). BackLeads rest ending (Some (block_node rest call.next))) (sym call.ends) refl));
     }
+
+-- the block that the call stands in ends with it
+pub end_there : (program : NumberedProgram) (f b : ℕ) (row : Block) (ending : BlockEnding) → slice_get (blocks_at program f) b ≡ Some (block_of row) → ending_at program f b ≡ Some ending → end_of row.end ≡ ending
+end_there program f b row ending at ends = same_Some (end_of row.end) ending (sym (ap (option_map (λ (r : NumberedBlock). r.ending)) at) ∙ ends)
+
+pub is_call : (end : BlockEnd) (f next : ℕ) (args : List NumberedExpression) (to : Option (ℕ × ℕ)) → end_of end ≡ Call f args to next
+    → ((g : ℕ) (terms : Vec Term Global) (cell : Option (ℕ × ℕ)) (after : ℕ) → end ≡ ends.Call g terms cell after → ⊥) → ⊥
+is_call (ends.Fall n) f next args to same none = cc
+is_call (ends.Jump n) f next args to same none = cc
+is_call (ends.Switch value targets others) f next args to same none = cc
+is_call (ends.Call g terms cell after) f next args to same none = none g terms cell after refl
+is_call (ends.Return value) f next args to same none = cc
+
+-- and the node leads to the block after it
+pub back_leads : (here : HereParts) (block : ℕ) (rest : List ℕ) (back : Back here block rest) (f next : ℕ) (args : List NumberedExpression) (to : Option (ℕ × ℕ))
+    → ending_at (seen here.checked) (function_at (seen here.checked) rest) block ≡ Some (Call f args to next) → Leads (seen here.checked) (place_of here) (Some (block_node rest next))
+back_leads here block rest back f next args to ends =
+    let same : next ≡ back.call.next = ap next_of (sym ends ∙ back.call.ends) in
+    subst (λ (n : ℕ). Leads (seen here.checked) (place_of here) (Some (block_node rest n))) (sym same) back.leads
 
 -- ---- switches
 

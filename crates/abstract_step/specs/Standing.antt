@@ -13,7 +13,7 @@ use Rattle.alf_check.specs.Kept.{IsKept, KeepsEnding}
 use Rattle.flow_graph.specs.Nodes.{Node, ending_at, function_at}
 use Rattle.flow_graph.specs.Numbering.{GraphParts, IsGraph}
 use Rattle.flow_graph.specs.Expansions.{node_number}
-use Rattle.flow_graph.specs.Paths.{IsCallPath}
+use Rattle.flow_graph.specs.Paths.{IsPlaced}
 use Rattle.graph_edges.specs.Edges.{AreFirstEdges}
 use Rattle.pointer_rules.specs.AbstractValues.{AbstractValue}
 use Rattle.step_statements.specs.Typed.{IsStorable}
@@ -42,6 +42,8 @@ function_here here = function_at (seen here.checked) (path_at here)
 
 -- its block is this one, and ends so
 pub record StandsAt (here : HereParts) (block : ℕ) (ending : BlockEnding) : Type 0 where
+  pub kept : IsKept (seen here.checked)
+  pub placed : IsPlaced (seen here.checked) (place_of here)
   pub at : (place_of here).block ≡ Some block
   pub ends : ending_at (seen here.checked) (function_here here) block ≡ Some ending
   pub keeps : KeepsEnding (seen here.checked) (function_here here) block ending
@@ -68,7 +70,6 @@ pub record IsReturnAt (here : HereParts) : Type 0 where
 pub record GoesBackTo (here : HereParts) (block : ℕ) : Type 0 where
   pub rest : List ℕ
   pub path_is : path_at here ≡ block ∷ rest
-  pub calls : IsCallPath (seen here.checked) (path_at here)
   pub returns : IsReturnAt here
 
 -- what is returned has the size of a cell, if there is a call that it goes back to

@@ -1,5 +1,25 @@
+use Rattle.std.proofs.Common.{◌≡◌, ℕ, List, map, subst}
+use Rattle.alf_check.specs.CheckedPrograms.{seen}
+use Rattle.seen_memories.specs.Parts.{MemoryParts, memory_in}
+use Rattle.seen_memories.specs.Made.{made}
+use Rattle.step_rules.specs.Stepping.{goals_left}
+use Rattle.step_rules.specs.Machines.{goals_from, numbered_goal}
+use Rattle.seen_machines.specs.MadeMachines.{made_at}
+use Rattle.abstract_step.specs.Steppers.{StepperParts}
+use Rattle.abstract_step.specs.Standing.{HereParts}
 use Rattle.abstract_step.proofs.TurnLaws.{turn_made}
 use Rattle.abstract_step.proofs.stepper.AlfStepperStepper.step.Goals as goal
 
+-- the points of a step from here with this memory
+abbrev points_of : HereParts → MemoryParts → List (ℕ × MemoryParts)
+points_of here memory = map (made_at (made here.checked)) (map (numbered_goal here.graph) (goals_left (goals_from (seen here.checked) here.graph here.node (memory_in memory)).left))
+
 pub returns-clause-next : goal.returns-clause-next
-returns-clause-next c = ?
+returns-clause-next c =
+    let here = c.new-here.result in
+    let stepped = c.in_ok-stepped.stepped in
+    let made : stepped.next.items ≡ points_of here c.in_ok-copy.field-0 =
+    turn_made here stepped.next.items stepped.faults (goals_from (seen here.checked) here.graph here.node (memory_in c.in_ok-copy.field-0)) c.in_ok-stepped.ensures in
+    subst (λ (p : StepperParts). stepped.next.items ≡ points_of (record { checked = p.checked; graph = p.graph; node = c.args.node }) c.args.state.now) c.self.view_is
+    (subst (λ (h : HereParts). stepped.next.items ≡ points_of h c.args.state.now) c.new-here.ensures
+    (subst (λ (memory : MemoryParts). stepped.next.items ≡ points_of here memory) c.in_ok-copy.ensures made))

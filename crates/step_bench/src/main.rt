@@ -109,7 +109,7 @@ fn onward<'a>(
     point: (u32, AMem<'a>),
 ) -> Result<Option<(u32, AMem<'a>)>, AllocError>
     requires exit { exit ≡ (stepped_by stepper.now).exit }
-    requires fits { (stepped_by stepper.now).fits point.entry.0 point.entry.1 }
+    requires fits { (stepped_by stepper.now).fits point.0 point.1 }
     ensures { IfOk result (λ first. IfSome first (λ next. (stepped_by stepper.now).fits next.0 next.1)) }
 {
     stepper.kept();

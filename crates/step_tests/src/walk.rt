@@ -28,7 +28,7 @@ fn step<'a>(
     choice: usize,
 ) -> Result<Option<(u32, AMem<'a>)>, AllocError>
     requires exit { exit ≡ (stepped_by stepper.now).exit }
-    requires fits { (stepped_by stepper.now).fits point.entry.0 point.entry.1 }
+    requires fits { (stepped_by stepper.now).fits point.0 point.1 }
     ensures { IfOk result (λ chosen. IfSome chosen (λ next. (stepped_by stepper.now).fits next.0 next.1)) }
 {
     stepper.kept();

@@ -46,6 +46,15 @@ fn step<'a>(
     Ok(Some(chosen))
 }
 
+// Where runs start.
+fn first<'a>(alloc: Global, stepper: &AlfStepper<'a>) -> Result<(u32, AMem<'a>), AllocError>
+    ensures { IfOk result (λ point. (stepped_by stepper.now).fits point.0 point.1) }
+{
+    stepper.kept();
+    let memory = stepper.start(alloc)?;
+    Ok((0, memory))
+}
+
 // The steps along these successors, from the start of runs.
 fn walk<'a>(
     alloc: Global,
@@ -56,10 +65,8 @@ fn walk<'a>(
 ) -> Result<String, AllocError>
     requires { exit ≡ (stepped_by stepper.now).exit }
 {
-    stepper.kept();
     let mut text = String::new(alloc);
-    let memory = stepper.start(alloc)?;
-    let mut point = (0, memory);
+    let mut point = first(alloc, stepper)?;
     for word in choices.split(' ') {
         let choice = word.parse::<usize>().unwrap_or(0);
         match step(alloc, &mut text, stepper, exit, point, cells, choice)? {

@@ -101,7 +101,7 @@ static CASES: [Case; 19] = [
         "{ switch *x { target #0 @A } { target #4 @B } { target #9 @B } { default @C } } @A { return } @B { return } @C { switch *x { target #4 @A } { target #2 @B } { default @D } } @D { switch { u_gt 32 *x #3 } { target '1 @A } { default @B } }",
         "x 32 1 0 4",
         "0+0:32",
-        "0 0 2 1 0",
+        "0 2 1 0 0",
         "/ 1( 0..4 )/ 2( 0 ) 3( 4 ) 4( 1..3 )/ 3( 2 ) 5( 1..3 )/ 3( 1..3 )/ end",
     ),
     (
@@ -193,7 +193,7 @@ static PROGRAMS: [Case; 3] = [
         ARRAYS,
         "c 32 1 0 1",
         "0+0:32 3+0:32 2+8:32",
-        "0 0 1 0",
+        "0 1 0 0",
         "/ 1( 0..1 -!uninit 0 )/ 2( 1 -!uninit 0 ) 3( 0 -!uninit 0 )/ 4( 0 @2+0 0 )/ end",
     ),
     (

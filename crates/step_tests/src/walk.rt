@@ -68,12 +68,12 @@ fn walk<'a>(
     let mut text = String::new(alloc);
     let mut point = first(alloc, stepper)?;
     for word in choices.split(' ') {
+        text.push_str("/")?;
         let choice = word.parse::<usize>().unwrap_or(0);
         match step(alloc, &mut text, stepper, exit, point, cells, choice)? {
             None => return Ok(text),
             Some(next) => point = next,
         }
-        text.push_str(" /")?;
     }
     Ok(text)
 }

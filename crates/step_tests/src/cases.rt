@@ -166,7 +166,7 @@ static CASES: [Case; 19] = [
         "c 8 1 -4 10;x 32 1 -4 10;w 64 1 0 100",
         "8+0:8 9+0:32 10+0:64 10+0:32 11+0:32 2+0:32",
         "0 0 0 0 0",
-        "/ 1( -!dead -!dead -!dead -!dead -!dead -!uninit )/ 3( -4..10 -3..11 0..100 -!mixed -!uninit -!uninit )/ 4( -4..10 -3..11 0..100 -!mixed -!uninit -!uninit )/ 2( -!dead -!dead -!dead -!dead -!dead 0..255 )/ end",
+        "/ 1( -!dead -!dead -!dead -!dead -!dead -!uninit )/ 3( -4..10 -3..11 0..100 0..100 -!uninit -!uninit )/ 4( -4..10 -3..11 0..100 0..100 -!uninit -!uninit )/ 2( -!dead -!dead -!dead -!dead -!dead 0..255 )/ end",
     ),
     (
         "an argument faults",

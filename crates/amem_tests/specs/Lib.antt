@@ -1,0 +1,4 @@
+-- The files here.
+pub mod Sides
+pub mod Slots
+pub mod Statements

@@ -1,0 +1,126 @@
+// Steps the program in a file along first successors, for bench/steps, which takes the time.
+#![tactic(auto)]
+
+ghost use Rattle.std.specs.Prelude.{◌≡◌, IfOk, IfSome};
+ghost use Rattle.alf_check.specs.CheckedPrograms.{seen};
+ghost use Rattle.alf_check.specs.Inputs.{KeepInputs};
+ghost use Rattle.flow_graph.specs.Numbering.{IsGraph};
+ghost use Rattle.abstract_step.specs.Steppers.{stepped_by};
+
+use abstract_memory::AMem;
+use abstract_step::AlfStepper;
+use alf_check::{Checked, InputRow, check};
+use alf_text::read;
+use cost_table::inputs;
+use domain_core::Stepper;
+use flow_base::{FolderShelf, Shelf, Sink, StdSink};
+use flow_graph::Graph;
+use std::alloc::{AllocError, Global};
+use std::env;
+use std::process::ExitCode;
+
+// As many bytes as a text may have.
+const MOST: u64 = 1_048_576;
+
+fn main(rt: HostRuntime) -> ExitCode {
+    let mut shelf = FolderShelf::new(&rt);
+    let mut out = StdSink::new(&rt);
+    let Ok(mut args) = env::args(&rt) else {
+        return ExitCode::from(1);
+    };
+    let (Some(file), Some(table), Some(most)) = (args.nth(1), args.next(), args.next()) else {
+        return ExitCode::from(1);
+    };
+    let (Ok(text), Ok(table)) = (
+        shelf.read(rt.alloc(), &file, MOST),
+        shelf.read(rt.alloc(), &table, MOST),
+    ) else {
+        return ExitCode::from(1);
+    };
+    let most = most.parse::<u32>().unwrap_or(0);
+    let Some(line) = told(rt.alloc(), &text, &table, most) else {
+        return ExitCode::from(1);
+    };
+    match out.write_all(line.as_bytes()) {
+        Ok(()) => ExitCode::from(0),
+        Err(_) => ExitCode::from(1),
+    }
+}
+
+// How many steps were made of the program with these inputs.
+fn told(alloc: Global, text: &[u8], table: &[u8], most: u32) -> Option<String> {
+    let Ok(program) = read(alloc, text) else {
+        return None;
+    };
+    let Ok(checked) = check(alloc, program, "main") else {
+        return None;
+    };
+    let Ok(graph) = Graph::expand(alloc, &checked) else {
+        return None;
+    };
+    let Ok(rows) = inputs(alloc, table, &checked) else {
+        return None;
+    };
+    steps_of(alloc, &checked, &graph, &rows, most).ok()
+}
+
+// How many steps were made of a checked program.
+fn steps_of(
+    alloc: Global,
+    checked: &Checked,
+    graph: &Graph,
+    rows: &[InputRow],
+    most: u32,
+) -> Result<String, AllocError>
+    requires graph { IsGraph (seen checked.now) graph.now }
+    requires rows { KeepInputs (seen checked.now) rows.now }
+{
+    let stepper = AlfStepper::new(alloc, checked, graph, rows)?;
+    let steps = count(alloc, &stepper, graph.node_count(), most)?;
+    format!(in alloc; "{steps}\n")
+}
+
+// How many steps are made along first successors: the most, unless the end comes first.
+fn count<'a>(
+    alloc: Global,
+    stepper: &AlfStepper<'a>,
+    exit: u32,
+    most: u32,
+) -> Result<u32, AllocError>
+    requires { exit ≡ (stepped_by stepper.now).exit }
+{
+    stepper.kept();
+    let memory = stepper.start(alloc)?;
+    let mut point = (0, memory);
+    for steps in 0..most {
+        match onward(alloc, stepper, exit, point)? {
+            None => return Ok(steps),
+            Some(next) => point = next,
+        }
+    }
+    Ok(most)
+}
+
+// The first successor, if there is one that is no end.
+fn onward<'a>(
+    alloc: Global,
+    stepper: &AlfStepper<'a>,
+    exit: u32,
+    point: (u32, AMem<'a>),
+) -> Result<Option<(u32, AMem<'a>)>, AllocError>
+    requires exit { exit ≡ (stepped_by stepper.now).exit }
+    requires fits { (stepped_by stepper.now).fits point.0 point.1 }
+    ensures { IfOk result (λ first. IfSome first (λ next. (stepped_by stepper.now).fits next.0 next.1)) }
+{
+    stepper.kept();
+    let stepped = stepper.step(alloc, point.0, &point.1)?;
+    let mut next = stepped.next;
+    if next.is_empty() {
+        return Ok(None);
+    }
+    let first = next.swap_remove(0);
+    if first.0 == exit {
+        return Ok(None);
+    }
+    Ok(Some(first))
+}

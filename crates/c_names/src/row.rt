@@ -125,8 +125,8 @@ fn put_back<'a>(
     ensures unchanged { OnErr result ((other : List ℕ) → found table.new other ≡ found table.old other) }
 {
     match hidden {
-        Some(place) => {
-            table.insert(name, place)?;
+        Some(outer) => {
+            table.insert(name, outer)?;
         }
         None => {
             table.swap_remove(name);

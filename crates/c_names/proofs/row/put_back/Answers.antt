@@ -5,7 +5,7 @@ use Rattle.c_names.proofs.row.put_back.Goals as goal
 
 pub returns-in_ok-insert-in-Some-clause-put : goal.returns-in_ok-insert-in-Some-clause-put
 returns-in_ok-insert-in-Some-clause-put c = λ other.
-    rw c.in-Some.is (hash_map_updates_str c.args.name.now c.args.table.now c.insert.new.self (Some c.in-Some.place) c.in_ok-insert-in-Some.ensures.updates other)
+    rw c.in-Some.is (hash_map_updates_str c.args.name.now c.args.table.now c.insert.new.self (Some c.in-Some.outer) c.in_ok-insert-in-Some.ensures.updates other)
 
 pub returns-in-None-clause-put : goal.returns-in-None-clause-put
 returns-in-None-clause-put c = λ other.

@@ -1,0 +1,1 @@
+-- The definitions stand in `c_checks`.

@@ -1,1 +1,4 @@
--- The definitions stand in `c_checks`.
+-- What a check tells.
+pub mod Told
+-- Laws of it.
+pub mod ToldLaws

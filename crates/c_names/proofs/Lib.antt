@@ -1,0 +1,4 @@
+mod Ends
+mod RowLaws
+mod CutLaws
+mod Shortened

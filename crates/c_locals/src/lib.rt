@@ -13,6 +13,6 @@ mod arrays;
 // Locals.
 mod locals;
 
-pub use arrays::check_array;
+pub use arrays::{check_array, number_of};
 pub use locals::check_locals;
 pub use stop::Stop;

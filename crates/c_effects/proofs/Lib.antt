@@ -1,0 +1,2 @@
+-- Assignments with an operator.
+mod Updates

@@ -1,0 +1,2 @@
+-- Conditions in pairs.
+mod Pairs

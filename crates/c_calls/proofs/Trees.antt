@@ -1,5 +1,5 @@
 -- The trees of statements that have a part which may be missing, and their calls.
-use Rattle.std.proofs.Common.{◌≡◌, ◌++◌, List, Option, None, Some, Box, refl, ap, sym, ◌∙◌}
+use Rattle.std.proofs.Common.{◌≡◌, ◌++◌, Option, None, Some, Box, refl, ap, sym, ◌∙◌}
 use Rattle.std.specs.declared.alloc.Global.{Global}
 use Rattle.std.specs.Option.{option_map}
 use Rattle.std.proofs.lemmas.List.{append-nil}
@@ -29,5 +29,5 @@ for_tree None condition done body = ap statement_of (sym (rolls-For None conditi
 for_tree (Some first) condition done body = ap statement_of (sym (rolls-For (Some first) condition done body)) ∙ fold-roll-Stmt Statement statement_step (stmts.For (Some first) condition done body)
 
 pub for_calls : (first : Option Statement) (condition : Option Expression) (done : Option EffectTree) (body : Statement) → calls_in (for_of first condition done body) ≡ calls_if_stated first ++ (calls_if_done done ++ calls_in body)
-for_calls None condition done body = refl
-for_calls (Some first) condition done body = refl
+for_calls None condition _ body = refl
+for_calls (Some first) condition _ body = refl

@@ -1,6 +1,6 @@
 //! Who calls whom in a unit of C.
 //!
-//! Functions are counted by the order of their definitions. `call_ranks_of` gives each a rank, so that each call
+//! Functions are counted by the order of their definitions. `function_ranks` gives each a rank, so that each call
 //! leads to a lower one, or the first cycle of calls.
 #![tactic(auto)]
 
@@ -10,6 +10,8 @@ mod parts;
 mod statements;
 
 // Calls of functions, and ranks.
+mod ranks;
 mod tables;
 
+pub use ranks::{function_ranks, names_along};
 pub use tables::call_table;

@@ -1,7 +1,8 @@
 //! All definitions of a unit.
 
-ghost use Rattle.std.specs.Prelude.{◌≡◌, take, reverse, IfOk};
+ghost use Rattle.std.specs.Prelude.{◌≡◌, take, reverse, slice_index_or, IfOk};
 ghost use Rattle.c_unit.specs.Units.{unit_of};
+ghost use Rattle.c_checks.specs.Names.{text_at};
 ghost use Rattle.c_checks.specs.Calls.{is_defined};
 ghost use Rattle.c_checks.specs.Units.{definitions};
 ghost use Rattle.c_checks.specs.Recursion.{number_at};
@@ -52,6 +53,15 @@ impl<'a> Definitions<'a> {
         ensures { result.now ≡ self.now.names }
     {
         self.names.as_slice()
+    }
+
+    /// The text of the name of a function by its number; past the last one it is that of the first token. Takes no
+    /// memory.
+    pub fn text_of(&self, number: u32) -> &'a [u8]
+        ensures { result.now ≡ text_at self.now.words (slice_index_or self.now.names number 0) }
+    {
+        let token = self.names.get(number as usize).copied().unwrap_or(0);
+        self.words.text_at(token)
     }
 
     /// The number of the function of this name. Takes no memory.

@@ -3,7 +3,7 @@ use Rattle.std.proofs.Common.{◌≡◌, ◌+◌, ◌<◌, ◌++◌, ℕ, List, 
 use Rattle.std.specs.Option.{option_map}
 use Rattle.std.proofs.lemmas.List.{at_drop_more}
 use Rattle.c_unit.specs.declared.statement.Stmt.{Stmt}
-use Rattle.c_unit.specs.Tree.{Statement, expression_of, effect_of, statement_of, statements_of}
+use Rattle.c_unit.specs.Tree.{expression_of, effect_of, statement_of, statements_of}
 use Rattle.c_unit.specs.Units.{Word}
 use Rattle.c_checks.specs.Recursion.{calls_in, calls_if_done, called_in, numbers_at}
 use Rattle.c_calls.specs.Parts.{stated, calls_if_stated}
@@ -43,7 +43,7 @@ note_statement-returns-in_ok-note_if_stated-in-If t c =
     let body = c.in-If.body in
     let otherwise = c.in-If.otherwise in
     let is : calls_in (statement_of c.args.s.now) ≡ calls_in (statement_of body.value) ++ calls_if_stated (stated otherwise) =
-        rw c.in-If.is (ap calls_in (if_tree condition body otherwise) ∙ if_calls (expression_of condition) (statement_of body.value) (stated otherwise)) in
+    rw c.in-If.is (ap calls_in (if_tree condition body otherwise) ∙ if_calls (expression_of condition) (statement_of body.value) (stated otherwise)) in
     let first = c.in_ok-note_statement-in-If.ensures ∙ ap (λ (s : Stmt). row ++ numbers_at words names (calls_in (statement_of s))) c.deref-in-If.ensures in
     after words names row c.note_statement.new.row.items c.note_if_stated.new.row.items (calls_in (statement_of body.value)) (calls_if_stated (stated otherwise)) c.in_ok-note_if_stated-in-If.ensures first
     ∙ ap (λ (calls : List ℕ). row ++ numbers_at words names calls) (sym is)
@@ -61,7 +61,7 @@ note_statement-returns-in_ok-note_statement-in-For t c =
     let behind = calls_if_done (option_map effect_of done) in
     let inner = calls_in (statement_of body.value) in
     let is : calls_in (statement_of c.args.s.now) ≡ firsts ++ (behind ++ inner) =
-        rw c.in-For.is (ap calls_in (for_tree first condition done body) ∙ for_calls (stated first) (option_map expression_of condition) (option_map effect_of done) (statement_of body.value)) in
+    rw c.in-For.is (ap calls_in (for_tree first condition done body) ∙ for_calls (stated first) (option_map expression_of condition) (option_map effect_of done) (statement_of body.value)) in
     let begun = c.note_if_stated-in-For.new.row.items in
     let next = c.note_if_done.new.row.items in
     let last = c.note_statement-in-For.new.row.items in

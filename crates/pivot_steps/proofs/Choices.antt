@@ -1,55 +1,26 @@
 -- The choice of the place that enters, term by term, is that of whole lines.
 use Rattle.std.proofs.Common.{◌≡◌, ℕ, ℤ, pos, zero, suc, ◌<◌, ◌≤◌, ◌-◌, arith, refl, sym, ap, ◌∙◌, subst, List, [], ◌∷◌, Option, Some, None, ⊎_elim, Bool, true, false}
-use Rattle.std.specs.Prelude.{◌*ℤ◌, neg_ℤ, int_lt, nat_lt, not, ◌&&◌, ◌||◌, if◌then◌else◌}
+use Rattle.std.specs.Prelude.{◌*ℤ◌, neg_ℤ, int_lt, not, ◌&&◌, ◌||◌, if◌then◌else◌}
 use Rattle.std.proofs.lemmas.Int.{ints}
-use Rattle.std.proofs.lemmas.Bool.{cases_eq, eq-eqb, ne_eqb, ltb-true, ltb-false, lt-ltb, or_left, or_right, or_from}
+use Rattle.std.proofs.lemmas.Bool.{cases_eq, or_left, or_right, or_from}
 use Rattle.lists.specs.Tests.{by_test}
-use Rattle.path_rows.specs.Sums.{coefficient, coefficient_of, StartsAbove, IsAscending}
+use Rattle.path_rows.specs.Sums.{coefficient, StartsAbove, IsAscending}
 use Rattle.path_rows.specs.Programs.{IsWithin}
 use Rattle.dual_rules.specs.Firsts.{fits, entry}
-use Rattle.dual_rules.specs.SumLaws.{term_here, term_elsewhere}
 use Rattle.dual_rules.specs.RowLaws.{found_here, found_later}
 use Rattle.pivot_rules.specs.Lines.{spread}
 use Rattle.pivot_rules.specs.PivotRule.{entering, entering_with, entering_wide, choice_wide}
 use Rattle.pivot_rules.specs.FirstTableau.{spread_is, within_more}
 use Rattle.tableau_lines.specs.Merging.{IsFrom}
-use Rattle.tableau_lines.specs.TermLaws.{nothing_up_to, nothing_before}
+use Rattle.tableau_lines.specs.TermLaws.{nothing_before}
+use Rattle.pivot_steps.specs.TermsFrom.{dropped_rises, dropped_from, dropped_within, dropped_same, cost_is}
 use Rattle.pivot_steps.specs.Choosing.{Chosen, lesser, chosen_among, chosen_with, dropped, number_first, and_on, candidate, choose, place_in, place_chosen, entering_answer}
 
--- ---- terms from a place on
+-- ---- terms behind the first
 
 starts_less : (c q : ℕ) (ts : List (ℕ × ℤ)) → StartsAbove c ts → q ≤ suc c → IsFrom q ts
 starts_less c q [] above most = tt
 starts_less c q (t ∷ ts) above most = omega (arith, above)
-
-pub dropped_rises : (p : ℕ) (ts : List (ℕ × ℤ)) → IsAscending ts → IsAscending (dropped p ts)
-dropped_rises p [] rises = tt
-dropped_rises p (t ∷ ts) rises = by_test (nat_lt t.0 p) (λ e. rw e (dropped_rises p ts rises.1)) (λ e. rw e rises)
-
-pub dropped_from : (p : ℕ) (ts : List (ℕ × ℤ)) → IsFrom p (dropped p ts)
-dropped_from p [] = tt
-dropped_from p (t ∷ ts) = by_test (nat_lt t.0 p) (λ e. rw e (dropped_from p ts)) (λ e. rw e (omega (arith, ltb-false t.0 p e)))
-
-pub dropped_within : (w p : ℕ) (ts : List (ℕ × ℤ)) → IsWithin w ts → IsWithin w (dropped p ts)
-dropped_within w p [] within = tt
-dropped_within w p (t ∷ ts) within = by_test (nat_lt t.0 p) (λ e. rw e (dropped_within w p ts within.1)) (λ e. rw e within)
-
-pub dropped_same : (p : ℕ) (ts : List (ℕ × ℤ)) (j : ℕ) → p ≤ j → coefficient (dropped p ts) j ≡ coefficient ts j
-dropped_same p [] j past = refl
-dropped_same p (t ∷ ts) j past = by_test (nat_lt t.0 p)
-    (λ e. rw e (dropped_same p ts j past ∙ found_later t ts j (λ (q : t.0 ≡ j). absurd (omega (arith, ltb-true t.0 p e)))))
-    (λ e. rw e refl)
-
-first_is : (p : ℕ) (ts : List (ℕ × ℤ)) → IsFrom p ts → IsAscending ts → number_first ts p ≡ coefficient ts p
-first_is p [] from rises = refl
-first_is p (t ∷ ts) from rises = ⊎_elim
-    (λ (q : t.0 ≡ p). let e : number_first (t ∷ ts) p ≡ t.1 = rw (eq-eqb t.0 p q) refl in e ∙ found_here t ts p rises q)
-    (λ (d : t.0 ≡ p → ⊥). let e : number_first (t ∷ ts) p ≡ pos 0 = rw (ne_eqb t.0 p d) refl in e ∙ nothing_before t ts p rises (omega (arith, from)))
-    (cases_eq t.0 p)
-
--- the objective's number at the place
-cost_is : (p : ℕ) (ds : List (ℕ × ℤ)) → IsAscending ds → number_first (dropped p ds) p ≡ coefficient ds p
-cost_is p ds rises = first_is p (dropped p ds) (dropped_from p ds) (dropped_rises p ds rises) ∙ dropped_same p ds p (omega arith)
 
 -- ---- places whose number is not below 0
 

@@ -1,3 +1,4 @@
 pub mod Sparse
 pub mod Stepped
 pub mod Choosing
+pub mod TermsFrom

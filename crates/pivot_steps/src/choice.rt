@@ -79,7 +79,7 @@ pub fn from_place(terms: &[(u32, Whole)], place: u32) -> &[(u32, Whole)]
 }
 
 /// The number of the first term, if it is at the place.
-fn first_number(terms: &[(u32, Whole)], place: u32) -> Whole
+pub fn first_number(terms: &[(u32, Whole)], place: u32) -> Whole
     ensures { result ≡ number_first terms.now place }
 {
     match terms.split_first() {

@@ -19,5 +19,6 @@ mod choosing;
 mod pivot;
 mod tableau;
 
+pub use choice::{first_number, from_place};
 pub use row::HeldLine;
 pub use tableau::SparseTableau;

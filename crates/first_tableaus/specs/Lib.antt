@@ -1,2 +1,3 @@
 pub mod FirstTerms
 pub mod Started
+pub mod RowSteps

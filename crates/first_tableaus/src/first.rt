@@ -14,7 +14,7 @@ use pivot_steps::{HeldLine, SparseTableau};
 use std::alloc::{AllocError, Global};
 
 /// The rows' lines, with slacks from the one on.
-#[tactic(auto, using(crate::proofs::RowSteps::rows_next, crate::proofs::RowSteps::width_next, crate::proofs::RowSteps::slack_below, crate::proofs::RowSteps::rows_end, crate::proofs::RowSteps::next_past))]
+#[tactic(auto, using(crate::specs::RowSteps::rows_next, crate::specs::RowSteps::width_next, crate::specs::RowSteps::slack_below, crate::specs::RowSteps::rows_end, crate::specs::RowSteps::next_past))]
 fn first_rows(alloc: Global, rows: &Rows, slacks: u32) -> Result<Vec<HeldLine>, AllocError>
     requires small { IsSmall rows.now.program }
     requires slacks { slacks ≡ slacks_from rows.now.program }
@@ -31,7 +31,7 @@ fn first_rows(alloc: Global, rows: &Rows, slacks: u32) -> Result<Vec<HeldLine>, 
 
 /// The tableau before the opening: each row is a line with its slack, an equation two, and the objective has
 /// minus the costs. Where 32 bits do not number its places, memory is said to be wanting.
-#[tactic(auto, using(crate::proofs::FirstLaws::first_kept, crate::proofs::FirstLaws::costs_kept, crate::proofs::FirstLaws::first_is, crate::proofs::RowSteps::columns_below))]
+#[tactic(auto, using(crate::proofs::FirstLaws::first_kept, crate::proofs::FirstLaws::costs_kept, crate::proofs::FirstLaws::first_is, crate::specs::RowSteps::columns_below))]
 pub fn first_tableau(alloc: Global, rows: &Rows) -> Result<SparseTableau, AllocError>
     requires { IsSmall rows.now.program }
     ensures { IfOk result (λ tableau. IsFirst rows.now.program tableau) }

@@ -17,7 +17,7 @@ fn next_place(equation: bool, slack: u32) -> Option<u32>
 }
 
 /// The place of the first slack, where 32 bits number it.
-#[tactic(auto, using(crate::proofs::RowSteps::slacks_are))]
+#[tactic(auto, using(crate::specs::RowSteps::slacks_are))]
 pub fn first_slack(rows: &Rows) -> Option<u32>
     ensures { IfSome result (λ slack. slack ≡ slacks_from rows.now.program) }
 {
@@ -25,7 +25,7 @@ pub fn first_slack(rows: &Rows) -> Option<u32>
 }
 
 /// The number of places, where 32 bits number them.
-#[tactic(auto, using(crate::proofs::RowSteps::width_next, crate::proofs::RowSteps::rows_end))]
+#[tactic(auto, using(crate::specs::RowSteps::width_next, crate::specs::RowSteps::rows_end))]
 pub fn width(rows: &Rows) -> Option<u32>
     ensures { IfSome result (λ width. width ≡ width_of rows.now.program) }
 {

@@ -42,6 +42,13 @@ impl SparseTableau {
         }
     }
 
+    /// The number of places.
+    pub fn width(&self) -> u32
+        ensures { result ≡ self.now.width }
+    {
+        self.width
+    }
+
     /// The number of rows.
     #[tactic(auto, using(crate::proofs::Shown::shown_count))]
     pub fn row_count(&self) -> usize

@@ -3,7 +3,7 @@ use Rattle.std.proofs.Common.{rules, ◌≡◌, ◌<◌, ◌+◌, ◌++◌, leng
 use Rattle.path_rows.specs.Programs.{cost_at}
 use Rattle.dual_check.specs.Terms.{term_if}
 use Rattle.first_tableaus.specs.FirstTerms.{first_costs}
-use Rattle.first_tableaus.proofs.RowSteps.{costs_more}
+use Rattle.first_tableaus.specs.RowSteps.{costs_more}
 use Rattle.first_tableaus.proofs.costs.cost_terms.Goals as goal
 
 pub loop-column-preserved : goal.loop-column-preserved

@@ -3,7 +3,7 @@ use Rattle.std.proofs.Common.{rules, ◌≡◌, ◌<◌, ◌≤◌, ◌++◌, le
 use Rattle.path_rows.specs.Programs.{row_at}
 use Rattle.pivot_rules.specs.Tableaus.{slacks_from, width_of, next_slack}
 use Rattle.first_tableaus.specs.FirstTerms.{first_rows, row_held}
-use Rattle.first_tableaus.proofs.RowSteps.{rows_more, width_more, next_past}
+use Rattle.first_tableaus.specs.RowSteps.{rows_more, width_more, next_past}
 use Rattle.first_tableaus.proofs.first.first_rows.Goals as goal
 
 pub loop-row-preserved : goal.loop-row-preserved

@@ -2,7 +2,7 @@
 use Rattle.std.proofs.Common.{rules, ◌≡◌, ◌<◌, length}
 use Rattle.path_rows.specs.Programs.{row_at}
 use Rattle.pivot_rules.specs.Tableaus.{width_of, next_slack}
-use Rattle.first_tableaus.proofs.RowSteps.{width_more}
+use Rattle.first_tableaus.specs.RowSteps.{width_more}
 use Rattle.first_tableaus.proofs.places.width.Goals as goal
 
 pub loop-row-preserved : goal.loop-row-preserved

@@ -1,4 +1,8 @@
 -- Rows and columns, one after another.
+--   row_next, cost_next, drop_more   what is left is the next one and what is left behind it
+--   rows_end, costs_end   past the last nothing is left
+--   width_next, width_more, slack_below   the rows left end at the width, and their slacks lie below it
+--   rows_more, costs_more what was made so far, and then what is left, is all
 use Rattle.std.proofs.Common.{◌≡◌, ℕ, ℤ, pos, neg_ℤ, zero, suc, ◌+◌, ◌<◌, ◌≤◌, arith, refl, sym, ap, ◌∙◌, subst, List, [], ◌∷◌, ◌++◌, length, drop, Bool, true, false}
 use Rattle.path_rows.specs.Programs.{Row, Program, row_at, cost_at}
 use Rattle.pivot_rules.specs.Tableaus.{next_slack, width_from, slacks_from, width_of}
@@ -53,7 +57,7 @@ pub next_past : (b : Bool) (n s : ℕ) → n ≤ s → n ≤ next_slack b s
 next_past true n s less = omega arith
 next_past false n s less = omega arith
 
-drop_more : {A : Type 0} (xs : List A) (k : ℕ) → drop (suc k) xs ≡ drop (k + 1) xs
+pub drop_more : {A : Type 0} (xs : List A) (k : ℕ) → drop (suc k) xs ≡ drop (k + 1) xs
 drop_more xs k = ap (λ (n : ℕ). drop n xs) (let e : suc k ≡ k + 1 = omega arith in e)
 
 -- one row more

@@ -1,0 +1,4 @@
+pub mod HandingLaws
+pub mod StepLaws
+pub mod FractionLaws
+pub mod RunLaws

@@ -1,0 +1,4 @@
+pub mod Handing
+pub mod Stepping
+pub mod Fractions
+pub mod Solving

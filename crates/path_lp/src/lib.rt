@@ -12,6 +12,9 @@ mod solved;
 mod handing;
 mod reading;
 
+// Whether numbers are small.
+mod small;
+
 // The run.
 mod running;
 mod stepping;

@@ -117,30 +117,30 @@ fn check_statement(
         Stmt::Empty(_) => Ok(()),
         Stmt::Declare(_, kind, locals) => check_locals(scopes, functions, *kind, locals),
         Stmt::Block(body) => check_block(alloc, functions, scopes, place, body),
-        Stmt::If(condition, body, None) => {
-            check_if(alloc, functions, scopes, place, body, condition)
-        }
-        Stmt::If(condition, body, Some(otherwise)) => {
-            match check_if(alloc, functions, scopes, place, body, condition) {
-                Ok(()) => check_part(alloc, functions, scopes, place, otherwise),
-                Err(stop) => Err(stop),
+        Stmt::If(condition, body, otherwise) => match otherwise {
+            None => check_if(alloc, functions, scopes, place, body, condition),
+            Some(otherwise) => {
+                match check_if(alloc, functions, scopes, place, body, condition) {
+                    Ok(()) => check_part(alloc, functions, scopes, place, otherwise),
+                    Err(stop) => Err(stop),
+                }
             }
-        }
+        },
         Stmt::While(condition, body) => {
             check_while(alloc, functions, scopes, place, body, condition)
         }
         Stmt::Do(body, condition) => check_do(alloc, functions, scopes, place, body, condition),
-        Stmt::For(None, condition, after, body) => {
-            check_turns(alloc, functions, scopes, place, body, condition, after)
-        }
-        Stmt::For(Some(first), condition, after, body) => {
-            scopes.enter()?;
-            let mut inner = Labels::new(alloc);
-            check_statement(alloc, functions, scopes, place, &mut inner, first)?;
-            check_turns(alloc, functions, scopes, place, body, condition, after)?;
-            scopes.leave()?;
-            Ok(())
-        }
+        Stmt::For(first, condition, after, body) => match first {
+            None => check_turns(alloc, functions, scopes, place, body, condition, after),
+            Some(first) => {
+                scopes.enter()?;
+                let mut inner = Labels::new(alloc);
+                check_statement(alloc, functions, scopes, place, &mut inner, first)?;
+                check_turns(alloc, functions, scopes, place, body, condition, after)?;
+                scopes.leave()?;
+                Ok(())
+            }
+        },
         Stmt::Switch(value, body) => check_switch(alloc, functions, scopes, place, body, value),
         Stmt::Case(token, constant) => check_case(scopes.words(), labels, *token, *constant),
         Stmt::Default(token) => {

@@ -2,6 +2,7 @@
 use Rattle.std.proofs.Common.{◌≡◌, [], ◌∷◌, Some, ap, sym, ◌∙◌}
 use Rattle.std.specs.Option.{option_map}
 use Rattle.c_unit.specs.declared.statement.Stmt.{Stmt, fold-roll-Stmt}
+use Rattle.c_unit.specs.declared.statement.Stmt as made
 use Rattle.c_unit.specs.declared.statement.Stmt.TheOpen as stmts
 use Rattle.c_unit.specs.declared.statement.Stmt.TheViews.{rolls-If, rolls-For}
 use Rattle.c_unit.specs.Tree.{Statement, If, IfElse, ForAfter, expression_of, effect_of, statement_of, statement_step}
@@ -24,46 +25,3 @@ check_row-loop-statement-preserved t c =
     c.args.labels.now c.loop-statement.labels c.check_statement.new.labels c.loop-statement-test.true c.statement-item.is c.loop-statement.invariant
     c.in_ok-check_statement.ensures.tells c.in_ok-check_statement.ensures.known c.in_ok-check_statement.ensures.around
 
-pub check_statement-returns-in_ok-leave-in-For-Some-default-default-default-clause-known : goal.check_statement-returns-in_ok-leave-in-For-Some-default-default-default-clause-known
-check_statement-returns-in_ok-leave-in-For-Some-default-default-default-clause-known t c =
-    let here = c.in-For-Some-default-default-default in
-    let first = statement_of here.first.value in
-    let named = ap (λ (s : Stmt). statement_of s) c.deref-in-For-Some-default-default-default.ensures in
-    let back = c.in_ok-leave-in-For-Some-default-default-default.ensures
-        ∙ ap (λ (known : Known). left known) (c.in_ok-check_turns-in-For-Some-default-default-default.ensures.same ∙ c.in_ok-check_statement-in-For-Some-default-default-default.ensures.known
-        ∙ ap (λ (s : Statement). known_after c.enter.new.self s) named ∙ ap (λ (known : Known). known_after known first) c.in_ok-enter-in-For-Some-default-default-default.ensures)
-        ∙ left_after c.args.scopes.now first in
-    let tree : statement_of c.args.statement.now ≡ ForAfter first (option_map expression_of here.condition) (option_map effect_of here.after) (statement_of here.body.value) =
-        rw (here.is, here.field-0-is) (ap statement_of (sym (rolls-For (Some here.first) here.condition here.after here.body))
-        ∙ fold-roll-Stmt Statement statement_step (stmts.For (Some here.first) here.condition here.after here.body)) in
-    back ∙ ap (λ (s : Statement). known_after c.args.scopes.now s) (sym tree)
-
-pub check_statement-returns-in-Err-clause-tells : goal.check_statement-returns-in-Err-clause-tells
-check_statement-returns-in-Err-clause-tells t c =
-    let here = c.in-If-default-default-Some in
-    let around = around_of c.args.place c.args.labels.now in
-    let words = c.args.scopes.now.words in
-    let names = c.args.functions.now.names in
-    let scopes = c.args.scopes.now.scopes in
-    let tree : statement_of c.args.statement.now ≡ IfElse (expression_of here.condition) (statement_of here.body.value) (statement_of here.otherwise.value) =
-        rw (here.is, here.field-2-is) (ap statement_of (sym (rolls-If here.condition here.body (Some here.otherwise)))
-        ∙ fold-roll-Stmt Statement statement_step (stmts.If here.condition here.body (Some here.otherwise))) in
-    let first = ap (λ (b : Stmt). statement_faults words names around scopes (If (expression_of here.condition) (statement_of b))) c.deref-in-If-default-default-Some.ensures in
-    if_else_stops words names around scopes (expression_of here.condition) (statement_of here.body.value) (statement_of here.otherwise.value) _ c.in-Err.stop (statement_of c.args.statement.now) _ tree first
-    c.in-Err.ensures.tells
-
-pub check_statement-returns-in-Ok-clause-tells : goal.check_statement-returns-in-Ok-clause-tells
-check_statement-returns-in-Ok-clause-tells t c =
-    let here = c.in-If-default-default-Some in
-    let around = around_of c.args.place c.args.labels.now in
-    let words = c.args.scopes.now.words in
-    let names = c.args.functions.now.names in
-    let scopes = c.args.scopes.now.scopes in
-    let tree : statement_of c.args.statement.now ≡ IfElse (expression_of here.condition) (statement_of here.body.value) (statement_of here.otherwise.value) =
-        rw (here.is, here.field-2-is) (ap statement_of (sym (rolls-If here.condition here.body (Some here.otherwise)))
-        ∙ fold-roll-Stmt Statement statement_step (stmts.If here.condition here.body (Some here.otherwise))) in
-    let first = ap (λ (b : Stmt). statement_faults words names around scopes (If (expression_of here.condition) (statement_of b))) c.deref-in-If-default-default-Some.ensures in
-    let second = ap (λ (known : Known). statement_faults known.words names (inside around) ([] ∷ known.scopes) (statement_of c.deref-in-Ok.result.now)) c.in-Ok.ensures.same
-        ∙ ap (λ (o : Stmt). statement_faults words names (inside around) ([] ∷ scopes) (statement_of o)) c.deref-in-Ok.ensures in
-    if_else_tells words names around scopes (expression_of here.condition) (statement_of here.body.value) (statement_of here.otherwise.value) c.check_part.result (statement_of c.args.statement.now) _ _
-    tree first second c.in-Ok.ensures.tells c.check_part.ensures.tells

@@ -20,7 +20,6 @@ passes_first : {A : Type 0} (r : Result A Stop) (xs ys : List Fault) → xs ≡ 
 passes_first r xs ys none tells = subst (λ (fs : List Fault). Tells r (fs ++ ys)) (sym none) tells
 
 module _ (words : List Word) (defined : List ℕ) (around : Around) (scopes : List Scope) (c : Expression) (b o : Statement) where
-
   in_two : statement_faults words defined around scopes (If c b) ++ statement_faults words defined (inside around) ([] ∷ scopes) o ≡ statement_faults words defined around scopes (IfElse c b o)
   in_two = append_assoc (condition_faults words scopes c) (statement_faults words defined (inside around) ([] ∷ scopes) b) (statement_faults words defined (inside around) ([] ∷ scopes) o)
 
@@ -36,5 +35,5 @@ module _ (words : List Word) (defined : List ℕ) (around : Around) (scopes : Li
   if_else_tells r s fs gs tree first second none tells =
       let both = passes_first r fs gs none tells in
       let same = ap (λ (xs : List Fault). xs ++ gs) first ∙ ap (λ (ys : List Fault). statement_faults words defined around scopes (If c b) ++ ys) second ∙ in_two
-          ∙ ap (λ (x : Statement). statement_faults words defined around scopes x) (sym tree) in
+      ∙ ap (λ (x : Statement). statement_faults words defined around scopes x) (sym tree) in
       subst (λ (xs : List Fault). Tells r xs) same both

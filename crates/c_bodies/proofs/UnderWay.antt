@@ -64,7 +64,7 @@ row_goes_on defined place row i s before now next marks labels after low is way 
     let clear = ap (λ (w : List Word). statement_faults w defined (around_of place labels) now.scopes (statement_of s)) (sym way.stays.words) ∙ none in
     let skipped = ap (λ (fs : List Fault). fs ++ statements_faults before.words defined (around_after before.words (around_of place labels) (statement_of s)) (scopes_after now.scopes (statement_of s)) rest) clear in
     let moved = ap (λ (a : Around). statements_faults before.words defined a (scopes_after now.scopes (statement_of s)) rest)
-        (ap (λ (w : List Word). around_after w (around_of place labels) (statement_of s)) (sym way.stays.words) ∙ sym around) in
+    (ap (λ (w : List Word). around_after w (around_of place labels) (statement_of s)) (sym way.stays.words) ∙ sym around) in
     let there = ap (λ (ss : List Scope). statements_faults before.words defined (around_of place after) ss rest) (sym scopes) in
     record {
       stays = record { words = words ∙ way.stays.words; outer = ap (λ (ss : List Scope). others ss) scopes ∙ others_after now.scopes (statement_of s) ∙ way.stays.outer };

@@ -34,7 +34,14 @@ pub fn check_body(
     ensures stays { OnOk result (Stays scopes.old scopes.new) }
 {
     let mut labels = Labels::new(alloc);
-    check_row(alloc, functions, scopes, in_function(given), &mut labels, body)?;
+    check_row(
+        alloc,
+        functions,
+        scopes,
+        in_function(given),
+        &mut labels,
+        body,
+    )?;
     Ok(())
 }
 

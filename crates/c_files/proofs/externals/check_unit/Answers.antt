@@ -15,6 +15,8 @@ externals-preserved c =
     let whole : c.externals.rest.now ≡ c.in-Some.external.now ∷ c.in-Some.others.now = search rules in
     let way = subst (λ (rest : List External). IsUnderWay unit.words names unit.externals (map external_of rest) c.externals.count c.externals.scopes) whole c.externals.invariant.0 in
     let low = within unit.words names unit.externals x xs c.externals.count way.names_left c.externals.invariant.1 in
-    let counted = c.count_after-count.ensures low in
-    (goes_on unit.words names unit.externals x xs c.externals.count c.count_after-count.result c.externals.scopes c.check_external.new.scopes way c.in_default-check_external.ensures.tells
-    c.in_default-check_external.ensures.known counted, rw counted low)
+    let counted = c.count_after-count.ensures low in (
+      goes_on unit.words names unit.externals x xs c.externals.count c.count_after-count.result c.externals.scopes c.check_external.new.scopes way c.in_default-check_external.ensures.tells
+          c.in_default-check_external.ensures.known counted,
+      rw counted low,
+    )

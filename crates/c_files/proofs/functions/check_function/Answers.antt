@@ -28,7 +28,7 @@ returns-in-Err-check_body-clause-tells c =
     let params = c.args.params.now in
     let body = map statement_of c.args.body.now in
     let new : is_defined known.words file.made c.args.name ≡ false =
-        subst (λ (words : List Word). is_defined words file.made c.args.name ≡ false) c.requires.words (sym c.is_defined_before.ensures ∙ c.if-is_defined_before.false) in
+    subst (λ (words : List Word). is_defined words file.made c.args.name ≡ false) c.requires.words (sym c.is_defined_before.ensures ∙ c.if-is_defined_before.false) in
     let begins = c.in_default.ensures.known ∙ head_known known o c.args.name params c.requires.file in
     tells_after {A = ⊤} (Err c.in-Err-check_body.stop) (head_faults known c.args.first o c.args.name params) (body_faults known.words names file c.args.first o c.args.name params body)
     (external_faults known.words names file (Definition c.args.first o c.args.name params body)) c.in_default.ensures.tells (definition_parts known.words names file c.args.first o c.args.name params body new)
@@ -43,7 +43,7 @@ returns-clause-tells c =
     let params = c.args.params.now in
     let body = map statement_of c.args.body.now in
     let new : is_defined known.words file.made c.args.name ≡ false =
-        subst (λ (words : List Word). is_defined words file.made c.args.name ≡ false) c.requires.words (sym c.is_defined_before.ensures ∙ c.if-is_defined_before.false) in
+    subst (λ (words : List Word). is_defined words file.made c.args.name ≡ false) c.requires.words (sym c.is_defined_before.ensures ∙ c.if-is_defined_before.false) in
     let begins = c.in_default.ensures.known ∙ head_known known o c.args.name params c.requires.file in
     let none = ap (λ (at_body : Known). statements_faults at_body.words names (in_function o) at_body.scopes (statements_of body)) (sym begins) ∙ c.in_default-check_body.ensures.tells in
     sym (definition_parts known.words names file c.args.first o c.args.name params body new)

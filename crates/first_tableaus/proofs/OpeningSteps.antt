@@ -5,7 +5,7 @@ use Rattle.std.proofs.lemmas.Int.{ints}
 use Rattle.std.proofs.lemmas.Option.{same_Some, none-some}
 use Rattle.path_rows.specs.Programs.{Row, Program, IsProgram, row_at}
 use Rattle.dual_rules.specs.Firsts.{entry}
-use Rattle.pivot_rules.specs.Tableaus.{Tableau, number_at, basic_at, all_lines, width_of, first_tableau}
+use Rattle.pivot_rules.specs.Tableaus.{Tableau, held_at, number_at, basic_at, all_lines, width_of, first_tableau}
 use Rattle.pivot_rules.specs.PivotRule.{opening_at, opened, pivoted}
 use Rattle.pivot_rules.specs.Promise.{lines_of, coefficient_at, Opens}
 use Rattle.pivot_rules.specs.Pivoting.{IsSound}
@@ -14,7 +14,9 @@ use Rattle.pivot_rules.specs.OpeningPlaces.{next_line, line_place, opening_place
 use Rattle.pivot_rules.specs.OpeningPlaceLaws.{opens_lines}
 use Rattle.pivot_rules.specs.PlainOpening.{IsPlain, plain_opening}
 use Rattle.pivot_steps.specs.Sparse.{Seen}
-use Rattle.pivot_steps.specs.Stepped.{CanPivot, IsOpened as IsPivotOpened}
+use Rattle.pivot_steps.specs.Stepped.{CanPivot, exchange_wide, IsOpened as IsPivotOpened}
+use Rattle.pivot_rules.specs.NarrowOpening.{IsSmall}
+use Rattle.first_tableaus.proofs.NarrowSteps.{pivot_narrow}
 use Rattle.first_tableaus.specs.Started.{IsFirst, IsOpenedSo, IsStarted}
 
 -- ---- lines of rows
@@ -109,6 +111,23 @@ ready_at p os i r e o s is opens below there row column so =
     subst (λ (t : Tableau). IsReady t r e) (sym so.tableau)
     (subst (λ (n : ℕ). IsReady (opened (opening_places p.rows os) i (first_tableau p)) n e) q
     (subst (λ (n : ℕ). IsReady (opened (opening_places p.rows os) i (first_tableau p)) (opening_at (opening_places p.rows os) i).0 n) c (ready p os i is opens below)))
+
+-- no pivot of the opening is wide
+pub never_wide : (p : Program) (os : List (ℕ × ℕ)) (i r e : ℕ) (o : ℕ × ℕ) (s : Seen) → IsProgram p → OpensRows p os → IsSmall p → length os < 4294967296 → i < length os → slice_get os i ≡ Some o
+    → r ≡ line_place p.rows o.0 → e ≡ suc (suc o.1) → IsOpenedSo p os i s → exchange_wide r e (held_at s.tableau.rows r).line s.tableau ≡ false
+never_wide p os i r e o s is opens small few below there row column so =
+    let places = opening_places p.rows os in
+    let lines = opens_lines p os opens in
+    let count = places_count p.rows os in
+    let low : i < length (opening_places p.rows os) = omega (arith, below, count) in
+    let plain = plain_opening p places is lines i (omega (arith, low)) in
+    let q : (opening_at (opening_places p.rows os) i).0 ≡ r = place_row p.rows os i o there ∙ sym row in
+    let c : (opening_at (opening_places p.rows os) i).1 ≡ e = place_column p.rows os i o there ∙ sym column in
+    let t = opened (opening_places p.rows os) i (first_tableau p) in
+    let narrow = pivot_narrow p places i t small lines (omega (arith, few, count)) low plain in
+    subst (λ (t : Tableau). exchange_wide r e (held_at t.rows r).line t ≡ false) (sym so.tableau)
+    (subst (λ (n : ℕ). exchange_wide r n (held_at t.rows r).line t ≡ false) c
+    (subst (λ (n : ℕ). exchange_wide n (opening_at (opening_places p.rows os) i).1 (held_at t.rows n).line t ≡ false) q narrow))
 
 pub opened_more : (p : Program) (os : List (ℕ × ℕ)) (i r e : ℕ) (o : ℕ × ℕ) (old new : Seen) → slice_get os i ≡ Some o
     → r ≡ line_place p.rows o.0 → e ≡ suc (suc o.1) → IsOpenedSo p os i old → IsPivotOpened r e old new → IsOpenedSo p os (i + 1) new

@@ -52,7 +52,7 @@ fn open_next(
         return Err(AllocError);
     };
     match tableau.opened(alloc, line, place)? {
-        None => Err(AllocError),
+        None => unreachable!(),
         Some(out) => Ok(out),
     }
 }

@@ -1,0 +1,23 @@
+-- What passes the checks, and what is told otherwise.
+--   ProgramParts            a unit, its root and the ranks of its functions
+--   IsTold unit root fault  what the fault says is what the checks refuse the unit by; a want of memory says nothing
+use Rattle.std.specs.Prelude.{ℕ, List, ⊤}
+use Rattle.c_unit.specs.declared.unit.CUnit.{CUnit}
+use Rattle.c_unit.specs.Units.{UnitTree}
+use Rattle.c_checks.specs.Programs as checks
+use Rattle.c_checks.specs.Programs.{Refuses}
+use Rattle.c_check.specs.declared.fault.CFault.{CFault}
+use Rattle.c_check.specs.declared.fault.CFault.TheVariants as faults
+
+pub record ProgramParts : Type 0 where
+  pub unit : CUnit
+  pub root : List ℕ
+  pub ranks : List ℕ
+
+abbrev pub IsTold : UnitTree → List ℕ → CFault → Type 0
+IsTold unit root (faults.UnknownName name) = Refuses unit root (checks.UnknownName name)
+IsTold unit root (faults.Duplicate name) = Refuses unit root (checks.DuplicateName name)
+IsTold unit root (faults.Mistyped place) = Refuses unit root (checks.MistypedAt place)
+IsTold unit root (faults.Recursion names) = Refuses unit root (checks.Recursion names.items)
+IsTold unit root (faults.Root name) = Refuses unit root (checks.NoRoot name)
+IsTold unit root faults.Memory = ⊤

@@ -1,0 +1,114 @@
+//! The checks, in the order in which they are told.
+
+ghost use Rattle.std.specs.Prelude.{◌≡◌, ℕ, List, [], true, IfOk, IfErr, OnOk};
+ghost use Rattle.c_unit.specs.Units.{unit_of};
+ghost use Rattle.c_checks.specs.Units.{definitions, faults_in};
+ghost use Rattle.c_checks.specs.Recursion.{calls_of};
+ghost use Rattle.c_checks.specs.Programs.{HasNoCycle, has_root, IsProgram};
+ghost use Rattle.call_cycles.specs.Calls.{IsRanked};
+ghost use Rattle.c_check.specs.Programs.{IsTold};
+
+use crate::fault::CFault;
+use crate::program::CProgram;
+use crate::telling::told;
+use c_calls::{function_ranks, names_along};
+use c_definitions::Definitions;
+use c_files::check_unit;
+use c_locals::Stop;
+use c_unit::CUnit;
+use call_cycles::{CallFault, ranked_calls_have_no_cycle};
+use flow_base::Name;
+use std::alloc::Global;
+
+/// The unit as a program whose root has this name, or why it is none. The unit is given up. Takes memory for the
+/// names, the scopes around each place, and the calls.
+pub fn check(alloc: Global, unit: CUnit, root: &str) -> Result<CProgram, CFault>
+    ensures passes { IfOk result (λ program. IsProgram (unit_of unit) root.now program.ranks) }
+    ensures unchanged { IfOk result (λ program. (program.unit ≡ unit) × (program.root ≡ root.now)) }
+    ensures told { IfErr result (λ fault. IsTold (unit_of unit) root.now fault) }
+{
+    match ranks_of(alloc, &unit, root.as_bytes()) {
+        Ok(ranks) => match Name::new(alloc, root.as_bytes()) {
+            Ok(name) => Ok(CProgram::new(unit, name, ranks)),
+            Err(_) => Err(CFault::Memory),
+        },
+        Err(fault) => Err(fault),
+    }
+}
+
+// The ranks of the functions, if nothing is wrong.
+fn ranks_of(alloc: Global, unit: &CUnit, root: &[u8]) -> Result<Vec<u32>, CFault>
+    ensures passes { IfOk result (λ ranks. IsProgram (unit_of unit.now) root.now ranks.items) }
+    ensures told { IfErr result (λ fault. IsTold (unit_of unit.now) root.now fault) }
+{
+    ranked_calls_have_no_cycle();
+    let Ok(functions) = Definitions::of(alloc, unit) else {
+        return Err(CFault::Memory);
+    };
+    if let Err(fault) = check_text(alloc, &functions, unit) {
+        return Err(fault);
+    }
+    let ranks = match check_calls(alloc, &functions, unit) {
+        Ok(ranks) => ranks,
+        Err(fault) => return Err(fault),
+    };
+    match check_root(alloc, &functions, unit, root) {
+        Ok(()) => Ok(ranks),
+        Err(fault) => Err(fault),
+    }
+}
+
+// That nothing is wrong in the text.
+fn check_text(alloc: Global, functions: &Definitions<'_>, unit: &CUnit) -> Result<(), CFault>
+    requires words { functions.now.words ≡ (unit_of unit.now).words }
+    requires names { functions.now.names ≡ definitions (unit_of unit.now).externals }
+    ensures sound { OnOk result (faults_in (unit_of unit.now) ≡ []) }
+    ensures told { IfErr result (λ fault. (root : List ℕ) → IsTold (unit_of unit.now) root fault) }
+{
+    match check_unit(alloc, functions, unit) {
+        Ok(()) => Ok(()),
+        Err(Stop::Fault(fault)) => Err(told(alloc, unit, fault)),
+        Err(Stop::Memory) => Err(CFault::Memory),
+    }
+}
+
+// Ranks of the functions, which show that no calls lead from a function back to it.
+fn check_calls(alloc: Global, functions: &Definitions<'_>, unit: &CUnit) -> Result<Vec<u32>, CFault>
+    requires words { functions.now.words ≡ (unit_of unit.now).words }
+    requires names { functions.now.names ≡ definitions (unit_of unit.now).externals }
+    requires sound { faults_in (unit_of unit.now) ≡ [] }
+    ensures ranked { IfOk result (λ ranks. IsRanked (calls_of (unit_of unit.now)) ranks.items) }
+    ensures told { IfErr result (λ fault. (root : List ℕ) → IsTold (unit_of unit.now) root fault) }
+{
+    match function_ranks(alloc, functions, unit) {
+        Ok(ranks) => Ok(ranks),
+        Err(CallFault::Cycle(path)) => match names_along(alloc, functions, &path) {
+            Ok(names) => Err(CFault::Recursion(names)),
+            Err(_) => Err(CFault::Memory),
+        },
+        Err(CallFault::Memory) => Err(CFault::Memory),
+    }
+}
+
+// That the root is defined.
+fn check_root(
+    alloc: Global,
+    functions: &Definitions<'_>,
+    unit: &CUnit,
+    root: &[u8],
+) -> Result<(), CFault>
+    requires words { functions.now.words ≡ (unit_of unit.now).words }
+    requires names { functions.now.names ≡ definitions (unit_of unit.now).externals }
+    requires sound { faults_in (unit_of unit.now) ≡ [] }
+    requires acyclic { HasNoCycle (unit_of unit.now) }
+    ensures rooted { OnOk result (has_root (unit_of unit.now) root.now ≡ true) }
+    ensures told { IfErr result (λ fault. IsTold (unit_of unit.now) root.now fault) }
+{
+    match functions.number_named(root) {
+        Some(_) => Ok(()),
+        None => match Name::new(alloc, root) {
+            Ok(name) => Err(CFault::Root(name)),
+            Err(_) => Err(CFault::Memory),
+        },
+    }
+}

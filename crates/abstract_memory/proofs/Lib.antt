@@ -5,3 +5,4 @@ mod Fitting
 mod Changing
 mod Loading
 mod Lent
+mod Lone

@@ -3,15 +3,22 @@
 --   Fits lengths size cell            the same, by how many bytes the frames have
 --   AllFit lengths size cells         each of the cells does
 --   AreSized frames                   the values in the frames have their sizes
+--   Loads rows m at size loaded       a load through the address gives this value, of this size, and these faults
 --   Changes old new f                 the frames become what f makes of the memory, and keep their bytes' number, the order of cells, and sizes
-use Rattle.std.specs.Prelude.{◌≡◌, ◌<◌, ◌≤◌, ◌+◌, ◌/◌, ℕ, Bool, true, List, [], ◌∷◌, map, length, Option, Some, None, slice_get}
+use Rattle.std.specs.Prelude.{◌≡◌, ◌↔◌, ◌<◌, ◌≤◌, ◌+◌, ◌/◌, ℕ, IfSome, Bool, true, List, [], ◌∷◌, map, length, Option, Some, None, slice_get}
+use Rattle.alf_ops.specs.declared.history.RunFault.{RunFault}
 use Rattle.alf_ops.specs.declared.history.FrameShape.{FrameShape}
 use Rattle.alf_ops.specs.Histories.{fits_in}
+use Rattle.domain_core.specs.declared.fault_set.FaultSet.{FaultSet}
+use Rattle.domain_core.specs.FaultSets.{has_fault}
+use Rattle.pointer_rules.specs.AbstractValues.{AbstractValue}
+use Rattle.pointer_rules.specs.Covering.{IsValue}
 use Rattle.memory_pages.specs.Pages.{list_or}
 use Rattle.memory_pages.specs.Slots.{HeldSlot}
 use Rattle.memory_rules.specs.AbstractSets.{abstract_sets}
 use Rattle.memory_rules.specs.Covers.{FrameSized}
-use Rattle.memory_rules.specs.Memories.{Mem}
+use Rattle.memory_rules.specs.Memories.{Mem, joined_values}
+use Rattle.memory_rules.specs.Addresses.{load_at, IsLoadFault}
 use Rattle.held_memories.specs.HeldFrames.{frame_of}
 use Rattle.held_memories.specs.HeldMemories.{memory_of}
 use Rattle.seen_memories.specs.Parts.{canonical}
@@ -40,6 +47,12 @@ AllFit lengths size (cell ∷ cells) = Fits lengths size cell × AllFit lengths 
 -- the values in the frames have their sizes
 abbrev pub AreSized : List (List HeldSlot) → Type 0
 AreSized frames = (frame : ℕ) → FrameSized abstract_sets (frame_of (list_or (slice_get frames frame)))
+
+-- a load through the address gives this
+pub record Loads (rows : List FrameShape) (m : Mem abstract_sets) (at : AbstractValue) (size : ℕ) (loaded : Option AbstractValue × FaultSet) : Type 0 where
+  pub value : loaded.0 ≡ joined_values abstract_sets None (load_at rows m at size)
+  pub sized : IfSome loaded.0 (IsValue size)
+  pub faults : (fault : RunFault) → (has_fault loaded.1 fault ≡ true) ↔ IsLoadFault rows m at size fault
 
 -- the frames become what f makes of the memory
 pub record Changes (old new : List (List HeldSlot)) (f : Mem abstract_sets → Mem abstract_sets) : Type 0 where

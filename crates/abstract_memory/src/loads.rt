@@ -1,9 +1,11 @@
 //! Loads of cells of frames.
 
-ghost use Rattle.std.specs.Prelude.{◌≡◌, ◌↔◌, Bool, true, List, None, length, map, IfOk, IfSome};
+ghost use Rattle.std.specs.Prelude.{◌≡◌, ◌↔◌, ℕ, Bool, true, List, None, length, map, IfOk, IfSome};
 ghost use Rattle.alf_check.specs.Shapes.{shapes_of};
 ghost use Rattle.alf_ops.specs.declared.history.RunFault.{RunFault};
+ghost use Rattle.alf_ops.specs.declared.history.FrameShape.{FrameShape};
 ghost use Rattle.domain_core.specs.FaultSets.{has_fault};
+ghost use Rattle.pointer_rules.specs.AbstractValues.{AbstractValue};
 ghost use Rattle.pointer_rules.specs.Covering.{IsValue};
 ghost use Rattle.memory_rules.specs.Addresses.{load_at, IsLoadFault};
 ghost use Rattle.memory_rules.specs.AbstractSets.{abstract_sets};
@@ -12,13 +14,16 @@ ghost use Rattle.memory_rules.specs.Frames.{load_results};
 ghost use Rattle.memory_rules.specs.Memories.{joined_values, load_all};
 ghost use Rattle.held_memories.specs.HeldMemories.{memory_of};
 ghost use Rattle.frame_loads.specs.LoadedResults.{onto};
+ghost use Rattle.address_cells.specs.Running.{runs_in};
+ghost use Rattle.address_cells.specs.OnlyCells.{IsOnlyCell, pointer_to};
 ghost use Rattle.seen_memories.specs.Parts.{bytes_in};
-ghost use Rattle.abstract_memory.specs.Cells.{AllFit, AreSized, Fits};
+ghost use Rattle.abstract_memory.specs.Cells.{AllFit, AreSized, Fits, Loads};
 
-use address_cells::{address_faults, cells};
+use address_cells::{address_faults, cells, has_cell, lone_cell};
 use alf_check::FrameRow;
 use domain_core::FaultSet;
 use frame_loads::{Loaded, load_onto};
+use interval_congruence::Strided;
 use memory_pages::FrameSlots;
 use pointer_domain::AVal;
 use std::alloc::{AllocError, Global};
@@ -66,6 +71,26 @@ pub(crate) fn load_cells(
     Ok(loaded)
 }
 
+/// What a load of the cell gives through each address that means it alone.
+fn load_lone(
+    alloc: Global,
+    frames: &[FrameSlots],
+    cell: (u32, u32),
+    size: u32,
+) -> Result<(Option<AVal>, FaultSet), AllocError>
+    requires size { IsCellSize size }
+    requires fits { Fits (map length frames.now) size cell }
+    requires sized { AreSized frames.now }
+    ensures { IfOk result (λ loaded. (rows : List FrameShape) (running : List Bool) (at : AbstractValue) → IsOnlyCell rows (runs_in running) at size cell → Loads rows (memory_of running frames.now) at size loaded) }
+{
+    let before = Loaded {
+        value: None,
+        faults: FaultSet::none(),
+    };
+    let loaded = load_in(alloc, frames, cell, size, before)?;
+    Ok((loaded.value, loaded.faults))
+}
+
 /// What a load through the address gives.
 pub(crate) fn load_through(
     alloc: Global,
@@ -83,6 +108,9 @@ pub(crate) fn load_through(
     ensures sized { IfOk result (λ loaded. IfSome loaded.0 (IsValue size)) }
     ensures faults { IfOk result (λ loaded. (fault : RunFault) → (has_fault loaded.1 fault ≡ true) ↔ IsLoadFault (shapes_of rows.now) (memory_of running.now frames.now) at.now size fault) }
 {
+    if let Some(cell) = lone_cell(rows, running, at, size) {
+        return load_lone(alloc, frames, cell, size);
+    }
     let found = cells(alloc, rows, running, at, size)?;
     let before = Loaded {
         value: None,
@@ -90,4 +118,28 @@ pub(crate) fn load_through(
     };
     let loaded = load_cells(alloc, frames, &found, size, before)?;
     Ok((loaded.value, loaded.faults))
+}
+
+/// What a load of a cell gives, as through the pointer to it.
+pub(crate) fn load_from(
+    alloc: Global,
+    rows: &[FrameRow],
+    running: &[bool],
+    frames: &[FrameSlots],
+    frame: u32,
+    offset: u32,
+    size: u32,
+) -> Result<(Option<AVal>, FaultSet), AllocError>
+    requires size { IsCellSize size }
+    requires lengths { map length frames.now ≡ map bytes_in (shapes_of rows.now) }
+    requires sized { AreSized frames.now }
+    ensures value { IfOk result (λ loaded. loaded.0 ≡ joined_values abstract_sets None (load_at (shapes_of rows.now) (memory_of running.now frames.now) (pointer_to frame offset) size)) }
+    ensures sized { IfOk result (λ loaded. IfSome loaded.0 (IsValue size)) }
+    ensures faults { IfOk result (λ loaded. (fault : RunFault) → (has_fault loaded.1 fault ≡ true) ↔ IsLoadFault (shapes_of rows.now) (memory_of running.now frames.now) (pointer_to frame offset) size fault) }
+{
+    if has_cell(rows, running, frame, offset, size) {
+        return load_lone(alloc, frames, (frame, offset), size);
+    }
+    let at = AVal::pointer(alloc, frame, Strided::one_word(32, offset as u64))?;
+    load_through(alloc, rows, running, frames, &at, size)
 }

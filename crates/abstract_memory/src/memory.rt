@@ -11,12 +11,13 @@ ghost use Rattle.memory_rules.specs.Memories.{fresh, entered, left, pinned_at, j
 ghost use Rattle.memory_rules.specs.Addresses.{tested, cells_of, load_at, stored_at, IsAddressFault, IsLoadFault};
 ghost use Rattle.memory_rules.specs.AbstractSets.{abstract_sets};
 ghost use Rattle.seen_memories.specs.Parts.{memory_in, rows_of, IsMemory};
+ghost use Rattle.address_cells.specs.OnlyCells.{pointer_to};
 ghost use Rattle.abstract_memory.specs.Cells.{IsCellOf};
 
 use crate::frames::{copied_frames, empty_frames, frames_joined};
-use crate::loads::load_through;
+use crate::loads::{load_from, load_through};
 use crate::start::{blank_frames, idle};
-use crate::stores::{pin_in, store_through};
+use crate::stores::{pin_in, store_through, store_to};
 use address_cells::has_cell;
 use alf_check::Checked;
 use domain_core::{FaultSet, Lattice};
@@ -130,6 +131,31 @@ impl<'a> AMem<'a> {
         )
     }
 
+    /// What a load of the cell at an offset of a frame gives, as through the pointer to it, which need not be made.
+    pub fn load_cell(
+        &self,
+        alloc: Global,
+        frame: u32,
+        offset: u32,
+        size: u32,
+    ) -> Result<(Option<AVal>, FaultSet), AllocError>
+        requires kept { IsMemory self.now }
+        requires size { IsCellSize size }
+        ensures value { IfOk result (λ loaded. loaded.0 ≡ joined_values abstract_sets None (load_at (rows_of self.now.checked) (memory_in self.now) (pointer_to frame offset) size)) }
+        ensures sized { IfOk result (λ loaded. IfSome loaded.0 (IsValue size)) }
+        ensures faults { IfOk result (λ loaded. (fault : RunFault) → (has_fault loaded.1 fault ≡ true) ↔ IsLoadFault (rows_of self.now.checked) (memory_in self.now) (pointer_to frame offset) size fault) }
+    {
+        load_from(
+            alloc,
+            self.checked.frames(),
+            &self.running,
+            &self.frames,
+            frame,
+            offset,
+            size,
+        )
+    }
+
     /// Stores the value through the address: strongly where one cell is possible, else weakly to each of them in
     /// order. Answers whether some run goes on, which is whether some cell is possible, and the faults of the
     /// address.
@@ -156,6 +182,36 @@ impl<'a> AMem<'a> {
             &self.running,
             &mut self.frames,
             at,
+            size,
+            value,
+        )
+    }
+
+    /// Stores the value in the cell at an offset of a frame, as through the pointer to it, which need not be made.
+    pub fn store_cell(
+        &mut self,
+        alloc: Global,
+        frame: u32,
+        offset: u32,
+        value: &AVal,
+        size: u32,
+    ) -> Result<(bool, FaultSet), AllocError>
+        requires kept { IsMemory self.old }
+        requires size { IsCellSize size }
+        requires value { IsValue size value.now }
+        ensures checked { OnOk result (self.new.checked ≡ self.old.checked) }
+        ensures kept { OnOk result (IsMemory self.new) }
+        ensures stored { OnOk result (memory_in self.new ≡ stored_at (rows_of self.old.checked) (memory_in self.old) (pointer_to frame offset) size value.now) }
+        ensures goes_on { IfOk result (λ stored. IsTrue stored.0 ↔ (cells_of (rows_of self.old.checked) (memory_in self.old).runs (pointer_to frame offset).places size ≢ [])) }
+        ensures faults { IfOk result (λ stored. (fault : RunFault) → (has_fault stored.1 fault ≡ true) ↔ IsAddressFault (rows_of self.old.checked) (memory_in self.old).runs (pointer_to frame offset) size fault) }
+    {
+        store_to(
+            alloc,
+            self.checked.frames(),
+            &self.running,
+            &mut self.frames,
+            frame,
+            offset,
             size,
             value,
         )

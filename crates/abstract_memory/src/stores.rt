@@ -1,11 +1,13 @@
 //! Stores to cells of frames.
 
-ghost use Rattle.std.specs.Prelude.{◌≡◌, ◌≢◌, ◌↔◌, [], true, length, map, IfOk, OnOk, IsTrue};
+ghost use Rattle.std.specs.Prelude.{◌≡◌, ◌≢◌, ◌↔◌, ℕ, Bool, List, [], true, length, map, IfOk, OnOk, IsTrue};
 ghost use Rattle.alf_check.specs.Shapes.{shapes_of};
 ghost use Rattle.alf_ops.specs.declared.history.RunFault.{RunFault};
+ghost use Rattle.alf_ops.specs.declared.history.FrameShape.{FrameShape};
 ghost use Rattle.address_cells.specs.Running.{runs_in};
+ghost use Rattle.address_cells.specs.OnlyCells.{IsOnlyCell, pointer_to};
 ghost use Rattle.domain_core.specs.FaultSets.{has_fault};
-ghost use Rattle.pointer_rules.specs.AbstractValues.{Words, alone};
+ghost use Rattle.pointer_rules.specs.AbstractValues.{AbstractValue, Words, alone};
 ghost use Rattle.pointer_rules.specs.Covering.{IsValue};
 ghost use Rattle.memory_rules.specs.Addresses.{cells_of, IsAddressFault};
 ghost use Rattle.memory_rules.specs.AbstractSets.{abstract_sets};
@@ -14,7 +16,7 @@ ghost use Rattle.memory_rules.specs.Memories.{pinned_at, stored, strong_at, weak
 ghost use Rattle.seen_memories.specs.Parts.{bytes_in};
 ghost use Rattle.abstract_memory.specs.Cells.{AllFit, AreSized, Changes, Fits};
 
-use address_cells::{address_faults, cells};
+use address_cells::{address_faults, cells, has_cell, lone_cell};
 use alf_check::FrameRow;
 use domain_core::FaultSet;
 use frame_stores::{pin, store_strongly, store_weakly};
@@ -106,6 +108,25 @@ pub(crate) fn store_all(
     }
 }
 
+/// Stores to the cell, through each address that means it alone. After want of memory the frames are given up.
+fn store_lone(
+    alloc: Global,
+    frames: &mut [FrameSlots],
+    cell: (u32, u32),
+    size: u32,
+    value: &AVal,
+) -> Result<(bool, FaultSet), AllocError>
+    requires size { IsCellSize size }
+    requires value { IsValue size value.now }
+    requires fits { Fits (map length frames.old) size cell }
+    ensures changes { OnOk result ((rows : List FrameShape) (runs : ℕ → Bool) (at : AbstractValue) → IsOnlyCell rows runs at size cell → Changes frames.old frames.new (λ m. stored abstract_sets m (cells_of rows runs at.places size) size value.now)) }
+    ensures goes_on { IfOk result (λ stored. (rows : List FrameShape) (runs : ℕ → Bool) (at : AbstractValue) → IsOnlyCell rows runs at size cell → IsTrue stored.0 ↔ (cells_of rows runs at.places size ≢ [])) }
+    ensures faults { IfOk result (λ stored. (rows : List FrameShape) (runs : ℕ → Bool) (at : AbstractValue) → IsOnlyCell rows runs at size cell → (fault : RunFault) → (has_fault stored.1 fault ≡ true) ↔ IsAddressFault rows runs at size fault) }
+{
+    store_in(alloc, frames, cell, size, value)?;
+    Ok((true, FaultSet::none()))
+}
+
 /// Keeps the cell with these words. After want of memory the frames are given up.
 pub(crate) fn pin_in(
     alloc: Global,
@@ -145,8 +166,38 @@ pub(crate) fn store_through(
     ensures goes_on { IfOk result (λ stored. IsTrue stored.0 ↔ (cells_of (shapes_of rows.now) (runs_in running.now) at.now.places size ≢ [])) }
     ensures faults { IfOk result (λ stored. (fault : RunFault) → (has_fault stored.1 fault ≡ true) ↔ IsAddressFault (shapes_of rows.now) (runs_in running.now) at.now size fault) }
 {
+    if let Some(cell) = lone_cell(rows, running, at, size) {
+        return store_lone(alloc, frames, cell, size, value);
+    }
     let found = cells(alloc, rows, running, at, size)?;
     let faults = address_faults(rows, running, at, size);
     store_all(alloc, frames, &found, size, value)?;
     Ok((!found.is_empty(), faults))
+}
+
+/// Stores to a cell, as through the pointer to it. Answers whether it is possible, and the faults of the pointer. After
+/// want of memory the frames are given up.
+pub(crate) fn store_to(
+    alloc: Global,
+    rows: &[FrameRow],
+    running: &[bool],
+    frames: &mut [FrameSlots],
+    frame: u32,
+    offset: u32,
+    size: u32,
+    value: &AVal,
+) -> Result<(bool, FaultSet), AllocError>
+    requires size { IsCellSize size }
+    requires value { IsValue size value.now }
+    requires lengths { map length frames.old ≡ map bytes_in (shapes_of rows.now) }
+    requires sized { AreSized frames.old }
+    ensures changes { OnOk result (Changes frames.old frames.new (λ m. stored abstract_sets m (cells_of (shapes_of rows.now) (runs_in running.now) (pointer_to frame offset).places size) size value.now)) }
+    ensures goes_on { IfOk result (λ stored. IsTrue stored.0 ↔ (cells_of (shapes_of rows.now) (runs_in running.now) (pointer_to frame offset).places size ≢ [])) }
+    ensures faults { IfOk result (λ stored. (fault : RunFault) → (has_fault stored.1 fault ≡ true) ↔ IsAddressFault (shapes_of rows.now) (runs_in running.now) (pointer_to frame offset) size fault) }
+{
+    if has_cell(rows, running, frame, offset, size) {
+        return store_lone(alloc, frames, (frame, offset), size, value);
+    }
+    let at = AVal::pointer(alloc, frame, Strided::one_word(32, offset as u64))?;
+    store_through(alloc, rows, running, frames, &at, size, value)
 }

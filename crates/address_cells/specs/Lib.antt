@@ -2,3 +2,4 @@
 pub mod Running
 pub mod NextOffsets
 pub mod PlaceFaults
+pub mod OnlyCells

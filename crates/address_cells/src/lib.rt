@@ -13,5 +13,9 @@ mod offsets;
 mod cell;
 mod fault;
 
+// Addresses that mean one cell alone.
+mod lone;
+
 pub use cell::{cells, has_cell};
 pub use fault::address_faults;
+pub use lone::lone_cell;

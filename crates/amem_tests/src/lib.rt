@@ -9,6 +9,8 @@ mod values;
 
 // Two memories, and scripts of calls.
 #[cfg(test)]
+mod cells;
+#[cfg(test)]
 mod scripts;
 #[cfg(test)]
 mod sides;

@@ -4,17 +4,18 @@
 --   page_at lists n      the page of this number, or none
 --   joined lists         the lists in their order, as one
 --   ArePages lists       each has 64 members, but the last, which has at most 64
-use Rattle.std.specs.Prelude.{◌≡◌, ◌≤◌, ℕ, List, [], ◌∷◌, ◌++◌, length, map, Option, Some, None, slice_get}
+--   IsUntouched b slots  if there is a byte b, each slot has it, and no cell begins there
+use Rattle.std.specs.Prelude.{◌≡◌, ◌≤◌, ℕ, List, [], ◌∷◌, ◌++◌, length, map, replicate, Option, Some, None, slice_get}
 use Rattle.std.specs.declared.rc.Rc.{Rc}
-use Rattle.memory_pages.specs.declared.page.Page.{Page}
-use Rattle.memory_pages.specs.Slots.{HeldSlot}
+use Rattle.memory_pages.specs.declared.byte.Byte.{Byte}
+use Rattle.memory_pages.specs.Slots.{HeldSlot, bare}
 
 -- the slots of a page
-abbrev pub slots_on : {Z : Type 0} → Rc Page Z → List HeldSlot
-slots_on page = page.value.slots.items
+abbrev pub slots_on : {Z : Type 0} → Rc (List HeldSlot) Z → List HeldSlot
+slots_on page = page.value
 
 -- those of each page
-abbrev pub pages_of : {Z : Type 0} → List (Rc Page Z) → List (List HeldSlot)
+abbrev pub pages_of : {Z : Type 0} → List (Rc (List HeldSlot) Z) → List (List HeldSlot)
 pages_of pages = map slots_on pages
 
 abbrev pub list_or : {A : Type 0} → Option (List A) → List A
@@ -35,3 +36,8 @@ abbrev pub ArePages : {A : Type 0} → List (List A) → Type 0
 ArePages [] = Unit {0}
 ArePages (xs ∷ []) = length xs ≤ 64
 ArePages (xs ∷ ys ∷ lists) = (length xs ≡ 64) × ArePages (ys ∷ lists)
+
+-- if there is a byte, each slot has it, and no cell begins there
+abbrev pub IsUntouched : Option Byte → List HeldSlot → Type 0
+IsUntouched None slots = Unit {0}
+IsUntouched (Some byte) slots = slots ≡ replicate (length slots) (bare byte)

@@ -6,7 +6,7 @@ ghost use Rattle.memory_pages.specs.Slots.{bare};
 ghost use Rattle.memory_pages.specs.Pages.{pages_of, page_at};
 
 use crate::byte::Byte;
-use crate::page::{Page, bare_page, put_in, same_slots, share_page, shared_pages};
+use crate::page::{Page, bare_page, put_in, share_page, shared_pages};
 use crate::slot::Slot;
 use std::alloc::{AllocError, Global};
 use std::marker::Model;
@@ -40,7 +40,7 @@ fn slot_in(pages: &[Rc<Page>], at: usize) -> Option<&Slot>
 {
     match pages.get(at / 64) {
         None => None,
-        Some(page) => page.slots.get(at % 64),
+        Some(page) => page.slot(at % 64),
     }
 }
 
@@ -49,7 +49,7 @@ fn same_pages(a: &[Rc<Page>], b: &[Rc<Page>], page: usize) -> bool
     ensures { IsTrue result → page_at (pages_of a.now) page ≡ page_at (pages_of b.now) page }
 {
     match (a.get(page), b.get(page)) {
-        (Some(first), Some(second)) => same_slots(&first.slots, &second.slots),
+        (Some(first), Some(second)) => first.is_same(second),
         _ => false,
     }
 }

@@ -1,27 +1,76 @@
 //! Slots that copies share.
 
-ghost use Rattle.std.specs.Prelude.{◌≡◌, ◌<◌, ◌%◌, ◌/◌, ◌++◌, IsTrue, IfOk, OnOk, OnErr, length, replicate, slice_set};
+ghost use Rattle.std.specs.Prelude.{◌≡◌, ◌<◌, ◌%◌, ◌/◌, ◌++◌, IsTrue, IfOk, OnOk, OnErr, length, replicate, slice_get, slice_set};
+ghost use Rattle.std.specs.Option.{option_map};
 ghost use Rattle.memory_pages.specs.Slots.{bare};
 ghost use Rattle.memory_pages.specs.Pages.{pages_of, page_at, slots_on};
 
-use crate::byte::Byte;
+use crate::byte::{Byte, same_byte};
 use crate::slot::Slot;
 use std::alloc::{AllocError, Global};
+use std::marker::Model;
 use std::rc::Rc;
 
 /// Slots that follow one another.
+///
+/// A page on which no slot was put knows the byte of all its slots, so two of them are compared without a look
+/// at their slots.
 #[derive(Drop)]
 pub(crate) struct Page {
-    pub slots: Vec<Slot>,
+    slots: Vec<Slot>,
+    untouched: Option<Byte>,
+}
+
+impl Model for Page {
+    ghost use Rattle.std.specs.Prelude.{List};
+    ghost use Rattle.memory_pages.specs.Slots.{HeldSlot};
+
+    ghost Value = { List HeldSlot };
+
+    ghost view = { λ page. page.slots.items };
+
+    ghost use Rattle.memory_pages.specs.Pages.{IsUntouched};
+
+    ghost invariant = { λ page. IsUntouched page.untouched page.slots.items };
 }
 
 impl Clone for Page {
-    ghost is_clone = { λ a b. a.slots.items ≡ b.slots.items };
+    ghost is_clone = { λ a b. a ≡ b };
 
     fn clone(&self) -> Result<Self, AllocError> {
         Ok(Page {
             slots: copied_slots(*self.slots.allocator(), &self.slots)?,
+            untouched: self.untouched,
         })
+    }
+}
+
+impl Page {
+    /// The slot at this place.
+    pub fn slot(&self, at: usize) -> Option<&Slot>
+        ensures { option_map (λ slot. slot.now) result ≡ slice_get self.now at }
+    {
+        self.slots.get(at)
+    }
+
+    /// True only where both have the same slots.
+    pub fn is_same(&self, other: &Page) -> bool
+        ensures { IsTrue result → self.now ≡ other.now }
+    {
+        match (&self.untouched, &other.untouched) {
+            (Some(byte), Some(same)) => same_byte(*byte, *same)
+                && self.slots.len() == other.slots.len(),
+            _ => same_slots(&self.slots, &other.slots),
+        }
+    }
+
+    /// Puts a slot.
+    fn put(&mut self, at: usize, slot: Slot)
+        requires { at < length self.old }
+        ensures { self.new ≡ slice_set self.old at slot }
+    {
+        self.untouched = None;
+        self.slots[at] = slot;
     }
 }
 
@@ -52,7 +101,11 @@ pub(crate) fn bare_page(alloc: Global, byte: &Byte, count: usize) -> Result<Rc<P
     ensures { IfOk result (λ page. slots_on page ≡ replicate count (bare byte.now)) }
 {
     let slots = bare_slots(alloc, byte, count)?;
-    match Rc::new(alloc, Page { slots }) {
+    let page = Page {
+        slots,
+        untouched: Some(*byte),
+    };
+    match Rc::new(alloc, page) {
         Ok(page) => Ok(page),
         Err(_) => Err(AllocError),
     }
@@ -84,7 +137,7 @@ pub(crate) fn shared_pages(alloc: Global, pages: &[Rc<Page>]) -> Result<Vec<Rc<P
 }
 
 /// True only where both are the same slots.
-pub(crate) fn same_slots(a: &[Slot], b: &[Slot]) -> bool
+fn same_slots(a: &[Slot], b: &[Slot]) -> bool
     ensures { IsTrue result → a.now ≡ b.now }
 {
     let Some((first, others)) = a.split_first() else {
@@ -103,7 +156,7 @@ fn put_on(page: &mut Rc<Page>, at: usize, slot: Slot) -> Result<(), AllocError>
     ensures refused { OnErr result (slots_on page.new ≡ slots_on page.old) }
 {
     let own = Rc::make_mut(page)?;
-    own.slots[at] = slot;
+    own.put(at, slot);
     Ok(())
 }
 

@@ -5,10 +5,10 @@
 --   entered_room       and so are those of what its frames hold at first
 --   entered_is         the memory after all
 --   plain_room, plain_is   the same where no argument is given
-use Rattle.std.specs.Prelude.{slice_get, All, Contains, ◌==◌, if◌then◌else◌}
+use Rattle.std.specs.Prelude.{All, Contains}
 use Rattle.std.specs.List.{AllZip}
 use Rattle.std.specs.Option.{option_map, option_map_or}
-use Rattle.std.proofs.Common.{◌≡◌, ℕ, Bool, true, List, [], ◌∷◌, map, Option, Some, None, ◌≤◌, ◌<◌, ◌+◌, ◌*◌, refl, sym, ap, subst, ◌∙◌, arith}
+use Rattle.std.proofs.Common.{◌≡◌, ℕ, Bool, true, List, [], ◌∷◌, map, Option, Some, ◌+◌, ◌*◌, refl, sym, ap, subst, ◌∙◌, arith}
 use Rattle.std.proofs.lemmas.Bool.{le-leb, eq-eqb}
 use Rattle.std.proofs.lemmas.Option.{slice_get-map, same_Some}
 use Rattle.lists.specs.Members.{first_member, further_member}
@@ -22,10 +22,9 @@ use Rattle.alf_check.specs.Kept.{IsKept, InitFits, IsFrameOf}
 use Rattle.alf_runs.specs.Entering.{args_at, inits_at}
 use Rattle.alf_runs.specs.Steps.{frames_of}
 use Rattle.pointer_rules.specs.AbstractValues.{AbstractValue}
-use Rattle.pointer_rules.specs.Covering.{IsValue}
 use Rattle.memory_rules.specs.Memories.{Mem, is_on, entered}
 use Rattle.memory_rules.specs.AbstractSets.{abstract_sets}
-use Rattle.seen_memories.specs.Parts.{MemoryParts, memory_in, rows_of}
+use Rattle.seen_memories.specs.Parts.{MemoryParts, memory_in}
 use Rattle.step_rules.specs.Evaluating.{width_of}
 use Rattle.step_rules.specs.EvaluatingLaws.{ArgumentIs, cell_size}
 use Rattle.step_rules.specs.DoingLaws.{width_is}

@@ -1,6 +1,9 @@
 -- What code finds is what remains.
 --   union_none, union_assoc   unions of faults
+--   two_told, three_told      what comes after two or three operands, with their faults united
+--   three_end                 after three of which the last has no value
 --   load_found                a value and its faults, as a load gives them
+--   load_told                 the answer of a load
 --   first_found               a value before those of the rest
 --   store_told                a memory and its faults, as a store gives them
 --   next_statements           one statement more, and then those that are left
@@ -17,11 +20,11 @@ use Rattle.pointer_rules.specs.Covering.{IsValue}
 use Rattle.memory_rules.specs.Memories.{Mem, joined_values}
 use Rattle.memory_rules.specs.Addresses.{cells_of, load_at, stored_at, IsAddressFault, IsLoadFault}
 use Rattle.memory_rules.specs.AbstractSets.{abstract_sets}
-use Rattle.step_rules.specs.Remains.{Remains, with_faults, goes_on}
+use Rattle.step_rules.specs.Remains.{Remains, all_left, with_faults, goes_on}
 use Rattle.step_rules.specs.Evaluating.{loaded, before, width_of}
 use Rattle.step_rules.specs.Doing.{where_possible, stored_by, stored_through, after_statement, after_statements}
 use Rattle.step_rules.specs.FaultForms.{loaded_faults, stored_faults}
-use Rattle.step_statements.specs.Found.{done}
+use Rattle.step_statements.specs.Found.{done, found, two_operands, three_operands}
 
 or_false : (a : Bool) → (a || false) ≡ a
 or_false true = refl
@@ -67,6 +70,28 @@ pub first_found : (value : AbstractValue) (values : List AbstractValue) (faults 
 first_found value values faults more =
     remains_is (Some (value ∷ values)) (Some (value ∷ values)) (either faults more) (either faults (either more no_faults)) refl (ap (either faults) (sym (union_none more)))
 
+-- what comes after two operands
+pub two_told : {B : Type 0} (x y : AbstractValue) (f g both : FaultSet) (further : List AbstractValue → Remains B) → both ≡ either f g
+    → with_faults both (further (x ∷ y ∷ [])) ≡ goes_on (two_operands (record { left = Some x; faults = f }) (record { left = Some y; faults = g })) further
+two_told x y f g both further is =
+    ap (λ (s : FaultSet). with_faults s (further (x ∷ y ∷ []))) (is ∙ ap (either f) (sym (union_none (either g no_faults) ∙ union_none g)))
+
+-- and after three
+pub three_told : {B : Type 0} (x y z : AbstractValue) (f g h both all : FaultSet) (further : List AbstractValue → Remains B) → both ≡ either f g → all ≡ either both h
+    → with_faults all (further (x ∷ y ∷ z ∷ [])) ≡ goes_on (three_operands (record { left = Some x; faults = f }) (record { left = Some y; faults = g }) (record { left = Some z; faults = h })) further
+three_told x y z f g h both all further is united =
+    let last : either (either h no_faults) no_faults ≡ h = union_none (either h no_faults) ∙ union_none h in
+    let later : either (either g (either (either h no_faults) no_faults)) no_faults ≡ either g h = union_none (either g (either (either h no_faults) no_faults)) ∙ ap (either g) last in
+    ap (λ (s : FaultSet). with_faults s (further (x ∷ y ∷ z ∷ [])))
+    (united ∙ (ap (λ (s : FaultSet). either s h) is ∙ (sym (union_assoc f g h) ∙ ap (either f) (sym later))))
+
+-- and after three of which the last has no value
+pub three_end : {B : Type 0} (x y : AbstractValue) (f g h both all : FaultSet) (further : List AbstractValue → Remains B) → both ≡ either f g → all ≡ either both h
+    → (let r : Remains B = record { left = None; faults = all } in r)
+    ≡ goes_on (three_operands (record { left = Some x; faults = f }) (record { left = Some y; faults = g }) (record { left = None; faults = h })) further
+three_end {B} x y f g h both all further is united =
+    ap (λ (s : FaultSet). let r : Remains B = record { left = None; faults = s } in r) (united ∙ (ap (λ (s : FaultSet). either s h) is ∙ sym (union_assoc f g h)))
+
 -- ---- loads
 
 -- a value and its faults, as a load gives them
@@ -77,6 +102,14 @@ pub load_found : (rows : List FrameShape) (m : Mem abstract_sets) (size : ℕ) (
 load_found rows m size at faults more value is same each =
     remains_is value (joined_values abstract_sets None (load_at rows m at size)) (either faults more) (either faults (loaded rows m size at).faults) same
     (ap (either faults) (loaded_faults rows m size at more is each))
+
+-- the answer of a load
+pub load_told : {E : Type 0} (rows : List FrameShape) (m : Mem abstract_sets) (size : ℕ) (at : AbstractValue) (r : Result (Option AbstractValue × FaultSet) E) → IsValue 32 at
+    → IfOk r (λ loaded. loaded.0 ≡ joined_values abstract_sets None (load_at rows m at size))
+    → IfOk r (λ loaded. (fault : RunFault) → (has_fault loaded.1 fault ≡ true) ↔ IsLoadFault rows m at size fault)
+    → IfOk r (λ answer. found answer ≡ goes_on (all_left at) (loaded rows m size))
+load_told rows m size at (Ok answer) is value each = load_found rows m size at no_faults answer.1 answer.0 is value each
+load_told rows m size at (Err e) is value each = tt
 
 -- ---- stores
 

@@ -6,20 +6,19 @@
 --   load_sized                  the address of a load is a pointer's
 --   apply_typed, operands_typed an operator has a result, and its operands have sizes
 --   operands_sized              the operands' values have their sizes
+--   one_sized, two_sized, three_sized   and so has each of so many
 --   one_found, two_found, three_found   what so many operands give
 --   later_typed         the first of arguments, and those that are left, have sizes
 use Rattle.std.specs.Prelude.{IfSome, IsSome}
 use Rattle.std.specs.List.{AllZip, AllByRecursion}
-use Rattle.std.specs.Option.{option_map}
-use Rattle.std.proofs.Common.{◌≡◌, ◌≤◌, ◌<◌, ℕ, List, [], ◌∷◌, Vec, length, map, get_or, Option, Some, None, refl, sym, ap, ◌∙◌, subst, arith}
-use Rattle.std.specs.declared.alloc.Global.{Global}
+use Rattle.std.proofs.Common.{◌≡◌, ◌≤◌, ◌<◌, ℕ, List, [], ◌∷◌, length, map, get_or, Option, Some, None, refl, sym, ap, ◌∙◌, subst, arith}
 use Rattle.std.proofs.lemmas.List.{length-map}
 use Rattle.alf_ops.specs.declared.operator.Op.{Op}
 use Rattle.alf_ops.specs.declared.layout.Layout.{Layout}
 use Rattle.alf_ops.specs.declared.layout.Layout.TheVariants.{Unary, Sum, Carry, Joined, First, Second, Binary, Comparison, Extension, Truncation, Field, Choice}
 use Rattle.alf_ops.specs.Table.{layout_of, operand_sizes, result_size}
 use Rattle.alf_ops.specs.Layouts.{operands_by_layout}
-use Rattle.alf_program.specs.Tree.{NumberedExpression, NumberedExpressions, Load, Apply, Empty, With, expressions_of}
+use Rattle.alf_program.specs.Tree.{NumberedExpression, NumberedExpressions, Load, Apply, With, expressions_of}
 use Rattle.alf_check.specs.declared.rows.FrameRow.{FrameRow}
 use Rattle.alf_check.specs.declared.rows.Term.{Term}
 use Rattle.alf_check.specs.CheckedPrograms.{term_of}
@@ -28,12 +27,12 @@ use Rattle.domain_core.specs.declared.fault_set.FaultSet.{FaultSet}
 use Rattle.pointer_rules.specs.AbstractValues.{AbstractValue, HasSize}
 use Rattle.pointer_rules.specs.Covering.{IsValue}
 use Rattle.seen_memories.specs.Parts.{MemoryParts, memory_in, rows_of, IsMemory}
-use Rattle.step_rules.specs.Remains.{Remains, all_left, goes_on}
-use Rattle.step_rules.specs.Evaluating.{value_at, values_at, before}
+use Rattle.step_rules.specs.Remains.{Remains}
+use Rattle.step_rules.specs.Evaluating.{value_at, values_at}
 use Rattle.step_rules.specs.RemainsLaws.{IfLeft}
 use Rattle.step_rules.specs.EvaluatingLaws.{value_sized, values_sized}
 use Rattle.step_statements.specs.Typed.{IsTyped, AreTyped}
-use Rattle.step_statements.specs.Found.{found, founds}
+use Rattle.step_statements.specs.Found.{found, one_operand, two_operands, three_operands}
 
 pub first_typed : (sizes : List ℕ) (e : NumberedExpression) (es : NumberedExpressions) → AreTyped sizes (With e es) → IsTyped e
 first_typed [] e es h = absurd h.have
@@ -140,16 +139,32 @@ each_size [] (v ∷ vs) are = absurd are
 each_size (size ∷ sizes) [] are = absurd are
 each_size (size ∷ sizes) (v ∷ vs) are = (are.0.sized, each_size sizes vs are.1)
 
+are_sized : (sizes : List ℕ) (o : Option (List AbstractValue)) → IfSome o (AllZip IsValue sizes) → IfSome o (AllZip (λ size v. HasSize v size) sizes)
+are_sized sizes None are = tt
+are_sized sizes (Some vs) are = each_size sizes vs are
+
 -- the operands' values have their sizes
-pub operands_sized : (parts : MemoryParts) (sizes : List ℕ) (es : NumberedExpressions) (answer : Option (Vec AbstractValue Global) × FaultSet) → IsMemory parts → AreTyped sizes es
-    → founds answer ≡ values_at (rows_of parts.checked) (memory_in parts) es → IfSome answer.0 (λ values. AllZip (λ size v. HasSize v size) sizes values.items)
-operands_sized parts sizes es answer is typed same = go answer.0 (subst (λ (r : Remains (List AbstractValue)). IfLeft (AllZip IsValue sizes) r) (sym same)
+pub operands_sized : (parts : MemoryParts) (sizes : List ℕ) (es : NumberedExpressions) (r : Remains (List AbstractValue)) → IsMemory parts → AreTyped sizes es
+    → r ≡ values_at (rows_of parts.checked) (memory_in parts) es → IfLeft (AllZip (λ size v. HasSize v size) sizes) r
+operands_sized parts sizes es r is typed same = are_sized sizes r.left (subst (λ (r : Remains (List AbstractValue)). IfLeft (AllZip IsValue sizes) r) (sym same)
     (values_sized typed.table (rows_of parts.checked) (memory_in parts) is.sized typed.function es sizes typed.have))
-  where
-    go : (o : Option (Vec AbstractValue Global)) → IfSome (option_map (λ (values : Vec AbstractValue Global). values.items) o) (AllZip IsValue sizes)
-        → IfSome o (λ values. AllZip (λ size v. HasSize v size) sizes values.items)
-    go None are = tt
-    go (Some values) are = each_size sizes values.items are
+
+-- and so has each of one, two or three
+module _ (P : List AbstractValue → Type 0) where
+  pub one_sized : (x : Option AbstractValue × FaultSet) → IfLeft P (one_operand (found x)) → IfSome x.0 (λ a. P (a ∷ []))
+  one_sized (None, f) h = tt
+  one_sized (Some a, f) h = h
+
+  pub two_sized : (x y : Option AbstractValue × FaultSet) → IfLeft P (two_operands (found x) (found y)) → IfSome x.0 (λ a. IfSome y.0 (λ b. P (a ∷ b ∷ [])))
+  two_sized (None, f) y h = tt
+  two_sized (Some a, f) (None, g) h = tt
+  two_sized (Some a, f) (Some b, g) h = h
+
+  pub three_sized : (x y z : Option AbstractValue × FaultSet) → IfLeft P (three_operands (found x) (found y) (found z)) → IfSome x.0 (λ a. IfSome y.0 (λ b. IfSome z.0 (λ c. P (a ∷ b ∷ c ∷ []))))
+  three_sized (None, f) y z h = tt
+  three_sized (Some a, f) (None, g) z h = tt
+  three_sized (Some a, f) (Some b, g) (None, k) h = tt
+  three_sized (Some a, f) (Some b, g) (Some c, k) h = h
 
 -- ---- what operands give
 
@@ -160,30 +175,24 @@ module _ (parts : MemoryParts) where
   abbrev givens : NumberedExpressions → Remains (List AbstractValue)
   givens es = values_at (rows_of parts.checked) (memory_in parts) es
 
-  pub one_more : (e : NumberedExpression) (es : NumberedExpressions) (first : Option AbstractValue × FaultSet) (rest all : Option (Vec AbstractValue Global) × FaultSet) → found first ≡ given e
-      → founds rest ≡ givens es → founds all ≡ goes_on (found first) (before (founds rest)) → founds all ≡ givens (With e es)
-  one_more e es first rest all of_first of_rest joined =
-      joined ∙ ap (λ (r : Remains AbstractValue). goes_on r (before (founds rest))) of_first ∙ ap (λ (r : Remains (List AbstractValue)). goes_on (given e) (before r)) of_rest
+  pub one_found : (terms : List Term) (a : Term) (x : Option AbstractValue × FaultSet) → terms ≡ a ∷ [] → found x ≡ given (term_of a)
+      → one_operand (found x) ≡ givens (expressions_of (map term_of terms))
+  one_found terms a x split of_a = ap one_operand of_a ∙ ap (λ (ts : List Term). givens (expressions_of (map term_of ts))) (sym split)
 
-  pub one_found : (terms : List Term) (a : Term) (x : Option AbstractValue × FaultSet) (none all : Option (Vec AbstractValue Global) × FaultSet) → terms ≡ a ∷ []
-      → found x ≡ given (term_of a) → founds none ≡ all_left [] → founds all ≡ goes_on (found x) (before (founds none)) → founds all ≡ givens (expressions_of (map term_of terms))
-  one_found terms a x none all split of_a empty joined =
-      one_more (term_of a) Empty x none all of_a empty joined ∙ ap (λ (ts : List Term). givens (expressions_of (map term_of ts))) (sym split)
+  pub two_found : (terms : List Term) (a b : Term) (x y : Option AbstractValue × FaultSet) → terms ≡ a ∷ b ∷ [] → found x ≡ given (term_of a) → found y ≡ given (term_of b)
+      → two_operands (found x) (found y) ≡ givens (expressions_of (map term_of terms))
+  two_found terms a b x y split of_a of_b =
+      ap (λ (r : Remains AbstractValue). two_operands r (found y)) of_a ∙ (ap (two_operands (given (term_of a))) of_b
+      ∙ ap (λ (ts : List Term). givens (expressions_of (map term_of ts))) (sym split))
 
-  pub two_found : (terms : List Term) (a b : Term) (x y : Option AbstractValue × FaultSet) (none last all : Option (Vec AbstractValue Global) × FaultSet) → terms ≡ a ∷ b ∷ []
-      → found x ≡ given (term_of a) → found y ≡ given (term_of b) → founds none ≡ all_left [] → founds last ≡ goes_on (found y) (before (founds none))
-      → founds all ≡ goes_on (found x) (before (founds last)) → founds all ≡ givens (expressions_of (map term_of terms))
-  two_found terms a b x y none last all split of_a of_b empty of_last joined =
-      one_more (term_of a) (With (term_of b) Empty) x last all of_a (one_more (term_of b) Empty y none last of_b empty of_last) joined
-      ∙ ap (λ (ts : List Term). givens (expressions_of (map term_of ts))) (sym split)
-
-  pub three_found : (terms : List Term) (a b c : Term) (x y z : Option AbstractValue × FaultSet) (none last later all : Option (Vec AbstractValue Global) × FaultSet) → terms ≡ a ∷ b ∷ c ∷ []
-      → found x ≡ given (term_of a) → found y ≡ given (term_of b) → found z ≡ given (term_of c) → founds none ≡ all_left [] → founds last ≡ goes_on (found z) (before (founds none))
-      → founds later ≡ goes_on (found y) (before (founds last)) → founds all ≡ goes_on (found x) (before (founds later)) → founds all ≡ givens (expressions_of (map term_of terms))
-  three_found terms a b c x y z none last later all split of_a of_b of_c empty of_last of_later joined =
-      one_more (term_of a) (With (term_of b) (With (term_of c) Empty)) x later all of_a
-      (one_more (term_of b) (With (term_of c) Empty) y last later of_b (one_more (term_of c) Empty z none last of_c empty of_last) of_later) joined
-      ∙ ap (λ (ts : List Term). givens (expressions_of (map term_of ts))) (sym split)
+  pub three_found : (terms : List Term) (a b c : Term) (x y z : Option AbstractValue × FaultSet) → terms ≡ a ∷ b ∷ c ∷ []
+      → found x ≡ given (term_of a) → found y ≡ given (term_of b) → found z ≡ given (term_of c)
+      → three_operands (found x) (found y) (found z) ≡ givens (expressions_of (map term_of terms))
+  three_found terms a b c x y z split of_a of_b of_c =
+      ap (λ (r : Remains AbstractValue). three_operands r (found y) (found z)) of_a
+      ∙ (ap (λ (r : Remains AbstractValue). three_operands (given (term_of a)) r (found z)) of_b
+      ∙ (ap (three_operands (given (term_of a)) (given (term_of b))) of_c
+      ∙ ap (λ (ts : List Term). givens (expressions_of (map term_of ts))) (sym split)))
 
 -- ---- arguments
 

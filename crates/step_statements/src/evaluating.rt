@@ -3,7 +3,7 @@
 ghost use Rattle.std.specs.Prelude.{◌≡◌, IfOk, IfSome, IsSome, map};
 ghost use Rattle.std.specs.List.{AllByRecursion};
 ghost use Rattle.alf_ops.specs.Table.{result_size, operand_sizes};
-ghost use Rattle.alf_program.specs.Tree.{Number, expressions_of};
+ghost use Rattle.alf_program.specs.Tree.{Address, Number, expressions_of};
 ghost use Rattle.alf_check.specs.CheckedPrograms.{term_of};
 ghost use Rattle.memory_rules.specs.Covers.{IsCellSize};
 ghost use Rattle.pointer_rules.specs.Covering.{IsValue};
@@ -13,7 +13,7 @@ ghost use Rattle.step_rules.specs.Evaluating.{word_value, pointer_value, loaded,
 ghost use Rattle.step_statements.specs.Typed.{IsTyped, AreTyped};
 ghost use Rattle.step_statements.specs.Found.{found, founds};
 
-use crate::operating::{applied, before, no_operand};
+use crate::operating::{at_one, at_three, at_two, before, no_operand};
 use abstract_memory::AMem;
 use alf_check::Term;
 use alf_ops::Op;
@@ -62,6 +62,33 @@ fn load(
     }
 }
 
+/// What a load of a cell gives, as through the pointer to it.
+fn load_cell(
+    alloc: Global,
+    memory: &AMem<'_>,
+    frame: u32,
+    offset: u32,
+    size: u32,
+) -> Result<(Option<AVal>, FaultSet), AllocError>
+    requires kept { IsMemory memory.now }
+    requires size { IsCellSize size }
+    ensures { IfOk result (λ answer. found answer ≡ goes_on (all_left (pointer_value frame offset)) (loaded (rows_of memory.now.checked) (memory_in memory.now) size)) }
+{
+    memory.load_cell(alloc, frame, offset, size)
+}
+
+/// The cell that the expression is the address of, where it is an address as it stands.
+pub(crate) fn address_of(term: &Term) -> Option<(u32, u32)>
+    ensures { IfSome result (λ cell. term_of term.now ≡ Address cell.0 cell.1) }
+{
+    match term {
+        Term::Num(_) => None,
+        Term::Addr(frame, offset) => Some((*frame, *offset)),
+        Term::Load(_, _) => None,
+        Term::Apply(_, _, _) => None,
+    }
+}
+
 /// What the expression gives over the memory: its value, where some run goes on, and the faults.
 #[cycle(evaluation)]
 pub fn evaluate(
@@ -77,6 +104,9 @@ pub fn evaluate(
         Term::Num(num) => Ok(word(alloc, *num)),
         Term::Addr(frame, offset) => pointer(alloc, *frame, *offset),
         Term::Load(size, at) => {
+            if let Some((frame, offset)) = address_of(at) {
+                return load_cell(alloc, memory, frame, offset, *size);
+            }
             let place = evaluate(alloc, memory, at)?;
             load(alloc, memory, place, *size)
         }
@@ -102,24 +132,18 @@ fn operate(
         [] => unreachable!(),
         [a] => {
             let a = evaluate(alloc, memory, a)?;
-            let args = before(a, no_operand(alloc))?;
-            applied(alloc, op, sizes, args)
+            at_one(alloc, op, sizes, a)
         }
         [a, b] => {
             let a = evaluate(alloc, memory, a)?;
             let b = evaluate(alloc, memory, b)?;
-            let last = before(b, no_operand(alloc))?;
-            let args = before(a, last)?;
-            applied(alloc, op, sizes, args)
+            at_two(alloc, op, sizes, a, b)
         }
         [a, b, c] => {
             let a = evaluate(alloc, memory, a)?;
             let b = evaluate(alloc, memory, b)?;
             let c = evaluate(alloc, memory, c)?;
-            let last = before(c, no_operand(alloc))?;
-            let later = before(b, last)?;
-            let args = before(a, later)?;
-            applied(alloc, op, sizes, args)
+            at_three(alloc, op, sizes, a, b, c)
         }
         [_, _, _, _, ..] => unreachable!(),
     }

@@ -1,12 +1,12 @@
 //! Operands, and operators at them.
 
-ghost use Rattle.std.specs.Prelude.{◌≡◌, [], IfOk, IfSome, IsSome};
+ghost use Rattle.std.specs.Prelude.{◌≡◌, ◌∷◌, [], IfOk, IfSome, IsSome};
 ghost use Rattle.std.specs.List.{AllZip};
 ghost use Rattle.alf_ops.specs.Table.{result_size, operand_sizes};
 ghost use Rattle.pointer_rules.specs.AbstractValues.{HasSize};
-ghost use Rattle.step_rules.specs.Remains.{all_left, goes_on};
+ghost use Rattle.step_rules.specs.Remains.{all_left, goes_on, with_faults};
 ghost use Rattle.step_rules.specs.Evaluating.{before as before_rest, operated};
-ghost use Rattle.step_statements.specs.Found.{found, founds};
+ghost use Rattle.step_statements.specs.Found.{found, founds, one_operand, two_operands, three_operands};
 
 use alf_ops::Op;
 use domain_core::FaultSet;
@@ -53,23 +53,90 @@ pub(crate) fn before(
     }
 }
 
-/// What an operator gives at its operands.
-pub(crate) fn applied(
+/// What an operator gives at values, after these faults.
+fn applied(
     alloc: Global,
     op: Op,
     sizes: &[u32],
-    args: (Option<Vec<AVal>>, FaultSet),
+    args: &[AVal],
+    faults: FaultSet,
 ) -> Result<(Option<AVal>, FaultSet), AllocError>
     requires typed { IsSome (result_size op sizes.now) }
-    requires sized { IfSome args.0 (λ values. AllZip (λ size v. HasSize v size) (operand_sizes op sizes.now) values.items) }
-    ensures { IfOk result (λ answer. found answer ≡ goes_on (founds args) (operated op sizes.now)) }
+    requires sized { AllZip (λ size v. HasSize v size) (operand_sizes op sizes.now) args.now }
+    ensures { IfOk result (λ answer. found answer ≡ with_faults faults (operated op sizes.now args.now)) }
 {
-    let (values, faults) = args;
-    match values {
-        None => Ok((None, faults)),
-        Some(values) => {
-            let (value, more) = AVal::apply(alloc, op, sizes, &values)?;
-            Ok((value, faults.union(more)))
-        }
-    }
+    let (value, more) = AVal::apply(alloc, op, sizes, args)?;
+    Ok((value, faults.union(more)))
+}
+
+/// What an operator gives at one operand.
+pub(crate) fn at_one(
+    alloc: Global,
+    op: Op,
+    sizes: &[u32],
+    a: (Option<AVal>, FaultSet),
+) -> Result<(Option<AVal>, FaultSet), AllocError>
+    requires typed { IsSome (result_size op sizes.now) }
+    requires sized { IfSome a.0 (λ x. AllZip (λ size v. HasSize v size) (operand_sizes op sizes.now) (x ∷ [])) }
+    ensures { IfOk result (λ answer. found answer ≡ goes_on (one_operand (found a)) (operated op sizes.now)) }
+{
+    let (value, faults) = a;
+    let Some(x) = value else {
+        return Ok((None, faults));
+    };
+    applied(alloc, op, sizes, &[x], faults)
+}
+
+/// What an operator gives at two operands; after one without a value nothing is told.
+pub(crate) fn at_two(
+    alloc: Global,
+    op: Op,
+    sizes: &[u32],
+    a: (Option<AVal>, FaultSet),
+    b: (Option<AVal>, FaultSet),
+) -> Result<(Option<AVal>, FaultSet), AllocError>
+    requires typed { IsSome (result_size op sizes.now) }
+    requires sized { IfSome a.0 (λ x. IfSome b.0 (λ y. AllZip (λ size v. HasSize v size) (operand_sizes op sizes.now) (x ∷ y ∷ []))) }
+    ensures { IfOk result (λ answer. found answer ≡ goes_on (two_operands (found a) (found b)) (operated op sizes.now)) }
+{
+    let (value, faults) = a;
+    let Some(x) = value else {
+        return Ok((None, faults));
+    };
+    let (value, more) = b;
+    let both = faults.union(more);
+    let Some(y) = value else {
+        return Ok((None, both));
+    };
+    applied(alloc, op, sizes, &[x, y], both)
+}
+
+/// What an operator gives at three operands; after one without a value nothing is told.
+pub(crate) fn at_three(
+    alloc: Global,
+    op: Op,
+    sizes: &[u32],
+    a: (Option<AVal>, FaultSet),
+    b: (Option<AVal>, FaultSet),
+    c: (Option<AVal>, FaultSet),
+) -> Result<(Option<AVal>, FaultSet), AllocError>
+    requires typed { IsSome (result_size op sizes.now) }
+    requires sized { IfSome a.0 (λ x. IfSome b.0 (λ y. IfSome c.0 (λ z. AllZip (λ size v. HasSize v size) (operand_sizes op sizes.now) (x ∷ y ∷ z ∷ [])))) }
+    ensures { IfOk result (λ answer. found answer ≡ goes_on (three_operands (found a) (found b) (found c)) (operated op sizes.now)) }
+{
+    let (value, faults) = a;
+    let Some(x) = value else {
+        return Ok((None, faults));
+    };
+    let (value, more) = b;
+    let both = faults.union(more);
+    let Some(y) = value else {
+        return Ok((None, both));
+    };
+    let (value, last) = c;
+    let all = both.union(last);
+    let Some(z) = value else {
+        return Ok((None, all));
+    };
+    applied(alloc, op, sizes, &[x, y, z], all)
 }

@@ -2,6 +2,7 @@
 
 ghost use Rattle.std.specs.Prelude.{◌≡◌, IfOk, OnOk, map};
 ghost use Rattle.std.specs.List.{AllByRecursion};
+ghost use Rattle.alf_program.specs.Tree.{Address};
 ghost use Rattle.alf_check.specs.CheckedPrograms.{Store, act_of, term_of};
 ghost use Rattle.pointer_rules.specs.Covering.{IsValue};
 ghost use Rattle.seen_memories.specs.Parts.{memory_in, rows_of, IsMemory};
@@ -10,11 +11,10 @@ ghost use Rattle.step_rules.specs.Doing.{stored_through, after_statement, after_
 ghost use Rattle.step_statements.specs.Typed.{IsTypedStatement, IsStorable};
 ghost use Rattle.step_statements.specs.Found.{done};
 
-use crate::evaluating::evaluate;
+use crate::evaluating::{address_of, evaluate};
 use abstract_memory::AMem;
 use alf_check::{Act, Term};
 use domain_core::FaultSet;
-use interval_congruence::Strided;
 use pointer_domain::AVal;
 use std::alloc::{AllocError, Global};
 
@@ -61,9 +61,30 @@ pub fn store_at(
     ensures kept { OnOk result (IsMemory memory.new) }
     ensures stored { IfOk result (λ answer. done answer (memory_in memory.new) ≡ stored_through (rows_of memory.old.checked) (memory_in memory.old) (pointer_value frame offset) value.now) }
 {
-    let at = AVal::pointer(alloc, frame, Strided::one_word(32, offset as u64))?;
-    let answer = store_through(alloc, memory, &at, value)?;
-    Ok(answer)
+    let size = width(value);
+    memory.store_cell(alloc, frame, offset, value, size)
+}
+
+/// A store to a cell, as through the pointer to it.
+fn store_in(
+    alloc: Global,
+    memory: &mut AMem<'_>,
+    cell: (u32, u32),
+    term: &Term,
+) -> Result<(bool, FaultSet), AllocError>
+    requires typed { IsTypedStatement (Store (Address cell.0 cell.1) (term_of term.now)) }
+    requires kept { IsMemory memory.old }
+    ensures checked { OnOk result (memory.new.checked ≡ memory.old.checked) }
+    ensures kept { OnOk result (IsMemory memory.new) }
+    ensures stored { IfOk result (λ answer. done answer (memory_in memory.new)
+        ≡ after_statement (rows_of memory.old.checked) (Store (Address cell.0 cell.1) (term_of term.now)) (memory_in memory.old)) }
+{
+    let (value, faults) = evaluate(alloc, memory, term)?;
+    let Some(value) = value else {
+        return Ok((false, faults));
+    };
+    let (goes_on, more) = store_at(alloc, memory, cell.0, cell.1, &value)?;
+    Ok((goes_on, faults.union(more)))
 }
 
 /// A store: the address is evaluated first, then the value.
@@ -80,6 +101,9 @@ fn store(
     ensures stored { IfOk result (λ answer. done answer (memory_in memory.new)
         ≡ after_statement (rows_of memory.old.checked) (Store (term_of to.now) (term_of term.now)) (memory_in memory.old)) }
 {
+    if let Some(cell) = address_of(to) {
+        return store_in(alloc, memory, cell, term);
+    }
     let (at, faults) = evaluate(alloc, memory, to)?;
     let Some(at) = at else {
         return Ok((false, faults));

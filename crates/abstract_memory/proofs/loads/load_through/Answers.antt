@@ -5,7 +5,12 @@ use Rattle.address_cells.specs.Running.{runs_in}
 use Rattle.abstract_memory.specs.Cells.{AllFit}
 use Rattle.abstract_memory.proofs.Fitting.{all_fit}
 use Rattle.abstract_memory.proofs.Loading.{load_faults}
+use Rattle.abstract_memory.proofs.Lone.{lone_fits}
 use Rattle.abstract_memory.proofs.loads.load_through.Goals as goal
+
+pub load_lone-requires-clause-fits : goal.load_lone-requires-clause-fits
+load_lone-requires-clause-fits c =
+    lone_fits (shapes_of c.args.rows.now) c.args.at.now c.args.size c.in-Some.cell (runs_in c.args.running.now) (map length c.args.frames.now) c.requires.size c.requires.lengths c.in-Some.ensures
 
 pub load_cells-requires-clause-fit : goal.load_cells-requires-clause-fit
 load_cells-requires-clause-fit c =

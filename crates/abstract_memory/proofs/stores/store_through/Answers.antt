@@ -4,7 +4,12 @@ use Rattle.alf_check.specs.Shapes.{shapes_of}
 use Rattle.address_cells.specs.Running.{runs_in}
 use Rattle.abstract_memory.specs.Cells.{AllFit}
 use Rattle.abstract_memory.proofs.Fitting.{all_fit}
+use Rattle.abstract_memory.proofs.Lone.{lone_fits}
 use Rattle.abstract_memory.proofs.stores.store_through.Goals as goal
+
+pub store_lone-requires-clause-fits : goal.store_lone-requires-clause-fits
+store_lone-requires-clause-fits c =
+    lone_fits (shapes_of c.args.rows.now) c.args.at.now c.args.size c.in-Some.cell (runs_in c.args.running.now) (map length c.args.frames.now) c.requires.size c.requires.lengths c.in-Some.ensures
 
 pub store_all-requires-clause-fit : goal.store_all-requires-clause-fit
 store_all-requires-clause-fit c =

@@ -1,8 +1,5 @@
-use Rattle.std.proofs.Common.{◌≡◌, ℕ, List, sym, ap, subst, ◌∙◌}
-use Rattle.alf_check.specs.declared.rows.InitRow.{InitRow}
+use Rattle.std.proofs.Common.{ℕ, List, sym, ap, subst, ◌∙◌}
 use Rattle.alf_check.specs.CheckedPrograms.{seen}
-use Rattle.memory_rules.specs.Memories.{Mem}
-use Rattle.memory_rules.specs.AbstractSets.{abstract_sets}
 use Rattle.seen_memories.specs.Parts.{memory_in, rows_of}
 use Rattle.step_rules.specs.Filling.{with_arguments}
 use Rattle.step_statements.specs.Rooms.{HaveRoom}

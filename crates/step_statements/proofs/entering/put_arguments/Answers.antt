@@ -1,4 +1,4 @@
-use Rattle.std.proofs.Common.{◌≡◌, ◌∷◌, refl}
+use Rattle.std.proofs.Common.{refl}
 use Rattle.alf_check.specs.CheckedPrograms.{seen}
 use Rattle.seen_memories.specs.Parts.{memory_in, rows_of}
 use Rattle.step_statements.proofs.CallLaws.{first_argument, argument_there}

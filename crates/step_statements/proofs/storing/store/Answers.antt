@@ -11,7 +11,7 @@ pub store_through-requires-clause-address : goal.store_through-requires-clause-a
 store_through-requires-clause-address c =
     let typed = c.requires.typed in
     let of_at = value_found c.args.memory.now typed.table typed.function 32 (term_of c.args.to.now) (c.in_ok-at.at, c.in_ok-at.faults) c.requires.kept typed.keeps.address c.in_ok-at.ensures in
-    subst (λ (o : Option AbstractValue). IfSome o (IsValue 32)) c.in-Some.is of_at
+    subst (λ (o : Option AbstractValue). IfSome o (IsValue 32)) c.in-Some-at.is of_at
 
 pub store_through-requires-clause-value : goal.store_through-requires-clause-value
 store_through-requires-clause-value c =

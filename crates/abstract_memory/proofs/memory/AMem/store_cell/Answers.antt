@@ -1,0 +1,34 @@
+-- What is left to show of `store_cell`: facts of the proof files, applied.
+use Rattle.std.proofs.Common.{◌≢◌, ◌↔◌, ◌∙◌, ap, subst, refl, Bool, [], List, IfOk, IsTrue}
+use Rattle.std.specs.Vec.{with_items}
+use Rattle.std.proofs.lemmas.List.{with_items_is}
+use Rattle.std.proofs.lemmas.Result.{on_ok_weaker}
+use Rattle.alf_check.specs.declared.rows.FrameRow.{FrameRow}
+use Rattle.alf_check.specs.Shapes.{shapes_of}
+use Rattle.address_cells.specs.Running.{runs_in}
+use Rattle.address_cells.specs.OnlyCells.{pointer_to}
+use Rattle.memory_pages.specs.Slots.{HeldSlot}
+use Rattle.memory_rules.specs.AbstractSets.{abstract_sets}
+use Rattle.memory_rules.specs.Addresses.{cells_of}
+use Rattle.memory_rules.specs.Memories.{Mem, stored}
+use Rattle.seen_memories.specs.Parts.{MemoryParts}
+use Rattle.abstract_memory.specs.Cells.{Changes}
+use Rattle.abstract_memory.proofs.Lent.{lent, kept_in}
+use Rattle.abstract_memory.proofs.memory.AMem.store_cell.Goals as goal
+
+pub returns-clause-kept : goal.returns-clause-kept
+returns-clause-kept c =
+    let parts : MemoryParts = record { checked = c.self.inside.checked.now; running = c.self.inside.running.items; frames = c.self.inside.frames.items } in
+    let after = (λ (m : Mem abstract_sets). stored abstract_sets m (cells_of (shapes_of c.frames.result.now) (runs_in c.deref.result.now) (pointer_to c.args.frame c.args.offset).places c.args.size) c.args.size c.args.value.now) in
+    on_ok_weaker c.store_to.result
+    (λ changes. kept_in parts c.args.self.now c.store_to.new.frames (with_items c.self.inside.frames c.store_to.new.frames).items after c.self.view_is
+    (with_items_is c.self.inside.frames c.store_to.new.frames (c.store_to.auto.frames ∙ c.deref_mut.ensures.len))
+    (subst (λ (fs : List (List HeldSlot)). Changes fs c.store_to.new.frames after) (c.deref_mut.ensures.value ∙ ap (λ (m : MemoryParts). m.frames) c.self.view_is) changes) c.requires.kept)
+    c.store_to.ensures.changes
+
+pub returns-clause-goes_on : goal.returns-clause-goes_on
+returns-clause-goes_on c =
+    let parts : MemoryParts = record { checked = c.self.inside.checked.now; running = c.self.inside.running.items; frames = c.self.inside.frames.items } in
+    lent (λ (rows : List FrameRow) (running : List Bool) (frames : List (List HeldSlot)).
+    IfOk c.store_to.result (λ stored. IsTrue stored.0 ↔ (cells_of (shapes_of rows) (runs_in running) (pointer_to c.args.frame c.args.offset).places c.args.size ≢ [])))
+    parts c.args.self.now c.frames.result.now c.deref.result.now parts.frames c.self.view_is c.frames.ensures.frames c.deref.ensures.value refl c.store_to.ensures.goes_on

@@ -1,0 +1,3 @@
+pub mod FirstTerms
+pub mod Started
+pub mod RowSteps

@@ -1,0 +1,5 @@
+pub mod HandingLaws
+pub mod StepLaws
+pub mod FractionLaws
+pub mod RunLaws
+pub mod SmallLaws

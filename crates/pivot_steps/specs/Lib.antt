@@ -1,0 +1,4 @@
+pub mod Sparse
+pub mod Stepped
+pub mod Choosing
+pub mod TermsFrom

@@ -1,0 +1,6 @@
+pub mod Values
+pub mod Objects
+pub mod Expressions
+pub mod Endings
+pub mod Statements
+pub mod Programs

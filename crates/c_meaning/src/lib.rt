@@ -1,0 +1,2 @@
+//! What C programs mean.
+#![tactic(auto)]

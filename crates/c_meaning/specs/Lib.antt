@@ -4,3 +4,5 @@ pub mod Expressions
 pub mod Endings
 pub mod Statements
 pub mod Programs
+pub mod Worked
+pub mod MoreTurns

@@ -2,9 +2,9 @@
 --   Kept a b                 the second ending is the first, or of the first turns are used up
 --   AllKept f g              so for each history
 --   AtMost n m               n is at most m
---   setting_of program o n callees   what a statement of a function that gives o stands in
+--   few, more                what a statement stands in, with n turns and with m
 --   ending_kept, outcome_kept   the ending and the outcome with n turns are kept with more
-use Rattle.std.proofs.Common.{◌≡◌, ◌≢◌, ℕ, zero, suc, ◌+◌, ◌≤◌, Bool, true, false, List, [], ◌∷◌, length, Option, Some, None, Result, Ok, Err, if◌then◌else◌, refl, sym, ap, ◌∙◌}
+use Rattle.std.proofs.Common.{◌≡◌, ◌≢◌, ℕ, zero, suc, ◌+◌, ◌≤◌, Bool, true, false, List, [], ◌∷◌, length, Option, Some, None, Result, Ok, Err, if◌then◌else◌, refl, arith}
 use Rattle.alf_ops.specs.declared.history.Value.{Value}
 use Rattle.alf_ops.specs.declared.history.Value.TheVariants as values
 use Rattle.alf_ops.specs.declared.history.RunFault.{RunFault}
@@ -86,10 +86,10 @@ call_kept : {a b : Ending} (f g : Option Value → History → Ending) → Kept 
 call_kept f g unknown kept = unknown
 call_kept f g (same {e = e}) kept = same_call e f g kept
 
-truth_kept : (r : Result Bool RunFault) {a b c d : Ending} → Kept a b → Kept c d → Kept (by_truth r a c) (by_truth r b d)
-truth_kept (Ok true) held failed = held
-truth_kept (Ok false) held failed = failed
-truth_kept (Err fault) held failed = same
+truth_kept : (r : Result Bool RunFault) (a b c d : Ending) → Kept a b → Kept c d → Kept (by_truth r a c) (by_truth r b d)
+truth_kept (Ok true) a b c d held failed = held
+truth_kept (Ok false) a b c d held failed = failed
+truth_kept (Err fault) a b c d held failed = same
 
 values_kept : (r : Result (List Value) RunFault) (f g : List Value → Ending) → ((vs : List Value) → Kept (f vs) (g vs)) → Kept (with_values r f) (with_values r g)
 values_kept (Ok vs) f g kept = kept vs
@@ -109,9 +109,10 @@ left_kept o f same = same
 turns_kept : {n m : ℕ} → AtMost n m → (test : History → Result Bool RunFault) (body body' last last' : History → Ending) → AllKept body body' → AllKept last last'
     → (h : History) → Kept (turns n test body last h) (turns m test body' last' h)
 turns_kept (at_zero {m = zero}) test body body' last last' kept kept' h = same
-turns_kept (at_zero {m = suc m}) test body body' last last' kept kept' h = truth_kept (test h) unknown same
+turns_kept (at_zero {m = suc m}) test body body' last last' kept kept' h = truth_kept (test h) UsedUp (after_body (body' h) (λ t. then_do (last' t) (turns m test body' last'))) (Normal h) (Normal h) unknown same
 turns_kept (at_next {n = n} {m = m} le) test body body' last last' kept kept' h =
-    truth_kept (test h)
+    truth_kept (test h) (after_body (body h) (λ t. then_do (last t) (turns n test body last))) (after_body (body' h) (λ t. then_do (last' t) (turns m test body' last')))
+      (Normal h) (Normal h)
       (body_kept (λ t. then_do (last t) (turns n test body last)) (λ t. then_do (last' t) (turns m test body' last')) (kept h)
         (λ t. then_kept (turns n test body last) (turns m test body' last') (kept' t) (turns_kept le test body body' last last' kept kept')))
       same
@@ -121,7 +122,7 @@ rounds_kept : {n m : ℕ} → AtMost n m → (body body' : History → Ending) (
 rounds_kept at_zero body body' test kept h = unknown
 rounds_kept (at_next {n = n} {m = m} le) body body' test kept h =
     body_kept (λ t. by_truth (test t) (rounds n body test t) (Normal t)) (λ t. by_truth (test t) (rounds m body' test t) (Normal t)) (kept h)
-      (λ t. truth_kept (test t) (rounds_kept le body body' test kept t) same)
+      (λ t. truth_kept (test t) (rounds n body test t) (rounds m body' test t) (Normal t) (Normal t) (rounds_kept le body body' test kept t) same)
 
 -- ---- what comes after labels
 
@@ -140,18 +141,15 @@ labels_kept h neither neither = same
 
 -- ---- statements
 
-abbrev pub setting_of : Program → Outcome → ℕ → Callees → Setting
-setting_of program o n callees = record { program = program; result = o; turns = n; callees = callees }
-
 abbrev pub CalleesKept : Callees → Callees → Type 0
 CalleesKept c d = (f : ℕ) (vs : List Value) (h : History) → Kept (c f vs h) (d f vs h)
 
 module _ (program : Program) (o : Outcome) (n m : ℕ) (le : AtMost n m) (c d : Callees) (kept : CalleesKept c d) where
-  few : Setting
-  few = setting_of program o n c
+  abbrev few : Setting
+  few = record { program = program; result = o; turns = n; callees = c }
 
-  more : Setting
-  more = setting_of program o m d
+  abbrev more : Setting
+  more = record { program = program; result = o; turns = m; callees = d }
 
   called_kept : (scopes : List Scope) (call : CallTree) (h : History) (f g : Option Value → History → Ending) → AllGiven f g
       → Kept (called few scopes call h f) (called more scopes call h g)
@@ -202,9 +200,13 @@ module _ (program : Program) (o : Outcome) (n m : ℕ) (le : AtMost n m) (c d : 
     statement_kept scopes (Empty token) h = same
     statement_kept scopes (Declares first kind locals) h = locals_kept kind scopes locals h
     statement_kept scopes (Block body) h = statements_kept ([] ∷ scopes) body h
-    statement_kept scopes (If condition body) h = truth_kept (condition_of program scopes h condition) (statement_kept ([] ∷ scopes) body h) same
+    statement_kept scopes (If condition body) h =
+        truth_kept (condition_of program scopes h condition) (statement_done few ([] ∷ scopes) body h) (statement_done more ([] ∷ scopes) body h) (Normal h) (Normal h)
+          (statement_kept ([] ∷ scopes) body h) same
     statement_kept scopes (IfElse condition body otherwise) h =
-        truth_kept (condition_of program scopes h condition) (statement_kept ([] ∷ scopes) body h) (statement_kept ([] ∷ scopes) otherwise h)
+        truth_kept (condition_of program scopes h condition) (statement_done few ([] ∷ scopes) body h) (statement_done more ([] ∷ scopes) body h)
+          (statement_done few ([] ∷ scopes) otherwise h) (statement_done more ([] ∷ scopes) otherwise h)
+          (statement_kept ([] ∷ scopes) body h) (statement_kept ([] ∷ scopes) otherwise h)
     statement_kept scopes (While condition body) h =
         turns_kept le (λ t. condition_of program scopes t condition) (statement_done few ([] ∷ scopes) body) (statement_done more ([] ∷ scopes) body) Normal Normal
           (statement_kept ([] ∷ scopes) body) (λ t. same) h
@@ -254,6 +256,7 @@ bodies_kept program n m le c d kept f h =
 
 functions_kept : (program : Program) (n m : ℕ) → AtMost n m → (depth further : ℕ) → AtMost depth further → CalleesKept (function_done program n depth) (function_done program m further)
 functions_kept program n m le zero further at_zero f vs h = unknown
+functions_kept program n m le (suc depth) zero deeper f vs h = elim deeper [ ]
 functions_kept program n m le (suc depth) (suc further) (at_next deeper) f vs h =
     bodies_kept program n m le (function_done program n depth) (function_done program m further) (functions_kept program n m le depth further deeper) f (entered program f vs h)
 

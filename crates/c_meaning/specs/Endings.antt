@@ -10,7 +10,7 @@
 --   with_values r go       goes on with the values of arguments
 --   turns n test body last history    a loop of at most n turns that tests before its body; the last part of a `for` ends each turn
 --   rounds n body test history        a loop of at most n turns that tests after its body
-use Rattle.std.specs.Prelude.{ℕ, zero, suc, Bool, true, false, List, Option, Some, None, Result, Ok, Err}
+use Rattle.std.specs.Prelude.{ℕ, zero, suc, Bool, true, false, List, Option, None, Result, Ok, Err}
 use Rattle.alf_ops.specs.declared.history.Value.{Value}
 use Rattle.alf_ops.specs.declared.history.RunFault.{RunFault}
 use Rattle.alf_ops.specs.declared.history.RunEvent.{RunEvent}

@@ -93,9 +93,10 @@ abbrev mutual
   value_of program scopes history (WithCast token to operand) = on_value (cast_to to) (value_of program scopes history operand)
   value_of program scopes history (AtIndex base token index) =
       on_value (loaded program history (scalars.Integer (pointee (kind_of program.words scopes base))))
-        (element_address (kind_of program.words scopes base) (value_of program scopes history base) (value_of program scopes history index))
+      (element_address (kind_of program.words scopes base) (value_of program scopes history base) (value_of program scopes history index))
   value_of program scopes history (WithBinary op token left right) =
-      binary_value op (kind_of program.words scopes left) (kind_of program.words scopes right) (value_of program scopes history left) (value_of program scopes history right)
+      binary_value op (kind_of program.words scopes left) (kind_of program.words scopes right)
+      (value_of program scopes history left) (value_of program scopes history right)
 
   pub address_of : Program → List Scope → List RunEvent → Expression → Valued
   address_of program scopes history (OfConstant token) = Err faults.Kind

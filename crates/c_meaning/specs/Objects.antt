@@ -121,9 +121,13 @@ abbrev pub functions_in : File → List ExternalTree → List Function
 functions_in file [] = []
 functions_in file (Declaration first o ds ∷ xs) = functions_in (external_after file (Declaration first o ds)) xs
 functions_in file (Definition first o name params body ∷ xs) =
-    record { name = name; result = o; parameters = params
-           ; scopes = with_parameters [] params ∷ (external_after file (Definition first o name params body)).scope ∷ []
-           ; body = statements_of body }
+    record {
+      name = name;
+      result = o;
+      parameters = params;
+      scopes = with_parameters [] params ∷ (external_after file (Definition first o name params body)).scope ∷ [];
+      body = statements_of body;
+    }
     ∷ functions_in (external_after file (Definition first o name params body)) xs
 
 abbrev pub functions_of : UnitTree → List Function

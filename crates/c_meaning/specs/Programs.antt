@@ -4,7 +4,8 @@
 --   function_done program n depth f values history   what a call does, where calls stand at most so deep in one another
 --   Cell                               a cell of an object that the input gives, and its word
 --   start_history unit root cells      the history at the start: the globals hold what they hold at first, the root is entered, and the cells are stored
---   ProgramOutcome                     the value that the root returned, if any, and for each global integer in order what it holds, or none; or a fault; or none with so many turns
+--   ProgramOutcome                     the value that the root returned, if any, and for each global integer in order what it holds, or none; or a
+--                                      fault; or none with so many turns
 --   outcome unit root n cells          that of the program with this root and input, where each loop makes at most n turns at each of its executions
 use Rattle.std.specs.Prelude.{ℕ, zero, suc, ◌+◌, List, [], ◌∷◌, map, length, Option, Some, None, slice_get}
 use Rattle.std.specs.Option.{option_map_or}
@@ -12,7 +13,6 @@ use Rattle.std.specs.Result.{result_ok}
 use Rattle.alf_ops.specs.declared.history.Value.{Value}
 use Rattle.alf_ops.specs.declared.history.Value.TheVariants as values
 use Rattle.alf_ops.specs.declared.history.RunFault.{RunFault}
-use Rattle.alf_ops.specs.declared.history.RunEvent.{RunEvent}
 use Rattle.alf_ops.specs.declared.history.RunEvent.TheVariants.{Enter, Leave, Store}
 use Rattle.alf_ops.specs.declared.history.FrameShape.{FrameShape}
 use Rattle.alf_ops.specs.Histories.{load}
@@ -28,7 +28,7 @@ use Rattle.c_checks.specs.Units.{element_of}
 use Rattle.c_meaning.specs.Values.{bits_of_type, bytes_of_type}
 use Rattle.c_meaning.specs.Objects.{Program, program_of, object_at, shapes_of, function_at, count_at, token_of_parameter, integers_of}
 use Rattle.c_meaning.specs.Endings.{History, Ending, Normal, Broke, Continued, Returned, Faulted, UsedUp}
-use Rattle.c_meaning.specs.Statements.{Setting, Callees, statements_done, zero_value, constant_value, first_element, further_elements, number_named}
+use Rattle.c_meaning.specs.Statements.{Callees, statements_done, zero_value, constant_value, first_element, further_elements, number_named}
 
 -- ---- functions
 
@@ -59,8 +59,8 @@ left o f UsedUp = UsedUp
 abbrev pub body_done : Program → ℕ → Callees → ℕ → History → Ending
 body_done program n callees f history =
     left (function_at program f).result f
-      (statements_done (record { program = program; result = (function_at program f).result; turns = n; callees = callees })
-        (function_at program f).scopes (function_at program f).body history)
+    (statements_done (record { program = program; result = (function_at program f).result; turns = n; callees = callees })
+    (function_at program f).scopes (function_at program f).body history)
 
 abbrev pub function_done : Program → ℕ → ℕ → Callees
 function_done program n zero f values history = UsedUp
@@ -71,13 +71,15 @@ function_done program n (suc depth) f values history = body_done program n (func
 abbrev pub elements_first : Program → ℕ → Integer → ℕ → ℕ → List Constant → History → History
 elements_first program object kind offset zero cs history = history
 elements_first program object kind offset (suc count) cs history =
-    elements_first program object kind (offset + bytes_of_type kind) count (further_elements cs) (Store object offset (bits_of_type kind) (first_element program.words kind cs) ∷ history)
+    elements_first program object kind (offset + bytes_of_type kind) count (further_elements cs)
+    (Store object offset (bits_of_type kind) (first_element program.words kind cs) ∷ history)
 
 -- an integer or an array holds its constants, and 0 where none is given
 abbrev pub global_first : Program → Integer → ℕ → ShapeTree → History → History
 global_first program kind object (GlobalInteger first) history =
     Store object 0 (bits_of_type kind) (option_map_or (constant_value program.words kind) first (zero_value kind)) ∷ history
-global_first program kind object (GlobalArray size firsts) history = elements_first program object kind 0 (count_at program.words size) (option_map_or (λ cs. cs) firsts []) history
+global_first program kind object (GlobalArray size firsts) history =
+    elements_first program object kind 0 (count_at program.words size) (option_map_or (λ cs. cs) firsts []) history
 global_first program kind object (FunctionOf params) history = history
 
 abbrev pub declarators_first : Program → Integer → List DeclaratorTree → History → History

@@ -6,7 +6,6 @@
 --   statements_done setting scopes ss history   statements in a row, each in the scopes that the ones before it leave
 --   from_label setting scopes is_here ss history   what comes after the label of a switch that is told, if it is there
 use Rattle.std.specs.Prelude.{ℕ, zero, suc, ℤ, pos, Bool, true, false, ◌+◌, ◌==◌, List, [], ◌∷◌, Option, Some, None, Result, Ok, Err, neg_ℤ, if◌then◌else◌}
-use Rattle.std.specs.Option.{option_map_or}
 use Rattle.std.specs.Str.{bytes_eq}
 use Rattle.alf_ops.specs.declared.history.Value.{Value}
 use Rattle.alf_ops.specs.declared.history.Value.TheVariants as values
@@ -32,7 +31,7 @@ use Rattle.c_checks.specs.Statements.{with_local, scopes_after, label_of}
 use Rattle.c_meaning.specs.Values.{Valued, on_value, widened, cut_to, binary_value, bits_of_type, bytes_of_type}
 use Rattle.c_meaning.specs.Objects.{Program, Function, object_at, shapes_of, function_at, count_at}
 use Rattle.c_meaning.specs.Expressions.{kind_of, value_of, address_of, condition_of}
-use Rattle.c_meaning.specs.Endings.{History, Ending, Normal, Broke, Continued, Returned, Faulted, UsedUp, after, then_do, after_switch, after_call, by_truth, with_values, turns, rounds}
+use Rattle.c_meaning.specs.Endings.{History, Ending, Normal, Broke, Continued, Returned, Faulted, after, then_do, after_switch, after_call, by_truth, with_values, turns, rounds}
 
 -- what a call of a function with these values does after a history
 abbrev pub Callees : Type 0
@@ -75,7 +74,7 @@ arguments program scopes history (e ∷ es) (p ∷ ps) = on_value (cut_to p.kind
 abbrev pub called : Setting → List Scope → CallTree → History → (Option Value → History → Ending) → Ending
 called setting scopes call history go =
     with_values (operands (arguments setting.program scopes history call.arguments (function_at setting.program (callee setting.program call)).parameters))
-      (λ values. after_call (setting.callees (callee setting.program call) values history) go)
+    (λ values. after_call (setting.callees (callee setting.program call) values history) go)
 
 -- what a function gave, as an expression has it
 abbrev pub given : Outcome → Option Value → Valued
@@ -101,13 +100,13 @@ step_operator false = binary.Subtract
 abbrev pub updated : Program → List Scope → Expression → Binary → Scalar → Valued → History → Ending
 updated program scopes to op t r history =
     assigned program (kind_of program.words scopes to) history (address_of program scopes history to)
-      (binary_value op (kind_of program.words scopes to) t (value_of program scopes history to) r)
+    (binary_value op (kind_of program.words scopes to) t (value_of program scopes history to) r)
 
 -- after a call the address comes, and it comes before a value that is no call
 abbrev pub effect_done : Setting → List Scope → EffectTree → History → Ending
 effect_done setting scopes (Assigns to token value) history =
     valued setting scopes value history
-      (λ v behind. assigned setting.program (kind_of setting.program.words scopes to) behind (address_of setting.program scopes behind to) v)
+    (λ v behind. assigned setting.program (kind_of setting.program.words scopes to) behind (address_of setting.program scopes behind to) v)
 effect_done setting scopes (Updates to op token e) history =
     updated setting.program scopes to op (kind_of setting.program.words scopes e) (value_of setting.program scopes history e) history
 effect_done setting scopes (Steps operand up token) history =
@@ -139,7 +138,7 @@ abbrev pub elements_stored : Program → ℕ → Integer → ℕ → ℕ → Lis
 elements_stored program object kind offset zero cs history = Normal history
 elements_stored program object kind offset (suc count) cs history =
     then_do (after (store (shapes_of program) history (values.Ptr object offset) (first_element program.words kind cs)))
-      (elements_stored program object kind (offset + bytes_of_type kind) count (further_elements cs))
+    (elements_stored program object kind (offset + bytes_of_type kind) count (further_elements cs))
 
 abbrev pub first_value : Setting → List Scope → Scalar → ℕ → Option ValueTree → History → Ending
 first_value setting scopes t object None history = Normal history
@@ -160,7 +159,7 @@ abbrev pub locals_done : Setting → Integer → List Scope → List LocalTree �
 locals_done setting kind scopes [] history = Normal history
 locals_done setting kind scopes (local ∷ locals) history =
     then_do (shape_done setting (with_local kind scopes local) kind (object_at setting.program.objects local.name) local.shape history)
-      (locals_done setting kind (with_local kind scopes local) locals)
+    (locals_done setting kind (with_local kind scopes local) locals)
 
 -- ---- statements
 
@@ -224,7 +223,8 @@ abbrev mutual
   statement_done setting scopes (If condition body) history =
       by_truth (condition_of setting.program scopes history condition) (statement_done setting ([] ∷ scopes) body history) (Normal history)
   statement_done setting scopes (IfElse condition body otherwise) history =
-      by_truth (condition_of setting.program scopes history condition) (statement_done setting ([] ∷ scopes) body history) (statement_done setting ([] ∷ scopes) otherwise history)
+      by_truth (condition_of setting.program scopes history condition) (statement_done setting ([] ∷ scopes) body history)
+      (statement_done setting ([] ∷ scopes) otherwise history)
   statement_done setting scopes (While condition body) history =
       turns setting.turns (λ h. condition_of setting.program scopes h condition) (statement_done setting ([] ∷ scopes) body) Normal history
   statement_done setting scopes (Do body condition) history =
@@ -233,11 +233,12 @@ abbrev mutual
       turns setting.turns (condition_if setting.program scopes condition) (statement_done setting ([] ∷ scopes) body) (effect_if setting scopes last) history
   statement_done setting scopes (ForAfter first condition last body) history =
       then_do (statement_done setting ([] ∷ scopes) first history)
-        (turns setting.turns (condition_if setting.program (scopes_after ([] ∷ scopes) first) condition)
-          (statement_done setting ([] ∷ scopes_after ([] ∷ scopes) first) body) (effect_if setting (scopes_after ([] ∷ scopes) first) last))
+      (turns setting.turns (condition_if setting.program (scopes_after ([] ∷ scopes) first) condition)
+      (statement_done setting ([] ∷ scopes_after ([] ∷ scopes) first) body) (effect_if setting (scopes_after ([] ∷ scopes) first) last))
   statement_done setting scopes (Switch value body) history =
       with_word (value_of setting.program scopes history value)
-        (λ w. after_switch (by_labels (from_label setting ([] ∷ scopes) (is_case setting.program.words w) body history) (from_label setting ([] ∷ scopes) is_default body history) history))
+      (λ w. after_switch (by_labels (from_label setting ([] ∷ scopes) (is_case setting.program.words w) body history)
+      (from_label setting ([] ∷ scopes) is_default body history) history))
   statement_done setting scopes (Case token c) history = Normal history
   statement_done setting scopes (Default token) history = Normal history
   statement_done setting scopes (Break token) history = Broke history

@@ -149,7 +149,8 @@ each_at w [] each_one k below = absurd (omega arith)
 each_at w (h ∷ hs) each_one zero below = each_one.0
 each_at w (h ∷ hs) each_one (suc k) below = each_at w hs each_one.1 k (omega arith)
 
-row_kept : (w n : ℕ) (b : Bool) (r : Row) (s : ℕ) (more : List HeldTerms) → IsWithin n r.terms → n + 2 ≤ s → next_slack b s ≤ w → EachKept w more → EachKept w (row_held b r s ++ more)
+row_kept : (w n : ℕ) (b : Bool) (r : Row) (s : ℕ) (more : List HeldTerms) → IsWithin n r.terms → n + 2 ≤ s → next_slack b s ≤ w → EachKept w more
+    → EachKept w (row_held b r s ++ more)
 unfolding EachKept
 row_kept w n true r s more within room below rest = (
   slack_kept w n r.right r.terms s within room (omega arith),
@@ -233,7 +234,8 @@ first_kept w p lines within width are = subst (λ (l : List HeldTerms). AreKept 
 pub costs_kept : (w : ℕ) (p : Program) (costs : List (ℕ × ℤ)) → w ≡ width_of p → costs ≡ first_costs p.costs → IsKept w costs
 costs_kept w p costs width are = subst (λ (l : List (ℕ × ℤ)). IsKept w l) (sym are) (costs_are_kept w p width)
 
-pub first_is : (w : ℕ) (p : Program) (lines : List HeldTerms) (costs : List (ℕ × ℤ)) → w ≡ width_of p → lines ≡ first_rows p.rows (slacks_from p) → costs ≡ first_costs p.costs
+pub first_is : (w : ℕ) (p : Program) (lines : List HeldTerms) (costs : List (ℕ × ℤ)) → w ≡ width_of p → lines ≡ first_rows p.rows (slacks_from p)
+    → costs ≡ first_costs p.costs
     → IsFirst p (seen w lines costs)
 first_is w p lines costs width are objective =
     subst (λ (l : List HeldTerms). IsFirst p (seen w l costs)) (sym are) (subst (λ (l : List (ℕ × ℤ)). IsFirst p (seen w (first_rows p.rows (slacks_from p)) l)) (sym objective) (first_made w p width))
@@ -260,5 +262,6 @@ slack_rises right ts s least within rises = first_rises (s - 2) right ts s withi
 pub slack_room : (s : ℕ) (ts : List (ℕ × ℤ)) → s < 4294967296 → IsWithin (s - 2) ts → IsWithin 4294967294 ts
 slack_room s ts most within = within_more (s - 2) 4294967294 ts within (omega arith)
 
-pub terms_room : (p : Program) (k s : ℕ) → ((k : ℕ) → IsWithin (length p.costs) (row_at p.rows k).terms) → length p.costs + 2 ≤ s → IsWithin (s - 2) (row_at p.rows k).terms
+pub terms_room : (p : Program) (k s : ℕ) → ((k : ℕ) → IsWithin (length p.costs) (row_at p.rows k).terms) → length p.costs + 2 ≤ s
+    → IsWithin (s - 2) (row_at p.rows k).terms
 terms_room p k s within room = within_more (length p.costs) (s - 2) (row_at p.rows k).terms (within k) (omega arith)

@@ -49,7 +49,8 @@ product y (negsuc n) about is =
     let low_is : (pos 0 -ℤ pos 34359738368) *ℤ pos (suc n) ≡ pos 0 -ℤ (pos 34359738368 *ℤ pos (suc n)) = omega (arith, ints) in
     (omega (arith, ints, high, turned_, c_low), omega (arith, ints, low, low_is, turned_, c_low))
 
-sums : (n : ℕ) (f : ℕ → ℤ) → ((k : ℕ) → k < n → IsUpTo 1180591620717411303424 (f k)) → ((pos 0 -ℤ (pos 1180591620717411303424 *ℤ pos n)) ≤ℤ total n f) × (total n f ≤ℤ (pos 1180591620717411303424 *ℤ pos n))
+sums : (n : ℕ) (f : ℕ → ℤ) → ((k : ℕ) → k < n → IsUpTo 1180591620717411303424 (f k))
+    → ((pos 0 -ℤ (pos 1180591620717411303424 *ℤ pos n)) ≤ℤ total n f) × (total n f ≤ℤ (pos 1180591620717411303424 *ℤ pos n))
 sums zero f each_one = (omega (arith, ints), omega (arith, ints))
 sums (suc n) f each_one =
     let before = sums n f (λ k below. each_one k (omega arith)) in
@@ -69,7 +70,8 @@ placed_near ts zero near = let none = coefficient_placed_low ts 0 (omega arith) 
 placed_near ts (suc zero) near = let none = coefficient_placed_low ts 1 (omega arith) in (omega (arith, ints, none), omega (arith, ints, none))
 placed_near ts (suc (suc e)) near = subst (λ (z : ℤ). IsUpTo 8589934592 z) (sym (coefficient_placed ts e)) (near e)
 
-slack_near : (right : ℤ) (ts : List (ℕ × ℤ)) (s j : ℕ) → IsUpTo 8589934592 right → ((e : ℕ) → IsUpTo 8589934592 (coefficient ts e)) → IsUpTo 34359738368 (coefficient (slack_line right ts s).1 j)
+slack_near : (right : ℤ) (ts : List (ℕ × ℤ)) (s j : ℕ) → IsUpTo 8589934592 right → ((e : ℕ) → IsUpTo 8589934592 (coefficient ts e))
+    → IsUpTo 34359738368 (coefficient (slack_line right ts s).1 j)
 slack_near right ts s j right_near near =
     let a = term_near 0 j right right_near in
     let b = term_near s j (pos 1) (omega (arith, ints), omega (arith, ints)) in
@@ -97,7 +99,8 @@ lines_near (r ∷ rs) s k j rights numbers =
     row_near r.equation r s k j (generators rs (next_slack r.equation s)) (rights 0) (numbers 0)
     (λ i. lines_near rs (next_slack r.equation s) i j (λ i. rights (suc i)) (λ i. numbers (suc i)))
 
-costs_near : (cs : List ℕ) (j i : ℕ) → ((e : ℕ) → cost_at cs e < 4294967296) → ((pos 0 -ℤ pos 4294967296) ≤ℤ coefficient (cost_terms cs j) i) × (coefficient (cost_terms cs j) i ≤ℤ pos 0) × (i < j → coefficient (cost_terms cs j) i ≡ pos 0)
+costs_near : (cs : List ℕ) (j i : ℕ) → ((e : ℕ) → cost_at cs e < 4294967296)
+    → ((pos 0 -ℤ pos 4294967296) ≤ℤ coefficient (cost_terms cs j) i) × (coefficient (cost_terms cs j) i ≤ℤ pos 0) × (i < j → coefficient (cost_terms cs j) i ≡ pos 0)
 costs_near [] j i small = (omega (arith, ints), omega (arith, ints), λ less. refl)
 costs_near (c ∷ cs) j i small =
     let rest = costs_near cs (suc j) i (λ e. small (suc e)) in
@@ -166,11 +169,13 @@ freed_narrow e h f one all =
     and_right (not (vanishes (entry f e))) (mixed_wide a b f h)
     (ap (λ (z : ℤ). mixed_wide z b f h) a_one ∙ ap (λ (z : ℤ). mixed_wide (pos 1) z f h) b_is ∙ mixed_fit (entry f e) f h all)
 
-any_narrow : (e : ℕ) (h : List ℤ) (ks : List Held) → ((k : ℕ) → k < length ks → cleared_wide e h (held_at ks k).line ≡ false) → list_any (λ (k : Held). cleared_wide e h k.line) ks ≡ false
+any_narrow : (e : ℕ) (h : List ℤ) (ks : List Held) → ((k : ℕ) → k < length ks → cleared_wide e h (held_at ks k).line ≡ false)
+    → list_any (λ (k : Held). cleared_wide e h k.line) ks ≡ false
 any_narrow e h [] each_one = refl
 any_narrow e h (k ∷ ks) each_one = or_from (cleared_wide e h k.line) (list_any (λ (k : Held). cleared_wide e h k.line) ks) (each_one 0 (omega arith)) (any_narrow e h ks (λ i below. each_one (suc i) (omega arith)))
 
-others_narrow : (r e : ℕ) (h : List ℤ) (ks : List Held) → ((k : ℕ) → k < length ks → (k ≡ r → ⊥) → cleared_wide e h (held_at ks k).line ≡ false) → rows_wide r e h ks ≡ false
+others_narrow : (r e : ℕ) (h : List ℤ) (ks : List Held) → ((k : ℕ) → k < length ks → (k ≡ r → ⊥) → cleared_wide e h (held_at ks k).line ≡ false)
+    → rows_wide r e h ks ≡ false
 others_narrow r e h [] each_one = refl
 others_narrow zero e h (k ∷ ks) each_one = any_narrow e h ks (λ i below. each_one (suc i) (omega arith) (λ (q : suc i ≡ 0). absurd (omega arith)))
 others_narrow (suc r) e h (k ∷ ks) each_one =

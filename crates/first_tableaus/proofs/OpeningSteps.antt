@@ -113,7 +113,8 @@ ready_at p os i r e o s is opens below there row column so =
     (subst (λ (n : ℕ). IsReady (opened (opening_places p.rows os) i (first_tableau p)) (opening_at (opening_places p.rows os) i).0 n) c (ready p os i is opens below)))
 
 -- no pivot of the opening is wide
-pub never_wide : (p : Program) (os : List (ℕ × ℕ)) (i r e : ℕ) (o : ℕ × ℕ) (s : Seen) → IsProgram p → OpensRows p os → IsSmall p → length os < 4294967296 → i < length os → slice_get os i ≡ Some o
+pub never_wide : (p : Program) (os : List (ℕ × ℕ)) (i r e : ℕ) (o : ℕ × ℕ) (s : Seen) → IsProgram p → OpensRows p os → IsSmall p → length os < 4294967296
+    → i < length os → slice_get os i ≡ Some o
     → r ≡ line_place p.rows o.0 → e ≡ suc (suc o.1) → IsOpenedSo p os i s → exchange_wide r e (held_at s.tableau.rows r).line s.tableau ≡ false
 never_wide p os i r e o s is opens small few below there row column so =
     let places = opening_places p.rows os in

@@ -61,7 +61,8 @@ pub drop_more : {A : Type 0} (xs : List A) (k : ℕ) → drop (suc k) xs ≡ dro
 drop_more xs k = ap (λ (n : ℕ). drop n xs) (let e : suc k ≡ k + 1 = omega arith in e)
 
 -- one row more
-pub width_more : (rs : List Row) (k s n w : ℕ) → k < length rs → n ≡ next_slack (row_at rs k).equation s → width_from (drop k rs) s ≡ w → width_from (drop (k + 1) rs) n ≡ w
+pub width_more : (rs : List Row) (k s n w : ℕ) → k < length rs → n ≡ next_slack (row_at rs k).equation s → width_from (drop k rs) s ≡ w
+    → width_from (drop (k + 1) rs) n ≡ w
 width_more rs k s n w below next width =
     ap (λ (l : List Row). width_from l n) (sym (drop_more rs k)) ∙ ap (λ (m : ℕ). width_from (drop (suc k) rs) m) next ∙ sym (width_next rs k s below) ∙ width
 

@@ -82,7 +82,8 @@ fraction_is (h ∷ hs) scale value j least = by_test (j == h.basic)
     ∙ ap (λ (z : ℤ). own_of h *ℤ z) (fraction_is hs scale value j least)
     ∙ sym (times_times (own_of h) (basic_number hs scale value j) (fraction_of hs j).1)))
 
-parts_are : (hs : List Held) (scale value : ℤ) (n j : ℕ) (x : ℕ → ℤ) → 2 ≤ j → ((e : ℕ) → x e ≡ basic_number hs scale value (j + e)) → AreParts x (basic_whole hs scale) (fractions hs n j)
+parts_are : (hs : List Held) (scale value : ℤ) (n j : ℕ) (x : ℕ → ℤ) → 2 ≤ j → ((e : ℕ) → x e ≡ basic_number hs scale value (j + e))
+    → AreParts x (basic_whole hs scale) (fractions hs n j)
 parts_are hs scale value zero j x least are = tt
 parts_are hs scale value (suc n) j x least are =
     let here : x 0 ≡ basic_number hs scale value j = are 0 ∙ ap (λ (i : ℕ). basic_number hs scale value i) (let e : j + 0 ≡ j = omega arith in e) in (
@@ -98,7 +99,8 @@ fraction_good (h ∷ hs) j rights owns = by_test (j == h.basic)
     (λ same. rw same (rights 0 (omega arith), owns 0 (omega arith)))
     (λ other. rw other (fraction_good hs j (λ k below. rights (suc k) (omega arith)) (λ k below. owns (suc k) (omega arith))))
 
-fractions_good : (hs : List Held) (n j : ℕ) → ((k : ℕ) → k < length hs → pos 0 ≤ℤ entry (held_at hs k).line 0) → ((k : ℕ) → k < length hs → pos 1 ≤ℤ own_of (held_at hs k))
+fractions_good : (hs : List Held) (n j : ℕ) → ((k : ℕ) → k < length hs → pos 0 ≤ℤ entry (held_at hs k).line 0)
+    → ((k : ℕ) → k < length hs → pos 1 ≤ℤ own_of (held_at hs k))
     → AreFractions (fractions hs n j)
 fractions_good hs zero j rights owns = tt
 fractions_good hs (suc n) j rights owns =
@@ -113,7 +115,8 @@ no_row : (t : Tableau) (o : Option ℕ) → o ≡ None → IsLeaving t (length t
 no_row t None none is = is
 no_row t (Some r) none is = absurd cc
 
-pub read_off : (p : Program) (s : Seen) (point : List (ℤ × ℤ)) → Stands p s → leaving s.tableau ≡ None → point ≡ fractions s.tableau.rows (length p.costs) 2 → IsReadOff p s.tableau point
+pub read_off : (p : Program) (s : Seen) (point : List (ℤ × ℤ)) → Stands p s → leaving s.tableau ≡ None → point ≡ fractions s.tableau.rows (length p.costs) 2
+    → IsReadOff p s.tableau point
 read_off p s point stands none made =
     let t = s.tableau in
     let hs = t.rows in

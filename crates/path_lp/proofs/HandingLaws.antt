@@ -68,19 +68,23 @@ pub rest_above : (s : ℕ) (rest new ts : List (ℕ × ℤ)) → new ≡ dropped
 rest_above s rest new ts made same two rising j least =
     subst (λ (z : ℤ). pos 0 ≤ℤ z) (sym (rest_same s rest new ts made same j least)) (rising j (omega arith))
 
-pub room : (p : Program) (k s : ℕ) (b : Bool) → k < length p.rows → b ≡ (row_at p.rows k).equation → width_from (drop k p.rows) s ≡ width_of p → next_slack b s ≤ width_of p
+pub room : (p : Program) (k s : ℕ) (b : Bool) → k < length p.rows → b ≡ (row_at p.rows k).equation → width_from (drop k p.rows) s ≡ width_of p
+    → next_slack b s ≤ width_of p
 room p k s b below is width = subst (λ (x : Bool). next_slack x s ≤ width_of p) (sym is) (omega (arith, width, slack_below p.rows k s below))
 
-pub same_behind : (b : Bool) (s n : ℕ) (rest ts : List (ℕ × ℤ)) → n ≡ next_slack b s → ((j : ℕ) → s ≤ j → coefficient rest j ≡ coefficient ts j) → (j : ℕ) → n ≤ j → coefficient rest j ≡ coefficient ts j
+pub same_behind : (b : Bool) (s n : ℕ) (rest ts : List (ℕ × ℤ)) → n ≡ next_slack b s → ((j : ℕ) → s ≤ j → coefficient rest j ≡ coefficient ts j) → (j : ℕ) → n ≤ j
+    → coefficient rest j ≡ coefficient ts j
 same_behind b s n rest ts next same j least = same j (omega (arith, next, next_past b s s (omega arith)))
 
-pub multiplier_there : (b : Bool) (s : ℕ) (rest ts : List (ℕ × ℤ)) → ((j : ℕ) → s ≤ j → coefficient rest j ≡ coefficient ts j) → multiplier_by b s rest ≡ multiplier_by b s ts
+pub multiplier_there : (b : Bool) (s : ℕ) (rest ts : List (ℕ × ℤ)) → ((j : ℕ) → s ≤ j → coefficient rest j ≡ coefficient ts j)
+    → multiplier_by b s rest ≡ multiplier_by b s ts
 multiplier_there true s rest ts same =
     ap (λ (z : ℤ). z -ℤ coefficient rest (suc s)) (same s (omega arith)) ∙ ap (λ (z : ℤ). coefficient ts s -ℤ z) (same (suc s) (omega arith))
 multiplier_there false s rest ts same = same s (omega arith)
 
 -- one row more
-pub multipliers_more : (rs : List Row) (k s n : ℕ) (ts : List (ℕ × ℤ)) (out new all : List ℤ) (y : ℤ) → k < length rs → new ≡ out ++ (y ∷ []) → y ≡ multiplier_by (row_at rs k).equation s ts
+pub multipliers_more : (rs : List Row) (k s n : ℕ) (ts : List (ℕ × ℤ)) (out new all : List ℤ) (y : ℤ) → k < length rs → new ≡ out ++ (y ∷ [])
+    → y ≡ multiplier_by (row_at rs k).equation s ts
     → n ≡ next_slack (row_at rs k).equation s → out ++ multipliers_by (drop k rs) s ts ≡ all → new ++ multipliers_by (drop (k + 1) rs) n ts ≡ all
 multipliers_more rs k s n ts out new all y below made is next so =
     let rest = multipliers_by (drop (suc k) rs) (next_slack (row_at rs k).equation s) ts in

@@ -35,7 +35,8 @@ after_step : ℕ → Tableau → (Tableau → Ended) → Option Tableau → Ende
 after_step made t go_on None = record { tableau = t; end = TooWide (suc made) }
 after_step made t go_on (Some t') = go_on t'
 
-after_place_is : (p : Program) (made r : ℕ) (t : Tableau) (go_on : Tableau → Ended) (o : Option ℕ) → after_place p made r t go_on o ≡ after_step made t go_on (stepped_to p r t o)
+after_place_is : (p : Program) (made r : ℕ) (t : Tableau) (go_on : Tableau → Ended) (o : Option ℕ)
+    → after_place p made r t go_on o ≡ after_step made t go_on (stepped_to p r t o)
 unfolding after_step
 after_place_is p made r t go_on None = refl
 after_place_is p made r t go_on (Some e) = by_test (pivot_wide p r e t) (λ wide. rw wide refl) (λ narrow. rw narrow refl)
@@ -46,7 +47,8 @@ after_row_is p made r t go_on = by_test (entering_wide (held_at t.rows r).line t
     (λ wide. rw wide refl)
     (λ narrow. rw narrow (after_place_is p made r t go_on (entering (held_at t.rows r).line t.objective (variables_of p))))
 
-run_step : (p : Program) (n made r : ℕ) (t : Tableau) → made < n → leaving t ≡ Some r → run p (n - made) made t ≡ after_step made t (run p (n - (made + 1)) (made + 1)) (stepped p r t)
+run_step : (p : Program) (n made r : ℕ) (t : Tableau) → made < n → leaving t ≡ Some r
+    → run p (n - made) made t ≡ after_step made t (run p (n - (made + 1)) (made + 1)) (stepped p r t)
 run_step p n made r t less chosen =
     run_more p n made t less ∙ ap (λ (o : Option ℕ). after_row p made t (run p (n - (made + 1)) (made + 1)) o) chosen ∙ after_row_is p made r t (run p (n - (made + 1)) (made + 1))
 
@@ -55,7 +57,8 @@ pub run_least : (p : Program) (n made : ℕ) (t : Tableau) (x : Ended) (scale : 
 run_least p n made t x scale y e less none so solved =
     subst (λ (z : Ended). IsSolved p z scale y e) (sym (ap (λ (o : Option ℕ). after_row p made t (run p (n - (made + 1)) (made + 1)) o) none) ∙ sym (run_more p n made t less) ∙ so) solved
 
-pub run_wide : (p : Program) (n made r : ℕ) (t : Tableau) (x : Ended) (scale : ℤ) (y : List ℤ) → made < n → leaving t ≡ Some r → stepped p r t ≡ None → run p (n - made) made t ≡ x
+pub run_wide : (p : Program) (n made r : ℕ) (t : Tableau) (x : Ended) (scale : ℤ) (y : List ℤ) → made < n → leaving t ≡ Some r → stepped p r t ≡ None
+    → run p (n - made) made t ≡ x
     → IsHanded p t scale y → IsSolved p x scale y (Wide (made + 1))
 unfolding after_step
 run_wide p n made r t x scale y less chosen wide so is =
@@ -80,7 +83,8 @@ run_ends p n made t x scale y e past so solved =
 pub start_stands : (p : Program) (os : List (ℕ × ℕ)) (s : Seen) → IsRight p (started p os) → IsStarted p os s → Stands p s
 start_stands p os s right start = record { width = start.width; right = subst (λ (t : Tableau). IsRight p t) (sym start.tableau) right }
 
-pub solved_run : (p : Program) (os : List (ℕ × ℕ)) (n : ℕ) (s : Seen) (scale : ℤ) (y : List ℤ) (e : SolveEnd) → IsStarted p os s → IsSolved p (run p n 0 s.tableau) scale y e
+pub solved_run : (p : Program) (os : List (ℕ × ℕ)) (n : ℕ) (s : Seen) (scale : ℤ) (y : List ℤ) (e : SolveEnd) → IsStarted p os s
+    → IsSolved p (run p n 0 s.tableau) scale y e
     → IsSolved p (ended p os n) scale y e
 solved_run p os n s scale y e start solved = subst (λ (t : Tableau). IsSolved p (run p n 0 t) scale y e) start.tableau solved
 
@@ -88,7 +92,8 @@ pub solved_dual : (p : Program) (x : Ended) (scale : ℤ) (y : List ℤ) (e : So
 solved_dual p x scale y e answers solved =
     subst (λ (z : ℤ). IsDual p z y) (sym solved.duals.scale_is) (subst (λ (l : List ℤ). IsDual p (entry x.tableau.objective 1) l) (sym solved.duals.multipliers) answers.dual)
 
-pub solved_holds : (p : Program) (x : Ended) (scale : ℤ) (y : List ℤ) (e : SolveEnd) → HoldFrom p (entry x.tableau.objective 1) (handed p x.tableau) → IsSolved p x scale y e → HoldFrom p scale y
+pub solved_holds : (p : Program) (x : Ended) (scale : ℤ) (y : List ℤ) (e : SolveEnd) → HoldFrom p (entry x.tableau.objective 1) (handed p x.tableau)
+    → IsSolved p x scale y e → HoldFrom p scale y
 solved_holds p x scale y e holds solved =
     subst (λ (z : ℤ). HoldFrom p z y) (sym solved.duals.scale_is) (subst (λ (l : List ℤ). HoldFrom p (entry x.tableau.objective 1) l) (sym solved.duals.multipliers) holds)
 
@@ -98,7 +103,8 @@ solved_most p os x scale y e most solved =
     subst (λ (z : ℤ). dual_sum p y ≤ℤ (opening_worth p os *ℤ z)) (sym solved.duals.scale_is)
     (subst (λ (l : List ℤ). dual_sum p l ≤ℤ (opening_worth p os *ℤ entry x.tableau.objective 1)) (sym solved.duals.multipliers) most)
 
-optimal : (p : Program) (x : Ended) (scale : ℤ) (y : List ℤ) (point : List (ℤ × ℤ)) → IsHanded p x.tableau scale y → IsReadOff p x.tableau point → IsLeastPoint p x point → IsOptimal p scale y point
+optimal : (p : Program) (x : Ended) (scale : ℤ) (y : List ℤ) (point : List (ℤ × ℤ)) → IsHanded p x.tableau scale y → IsReadOff p x.tableau point
+    → IsLeastPoint p x point → IsOptimal p scale y point
 optimal p x scale y point is read least = record {
   is = read.is;
   feasible = least.feasible;
@@ -121,5 +127,6 @@ point_least p x t RunEnd.Pivots scale y (Wide n) same end law is shows = tt
 point_least p x t RunEnd.Pivots scale y SolveEnd.Pivots same end law is shows = tt
 
 pub solved_least : (p : Program) (x : Ended) (scale : ℤ) (y : List ℤ) (e : SolveEnd)
-    → ((point : List (ℤ × ℤ)) → x.end ≡ RunEnd.Least → IsReadOff p x.tableau point → IsLeastPoint p x point) → IsSolved p x scale y e → OnLeast e (λ point. IsOptimal p scale y point)
+    → ((point : List (ℤ × ℤ)) → x.end ≡ RunEnd.Least → IsReadOff p x.tableau point → IsLeastPoint p x point) → IsSolved p x scale y e
+    → OnLeast e (λ point. IsOptimal p scale y point)
 solved_least p x scale y e law solved = point_least p x x.tableau x.end scale y e refl refl law solved.duals solved.end

@@ -42,7 +42,8 @@ choice_too_wide p r s stands none =
     let row = (held_at s.tableau.rows r).line in
     rw (answer_none row s.tableau.objective (variables_of p) (sym (none ∙ in_width p s row s.tableau.objective stands))) refl
 
-step_is : (p : Program) (r : ℕ) (t : Tableau) (o : Option ℕ) → entering_answer (held_at t.rows r).line t.objective (variables_of p) ≡ Some o → stepped p r t ≡ stepped_to p r t o
+step_is : (p : Program) (r : ℕ) (t : Tableau) (o : Option ℕ) → entering_answer (held_at t.rows r).line t.objective (variables_of p) ≡ Some o
+    → stepped p r t ≡ stepped_to p r t o
 step_is p r t o some =
     let both = answer_some (held_at t.rows r).line t.objective (variables_of p) o some in
     let one : stepped p r t ≡ stepped_to p r t (entering (held_at t.rows r).line t.objective (variables_of p)) = rw both.0 refl in

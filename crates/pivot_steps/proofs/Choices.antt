@@ -125,7 +125,8 @@ among_held row d m p held c p_is place low cost negative at_ =
     (λ (wide : (fits mine && fits other) ≡ false).
     rw wide (too_wide (or_right (entering_wide row d m) (choice_wide row d (suc (suc m)) (entering row d m)) (test ∙ ap not wide))))
 
-among : (row d : List ℤ) (m p : ℕ) (best : Option Chosen) (c : Chosen) → suc (suc m) ≡ p → c.place ≡ p → entry row p ≡ c.low → entry d p ≡ c.cost → int_lt c.low (pos 0) ≡ true
+among : (row d : List ℤ) (m p : ℕ) (best : Option Chosen) (c : Chosen) → suc (suc m) ≡ p → c.place ≡ p → entry row p ≡ c.low → entry d p ≡ c.cost
+    → int_lt c.low (pos 0) ≡ true
     → IsAt row d m best → IsNext row d (suc m) (chosen_among best c)
 among row d m p None c p_is place low cost negative at_ =
     let is : entering row d (suc m) ≡ Some c.place =

@@ -62,7 +62,8 @@ rows_are_wide w e r h rows d t same kept by some =
     subst (λ (s : Seen). exchange_wide r e (spread s.width 0 h) s.tableau ≡ true) same
     (or_left (rows_wide r e (spread w 0 h) (shown_rows w rows)) (cleared_wide e (spread w 0 h) (spread w 0 d)) (some_row_wide w e h within r rows kept some))
 
-pub cost_is_wide : (w e r : ℕ) (h : List (ℕ × ℤ)) (rows : List HeldTerms) (d : List (ℕ × ℤ)) (t : Seen) (x : HeldTerms) → seen w rows d ≡ t → IsKept w d → IsKept t.width h
+pub cost_is_wide : (w e r : ℕ) (h : List (ℕ × ℤ)) (rows : List HeldTerms) (d : List (ℕ × ℤ)) (t : Seen) (x : HeldTerms) → seen w rows d ≡ t → IsKept w d
+    → IsKept t.width h
     → x ≡ record { basic = 1; terms = d } → IsStepWide e h x → exchange_wide r e (spread t.width 0 h) t.tableau ≡ true
 cost_is_wide w e r h rows d t x same kept by is wide =
     let width : w ≡ t.width = ap (λ (s : Seen). s.width) same in
@@ -136,7 +137,8 @@ line_too_wide w r e f t wide kept shown =
     let h = times_line (neg_ℤ (pos 1)) (held_at t.rows r).line in
     or_left (line_wide h) (exchange_wide r e h t) (ap (λ (l : List ℤ). line_wide (times_line (neg_ℤ (pos 1)) l)) shown ∙ wide.wide w kept.within)
 
-line_is : (w r : ℕ) (f out : List (ℕ × ℤ)) (t : Tableau) → IsTurned f out → (held_at t.rows r).line ≡ spread w 0 f → spread w 0 out ≡ times_line (neg_ℤ (pos 1)) (held_at t.rows r).line
+line_is : (w r : ℕ) (f out : List (ℕ × ℤ)) (t : Tableau) → IsTurned f out → (held_at t.rows r).line ≡ spread w 0 f
+    → spread w 0 out ≡ times_line (neg_ℤ (pos 1)) (held_at t.rows r).line
 line_is w r f out t turned shown = turned.line w ∙ ap (λ (l : List ℤ). times_line (neg_ℤ (pos 1)) l) (sym shown)
 
 pub rest_too_wide : (w r e : ℕ) (f out : List (ℕ × ℤ)) (t : Tableau) → IsTurned f out → (held_at t.rows r).line ≡ spread w 0 f

@@ -1,0 +1,75 @@
+-- Small units, to be worked out: a text, and the trees that a person reads in it.
+--   main               the name of the root
+--   in_first_object w  an input that gives the first object the word w of 32 bits
+use Rattle.std.specs.Prelude.{ℕ, ◌+◌, true, false, List, [], ◌∷◌, Some, None, codes}
+use Rattle.c_unit.specs.declared.types.Integer.TheVariants.{Char, UnsignedChar, Int}
+use Rattle.c_unit.specs.declared.types.Scalar.TheVariants as scalars
+use Rattle.c_unit.specs.declared.types.Outcome.TheVariants as outcomes
+use Rattle.c_unit.specs.declared.expression.Unary.TheVariants.{Address}
+use Rattle.c_unit.specs.declared.expression.Binary.TheVariants.{Multiply, Divide, Add, Greater, AtMost, Unequal, Both}
+use Rattle.c_unit.specs.Tree.{Expression, OfConstant, OfName, WithUnary, WithCast, AtIndex, WithBinary, OfExpression, OfCall, Assigns, Updates, Steps, LocalInteger, LocalPointer, Empty, Declares, If, While, ForAfter, Switch, Case, Default, Break, Does, GlobalInteger, ExternalTree, Declaration, Definition, statements_of}
+use Rattle.c_unit.specs.Units.{UnitTree}
+use Rattle.c_checks.specs.Worked.{unit_in, int_main, returns}
+use Rattle.c_meaning.specs.Programs.{Cell}
+
+abbrev pub main : List ℕ
+main = codes "main"
+
+abbrev pub in_first_object : ℕ → List Cell
+in_first_object w = record { object = 0; offset = 0; size = 32; word = w } ∷ []
+
+-- the sum of the numbers up to 3, by a function with a loop
+abbrev sums : ExternalTree
+sums = Definition 3 (outcomes.Integer Int) 4 (record { first = 6; kind = scalars.Integer Int; name = Some 7 } ∷ [])
+    (Declares 10 Int (record { name = 11; shape = LocalInteger (Some (OfExpression (OfConstant 13))) } ∷ [])
+    ∷ Declares 15 Int (record { name = 16; shape = LocalInteger None } ∷ [])
+    ∷ ForAfter (Does (Assigns (OfName 20) 21 (OfExpression (OfConstant 22)))) (Some (WithBinary AtMost 25 (OfName 24) (OfName 26))) (Some (Steps (OfName 28) true 29))
+    (Does (Updates (OfName 31) Add 32 (OfName 33)))
+    ∷ returns 35 (OfName 36) ∷ [])
+
+abbrev pub with_a_sum : UnitTree
+with_a_sum = unit_in
+    (codes "int g|; int sum|(|int n|)|{|int s|=|0|; int i|; for|(|i|=|1|; i|<=|n|; i|++|) s|+=|i|; return s|;|} int main|(|void|)|{|g|=|sum|(|3|)|; return g|;|}")
+    (Declaration 0 (outcomes.Integer Int) (record { name = 1; shape = GlobalInteger None } ∷ []) ∷ sums
+    ∷ Definition 39 (outcomes.Integer Int) 40 []
+    (Does (Assigns (OfName 45) 46 (OfCall (record { name = 47; arguments = OfConstant 49 ∷ [] }))) ∷ returns 52 (OfName 53) ∷ [])
+    ∷ [])
+
+-- the right side of `&&` divides by d, and so does the last statement
+abbrev pub with_a_guard : UnitTree
+with_a_guard = unit_in (codes "int d|; int main|(|void|)|{|if|(|d|!=|0|&&|10|/|d|>|3|) return 1|; return 10|/|d|;|}")
+    (Declaration 0 (outcomes.Integer Int) (record { name = 1; shape = GlobalInteger None } ∷ [])
+    ∷ Definition 3 (outcomes.Integer Int) 4 []
+    (If (WithBinary Both 14 (WithBinary Unequal 12 (OfName 11) (OfConstant 13))
+    (WithBinary Greater 18 (WithBinary Divide 16 (OfConstant 15) (OfName 17)) (OfConstant 19)))
+    (returns 21 (OfConstant 22))
+    ∷ returns 24 (WithBinary Divide 26 (OfConstant 25) (OfName 27)) ∷ [])
+    ∷ [])
+
+-- an `int` read byte by byte
+abbrev element : ℕ → Expression
+element token = AtIndex (OfName token) (token + 1) (OfConstant (token + 2))
+
+abbrev pub with_bytes : UnitTree
+with_bytes = unit_in (codes "int w|=|258|; int main|(|void|)|{|unsigned char *|p|; p|=|(|unsigned char *|)|&|w|; return p|[|0|]|*|256|+|p|[|1|]|;|}")
+    (Declaration 0 (outcomes.Integer Int) (record { name = 1; shape = GlobalInteger (Some (record { minus = false; token = 3 })) } ∷ [])
+    ∷ Definition 5 (outcomes.Integer Int) 6 []
+    (Declares 11 UnsignedChar (record { name = 14; shape = LocalPointer None } ∷ [])
+    ∷ Does (Assigns (OfName 16) 17 (OfExpression (WithCast 18 (scalars.Pointer UnsignedChar) (WithUnary Address 23 (OfName 24)))))
+    ∷ returns 26 (WithBinary Add 33 (WithBinary Multiply 31 (element 27) (OfConstant 32)) (element 34)) ∷ [])
+    ∷ [])
+
+-- a `char` of 200 is -56; its case goes on into the next
+abbrev pub with_a_switch : UnitTree
+with_a_switch = unit_in (codes "int main|(|void|)|{|char c|=|200|; switch|(|c|)|{|case -|56|: c|++|; case 1|: c|+=|2|; break|; default|: return 9|;|} return c|;|}")
+    (int_main
+    (Declares 6 Char (record { name = 7; shape = LocalInteger (Some (OfExpression (OfConstant 9))) } ∷ [])
+    ∷ Switch (OfName 13) (statements_of
+    (Case 16 (record { minus = true; token = 18 }) ∷ Does (Steps (OfName 20) true 21)
+    ∷ Case 23 (record { minus = false; token = 24 }) ∷ Does (Updates (OfName 26) Add 27 (OfConstant 28)) ∷ Break 30
+    ∷ Default 32 ∷ returns 34 (OfConstant 35) ∷ []))
+    ∷ returns 38 (OfName 39) ∷ [])
+    ∷ [])
+
+abbrev pub without_an_end : UnitTree
+without_an_end = unit_in (codes "int main|(|void|)|{|while|(|1|)|;|}") (int_main (While (OfConstant 8) (Empty 10) ∷ []) ∷ [])

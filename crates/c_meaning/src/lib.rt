@@ -1,0 +1,17 @@
+//! What C programs mean, as definitions. What expressions give, what statements do and how a whole program
+//! ends is said by cases on the trees of a unit, over a history of stores with one frame for each object. A
+//! statement is told with a number: each loop makes at most so many turns. Here is no code but functions that
+//! do nothing, whose clauses are laws of the definitions and what comes of small programs.
+#![tactic(auto)]
+
+// What the definitions promise.
+mod laws;
+
+// Small programs, worked out.
+mod worked;
+
+pub use laws::more_turns_keep_an_outcome;
+pub use worked::{
+    a_case_goes_on_into_the_next, a_guard_keeps_a_division_from_its_fault,
+    a_loop_without_end_uses_up_its_turns, an_integer_is_read_byte_by_byte, numbers_are_summed_up,
+};

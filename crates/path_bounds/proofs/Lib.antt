@@ -1,0 +1,3 @@
+pub mod Fitting
+pub mod Floors
+pub mod BoundLaws

@@ -1,0 +1,5 @@
+pub mod Bounding
+pub mod Sizes
+pub mod GroupLaws
+pub mod SizeLaws
+pub mod OpeningCosts

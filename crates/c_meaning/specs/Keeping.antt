@@ -92,7 +92,8 @@ truth_kept (Ok true) a b c d held failed = held
 truth_kept (Ok false) a b c d held failed = failed
 truth_kept (Err fault) a b c d held failed = same
 
-values_kept : {P : Type 0} → (r : Result (List Value) RunFault) (f g : List Value → Ending) → ((vs : List Value) → Kept P (f vs) (g vs)) → Kept P (with_values r f) (with_values r g)
+values_kept : {P : Type 0} → (r : Result (List Value) RunFault) (f g : List Value → Ending) → ((vs : List Value) → Kept P (f vs) (g vs))
+    → Kept P (with_values r f) (with_values r g)
 values_kept (Ok vs) f g kept = kept vs
 values_kept (Err fault) f g kept = same
 
@@ -107,8 +108,8 @@ left_kept o f same = same
 
 -- ---- loops
 
-turns_kept : {P : Type 0} → {n m : ℕ} → AtMost P n m → (test : History → Result Bool RunFault) (body body' last last' : History → Ending) → AllKept P body body' → AllKept P last last'
-    → (h : History) → Kept P (turns n test body last h) (turns m test body' last' h)
+turns_kept : {P : Type 0} → {n m : ℕ} → AtMost P n m → (test : History → Result Bool RunFault) (body body' last last' : History → Ending)
+    → AllKept P body body' → AllKept P last last' → (h : History) → Kept P (turns n test body last h) (turns m test body' last' h)
 turns_kept both_zero test body body' last last' kept kept' h = same
 turns_kept (at_zero {m = zero} allowed) test body body' last last' kept kept' h = same
 turns_kept (at_zero {m = suc m} allowed) test body body' last last' kept kept' h =
@@ -223,10 +224,12 @@ module _ (P : Type 0) (program : Program) (o : Outcome) (n m : ℕ) (le : AtMost
   locals_kept kind scopes [] each h = same
   locals_kept kind scopes (local ∷ locals) each h =
       then_kept (locals_done few kind (with_local kind scopes local) locals) (locals_done more kind (with_local kind scopes local) locals)
-      (shape_kept (with_local kind scopes local) kind (object_at program.objects local.name) local.shape (left_part (calls_in_shape local.shape) (calls_in_locals locals) each) h)
+      (shape_kept (with_local kind scopes local) kind (object_at program.objects local.name) local.shape
+      (left_part (calls_in_shape local.shape) (calls_in_locals locals) each) h)
       (locals_kept kind (with_local kind scopes local) locals (right_part (calls_in_shape local.shape) (calls_in_locals locals) each))
 
-  effect_if_kept : (scopes : List Scope) (e : Option EffectTree) → Called (calls_if_done e) → (h : History) → Kept P (effect_if few scopes e h) (effect_if more scopes e h)
+  effect_if_kept : (scopes : List Scope) (e : Option EffectTree) → Called (calls_if_done e) → (h : History)
+      → Kept P (effect_if few scopes e h) (effect_if more scopes e h)
   effect_if_kept scopes None each h = same
   effect_if_kept scopes (Some e) each h = effect_kept scopes e each h
 
@@ -258,7 +261,8 @@ module _ (P : Type 0) (program : Program) (o : Outcome) (n m : ℕ) (le : AtMost
     statement_kept scopes (For condition last body) each h =
         turns_kept le (condition_if program scopes condition) (statement_done few ([] ∷ scopes) body) (statement_done more ([] ∷ scopes) body)
         (effect_if few scopes last) (effect_if more scopes last)
-        (statement_kept ([] ∷ scopes) body (right_part (calls_if_done last) (calls_in body) each)) (effect_if_kept scopes last (left_part (calls_if_done last) (calls_in body) each)) h
+        (statement_kept ([] ∷ scopes) body (right_part (calls_if_done last) (calls_in body) each))
+        (effect_if_kept scopes last (left_part (calls_if_done last) (calls_in body) each)) h
     statement_kept scopes (ForAfter first condition last body) each h =
         let inner : List Scope = scopes_after ([] ∷ scopes) first in
         let others : Called (calls_if_done last ++ calls_in body) = right_part (calls_in first) (calls_if_done last ++ calls_in body) each in
@@ -268,7 +272,8 @@ module _ (P : Type 0) (program : Program) (o : Outcome) (n m : ℕ) (le : AtMost
         (statement_kept ([] ∷ scopes) first (left_part (calls_in first) (calls_if_done last ++ calls_in body) each) h)
         (turns_kept le (condition_if program inner condition) (statement_done few ([] ∷ inner) body) (statement_done more ([] ∷ inner) body)
         (effect_if few inner last) (effect_if more inner last)
-        (statement_kept ([] ∷ inner) body (right_part (calls_if_done last) (calls_in body) others)) (effect_if_kept inner last (left_part (calls_if_done last) (calls_in body) others)))
+        (statement_kept ([] ∷ inner) body (right_part (calls_if_done last) (calls_in body) others))
+        (effect_if_kept inner last (left_part (calls_if_done last) (calls_in body) others)))
     statement_kept scopes (Switch value body) each h =
         word_kept (value_of program scopes h value)
         (λ w. after_switch (by_labels (from_label few ([] ∷ scopes) (is_case program.words w) body h) (from_label few ([] ∷ scopes) is_default body h) h))
@@ -286,15 +291,15 @@ module _ (P : Type 0) (program : Program) (o : Outcome) (n m : ℕ) (le : AtMost
     statements_kept scopes Nothing each h = same
     statements_kept scopes (Then s rest) each h =
         then_kept (statements_done few (scopes_after scopes s) rest) (statements_done more (scopes_after scopes s) rest)
-        (statement_kept scopes s (left_part (calls_in s) (called_in rest) each) h) (statements_kept (scopes_after scopes s) rest (right_part (calls_in s) (called_in rest) each))
+        (statement_kept scopes s (left_part (calls_in s) (called_in rest) each) h)
+        (statements_kept (scopes_after scopes s) rest (right_part (calls_in s) (called_in rest) each))
 
     label_kept : (scopes : List Scope) (is_here : Statement → Bool) (ss : Statements) → Called (called_in ss) → (h : History)
         → KeptIf P (from_label few scopes is_here ss h) (from_label more scopes is_here ss h)
     label_kept scopes is_here Nothing each h = neither
     label_kept scopes is_here (Then s rest) each h =
         chosen_kept (is_here s) (either (statements_kept (scopes_after scopes s) rest (right_part (calls_in s) (called_in rest) each) h))
-          (label_kept (scopes_after scopes s) is_here rest (right_part (calls_in s) (called_in rest) each) h)
-
+        (label_kept (scopes_after scopes s) is_here rest (right_part (calls_in s) (called_in rest) each) h)
 
 pub bodies_kept : (P : Type 0) (program : Program) (n m : ℕ) → AtMost P n m → (c d : Callees) (f : ℕ)
     → EachCalled (CallKept P program c d) (called_in (function_at program f).body) → (h : History) → Kept P (body_done program n c f h) (body_done program m d f h)

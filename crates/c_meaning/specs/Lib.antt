@@ -7,3 +7,4 @@ pub mod Programs
 pub mod Worked
 pub mod Keeping
 pub mod MoreTurns
+pub mod Depth

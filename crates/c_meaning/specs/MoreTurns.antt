@@ -9,8 +9,8 @@ use Rattle.c_checks.specs.Recursion.{called_in}
 use Rattle.c_meaning.specs.Objects.{Program, program_of, function_at}
 use Rattle.c_meaning.specs.Endings.{History, Ending}
 use Rattle.c_meaning.specs.Statements.{Callees}
-use Rattle.c_meaning.specs.Programs.{Cell, entered, body_done, function_done, start_history, ending, Unfinished, outcome_of, root_of, outcome}
-use Rattle.c_meaning.specs.Keeping.{Kept, unknown, same, AtMost, at_zero, both_zero, at_next, EachCalled, CallKept, number_at_token, bodies_kept}
+use Rattle.c_meaning.specs.Programs.{Cell, entered, function_done, start_history, ending, Unfinished, outcome_of, root_of, outcome}
+use Rattle.c_meaning.specs.Keeping.{Kept, unknown, same, AtMost, at_zero, at_next, EachCalled, CallKept, number_at_token, bodies_kept}
 
 at_most : (n m : ℕ) → n ≤ m → AtMost ⊤ n m
 at_most zero m le = at_zero tt
@@ -29,7 +29,7 @@ functions_kept program n m le (suc depth) zero deeper f vs h = elim deeper [ ]
 functions_kept program n m le (suc depth) (suc further) (at_next deeper) f vs h =
     bodies_kept ⊤ program n m le (function_done program n depth) (function_done program m further) f
     (each_of_all (CallKept ⊤ program (function_done program n depth) (function_done program m further))
-      (λ token. functions_kept program n m le depth further deeper (number_at_token program token)) (called_in (function_at program f).body))
+    (λ token. functions_kept program n m le depth further deeper (number_at_token program token)) (called_in (function_at program f).body))
     (entered program f vs h)
 
 pub ending_kept : (unit : UnitTree) (root n m : ℕ) (cells : List Cell) → n ≤ m → Kept ⊤ (ending unit root n cells) (ending unit root m cells)
@@ -41,7 +41,7 @@ ending_kept unit root n m cells le =
     let deeper : AtMost ⊤ (count + n) (count + m) = at_most (count + n) (count + m) (omega arith) in
     bodies_kept ⊤ program n m (at_most n m le) few more root
     (each_of_all (CallKept ⊤ program few more) (λ token. functions_kept program n m (at_most n m le) (count + n) (count + m) deeper (number_at_token program token))
-      (called_in (function_at program root).body))
+    (called_in (function_at program root).body))
     (start_history unit root cells)
 
 kept_outcome : (unit : UnitTree) {a b : Ending} → Kept ⊤ a b → outcome_of unit a ≢ Unfinished → outcome_of unit b ≡ outcome_of unit a

@@ -10,7 +10,7 @@ mod laws;
 // Small programs, worked out.
 mod worked;
 
-pub use laws::more_turns_keep_an_outcome;
+pub use laws::{more_turns_keep_an_outcome, no_call_is_too_deep};
 pub use worked::{
     a_case_goes_on_into_the_next, a_guard_keeps_a_division_from_its_fault,
     a_loop_without_end_uses_up_its_turns, an_integer_is_read_byte_by_byte, numbers_are_summed_up,

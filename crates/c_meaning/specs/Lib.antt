@@ -5,4 +5,6 @@ pub mod Endings
 pub mod Statements
 pub mod Programs
 pub mod Worked
+pub mod Keeping
 pub mod MoreTurns
+pub mod Depth

@@ -6,6 +6,7 @@
 --   start_history unit root cells      the history at the start: the globals hold what they hold at first, the root is entered, and the cells are stored
 --   ProgramOutcome                     the value that the root returned, if any, and for each global integer in order what it holds, or none; or a
 --                                      fault; or none with so many turns
+--   ending_within unit root n depth cells, ending unit root n cells   how the root ends
 --   outcome unit root n cells          that of the program with this root and input, where each loop makes at most n turns at each of its executions
 use Rattle.std.specs.Prelude.{ℕ, zero, suc, ◌+◌, List, [], ◌∷◌, map, length, Option, Some, None, slice_get}
 use Rattle.std.specs.Option.{option_map_or}
@@ -128,10 +129,13 @@ outcome_of unit (Returned value history) = Ended value (map (held (program_of un
 outcome_of unit (Faulted fault) = Stopped fault
 outcome_of unit UsedUp = Unfinished
 
--- calls nest as deep as there are functions and turns at most; in a program that is never used up
+-- calls nest as deep as this at most
+abbrev pub ending_within : UnitTree → ℕ → ℕ → ℕ → List Cell → Ending
+ending_within unit root n depth cells = body_done (program_of unit) n (function_done (program_of unit) n depth) root (start_history unit root cells)
+
+-- calls nest as deep as there are functions and turns at most; in a program no call is too deep
 abbrev pub ending : UnitTree → ℕ → ℕ → List Cell → Ending
-ending unit root n cells =
-    body_done (program_of unit) n (function_done (program_of unit) n (length (program_of unit).functions + n)) root (start_history unit root cells)
+ending unit root n cells = ending_within unit root n (length (program_of unit).functions + n) cells
 
 abbrev pub root_of : UnitTree → List ℕ → ℕ
 root_of unit name = number_named unit.words (program_of unit).functions name

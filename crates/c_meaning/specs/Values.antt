@@ -6,6 +6,7 @@
 --   on_value f r, on_both f l r   going on with a value, and with two, of which the left one faults first
 --   widened i v               a value of an integer type as an expression has it, the number kept
 --   cut_to t v                a value as an object of the type has it, or a result: narrow types keep their lowest bits
+--   cast_to t v               the value of a cast
 --   number z, bit test        a value: the number z modulo 2 to 32, and 1 where the test holds, else 0
 --   truth v                   the value is not 0
 --   negation, complement, opposite   `-`, `~` and `!`
@@ -189,7 +190,7 @@ difference (values.Ptr object offset) (values.Int size b) = Ok (values.Ptr objec
 difference (values.Int size a) (values.Ptr object offset) = Err faults.Kind
 difference (values.Ptr object offset) (values.Ptr other place) = if object == other then number (pos offset -ℤ pos place) else Err faults.Pointers
 
--- pointers are equal where they lead to one place; `is` says what equality gives
+-- pointers are equal where they lead to one place; `gives` says whether equality or its opposite is asked
 abbrev pub equality : (Bool → Bool) → Value → Value → Valued
 equality gives (values.Int size a) (values.Int other b) = bit (gives (a == b))
 equality gives (values.Ptr object offset) (values.Ptr other place) = bit (gives ((object == other) && (offset == place)))

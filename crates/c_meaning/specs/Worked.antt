@@ -1,13 +1,13 @@
 -- Small units, to be worked out: a text, and the trees that a person reads in it.
 --   main               the name of the root
 --   in_first_object w  an input that gives the first object the word w of 32 bits
-use Rattle.std.specs.Prelude.{ℕ, ◌+◌, true, false, List, [], ◌∷◌, Some, None, codes}
-use Rattle.c_unit.specs.declared.types.Integer.TheVariants.{Char, UnsignedChar, Int}
+use Rattle.std.specs.Prelude.{ℕ, ◌+◌, ◌++◌, true, false, List, [], ◌∷◌, Some, None, codes}
+use Rattle.c_unit.specs.declared.types.Integer.TheVariants.{Char, UnsignedChar, Short, Int}
 use Rattle.c_unit.specs.declared.types.Scalar.TheVariants as scalars
 use Rattle.c_unit.specs.declared.types.Outcome.TheVariants as outcomes
-use Rattle.c_unit.specs.declared.expression.Unary.TheVariants.{Address}
-use Rattle.c_unit.specs.declared.expression.Binary.TheVariants.{Multiply, Divide, Add, Greater, AtMost, Unequal, Both}
-use Rattle.c_unit.specs.Tree.{Expression, OfConstant, OfName, WithUnary, WithCast, AtIndex, WithBinary, OfExpression, OfCall, Assigns, Updates, Steps, LocalInteger, LocalPointer, Empty, Declares, If, While, ForAfter, Switch, Case, Default, Break, Does, GlobalInteger, ExternalTree, Declaration, Definition, statements_of}
+use Rattle.c_unit.specs.declared.expression.Unary.TheVariants.{Address, Load, Minus}
+use Rattle.c_unit.specs.declared.expression.Binary.TheVariants.{Multiply, Divide, Remainder, Add, Subtract, ShiftRight, Greater, AtMost, Unequal, Both}
+use Rattle.c_unit.specs.Tree.{Expression, OfConstant, OfName, WithUnary, WithCast, AtIndex, WithBinary, OfExpression, OfCall, Assigns, Updates, Steps, LocalInteger, LocalPointer, Empty, Declares, If, While, ForAfter, Statement, Switch, Case, Default, Break, Does, GlobalInteger, ExternalTree, Declaration, Definition, statements_of, InParentheses, LocalArray, Block, Do, GlobalArray}
 use Rattle.c_unit.specs.Units.{UnitTree}
 use Rattle.c_checks.specs.Worked.{unit_in, int_main, returns}
 use Rattle.c_meaning.specs.Programs.{Cell}
@@ -73,3 +73,56 @@ with_a_switch = unit_in (codes "int main|(|void|)|{|char c|=|200|; switch|(|c|)|
 
 abbrev pub without_an_end : UnitTree
 without_an_end = unit_in (codes "int main|(|void|)|{|while|(|1|)|;|}") (int_main (While (OfConstant 8) (Empty 10) ∷ []) ∷ [])
+
+-- a pointer goes down an array of `short`; what is returned divides, shifts and takes remainders below 0
+abbrev minus_seven : ℕ → Expression
+minus_seven token = WithUnary Minus token (OfConstant (token + 1))
+
+abbrev summed : Expression
+summed = WithBinary Add 76 (WithBinary Add 69 (WithBinary Add 64
+    (WithBinary Add 58 (OfName 57) (InParentheses 59 (WithBinary Subtract 61 (OfName 60) (OfName 62))))
+    (WithBinary Divide 67 (minus_seven 65) (OfConstant 68)))
+    (InParentheses 70 (WithBinary ShiftRight 73 (minus_seven 71) (OfConstant 74))))
+    (WithBinary Remainder 79 (minus_seven 77) (OfConstant 80))
+
+abbrev goes_down : Statement
+goes_down = Block (statements_of
+    (Does (Steps (OfName 36) false 37)
+    ∷ Does (Assigns (OfName 39) 40 (OfExpression (WithBinary Add 44 (WithBinary Multiply 42 (OfName 41) (OfConstant 43)) (WithUnary Load 45 (OfName 46)))))
+    ∷ []))
+
+abbrev pub with_a_pointer : UnitTree
+with_a_pointer = unit_in
+    (codes "int main|(|void|)|{|short a|[|3|]|=|{|1|,|-|2|}|; short *|p|; int s|=|0|; p|=|a|+|2|; "
+    ++ codes "do|{|p|--|; s|=|s|*|2|+|*|p|;|} while|(|p|!=|a|)|; return s|+|(|p|-|a|)|+|-|7|/|2|+|(|-|7|>>|1|)|+|-|7|%|4|;|}")
+    (int_main
+    (Declares 6 Short (record { name = 7; shape = LocalArray 9 (Some (record { minus = false; token = 13 } ∷ record { minus = true; token = 16 } ∷ [])) } ∷ [])
+    ∷ Declares 19 Short (record { name = 21; shape = LocalPointer None } ∷ [])
+    ∷ Declares 23 Int (record { name = 24; shape = LocalInteger (Some (OfExpression (OfConstant 26))) } ∷ [])
+    ∷ Does (Assigns (OfName 28) 29 (OfExpression (WithBinary Add 31 (OfName 30) (OfConstant 32))))
+    ∷ Do goes_down (WithBinary Unequal 52 (OfName 51) (OfName 53))
+    ∷ returns 56 summed ∷ [])
+    ∷ [])
+
+-- a function that gives a `char` of an `int`
+abbrev pub with_a_narrow_result : UnitTree
+with_a_narrow_result = unit_in (codes "char f|(|int x|)|{|return x|;|} int main|(|void|)|{|int y|=|f|(|200|)|; return y|;|}")
+    (Definition 0 (outcomes.Integer Char) 1 (record { first = 3; kind = scalars.Integer Int; name = Some 4 } ∷ []) (returns 7 (OfName 8) ∷ [])
+    ∷ Definition 11 (outcomes.Integer Int) 12 []
+    (Declares 17 Int (record { name = 18; shape = LocalInteger (Some (OfCall (record { name = 20; arguments = OfConstant 22 ∷ [] }))) } ∷ [])
+    ∷ returns 25 (OfName 26) ∷ [])
+    ∷ [])
+
+-- a root with a pointer, which an input may give a word
+abbrev pub with_a_pointer_parameter : UnitTree
+with_a_pointer_parameter = unit_in (codes "int main|(|int *|p|)|{|return *|p|;|}")
+    (Definition 0 (outcomes.Integer Int) 1 (record { first = 3; kind = scalars.Pointer Int; name = Some 5 } ∷ []) (returns 8 (WithUnary Load 9 (OfName 10)) ∷ []) ∷ [])
+
+abbrev pub without_a_value : UnitTree
+without_a_value = unit_in (codes "int main|(|void|)|{|int x|; return x|;|}")
+    (int_main (Declares 6 Int (record { name = 7; shape = LocalInteger None } ∷ []) ∷ returns 9 (OfName 10) ∷ []) ∷ [])
+
+abbrev pub past_an_array : UnitTree
+past_an_array = unit_in (codes "int a|[|3|]|; int main|(|void|)|{|return a|[|3|]|;|}")
+    (Declaration 0 (outcomes.Integer Int) (record { name = 1; shape = GlobalArray 3 None } ∷ [])
+    ∷ Definition 6 (outcomes.Integer Int) 7 [] (returns 12 (AtIndex (OfName 13) 14 (OfConstant 15)) ∷ []) ∷ [])

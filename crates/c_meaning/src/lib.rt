@@ -10,8 +10,10 @@ mod laws;
 // Small programs, worked out.
 mod worked;
 
-pub use laws::more_turns_keep_an_outcome;
+pub use laws::{more_turns_keep_an_outcome, no_call_is_too_deep};
 pub use worked::{
     a_case_goes_on_into_the_next, a_guard_keeps_a_division_from_its_fault,
-    a_loop_without_end_uses_up_its_turns, an_integer_is_read_byte_by_byte, numbers_are_summed_up,
+    a_loop_without_end_uses_up_its_turns, a_pointer_goes_down_an_array,
+    a_result_is_cut_to_its_type, an_integer_is_read_byte_by_byte, loads_fault_as_runs_do,
+    numbers_are_summed_up,
 };

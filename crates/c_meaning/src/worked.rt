@@ -2,9 +2,9 @@
 
 ghost use Rattle.std.specs.Prelude.{◌≡◌, Some, [], ◌∷◌};
 ghost use Rattle.alf_ops.specs.declared.history.Value.TheVariants.{Int};
-ghost use Rattle.alf_ops.specs.declared.history.RunFault.TheVariants.{Divide};
+ghost use Rattle.alf_ops.specs.declared.history.RunFault.TheVariants.{Divide, Uninit, Bounds, Kind};
 ghost use Rattle.c_meaning.specs.Programs.{Ended, Stopped, Unfinished, outcome};
-ghost use Rattle.c_meaning.specs.Worked.{main, in_first_object, with_a_sum, with_a_guard, with_bytes, with_a_switch, without_an_end};
+ghost use Rattle.c_meaning.specs.Worked.{main, in_first_object, with_a_sum, with_a_guard, with_bytes, with_a_switch, without_an_end, with_a_pointer, with_a_narrow_result, with_a_pointer_parameter, without_a_value, past_an_array};
 
 /// A loop of three turns in a function gives its sum, which a global holds in the end; with two turns it is
 /// not known.
@@ -34,4 +34,24 @@ pub fn a_case_goes_on_into_the_next()
 /// A loop without end has no outcome with five turns.
 pub fn a_loop_without_end_uses_up_its_turns()
     ensures { outcome without_an_end main 5 [] ≡ Unfinished }
+{}
+
+/// A pointer moves by elements and has a distance; quotients go toward 0, remainders have the sign of what is
+/// divided, and a shift to the right rounds down.
+pub fn a_pointer_goes_down_an_array()
+    ensures two { outcome with_a_pointer main 2 [] ≡ Ended (Some (Int 32 4294967283)) [] }
+    ensures one { outcome with_a_pointer main 1 [] ≡ Unfinished }
+{}
+
+/// What a function gives is cut to its type.
+pub fn a_result_is_cut_to_its_type()
+    ensures { outcome with_a_narrow_result main 0 [] ≡ Ended (Some (Int 32 4294967240)) [] }
+{}
+
+/// A word where a pointer is wanted, a variable that holds nothing, and an element that an array has not
+/// are faults.
+pub fn loads_fault_as_runs_do()
+    ensures word { outcome with_a_pointer_parameter main 0 (in_first_object 4) ≡ Stopped Kind }
+    ensures nothing { outcome without_a_value main 0 [] ≡ Stopped Uninit }
+    ensures past { outcome past_an_array main 0 [] ≡ Stopped Bounds }
 {}

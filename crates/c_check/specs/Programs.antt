@@ -1,11 +1,13 @@
 -- What passes the checks, and what is told otherwise.
 --   ProgramParts            a unit, its root and the ranks of its functions
+--   Keeps program           what every program keeps: the checks pass, and some text spells its unit
 --   IsTold unit root fault  what the fault says is what the checks refuse the unit by; a want of memory says nothing
 use Rattle.std.specs.Prelude.{ℕ, List, ⊤}
 use Rattle.c_unit.specs.declared.unit.CUnit.{CUnit}
-use Rattle.c_unit.specs.Units.{UnitTree}
+use Rattle.c_unit.specs.Units.{UnitTree, unit_of}
 use Rattle.c_checks.specs.Programs as checks
-use Rattle.c_checks.specs.Programs.{Refuses}
+use Rattle.c_checks.specs.Programs.{IsProgram, Refuses}
+use Rattle.c_text.specs.Language.{IsSpelled}
 use Rattle.c_check.specs.declared.fault.CFault.{CFault}
 use Rattle.c_check.specs.declared.fault.CFault.TheVariants as faults
 
@@ -13,6 +15,11 @@ pub record ProgramParts : Type 0 where
   pub unit : CUnit
   pub root : List ℕ
   pub ranks : List ℕ
+
+-- the checks pass, and some text spells the unit
+pub record Keeps (program : ProgramParts) : Type 0 where
+  pub passes : IsProgram (unit_of program.unit) program.root program.ranks
+  pub spelled : IsSpelled (unit_of program.unit)
 
 abbrev pub IsTold : UnitTree → List ℕ → CFault → Type 0
 IsTold unit root (faults.UnknownName name) = Refuses unit root (checks.UnknownName name)

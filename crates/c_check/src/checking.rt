@@ -5,6 +5,7 @@ ghost use Rattle.c_unit.specs.Units.{unit_of};
 ghost use Rattle.c_checks.specs.Units.{definitions, faults_in};
 ghost use Rattle.c_checks.specs.Recursion.{calls_of};
 ghost use Rattle.c_checks.specs.Programs.{HasNoCycle, has_root, IsProgram};
+ghost use Rattle.c_text.specs.Language.{IsSpelled};
 ghost use Rattle.call_cycles.specs.Calls.{IsRanked};
 ghost use Rattle.c_check.specs.Programs.{IsTold};
 
@@ -20,9 +21,10 @@ use call_cycles::{CallFault, ranked_calls_have_no_cycle};
 use flow_base::Name;
 use std::alloc::Global;
 
-/// The unit as a program whose root has this name, or why it is none. The unit is given up. Takes memory for the
+/// The unit, which some text spells, as a program whose root has this name, or why it is none. The unit is given up. Takes memory for the
 /// names, the scopes around each place, and the calls.
 pub fn check(alloc: Global, unit: CUnit, root: &str) -> Result<CProgram, CFault>
+    requires { IsSpelled (unit_of unit) }
     ensures passes { IfOk result (λ program. IsProgram (unit_of unit) root.now program.ranks) }
     ensures unchanged { IfOk result (λ program. (program.unit ≡ unit) × (program.root ≡ root.now)) }
     ensures told { IfErr result (λ fault. IsTold (unit_of unit) root.now fault) }

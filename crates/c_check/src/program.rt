@@ -5,7 +5,8 @@ ghost use Rattle.std.specs.Coded.{codes};
 ghost use Rattle.c_unit.specs.Units.{unit_of};
 ghost use Rattle.c_unit.specs.contracts.unit.CUnit as e;
 ghost use Rattle.c_checks.specs.Programs.{IsProgram};
-ghost use Rattle.c_check.specs.Programs.{ProgramParts};
+ghost use Rattle.c_text.specs.Language.{IsSpelled};
+ghost use Rattle.c_check.specs.Programs.{Keeps, ProgramParts};
 
 use c_unit::CUnit;
 use flow_base::Name;
@@ -26,21 +27,24 @@ impl Model for CProgram {
 
     ghost view = { λ program. record { unit = program.unit; root = program.root; ranks = program.ranks.items } };
 
-    ghost invariant = { λ program. IsProgram (unit_of program.unit) program.root program.ranks.items };
+    ghost invariant = { λ program. Keeps (record { unit = program.unit; root = program.root; ranks = program.ranks.items }) };
 }
 
 impl CProgram {
     /// The program of these parts.
     pub fn new(unit: CUnit, root: Name, ranks: Vec<u32>) -> Self
-        requires { IsProgram (unit_of unit) root ranks.items }
+        requires passes { IsProgram (unit_of unit) root ranks.items }
+        requires spelled { IsSpelled (unit_of unit) }
         ensures { result ≡ record { unit = unit; root = root; ranks = ranks.items } }
     {
         CProgram { unit, root, ranks }
     }
 
-    /// What each program keeps: nothing is wrong in it, its functions are ranked, and its root is defined.
+    /// What each program keeps: nothing is wrong in it, its functions are ranked, its root is defined, and some text
+    /// spells its unit, so that it keeps the limits of texts too.
     pub fn keeps(&self)
-        ensures { IsProgram (unit_of self.now.unit) self.now.root self.now.ranks }
+        ensures passes { IsProgram (unit_of self.now.unit) self.now.root self.now.ranks }
+        ensures spelled { IsSpelled (unit_of self.now.unit) }
     {
         let _ranks = &self.ranks;
     }

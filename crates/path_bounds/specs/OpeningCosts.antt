@@ -3,7 +3,8 @@
 --   worth_of_visits o most each node's cost times its number, added up
 --   openings_within        then the sum over the openings is at most that
 --   openings_above         and it is not negative
-use Rattle.std.proofs.Common.{◌≡◌, ◌≤◌, ◌+◌, ◌*◌, ◌==◌, ℕ, zero, suc, ℤ, pos, true, List, [], ◌∷◌, ◌++◌, map, length, All, Contains, Option, None, Some, refl, ap, sym, ◌∙◌, subst, arith}
+use Rattle.std.proofs.Common.{◌≡◌, ◌≤◌, ◌+◌, ◌*◌, ◌==◌, ℕ, zero, suc, ℤ, pos, true}
+use Rattle.std.proofs.Common.{List, [], ◌∷◌, ◌++◌, map, length, All, Contains, Option, None, Some, refl, ap, sym, ◌∙◌, subst, arith}
 use Rattle.std.specs.Prelude.{◌+ℤ◌, ◌*ℤ◌, ◌≤ℤ◌, slice_index}
 use Rattle.std.specs.List.{flat_map, range_with_len}
 use Rattle.std.proofs.lemmas.Int.{ints}

@@ -4,7 +4,8 @@
 --   told_limited   of each node some fact says how often a run leaves it at most, where totals were collected
 --   told_within    the sum over the openings is at most the count bound
 --   summed_totals  where a run was collected, each node has a total
-use Rattle.std.proofs.Common.{◌≡◌, ◌≢◌, ◌<◌, ◌*◌, ◌==◌, ◌&&◌, not, ℕ, zero, suc, pos, Bool, true, false, List, length, All, Option, Some, None, inl, inr, refl, ap, sym, ◌∙◌, subst, arith}
+use Rattle.std.proofs.Common.{◌≡◌, ◌≢◌, ◌<◌, ◌*◌, ◌==◌, ◌&&◌, not, ℕ, zero, suc, pos, Bool, true, false}
+use Rattle.std.proofs.Common.{List, length, All, Option, Some, None, inl, inr, refl, ap, sym, ◌∙◌, subst, arith}
 use Rattle.std.specs.Prelude.{◌≤ℤ◌, slice_index}
 use Rattle.std.specs.Option.{option_map_or}
 use Rattle.std.proofs.lemmas.Bool.{eq-eqb}

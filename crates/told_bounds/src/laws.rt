@@ -1,14 +1,20 @@
-//! What the definitions promise, as clauses of a function that does nothing.
+//! What the definitions promise, as clauses of functions that do nothing.
 
 ghost use Rattle.std.specs.Prelude.{◌≤ℤ◌, ℕ, pos, List, All, length};
 ghost use Rattle.domain_core.specs.Outlines.{Outlined, shape_of};
+ghost use Rattle.domain_core.specs.Machines.{IsAlong};
 ghost use Rattle.flow_facts.specs.Facts.{IsAbout};
+ghost use Rattle.flow_facts.specs.Reports.{Reported};
 ghost use Rattle.path_rows.specs.Shaped.{FitOutline};
 ghost use Rattle.book_facts.specs.Told.{SumUp};
 ghost use Rattle.pivot_rules.specs.OutlineOpenings.{AreLimited};
 ghost use Rattle.told_reports.specs.Told.{Found, told_facts, count_bound};
-ghost use Rattle.path_bounds.specs.Bounding.{opening_sum};
+ghost use Rattle.told_reports.specs.Runs.{IsSound};
+ghost use Rattle.path_bounds.specs.Bounding.{IsAbove, opening_sum};
+ghost use Rattle.told_bounds.specs.RunLaws.{IsAboveRuns};
 ghost use Rattle.told_bounds.specs.Told.{HaveTotals};
+
+use domain_core::Stepper;
 
 /// The facts that an exploration tells are about the outline and fit it. Where of each node that was stepped
 /// some total was collected, of each node some fact says how often a run leaves it at most; and so it is
@@ -19,4 +25,12 @@ pub fn told_facts_bound_paths()
     ensures limited { (o : Outlined) (found : Found) → HaveTotals o found → AreLimited (length o.nodes) (told_facts o found) }
     ensures totals { (o : Outlined) (found : Found) (past : List ℕ) → SumUp o found.books past → HaveTotals o found }
     ensures most { (o : Outlined) (found : Found) → opening_sum o (told_facts o found) ≤ℤ pos (count_bound o found) }
+{}
+
+/// Where a report is sound and its facts fit the outline, each run of the stepper's system that ends costs at
+/// most a value that no run that meets the facts passes, as the path bound is.
+pub fn path_bounds_hold_of_runs<S: Stepper>()
+    ensures { (stepper : S) (o : Outlined) (report : Reported) (v : ℕ)
+        → IsAlong S.State S.Concrete (shape_of o) (S.machine stepper) → IsSound (S.machine stepper).system o report → FitOutline (shape_of o) report.facts → IsAbove o report.facts v
+        → IsAboveRuns (S.machine stepper).system o v }
 {}

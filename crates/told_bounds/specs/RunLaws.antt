@@ -1,9 +1,12 @@
 -- Each run of a system costs at most the path bound of a sound report.
 --   IsAboveRuns system o v   each run that ends costs at most this value
 --   bound_above              so it is of a value that no run that meets the facts passes
-use Rattle.std.proofs.Common.{◌≡◌, ◌≤◌, ℕ, Bool, true, false, List, [], ◌∷◌, ◌++◌, Option, Some, None, All, Contains, reverse, refl, sym, ap, ◌∙◌, subst, arith}
-use Rattle.std.specs.Prelude.{slice_index}
+--   bound_within             what is at most the sum over the openings is at most the count bound
+--   bound_exact              and where the report tells one run exactly, it is the run's cost
+use Rattle.std.proofs.Common.{◌≡◌, ◌≤◌, ℕ, pos, Bool, true, false, List, [], ◌∷◌, ◌++◌, Option, Some, None, All, Contains, reverse, refl, sym, ap, ◌∙◌, subst, arith}
+use Rattle.std.specs.Prelude.{◌≤ℤ◌, slice_index}
 use Rattle.std.proofs.lemmas.Bool.{eq-eqb}
+use Rattle.std.proofs.lemmas.Int.{ints}
 use Rattle.std.proofs.lemmas.List.{reverse-append, append_assoc}
 use Rattle.std.proofs.lemmas.List.Folds.{list_any_at}
 use Rattle.std.proofs.lemmas.List.Sorted.{sum_by-IsPermutation, IsPermutation-reverse}
@@ -18,9 +21,11 @@ use Rattle.flow_facts.specs.Reports.{Reported}
 use Rattle.path_rows.specs.Columns.{is_alarm_at, has_alarm}
 use Rattle.path_rows.specs.Uses.{EndsAt, run_cost}
 use Rattle.path_rows.specs.Shaped.{FitOutline}
-use Rattle.told_reports.specs.Told.{costs_of}
+use Rattle.told_reports.specs.Told.{Found, costs_of, told_facts, count_bound, told_report}
+use Rattle.told_reports.specs.Exact.{LoneRun}
 use Rattle.told_reports.specs.Runs.{Passes, stops, moves, HasAlarm, IsSound}
-use Rattle.path_bounds.specs.Bounding.{IsAbove}
+use Rattle.path_bounds.specs.Bounding.{IsAbove, opening_sum}
+use Rattle.told_bounds.specs.ToldLaws.{told_within}
 
 -- each run that ends costs at most this value
 abbrev pub IsAboveRuns : {C : Type 0} → System C → Outlined → ℕ → Type 0
@@ -78,3 +83,19 @@ pub bound_above : {T C : Type 0} (m : Machine T C) (o : Outlined) (report : Repo
 bound_above m o report v along sound fit above = λ c trace fault starts passes.
     let right = sound.right c trace fault starts passes in
     follow m o along report.facts fit v above [] refl passes right.facts right.alarm
+
+-- ---- the count bound
+
+-- what is at most the sum over the openings is at most the count bound
+pub bound_within : (o : Outlined) (found : Found) (v : ℕ) → pos v ≤ℤ opening_sum o (told_facts o found) → v ≤ count_bound o found
+bound_within o found v most = let within = told_within o found in omega (arith, ints, most, within)
+
+-- and where the report tells one run exactly, it is the run's cost
+pub bound_exact : {C : Type 0} (system : System C) (o : Outlined) (found : Found) (trace : List ℕ) (v : ℕ)
+    → LoneRun system o (told_report o found) trace → IsAboveRuns system o v
+    → pos v ≤ℤ opening_sum o (told_facts o found) → v ≡ run_cost (costs_of o) trace
+bound_exact system o found trace v run above most =
+    let low = above run.start trace run.fault run.starts run.passes in
+    let high = bound_within o found v most in
+    let cost = run.exact.bound in
+    omega (arith, low, high, cost)

@@ -1,14 +1,16 @@
 //! What the definitions promise, as clauses of functions that do nothing.
 
-ghost use Rattle.std.specs.Prelude.{◌≤ℤ◌, ℕ, pos, List, All, length};
+ghost use Rattle.std.specs.Prelude.{◌≡◌, ◌≤◌, ◌≤ℤ◌, ℕ, pos, List, All, length};
 ghost use Rattle.domain_core.specs.Outlines.{Outlined, shape_of};
 ghost use Rattle.domain_core.specs.Machines.{IsAlong};
 ghost use Rattle.flow_facts.specs.Facts.{IsAbout};
 ghost use Rattle.flow_facts.specs.Reports.{Reported};
 ghost use Rattle.path_rows.specs.Shaped.{FitOutline};
+ghost use Rattle.path_rows.specs.Uses.{run_cost};
 ghost use Rattle.book_facts.specs.Told.{SumUp};
 ghost use Rattle.pivot_rules.specs.OutlineOpenings.{AreLimited};
-ghost use Rattle.told_reports.specs.Told.{Found, told_facts, count_bound};
+ghost use Rattle.told_reports.specs.Told.{Found, costs_of, told_facts, count_bound, told_report};
+ghost use Rattle.told_reports.specs.Exact.{LoneRun};
 ghost use Rattle.told_reports.specs.Runs.{IsSound};
 ghost use Rattle.path_bounds.specs.Bounding.{IsAbove, opening_sum};
 ghost use Rattle.told_bounds.specs.RunLaws.{IsAboveRuns};
@@ -28,9 +30,14 @@ pub fn told_facts_bound_paths()
 {}
 
 /// Where a report is sound and its facts fit the outline, each run of the stepper's system that ends costs at
-/// most a value that no run that meets the facts passes, as the path bound is.
+/// most a value that no run that meets the facts passes, as the path bound is. What is at most the sum over
+/// the openings, as the path bound is, is at most the count bound; and where the report tells one run exactly,
+/// a value with both is the run's cost.
 pub fn path_bounds_hold_of_runs<S: Stepper>()
-    ensures { (stepper : S) (o : Outlined) (report : Reported) (v : ℕ)
-        → IsAlong S.State S.Concrete (shape_of o) (S.machine stepper) → IsSound (S.machine stepper).system o report → FitOutline (shape_of o) report.facts → IsAbove o report.facts v
-        → IsAboveRuns (S.machine stepper).system o v }
+    ensures above { (stepper : S) (o : Outlined) (report : Reported) (v : ℕ)
+        → IsAlong S.State S.Concrete (shape_of o) (S.machine stepper) → IsSound (S.machine stepper).system o report
+        → FitOutline (shape_of o) report.facts → IsAbove o report.facts v → IsAboveRuns (S.machine stepper).system o v }
+    ensures within { (o : Outlined) (found : Found) (v : ℕ) → pos v ≤ℤ opening_sum o (told_facts o found) → v ≤ count_bound o found }
+    ensures exact { (stepper : S) (o : Outlined) (found : Found) (trace : List ℕ) (v : ℕ) → LoneRun (S.machine stepper).system o (told_report o found) trace
+        → IsAboveRuns (S.machine stepper).system o v → pos v ≤ℤ opening_sum o (told_facts o found) → v ≡ run_cost (costs_of o) trace }
 {}

@@ -1,6 +1,12 @@
--- Each run costs at most the path bound.
-use Rattle.told_bounds.specs.RunLaws.{bound_above}
+-- The path bound and the runs of a system.
+use Rattle.told_bounds.specs.RunLaws.{bound_above, bound_within, bound_exact}
 use Rattle.told_bounds.proofs.laws.path_bounds_hold_of_runs.Goals as goal
 
-pub returns : goal.returns
-returns g c = λ stepper o report v along sound fit above. bound_above (g.S.Stepper.machine stepper) o report v along sound fit above
+pub returns-clause-above : goal.returns-clause-above
+returns-clause-above g c = λ stepper o report v along sound fit above. bound_above (g.S.Stepper.machine stepper) o report v along sound fit above
+
+pub returns-clause-within : goal.returns-clause-within
+returns-clause-within g c = λ o found v most. bound_within o found v most
+
+pub returns-clause-exact : goal.returns-clause-exact
+returns-clause-exact g c = λ stepper o found trace v run above most. bound_exact (g.S.Stepper.machine stepper).system o found trace v run above most

@@ -8,4 +8,11 @@
 // The report.
 mod reports;
 
+// What the definitions promise.
+mod laws;
+
+pub use laws::{
+    a_run_at_the_count_bound_is_at_the_path_bound, bounded_reports_are_sound,
+    closed_explorations_are_told,
+};
 pub use reports::bounded_report;

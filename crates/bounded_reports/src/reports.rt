@@ -1,15 +1,22 @@
 //! The report.
 
 ghost use Rattle.std.specs.Prelude.{◌≡◌, IfOk};
-ghost use Rattle.flow_facts.specs.Reports.{Reported, reported};
+ghost use Rattle.flow_facts.specs.Reports.{reported};
 ghost use Rattle.flow_facts.specs.Writable.{IsWritable};
-ghost use Rattle.bounded_reports.specs.Bounded.{IsTold, with_path_bound, bounded, IsWithinCount, IsLeastOf};
+ghost use Rattle.told_reports.specs.Told.{Found, told_report};
+ghost use Rattle.bounded_reports.specs.Bounded.{IsTold, with_path_bound, bounded, told_bounded_report, IsPathBounded, IsWithinCount, IsLeastOf};
 
 use domain_core::Outline;
 use flow_facts::{BoundWord, Report};
 use path_bounds::path_bound;
 use std::alloc::{AllocError, Global};
-use told_bounds::told_facts_bound_paths;
+
+// The count bound.
+fn count_bound(report: &Report) -> u64
+    ensures { result ≡ report.now.count_bound }
+{
+    report.count_bound
+}
 
 // The report with this path bound.
 fn with_bound(report: Report, bound: (u64, BoundWord)) -> Report
@@ -36,6 +43,12 @@ pub fn bounded_report(
     // The path bound is that of the facts, and all else stays.
     ensures told { IfOk result (λ r. reported r ≡ bounded outline.now (reported report) pivots) }
 
+    // So it is that of what was collected.
+    ensures collected { (found : Found) → reported report ≡ told_report outline.now found → IfOk result (λ r. reported r ≡ told_bounded_report outline.now found pivots) }
+
+    // No point that meets the rows of the report is worth as much as one more, and no run that meets its facts costs more.
+    ensures holds { IfOk result (λ r. IsPathBounded outline.now (reported r)) }
+
     // Where some text spells the given report, some text spells this one.
     ensures writable { IsWritable (reported report) → IfOk result (λ r. IsWritable (reported r)) }
 
@@ -45,7 +58,7 @@ pub fn bounded_report(
     // With `Least` it is the greatest worth of a point that meets the rows of the report, rounded down.
     ensures least { IfOk result (λ r. IsLeastOf outline.now (reported r)) }
 {
-    told_facts_bound_paths();
+    let _ = count_bound(&report);
     let bound = path_bound(alloc, outline, &report, pivots)?;
     Ok(with_bound(report, bound))
 }

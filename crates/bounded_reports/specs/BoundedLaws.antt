@@ -7,7 +7,7 @@
 --   events_told        so it is of each pool that events led to
 --   met_at_bound, run_at_bound   where some run costs the count bound, the path bound is the count bound
 --   lone_bound         where the given report tells one run exactly, both are the run's cost
-use Rattle.std.proofs.Common.{◌≡◌, ◌≤◌, ◌<◌, ◌^◌, ℕ, pos, Bool, List, [], ◌∷◌, Option, None, Some, length, All, Contains, reverse, refl, sym, ap, subst, arith}
+use Rattle.std.proofs.Common.{◌≡◌, ◌≤◌, ◌<◌, ◌^◌, ℕ, pos, Bool, List, [], ◌∷◌, Option, None, Some, length, All, Contains, reverse, refl, sym, subst, arith}
 use Rattle.std.specs.Prelude.{◌≤ℤ◌, ◌<ℤ◌}
 use Rattle.std.proofs.lemmas.Int.{ints}
 use Rattle.lists.specs.Members.{no_member}
@@ -16,7 +16,6 @@ use Rattle.domain_core.specs.declared.event.Event.{Event}
 use Rattle.domain_core.specs.Orders.{Order, IsOrder}
 use Rattle.domain_core.specs.Outlines.{Outlined, IsOutline, shape_of}
 use Rattle.domain_core.specs.Machines.{System, Machine, IsMachine, IsAlong}
-use Rattle.flow_facts.specs.declared.fact.Fact.{Fact}
 use Rattle.flow_facts.specs.declared.report.BoundWord.{BoundWord}
 use Rattle.flow_facts.specs.Facts.{IsAbout}
 use Rattle.flow_facts.specs.Reports.{Reported}
@@ -71,8 +70,8 @@ module _ (o : Outlined) (report : Reported) (is : IsTold o report) where
   }
 
 -- each run that the given report is sound for costs at most the path bound
-pub bounded_sound : {T C : Type 0} (m : Machine T C) (o : Outlined) (given report : Reported) (n : ℕ) → IsAlong T C (shape_of o) m → IsTold o given → IsSound m.system o given
-    → report ≡ bounded o given n → IsPathBounded o report → IsPathSound m.system o report
+pub bounded_sound : {T C : Type 0} (m : Machine T C) (o : Outlined) (given report : Reported) (n : ℕ)
+    → IsAlong T C (shape_of o) m → IsTold o given → IsSound m.system o given → report ≡ bounded o given n → IsPathBounded o report → IsPathSound m.system o report
 bounded_sound m o given report n along is sound told above =
     let here : IsPathBounded o (bounded o given n) = subst (λ (r : Reported). IsPathBounded o r) told above in
     subst (λ (r : Reported). IsPathSound m.system o r) (sym told) (path_sound o given is m (told_path_bound o given.facts n) along sound here)
@@ -84,14 +83,16 @@ module _ {S T C : Type 0} (m : Machine T C) (w : Pooled S T FourRecorders FourBo
   collected past sums = summed_totals w.outline (found_of w) past (record { totals = sums.0.0; loops = sums.0.1; counts = sums.1.0; pairs = sums.1.1 })
 
   -- a run that goes on from a point that is handled was collected where it ends
-  all_totals : {past : List ℕ} {n : ℕ} {c : C} {trace : List ℕ} {fault : Option RunFault} → IsHandled m four_recording w past n c → Passes m.system n c trace fault → HaveTotals w.outline (found_of w)
+  all_totals : {past : List ℕ} {n : ℕ} {c : C} {trace : List ℕ} {fault : Option RunFault}
+      → IsHandled m four_recording w past n c → Passes m.system n c trace fault → HaveTotals w.outline (found_of w)
   all_totals (waits spot among stands) passes = no_member spot (subst (λ (spots : List (Spot T FourRecorders)). Contains spots spot) empty among)
   all_totals {past} {n} (passed walk stepped goes ends fails) (stops {fault = None} way) = collected (n ∷ past) (ends way)
   all_totals {past} {n} (passed walk stepped goes ends fails) (stops {fault = Some kind} way) = collected (n ∷ past) (fails kind way).1
   all_totals (passed walk stepped goes ends fails) (moves {k = k} {d = d} step rest) = all_totals (goes k d step) rest
 
 -- a run of the system ends where the report is sound
-pub sound_runs : {C : Type 0} (system : System C) (o : Outlined) (report : Reported) → IsSound system o report → (run : ℕ → Option (ℕ × C)) → IsRun system run → HasRun system
+pub sound_runs : {C : Type 0} (system : System C) (o : Outlined) (report : Reported) → IsSound system o report
+    → (run : ℕ → Option (ℕ × C)) → IsRun system run → HasRun system
 sound_runs system o report sound run is =
     let ended = sound.ends run is in
     record { start = ended.start; starts = ended.starts; trace = ended.trace; fault = ended.fault; passes = ended.passes }
@@ -103,7 +104,8 @@ kept_told machine w kept empty run =
     record { found = found_of w; told = refl; totals = all_totals (machine w.stepper) w empty (kept.handled run.start run.starts) run.passes }
 
 -- so it is of each pool that events led to
-pub events_told : {S T C : Type 0} (machine : S → Machine T C) (states : Order T) (events : List Event) (stepper : S) (o : Outlined) (w : Pooled S T FourRecorders FourBooks) → IsOrder T states
+pub events_told : {S T C : Type 0} (machine : S → Machine T C) (states : Order T) (events : List Event) (stepper : S) (o : Outlined)
+    (w : Pooled S T FourRecorders FourBooks) → IsOrder T states
     → ((s : S) → (machine s).kept → IsMachine T C states (machine s)) → (machine stepper).kept → IsOutline (shape_of o) → IsAlong T C (shape_of o) (machine stepper)
     → HappenAll machine states four_order four_recording (opened machine four_recording stepper o) events w → w.spots ≡ [] → HasRun (machine stepper).system
     → IsTold o (told_report o (found_of w))
@@ -136,7 +138,8 @@ run_at_bound system o report sound within c trace fault starts passes cost =
     (λ b holds most. let low = (holds.right c trace fault starts passes).bound in omega (arith, low, most, cost)) sound within
 
 -- where the given report tells one run exactly, so does this one
-still_lone : {C : Type 0} (system : System C) (o : Outlined) (given : Reported) (b : ℕ × BoundWord) (trace : List ℕ) → LoneRun system o given trace → LoneRun system o (with_path_bound given b) trace
+still_lone : {C : Type 0} (system : System C) (o : Outlined) (given : Reported) (b : ℕ × BoundWord) (trace : List ℕ)
+    → LoneRun system o given trace → LoneRun system o (with_path_bound given b) trace
 still_lone system o given b trace run =
     let is = run.exact in
     record {
@@ -148,8 +151,8 @@ still_lone system o given b trace run =
     }
 
 -- and both bounds are the run's cost
-pub lone_bound : {C : Type 0} (system : System C) (o : Outlined) (given report : Reported) (n : ℕ) (trace : List ℕ) → report ≡ bounded o given n → IsPathSound system o report → IsWithinCount report
-    → LoneRun system o given trace → HasPathBound (λ b. b.0 ≡ run_cost (costs_of o) trace) report
+pub lone_bound : {C : Type 0} (system : System C) (o : Outlined) (given report : Reported) (n : ℕ) (trace : List ℕ)
+    → report ≡ bounded o given n → IsPathSound system o report → IsWithinCount report → LoneRun system o given trace → HasPathBound (λ b. b.0 ≡ run_cost (costs_of o) trace) report
 lone_bound system o given report n trace told sound within alone =
     let run = subst (λ (r : Reported). LoneRun system o r trace) (sym told) (still_lone system o given (told_path_bound o given.facts n) trace alone) in
     subst (λ (v : ℕ). HasPathBound (λ b. b.0 ≡ v) report) run.exact.bound

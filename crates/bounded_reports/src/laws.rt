@@ -29,8 +29,9 @@ pub fn closed_explorations_are_told<S: Stepper>()
         → HasRun (S.machine w.stepper).system → IsTold w.outline (told_report w.outline (found_of w)) }
     ensures runs { (stepper : S) (o : Outlined) (report : Reported) → IsSound (S.machine stepper).system o report
         → (run : ℕ → Option (ℕ × S.Concrete)) → IsRun (S.machine stepper).system run → HasRun (S.machine stepper).system }
-    ensures events { (stepper : S) (o : Outlined) (events : List Event) (w : Pooled S S.State FourRecorders FourBooks) → (S.machine stepper).kept → IsOutline (shape_of o)
-        → IsAlong S.State S.Concrete (shape_of o) (S.machine stepper) → HappenAll S.machine S.State.order four_order four_recording (opened S.machine four_recording stepper o) events w
+    ensures events { (stepper : S) (o : Outlined) (events : List Event) (w : Pooled S S.State FourRecorders FourBooks)
+        → (S.machine stepper).kept → IsOutline (shape_of o) → IsAlong S.State S.Concrete (shape_of o) (S.machine stepper)
+        → HappenAll S.machine S.State.order four_order four_recording (opened S.machine four_recording stepper o) events w
         → w.spots ≡ [] → HasRun (S.machine stepper).system → IsTold o (told_report o (found_of w)) }
 {}
 
@@ -44,8 +45,8 @@ pub fn bounded_reports_are_sound<S: Stepper>()
     ensures reached { (stepper : S) (o : Outlined) (report : Reported) → IsPathSound (S.machine stepper).system o report → IsWithinCount report
         → (c : S.Concrete) (trace : List ℕ) (fault : Option RunFault) → (S.machine stepper).system.starts c → Passes (S.machine stepper).system 0 c trace fault
         → run_cost (costs_of o) trace ≡ report.count_bound → HasPathBound (λ b. b.0 ≡ report.count_bound) report }
-    ensures alone { (stepper : S) (o : Outlined) (given report : Reported) (pivots : ℕ) (trace : List ℕ) → report ≡ bounded o given pivots → IsPathSound (S.machine stepper).system o report
-        → IsWithinCount report → LoneRun (S.machine stepper).system o given trace → HasPathBound (λ b. b.0 ≡ run_cost (costs_of o) trace) report }
+    ensures alone { (stepper : S) (o : Outlined) (given report : Reported) (pivots : ℕ) (trace : List ℕ)
+        → report ≡ bounded o given pivots → IsPathSound (S.machine stepper).system o report → IsWithinCount report → LoneRun (S.machine stepper).system o given trace → HasPathBound (λ b. b.0 ≡ run_cost (costs_of o) trace) report }
 {}
 
 /// Where some run that meets the facts costs the count bound, the path bound is the count bound.

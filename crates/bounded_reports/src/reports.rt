@@ -44,7 +44,8 @@ pub fn bounded_report(
     ensures told { IfOk result (λ r. reported r ≡ bounded outline.now (reported report) pivots) }
 
     // So it is that of what was collected.
-    ensures collected { (found : Found) → reported report ≡ told_report outline.now found → IfOk result (λ r. reported r ≡ told_bounded_report outline.now found pivots) }
+    ensures collected { (found : Found) → reported report ≡ told_report outline.now found
+        → IfOk result (λ r. reported r ≡ told_bounded_report outline.now found pivots) }
 
     // No point that meets the rows of the report is worth as much as one more, and no run that meets its facts costs more.
     ensures holds { IfOk result (λ r. IsPathBounded outline.now (reported r)) }

@@ -10,4 +10,5 @@ returns-clause-runs g c = λ stepper o report sound run is. sound_runs (g.S.Step
 
 pub returns-clause-events : goal.returns-clause-events
 returns-clause-events g c = λ stepper o events w stepper_kept ok along happen empty run.
-    events_told g.S.Stepper.machine g.S.State.Lattice.order events stepper o w g.met.S.State.Lattice.is_order g.met.S.Stepper.is_machine stepper_kept ok along happen empty run
+    events_told g.S.Stepper.machine g.S.State.Lattice.order events stepper o w
+    g.met.S.State.Lattice.is_order g.met.S.Stepper.is_machine stepper_kept ok along happen empty run

@@ -152,7 +152,8 @@ still_lone system o given b trace run =
 
 -- and both bounds are the run's cost
 pub lone_bound : {C : Type 0} (system : System C) (o : Outlined) (given report : Reported) (n : ℕ) (trace : List ℕ)
-    → report ≡ bounded o given n → IsPathSound system o report → IsWithinCount report → LoneRun system o given trace → HasPathBound (λ b. b.0 ≡ run_cost (costs_of o) trace) report
+    → report ≡ bounded o given n → IsPathSound system o report → IsWithinCount report
+    → LoneRun system o given trace → HasPathBound (λ b. b.0 ≡ run_cost (costs_of o) trace) report
 lone_bound system o given report n trace told sound within alone =
     let run = subst (λ (r : Reported). LoneRun system o r trace) (sym told) (still_lone system o given (told_path_bound o given.facts n) trace alone) in
     subst (λ (v : ℕ). HasPathBound (λ b. b.0 ≡ v) report) run.exact.bound

@@ -46,7 +46,8 @@ pub fn bounded_reports_are_sound<S: Stepper>()
         → (c : S.Concrete) (trace : List ℕ) (fault : Option RunFault) → (S.machine stepper).system.starts c → Passes (S.machine stepper).system 0 c trace fault
         → run_cost (costs_of o) trace ≡ report.count_bound → HasPathBound (λ b. b.0 ≡ report.count_bound) report }
     ensures alone { (stepper : S) (o : Outlined) (given report : Reported) (pivots : ℕ) (trace : List ℕ)
-        → report ≡ bounded o given pivots → IsPathSound (S.machine stepper).system o report → IsWithinCount report → LoneRun (S.machine stepper).system o given trace → HasPathBound (λ b. b.0 ≡ run_cost (costs_of o) trace) report }
+        → report ≡ bounded o given pivots → IsPathSound (S.machine stepper).system o report → IsWithinCount report
+        → LoneRun (S.machine stepper).system o given trace → HasPathBound (λ b. b.0 ≡ run_cost (costs_of o) trace) report }
 {}
 
 /// Where some run that meets the facts costs the count bound, the path bound is the count bound.

@@ -91,7 +91,8 @@ pub bound_within : (o : Outlined) (found : Found) (v : ℕ) → pos v ≤ℤ ope
 bound_within o found v most = let within = told_within o found in omega (arith, ints, most, within)
 
 -- and where the report tells one run exactly, it is the run's cost
-pub bound_exact : {C : Type 0} (system : System C) (o : Outlined) (found : Found) (trace : List ℕ) (v : ℕ) → LoneRun system o (told_report o found) trace → IsAboveRuns system o v
+pub bound_exact : {C : Type 0} (system : System C) (o : Outlined) (found : Found) (trace : List ℕ) (v : ℕ)
+    → LoneRun system o (told_report o found) trace → IsAboveRuns system o v
     → pos v ≤ℤ opening_sum o (told_facts o found) → v ≡ run_cost (costs_of o) trace
 bound_exact system o found trace v run above most =
     let low = above run.start trace run.fault run.starts run.passes in

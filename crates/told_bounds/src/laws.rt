@@ -35,8 +35,8 @@ pub fn told_facts_bound_paths()
 /// a value with both is the run's cost.
 pub fn path_bounds_hold_of_runs<S: Stepper>()
     ensures above { (stepper : S) (o : Outlined) (report : Reported) (v : ℕ)
-        → IsAlong S.State S.Concrete (shape_of o) (S.machine stepper) → IsSound (S.machine stepper).system o report → FitOutline (shape_of o) report.facts → IsAbove o report.facts v
-        → IsAboveRuns (S.machine stepper).system o v }
+        → IsAlong S.State S.Concrete (shape_of o) (S.machine stepper) → IsSound (S.machine stepper).system o report
+        → FitOutline (shape_of o) report.facts → IsAbove o report.facts v → IsAboveRuns (S.machine stepper).system o v }
     ensures within { (o : Outlined) (found : Found) (v : ℕ) → pos v ≤ℤ opening_sum o (told_facts o found) → v ≤ count_bound o found }
     ensures exact { (stepper : S) (o : Outlined) (found : Found) (trace : List ℕ) (v : ℕ) → LoneRun (S.machine stepper).system o (told_report o found) trace
         → IsAboveRuns (S.machine stepper).system o v → pos v ≤ℤ opening_sum o (told_facts o found) → v ≡ run_cost (costs_of o) trace }

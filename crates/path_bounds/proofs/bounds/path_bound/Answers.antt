@@ -20,7 +20,8 @@ pub value-bound-requires-clause-room : goal.value-bound-requires-clause-room
 value-bound-requires-clause-room c =
     let d = c.in_ok-solved.solved.duals in
     let told = c.in_ok-solved.ensures in
-    value_fits c.in_ok-rows.rows c.args.outline.now c.args.report.now.facts.items d.scale d.multipliers.items c.in_ok-rows.ensures told.dual.above told.most c.requires.room
+    let o = c.args.outline.now in
+    value_fits c.in_ok-rows.rows o c.args.report.now.facts.items d.scale d.multipliers.items c.in_ok-rows.ensures told.dual.above told.most c.requires.room
 
 pub returns-clause-holds : goal.returns-clause-holds
 returns-clause-holds c =
@@ -36,8 +37,8 @@ returns-clause-least c =
     let facts = c.args.report.now.facts.items in
     let d = c.in_ok-solved.solved.duals in
     let told = c.in_ok-solved.ensures in
-    greatest_at c.in_ok-rows.rows o facts d.scale d.multipliers.items c.in_ok-solved.solved.end c.value-bound.result c.word.result c.in_ok-rows.ensures c.kept-2.ensures.within
-    told.dual c.value-bound.ensures.told c.word.ensures told.least
+    greatest_at c.in_ok-rows.rows o facts d.scale d.multipliers.items c.in_ok-solved.solved.end c.value-bound.result c.word.result c.in_ok-rows.ensures
+    c.kept-2.ensures.within told.dual c.value-bound.ensures.told c.word.ensures told.least
 
 pub returns-clause-most : goal.returns-clause-most
 returns-clause-most c =

@@ -1,14 +1,7 @@
 -- What is left to show of `path_bound`.
-use Rattle.std.proofs.Common.{rules, All}
-use Rattle.path_bounds.specs.Sizes.{NumbersFit}
 use Rattle.pivot_rules.specs.OpeningPlaces.{ended}
-use Rattle.path_bounds.proofs.BoundLaws.{handed_count, system_small, value_most, value_fits, system_bounds, greatest_at}
+use Rattle.path_bounds.proofs.BoundLaws.{handed_count, value_most, value_fits, system_bounds, greatest_at}
 use Rattle.path_bounds.proofs.bounds.path_bound.Goals as goal
-
-pub solve-requires-clause-small : goal.solve-requires-clause-small
-solve-requires-clause-small c =
-    let fit : All NumbersFit c.args.report.now.facts.items = search (rules) in
-    system_small c.in_ok-rows.rows c.args.outline.now c.args.report.now.facts.items c.in_ok-rows.ensures c.costs_fit.ensures fit c.kept-2.ensures.few_rows
 
 pub value-bound-requires-clause-multipliers : goal.value-bound-requires-clause-multipliers
 value-bound-requires-clause-multipliers c =

@@ -8,8 +8,9 @@ use scope_graph::outline;
 use std::alloc::{AllocError, Global};
 use std::test::Fail;
 
-const HEAD: &str =
-    "{ alf { macro_defs } { least_addr_unit 8 } little_endian { exports { frefs } { lrefs } } { imports { frefs } { lrefs } } { decls } { inits } { funcs { func { label 32 { lref 32 \"main\" } { dec_unsigned 32 0 } } { arg_decls } { scope { decls } { inits } { stmts ";
+const HEAD: &str = "\
+{ alf { macro_defs } { least_addr_unit 8 } little_endian { exports { frefs } { lrefs } } { imports { frefs } { lrefs } } \
+{ decls } { inits } { funcs { func { label 32 { lref 32 \"main\" } { dec_unsigned 32 0 } } { arg_decls } { scope { decls } { inits } { stmts ";
 
 const TAIL: &str = "} } } } }";
 

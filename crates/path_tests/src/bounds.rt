@@ -23,7 +23,8 @@ const CHOICES: &str = "\
 ; @A ?C |B @B ; ^A @C . # 5 3 2 3 5 # L 1 1 3, T 0 0 6, T 1 0 4, T 2 1 3, T 3 0 4, T 4 0 4, P 1 3 2 => 7 40 stopped, 9 35 stopped, 11 25 stopped, 12 15 least, \
 100 15 least\n\
 ; @A ?C |B @B ; ^A @C . # 2 3 7 1 5 # L 1 0 1, T 0 0 1, T 1 0 9, T 2 0 6, T 3 0 1, T 4 0 4 => 0 92 stopped, 3 40 stopped, 6 25 stopped, 7 17 least\n\
-; @A ?C |B @B ; ?A |D @D ; ^A @C . # 5 3 1 3 0 7 # L 1 1 6, T 0 1 5, T 1 0 1, T 2 0 3, T 3 0 9, T 4 0 6, T 5 0 3 => 0 79 stopped, 5 38 stopped, 7 32 stopped, 8 24 least\n\
+; @A ?C |B @B ; ?A |D @D ; ^A @C . # 5 3 1 3 0 7 # L 1 1 6, T 0 1 5, T 1 0 1, T 2 0 3, T 3 0 9, T 4 0 6, T 5 0 3 => 0 79 stopped, 5 38 stopped, 7 32 stopped, \
+8 24 least\n\
 ; @A ?C |B @B ; @E ?A |D @D ; ^E @C . # 3 3 5 0 7 0 7 # L 1 2 3, L 2 1 3, T 0 0 6, T 1 0 6, T 2 1 3, T 3 0 1, T 4 0 1, T 5 1 4, T 6 0 3 => 7 44 stopped, 11 30 \
 stopped, 13 10 stopped, 100 7 stopped\n\
 ; @A ?C |B @B ; @E ?A |D @D ; ^E @C . # 7 1 0 2 1 3 3 # L 1 2 7, L 2 1 3, T 0 0 1, T 1 1 5, T 2 0 3, T 3 1 4, T 4 0 1, T 5 0 9, T 6 1 1 => 5 23 stopped, 8 14 \

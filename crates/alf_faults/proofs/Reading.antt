@@ -11,7 +11,7 @@ use Rattle.alf_faults.proofs.EarliestFaults.{earliest-append}
 pub read_of : {A B : Type 0} (f : A → B) (xs : List A) (i : ℕ) (x : A) → i < length xs → x ≡ get_or xs i x → slice_get (map f xs) i ≡ Some (f x)
 read_of f xs i x low is = slice_get-map f xs i ∙ ap (option_map f) (slice_get_read xs (length xs) i x refl low is)
 
--- the faults from a member on: its own, and those behind it
+-- the faults from a member on: its own, and those after it
 walk_turn : {A B : Type 0} (gives : B → List Fault) (f : A → B) (xs : List A) (i : ℕ) (x : A) → i < length xs → x ≡ get_or xs i x
     → earliest (flat_map gives (map f (drop i xs))) ≡ option_or (earliest (gives (f x))) (earliest (flat_map gives (map f (drop (i + 1) xs))))
 walk_turn gives f xs i x low is =
@@ -22,7 +22,7 @@ pub walk_found : {A B : Type 0} (gives : B → List Fault) (f : A → B) (xs : L
     → Some fault ≡ earliest (gives (f x)) → Some fault ≡ earliest (flat_map gives (map f (drop i xs)))
 walk_found gives f xs i x fault low is found = rw (walk_turn gives f xs i x low is, ← found) refl
 
--- where a member has none, the first from there on is the first behind it
+-- where a member has none, the first from there on is the first after it
 pub walk_passed : {A B : Type 0} (gives : B → List Fault) (f : A → B) (xs : List A) (i : ℕ) (x : A) → i < length xs → x ≡ get_or xs i x
     → None ≡ earliest (gives (f x)) → earliest (flat_map gives (map f (drop (i + 1) xs))) ≡ earliest (flat_map gives (map f (drop i xs)))
 walk_passed gives f xs i x low is none = rw (walk_turn gives f xs i x low is, ← none) refl

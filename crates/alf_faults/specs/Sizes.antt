@@ -38,7 +38,7 @@ abbrev pub takes_first : List Allocation → Option ℕ → Bool
 takes_first [] size = false
 takes_first (frame ∷ frames) size = is_exactly frame.bits size
 
--- the frames behind the first
+-- the frames after the first
 abbrev pub other_frames : List Allocation → List Allocation
 other_frames [] = []
 other_frames (frame ∷ frames) = frames

@@ -22,7 +22,7 @@ use std::alloc::{AllocError, Global};
 /// at first, and its items. At one place a duplicate comes before unknown names, and these before a
 /// size. It takes memory for a table of the labels of one function at a time, the numbers of one
 /// switch, one entry for each function, and the name, and goes as deep as expressions are nested,
-/// which is at most 64 in a program that was read. A fault at an item behind the 4,294,967,296th
+/// which is at most 64 in a program that was read. A fault at an item after the 4,294,967,296th
 /// is told as want of memory.
 pub fn first_fault(alloc: Global, program: &Program) -> Result<Option<ItemFault>, AllocError>
     ensures first { IfOk result (λ found. option_map fault_of found

@@ -33,7 +33,7 @@ pub fn owned(alloc: Global, found: Found) -> Result<ItemFault, AllocError>
         Found::Unknown(name) => Ok(ItemFault::Unknown(Name::new(alloc, name.bytes())?)),
         Found::Size(name, None) => Ok(ItemFault::Size(Name::new(alloc, name.bytes())?, None)),
         Found::Size(name, Some(place)) => {
-            // Items are numbered by 32 bits, and one behind those is told as want of memory.
+            // Items are numbered by 32 bits, and one after those is told as want of memory.
             let Ok(number) = u32::try_from(place) else {
                 return Err(AllocError);
             };

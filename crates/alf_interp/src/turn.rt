@@ -252,7 +252,7 @@ fn go_back(
     }
 }
 
-// The result is stored where the call wants it, and the run goes on behind the call.
+// The result is stored where the call wants it, and the run goes on after the call.
 fn store_result(
     to: Option<(u32, u32)>,
     next: u32,

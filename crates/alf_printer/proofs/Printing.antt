@@ -26,7 +26,7 @@ unfolding put
 all-put [] text = sym (append-nil text)
 all-put (m ∷ ms) text = all-put ms (text ++ printed m) ∙ append_assoc text (printed m) (flat_map printed ms)
 
--- the text of marks behind a brace
+-- the text of marks after a brace
 pub braced_text : (ms : List Mark) → all_put (123 ∷ []) ms ++ 10 ∷ [] ≡ text_of_marks (opens space ∷ ms)
 braced_text ms = rw (all-put ms (123 ∷ [])) refl
 

@@ -1,5 +1,5 @@
 -- The canonical text of a program.
---   frame_marks, start_marks, entry_marks, function_marks, ..   the tokens of a part, each behind its blank
+--   frame_marks, start_marks, entry_marks, function_marks, ..   the tokens of a part, each after its blank
 --   program_marks whole      the tokens of a program
 --   canonical_text whole     its text
 -- One space stands between two tokens, but in its place a line feed before each member of the lists
@@ -40,7 +40,7 @@ a_name n = record { blank = space; kind = kinds.Quoted; text = n }
 
 -- ---- what stands in braces
 
--- in braces, behind a word
+-- in braces, after a word
 abbrev pub braced : ℕ → List ℕ → List Mark → List Mark
 braced blank w inner = opens blank ∷ a_word w ∷ (inner ++ closes ∷ [])
 
@@ -157,7 +157,7 @@ globals_marks p = decls_marks p.decls ++ starts_marks p.inits ++ listed (codes "
 abbrev pub parts_marks : WholeProgram → List Mark
 parts_marks p = names_marks (codes "exports") p.exports p.labels ++ names_marks (codes "imports") [] [] ++ globals_marks p
 
--- what stands behind the first brace
+-- what stands after the first brace
 abbrev pub body_marks : WholeProgram → List Mark
 body_marks p = a_word (codes "alf") ∷ (head_marks ++ parts_marks p ++ closes ∷ [])
 

@@ -1,6 +1,6 @@
 -- Printing, token by token.
---   put text mark        the text with the mark behind it
---   all_put text marks   the text with the marks behind it
+--   put text mark        the text with the mark after it
+--   all_put text marks   the text with the marks after it
 use Rattle.std.specs.Prelude.{ℕ, List, ◌++◌}
 use Rattle.std.specs.List.{fold}
 use Rattle.alf_tokens.specs.Printed.{Mark, printed}

@@ -376,7 +376,7 @@ fn put_parts(out: &mut Vec<u8>, program: &Program) -> Result<(), AllocError>
     Ok(())
 }
 
-// What stands behind the first brace.
+// What stands after the first brace.
 fn put_body(out: &mut Vec<u8>, program: &Program) -> Result<(), AllocError>
     ensures { OnOk result (out.new.items ≡ all_put out.old.items (body_marks (program_of program.now))) }
 {

@@ -19,7 +19,7 @@ pub enum Expr {
     Addr(Name, u32),
     /// A load of so many bits from an address.
     Load(u32, Box<Expr>),
-    /// An operator, the sizes that are written behind it, and its operands in order.
+    /// An operator, the sizes that are written after it, and its operands in order.
     Apply(Op, Vec<u32>, Vec<Expr>),
 }
 

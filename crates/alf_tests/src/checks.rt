@@ -13,7 +13,7 @@ const HEAD: &str =
 const TAIL: &str =
     "} } } { func { label 32 { lref 32 \"leaf\" } { dec_unsigned 32 0 } } { arg_decls } { scope { decls { alloc 32 \"other\" 32 } } { inits } { stmts { store { addr 32 { fref 32 \"shared\" } { dec_unsigned 32 0 } } with { dec_unsigned 32 2 } } { return } } } } } }";
 
-// `@A` is the label A, `^A` a jump to it, `=x` a store in the frame x, `!f` a call of f; behind `/f`
+// `@A` is the label A, `^A` a jump to it, `=x` a store in the frame x, `!f` a call of f; after `/f`
 // stand the items of a further function f.
 fn item(text: &mut String, word: &str) -> Result<(), AllocError> {
     if let Some(label) = word.strip_prefix("@") {
@@ -174,7 +174,7 @@ fn along(alloc: Global, names: &[Name]) -> Result<String, AllocError> {
     Ok(text)
 }
 
-// The items of `main` and functions behind it, the root, and what is told: `passes`, or the fault.
+// The items of `main` and functions after it, the root, and what is told: `passes`, or the fault.
 static CASES: [(&str, &str, &str); 27] = [
     ("{ return }", "main", "passes"),
     ("@A { null } =own =shared !leaf ^A", "leaf", "passes"),

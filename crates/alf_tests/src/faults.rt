@@ -24,7 +24,7 @@ fn told(alloc: Global, kind: &str, name: &[u8], number: Option<u32>) -> Result<S
     }
 }
 
-// Each sketch, behind these statements, has the fault that stands beside it.
+// Each sketch, after these statements, has the fault that stands beside it.
 fn judge(rt: &impl Abort, alloc: Global, before: &str, cases: &[(&str, &str)]) -> Result<(), Fail> {
     for (sketch, wanted) in cases {
         let text = format!(in alloc; "{before}{sketch}")?;

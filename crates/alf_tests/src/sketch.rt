@@ -1,6 +1,6 @@
 //! Sketches of programs: statements that end with `;`, of words.
 //!
-//! `export x`, `lref f`, `global x 32` and `start x 3 8` stand before the functions. Behind `func f`
+//! `export x`, `lref f`, `global x 32` and `start x 3 8` stand before the functions. After `func f`
 //! stand `arg a 32`, `decl b 8`, `hold b 0 8` and the items: `label A`, `null`, `store &x sum`,
 //! `jump A`, `switch *x A 32:7:B` with the default before the targets, `call f *x`, `into x f *x` with
 //! the result's frame, and `return` with or without an expression. `&x` is an address, `*x` a load of

@@ -1,7 +1,7 @@
 -- Numbers of calls in a row.
 --   numbers-append    those of the one list, and then of the other
 --   within            a number is one of a function, and so is each in a row
---   joined            numbers that are put behind others, one list after the other
+--   joined            numbers that are put after others, one list after the other
 use Rattle.std.proofs.Common.{◌≡◌, ◌+◌, ◌<◌, ℕ, suc, List, [], ◌∷◌, ◌++◌, length, Option, Some, None, IfSome, Contains, refl, ap, sym, ◌∙◌, subst, arith}
 use Rattle.std.specs.Option.{option_map}
 use Rattle.std.specs.Str.{bytes_eq}
@@ -41,7 +41,7 @@ numbers_within words names [] n c = no_member n c
 numbers_within words names (token ∷ tokens) n c =
     with_within (number_at words names token) (numbers_at words names tokens) (length names) n (within words names token) c (numbers_within words names tokens n)
 
--- numbers that are put behind others, one list after the other
+-- numbers that are put after others, one list after the other
 pub joined : (words : List Word) (names row xs ys : List ℕ) → (row ++ numbers_at words names xs) ++ numbers_at words names ys ≡ row ++ numbers_at words names (xs ++ ys)
 joined words names row xs ys = append_assoc row (numbers_at words names xs) (numbers_at words names ys) ∙ ap (λ (zs : List ℕ). row ++ zs) (sym (numbers-append words names xs ys))
 

@@ -1,6 +1,6 @@
 -- Types of parameters.
 --   next_of params    the type of the next parameter, if there is one
---   others_of params  the types behind it
+--   others_of params  the types after it
 use Rattle.std.specs.Prelude.{List, [], ◌∷◌, Option, Some, None}
 use Rattle.c_unit.specs.declared.types.Scalar.{Scalar}
 

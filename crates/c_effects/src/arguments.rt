@@ -23,7 +23,7 @@ pub fn check_arguments(
     let mut params = params;
     for argument in arguments {
         check_wanted(scopes, next(params), argument)?;
-        params = behind(params);
+        params = others(params);
     }
     Ok(())
 }
@@ -38,8 +38,8 @@ fn next(params: &[Scalar]) -> Option<Scalar>
     }
 }
 
-// The types behind it.
-fn behind(params: &[Scalar]) -> &[Scalar]
+// The types after it.
+fn others(params: &[Scalar]) -> &[Scalar]
     ensures { result.now ≡ others_of params.now }
 {
     match params.split_first() {

@@ -3,7 +3,7 @@
 --   definition_parts  the faults of the head, and then those of the body
 --   file_known        where there is one scope, it is the file's
 --   head_known        what is known where a body begins
---   tells_after       what is told behind a part without faults
+--   tells_after       what is told after a part without faults
 use Rattle.std.proofs.Common.{◌≡◌, ◌++◌, ℕ, true, false, List, [], ◌∷◌, Some, Bool, Result, Ok, Err, if◌then◌else◌, ap, ◌∙◌, sym}
 use Rattle.std.proofs.lemmas.List.{append_assoc}
 use Rattle.c_unit.specs.declared.types.Outcome.{Outcome}
@@ -34,7 +34,7 @@ pub head_known : (known : Known) (o : Outcome) (name : ℕ) (params : List Param
 head_known known o name params file =
     ap (with_head o name params) (file_known known file) ∙ params_known known.words [] ((record { token = name; bound = function_of o params } ∷ innermost known.scopes) ∷ []) params
 
--- what is told behind a part without faults
+-- what is told after a part without faults
 pub tells_after : {A : Type 0} (result : Result A Stop) (xs ys whole : List Fault) → xs ≡ [] → xs ++ ys ≡ whole → Tells result ys → Tells result whole
 tells_after (Ok value) xs ys whole none is told = sym is ∙ ap (λ (zs : List Fault). zs ++ ys) none ∙ told
 tells_after (Err (stops.Fault fault)) xs ys whole none is told = sym (ap earliest is) ∙ ap (λ (zs : List Fault). earliest (zs ++ ys)) none ∙ told

@@ -1,7 +1,7 @@
 -- How the text of a unit is gone through.
---   IsUnderWay words names all rest count known   behind so many definitions, what is left has the faults of all
+--   IsUnderWay words names all rest count known   after so many definitions, what is left has the faults of all
 --   begins    so it is at first
---   goes_on   so it is behind one more that has no fault
+--   goes_on   so it is after one more that has no fault
 --   stops_at  the first fault of one more is that of all
 --   ends      where nothing is left there is no fault
 use Rattle.std.proofs.Common.{◌≡◌, ◌+◌, ◌≤◌, ℕ, zero, suc, List, [], ◌∷◌, ◌++◌, length, take, drop, reverse, Err, refl, ap, sym, ◌∙◌, subst, arith}
@@ -32,7 +32,7 @@ pub record IsUnderWay (words : List Word) (names : List ℕ) (all rest : List Ex
   pub faults : externals_faults words names start all ≡ externals_faults words names (file_at known names count) rest
   pub names_left : drop count names ≡ definitions rest
 
--- ---- names behind a count
+-- ---- names after a count
 
 take_next : (names : List ℕ) (count name : ℕ) (more : List ℕ) → drop count names ≡ name ∷ more → take (suc count) names ≡ take count names ++ name ∷ []
 take_next [] zero name more left = cc

@@ -1,5 +1,5 @@
 -- How far the text of a unit is gone through.
---   file_at known names count   what is known of the file behind so many definitions
+--   file_at known names count   what is known of the file after so many definitions
 use Rattle.std.specs.Prelude.{ℕ, List, take, reverse}
 use Rattle.c_checks.specs.Names.{innermost}
 use Rattle.c_checks.specs.Units.{File}

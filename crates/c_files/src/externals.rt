@@ -38,7 +38,7 @@ pub fn check_unit(alloc: Global, functions: &Definitions<'_>, unit: &CUnit) -> R
     Ok(())
 }
 
-// The first fault of what stands here, behind so many definitions.
+// The first fault of what stands here, after so many definitions.
 fn check_external(
     alloc: Global,
     functions: &Definitions<'_>,

@@ -17,7 +17,7 @@ use c_types::Fault;
 use c_unit::{Outcome, Parameter, Stmt};
 use std::alloc::Global;
 
-/// The first fault of a function that is defined here, behind so many other definitions. Where there is none it is
+/// The first fault of a function that is defined here, after so many other definitions. Where there is none it is
 /// known in the file's scope.
 pub fn check_function(
     alloc: Global,

@@ -79,7 +79,7 @@ unary_address unary.Plus value = Err faults.Kind
 unary_address unary.Load value = value
 unary_address unary.Address value = Err faults.Kind
 
--- so many elements behind the base
+-- so many elements after the base
 abbrev pub element_address : Scalar → Valued → Valued → Valued
 element_address t base index = on_both sum base (scaled (pointee t) index)
 

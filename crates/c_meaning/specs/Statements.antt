@@ -85,7 +85,7 @@ given (outcomes.Integer i) (Some value) = widened i value
 abbrev pub valued : Setting → List Scope → ValueTree → History → (Valued → History → Ending) → Ending
 valued setting scopes (OfExpression e) history go = go (value_of setting.program scopes history e) history
 valued setting scopes (OfCall call) history go =
-    called setting scopes call history (λ value behind. go (given (function_at setting.program (callee setting.program call)).result value) behind)
+    called setting scopes call history (λ value later. go (given (function_at setting.program (callee setting.program call)).result value) later)
 
 -- ---- effects
 
@@ -106,12 +106,12 @@ updated program scopes to op t r history =
 abbrev pub effect_done : Setting → List Scope → EffectTree → History → Ending
 effect_done setting scopes (Assigns to token value) history =
     valued setting scopes value history
-    (λ v behind. assigned setting.program (kind_of setting.program.words scopes to) behind (address_of setting.program scopes behind to) v)
+    (λ v later. assigned setting.program (kind_of setting.program.words scopes to) later (address_of setting.program scopes later to) v)
 effect_done setting scopes (Updates to op token e) history =
     updated setting.program scopes to op (kind_of setting.program.words scopes e) (value_of setting.program scopes history e) history
 effect_done setting scopes (Steps operand up token) history =
     updated setting.program scopes operand (step_operator up) (scalars.Integer integers.Int) one history
-effect_done setting scopes (Calls call) history = called setting scopes call history (λ value behind. Normal behind)
+effect_done setting scopes (Calls call) history = called setting scopes call history (λ value later. Normal later)
 
 -- ---- declarations
 
@@ -143,7 +143,7 @@ elements_stored program object kind offset (suc count) cs history =
 abbrev pub first_value : Setting → List Scope → Scalar → ℕ → Option ValueTree → History → Ending
 first_value setting scopes t object None history = Normal history
 first_value setting scopes t object (Some value) history =
-    valued setting scopes value history (λ v behind. assigned setting.program t behind (Ok (values.Ptr object 0)) v)
+    valued setting scopes value history (λ v later. assigned setting.program t later (Ok (values.Ptr object 0)) v)
 
 abbrev pub first_elements : Program → Integer → ℕ → ℕ → Option (List Constant) → History → Ending
 first_elements program kind object size None history = Normal history

@@ -23,7 +23,7 @@ neg_times a b =
 pub times_neg : (a b : ℤ) → a *ℤ neg_ℤ b ≡ pos 0 -ℤ (a *ℤ b)
 times_neg a b = (let q : a *ℤ neg_ℤ b ≡ neg_ℤ b *ℤ a = omega (arith, ints) in q) ∙ neg_times b a ∙ (let q : pos 0 -ℤ (b *ℤ a) ≡ pos 0 -ℤ (a *ℤ b) = omega (arith, ints) in q)
 
--- the first of three factors behind the second
+-- the first of three factors after the second
 pub swap_first : (a b c : ℤ) → a *ℤ (b *ℤ c) ≡ b *ℤ (a *ℤ c)
 swap_first a b c = sym (times_times a b c) ∙ ap (λ (t : ℤ). t *ℤ c) (let q : a *ℤ b ≡ b *ℤ a = omega (arith, ints) in q) ∙ times_times b a c
 

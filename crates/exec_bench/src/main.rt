@@ -18,7 +18,7 @@ use std::alloc::{AllocError, Global};
 use std::env;
 use std::process::ExitCode;
 
-// A program with a loop. Node 2 is its test, node 3 its body, and node 4 stands behind it.
+// A program with a loop. Node 2 is its test, node 3 its body, and node 4 stands after it.
 const LOOP: &str =
     "{ alf { macro_defs } { least_addr_unit 8 } little_endian { exports { frefs } { lrefs } } { imports { frefs } { lrefs } } { decls } { inits } { funcs { func { label 32 { lref 32 \"main\" } { dec_unsigned 32 0 } } { arg_decls } { scope { decls } { inits } { stmts { null } { label 32 { lref 32 \"A\" } { dec_unsigned 32 0 } } { switch { dec_unsigned 32 0 } { target { dec_unsigned 32 0 } { label 32 { lref 32 \"C\" } { dec_unsigned 32 0 } } } { default { label 32 { lref 32 \"B\" } { dec_unsigned 32 0 } } } } { label 32 { lref 32 \"B\" } { dec_unsigned 32 0 } } { null } { jump { label 32 { lref 32 \"A\" } { dec_unsigned 32 0 } } leaving 0 } { label 32 { lref 32 \"C\" } { dec_unsigned 32 0 } } { return } } } } } }";
 

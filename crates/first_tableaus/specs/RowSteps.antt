@@ -1,5 +1,5 @@
 -- Rows and columns, one after another.
---   row_next, cost_next, drop_more   what is left is the next one and what is left behind it
+--   row_next, cost_next, drop_more   what is left is the next one and what is left after it
 --   rows_end, costs_end   past the last nothing is left
 --   width_next, width_more, slack_below   the rows left end at the width, and their slacks lie below it
 --   rows_more, costs_more what was made so far, and then what is left, is all
@@ -33,7 +33,7 @@ costs_end [] (suc k) past = refl
 costs_end (c ∷ cs) zero past = absurd (omega arith)
 costs_end (c ∷ cs) (suc k) past = costs_end cs k (omega arith)
 
--- the width of the rows from k on is that of those behind it, from the next slack on
+-- the width of the rows from k on is that of those after it, from the next slack on
 pub width_next : (rs : List Row) (k s : ℕ) → k < length rs → width_from (drop k rs) s ≡ width_from (drop (suc k) rs) (next_slack (row_at rs k).equation s)
 width_next rs k s below = ap (λ (l : List Row). width_from l s) (row_next rs k below)
 

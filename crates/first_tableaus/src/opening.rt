@@ -10,7 +10,7 @@ use dual_check::Rows;
 use pivot_steps::SparseTableau;
 use std::alloc::{AllocError, Global};
 
-/// The line behind those of a row.
+/// The line after those of a row.
 fn line_behind(equation: bool, line: usize) -> usize
     requires { line < 2 ^ 34 }
     ensures { result ≡ next_line equation line }

@@ -5,7 +5,7 @@ ghost use Rattle.pivot_rules.specs.Tableaus.{width_of, slacks_from, next_slack};
 
 use dual_check::Rows;
 
-/// The next slack behind those of a row, where 32 bits number it.
+/// The next slack after those of a row, where 32 bits number it.
 fn next_place(equation: bool, slack: u32) -> Option<u32>
     ensures { IfSome result (λ next. next ≡ next_slack equation slack) }
 {

@@ -5,7 +5,7 @@
 --   has_word d x        the test for it
 --   joined a b          every word, where the two differ
 --   sizes_fit sizes args       the test whether there is one set of each size
---   word_at args i      the one word of operand i; behind the last operand 0
+--   word_at args i      the one word of operand i; after the last operand 0
 --   known_word op sizes args   the operator's word, where each operand is one word
 --   may_divide, must_divide    the operator divides, and the divisor may be 0, is 0
 --   given op sizes args        that word, or every word of its size

@@ -11,7 +11,7 @@ use crate::set::Flat;
 use alf_ops::{Op, apply, operand, shape};
 use domain_core::Rel;
 
-/// The one word of the operand at this place; 0 behind the last operand.
+/// The one word of the operand at this place; 0 after the last operand.
 fn word_at(args: &[Flat], place: usize) -> Option<u64>
     ensures value { result ≡ word_at_of args.now place }
     ensures flat { IfSome (slice_get args.now place) IsFlat }

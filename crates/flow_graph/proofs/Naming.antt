@@ -33,7 +33,7 @@ decimal_digits n low = decimal_by_steps (λ m ds. All IsDigit ds)
     (λ m ds large all. All-append IsDigit ds ((48 + m % 10) ∷ []) all (All-cons IsDigit (48 + m % 10) [] (record { least = omega arith; most = omega arith }) (All-nil IsDigit)))
     n low
 
--- what stands before the first quote, and behind it
+-- what stands before the first quote, and after it
 before_quote : (xs ys more others : List ℕ) → All IsDigit xs → All IsDigit ys → xs ++ 34 ∷ more ≡ ys ++ 34 ∷ others → (xs ≡ ys) × (more ≡ others)
 before_quote [] [] more others a b e = (refl, cc)
 before_quote [] (y ∷ ys) more others a b e = let d = All-head IsDigit y ys b in let least = d.least in let same : 34 ≡ y = cc in absurd (omega arith)
@@ -105,7 +105,7 @@ module _ (program : NumberedProgram) where
       ∙ append_assoc (path_name program start) (46 ∷ (decimal b ++ quoted (name_at program g))) (rest_name program g calls block)
       ∙ ap (λ (xs : List ℕ). path_name program start ++ (46 ∷ xs)) (append_assoc (decimal b) (quoted (name_at program g)) (rest_name program g calls block))
 
-  -- where what follows is one for the same function, so it is behind a call
+  -- where what follows is one for the same function, so it is after a call
   same_on : (f x y : ℕ) (xs ys : List ℕ) (a b : Option ℕ) → x < 2 ^ 32 → y < 2 ^ 32 → rest_name program f (x ∷ xs) a ≡ rest_name program f (y ∷ ys) b
       → ((g : ℕ) → rest_name program g xs a ≡ rest_name program g ys b → (xs ≡ ys) × (a ≡ b)) → (x ∷ xs ≡ y ∷ ys) × (a ≡ b)
   same_on f x y xs ys a b x_low y_low e again =

@@ -26,7 +26,7 @@ pub fn name_of(alloc: Global, checked: &Checked, place: &Place) -> Result<Vec<u8
     Ok(name)
 }
 
-// Puts the names of the functions of a call path behind a text, and gives the last of them.
+// Puts the names of the functions of a call path after a text, and gives the last of them.
 fn put_path(checked: &Checked, path: &[u32], text: &mut Vec<u8>) -> Result<u32, AllocError>
     requires { IsCallPath (seen checked.now) (reverse path.now) }
     ensures func { IfOk result (λ func. func ≡ function_at (seen checked.now) (reverse path.now)) }

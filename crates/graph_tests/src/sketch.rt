@@ -15,7 +15,7 @@ const HEAD: &str =
 const TAIL: &str = "} } } } }";
 
 // `.` is a return, `;` a statement that does nothing, `@A` the label A, `^A` a jump to it, `!f` a call
-// of f; behind `/f` stand the items of a further function f. A switch is `?A` with its first target A,
+// of f; after `/f` stand the items of a further function f. A switch is `?A` with its first target A,
 // further targets `,B`, and its last one `|C` for all other words.
 fn item(alloc: Global, text: &mut String, word: &str, value: u32) -> Result<(), AllocError> {
     if let Some(label) = word.strip_prefix("@") {

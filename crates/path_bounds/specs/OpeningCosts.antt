@@ -64,10 +64,10 @@ limits_within o most facts within = all_constraints o (IsLimit most) facts (λ n
 
 -- what is known of a row that limits the node
 record IsRowOf (o : Shape) (columns : List Column) (most : ℕ → ℕ) (m b r : ℕ) (ks : List Constraint) : Type 0 where
-  behind : ℕ
-  is : r ≡ b + behind
+  later : ℕ
+  is : r ≡ b + later
   high : ℕ
-  right : (row_at (map (λ k. row_of columns (weighing_of o k)) ks) behind).right ≡ pos high
+  right : (row_at (map (λ k. row_of columns (weighing_of o k)) ks) later).right ≡ pos high
   within : high ≤ most m
 
 limit_right : (o : Shape) (most : ℕ → ℕ) (m : ℕ) (k : Constraint) → is_limit_of m k ≡ true
@@ -87,18 +87,18 @@ row_found o columns most m b r (k ∷ ks) all found = by_test (is_limit_of m k)
     let here : place_of (λ k. is_limit_of m k) b (k ∷ ks) ≡ Some b = rw is refl in
     let same : b ≡ r = cc in
     let limit = limit_right o most m k is (All-head (IsLimit most) k ks all) in
-    record { behind = 0; is = omega (arith, same); high = limit.0; right = limit.1; within = limit.2 })
+    record { later = 0; is = omega (arith, same); high = limit.0; right = limit.1; within = limit.2 })
     (λ clear.
     let later : place_of (λ k. is_limit_of m k) b (k ∷ ks) ≡ place_of (λ k. is_limit_of m k) (b + 1) ks = rw clear refl in
     let rest = row_found o columns most m (b + 1) r ks (All-tail (IsLimit most) k ks all) (sym later ∙ found) in
     let is = rest.is in
-    record { behind = suc rest.behind; is = omega (arith, is); high = rest.high; right = rest.right; within = rest.within })
+    record { later = suc rest.later; is = omega (arith, is); high = rest.high; right = rest.right; within = rest.within })
 
 -- what is known of a column that leaves the node
 record IsColumnOf (costs : List ℕ) (m b e : ℕ) (columns : List Column) : Type 0 where
-  behind : ℕ
-  is : e ≡ b + behind
-  cost : cost_at (map (λ c. cost_of costs c) columns) behind ≡ slice_index costs m
+  later : ℕ
+  is : e ≡ b + later
+  cost : cost_at (map (λ c. cost_of costs c) columns) later ≡ slice_index costs m
 
 column_found : (costs : List ℕ) (m b e : ℕ) (columns : List Column) → place_of (λ (c : Column). m == c.from) b columns ≡ Some e → IsColumnOf costs m b e columns
 column_found costs m b e [] found = absurd cc
@@ -106,12 +106,12 @@ column_found costs m b e (c ∷ columns) found = by_test (m == c.from)
     (λ is.
     let here : place_of (λ (c : Column). m == c.from) b (c ∷ columns) ≡ Some b = rw is refl in
     let same : b ≡ e = cc in
-    record { behind = 0; is = omega (arith, same); cost = ap (λ (n : ℕ). slice_index costs n) (sym (eqb-true m c.from is)) })
+    record { later = 0; is = omega (arith, same); cost = ap (λ (n : ℕ). slice_index costs n) (sym (eqb-true m c.from is)) })
     (λ clear.
     let later : place_of (λ (c : Column). m == c.from) b (c ∷ columns) ≡ place_of (λ (c : Column). m == c.from) (b + 1) columns = rw clear refl in
     let rest = column_found costs m (b + 1) e columns (sym later ∙ found) in
     let is = rest.is in
-    record { behind = suc rest.behind; is = omega (arith, is); cost = rest.cost })
+    record { later = suc rest.later; is = omega (arith, is); cost = rest.cost })
 
 -- ---- the sum
 
@@ -133,8 +133,8 @@ module _ (o : Outlined) (most : ℕ → ℕ) (columns : List Column) (ks : List 
   part_is m r e row column =
       let its = row_found (shape_of o) columns most m 0 r ks limits row in
       let place = column_found (costs_of o) m 0 e columns column in
-      let row_same : its.behind ≡ r = (let is = its.is in omega (arith, is)) in
-      let column_same : place.behind ≡ e = (let is = place.is in omega (arith, is)) in
+      let row_same : its.later ≡ r = (let is = its.is in omega (arith, is)) in
+      let column_same : place.later ≡ e = (let is = place.is in omega (arith, is)) in
       let right : (row_at p.rows r).right ≡ pos its.high = ap (λ (k : ℕ). (row_at p.rows k).right) (sym row_same) ∙ its.right in
       let cost : cost_at p.costs e ≡ slice_index (costs_of o) m = ap (λ (j : ℕ). cost_at p.costs j) (sym column_same) ∙ place.cost in
       let value : part p (r, e) ≡ pos (slice_index (costs_of o) m * its.high) =

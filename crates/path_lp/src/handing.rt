@@ -44,7 +44,7 @@ fn multiplier(equation: bool, terms: &[(u32, Whole)], slack: u32) -> i128
     }
 }
 
-/// The next slack behind those of a row.
+/// The next slack after those of a row.
 fn slack_behind(equation: bool, slack: u32) -> u32
     requires { next_slack equation slack < 2 ^ 32 }
     ensures { result ≡ next_slack equation slack }

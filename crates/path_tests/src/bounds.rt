@@ -1,4 +1,4 @@
-//! Bounds in tables: items, costs and facts of a program, and behind `=>` numbers of pivots with the bounds
+//! Bounds in tables: items, costs and facts of a program, and after `=>` numbers of pivots with the bounds
 //! after them.
 
 use crate::sketch::number;

@@ -42,7 +42,7 @@ within_costs (c ∷ cs) j = (
       subst (λ (n : ℕ). IsWithin n (cost_terms cs (suc j))) (sym q) (within_costs cs (suc j))),
 )
 
--- no cost behind the columns
+-- no cost after the columns
 pub cost_past : (p : Program) (j : ℕ) → slacks_from p ≤ j → coefficient (objective_line p.costs).1 j ≡ pos 0
 cost_past p j past =
     let q : 2 + length p.costs ≡ slacks_from p = omega arith in

@@ -10,7 +10,7 @@ use Rattle.path_rows.specs.Programs.{Row, Program, row_at, cost_at}
 use Rattle.pivot_rules.specs.Tableaus.{Tableau, first_tableau}
 use Rattle.pivot_rules.specs.PivotRule.{opening_at, opened, run, Ended}
 
--- the lines behind those of a row
+-- the lines after those of a row
 abbrev pub next_line : Bool → ℕ → ℕ
 next_line true k = suc (suc k)
 next_line false k = suc k

@@ -39,22 +39,22 @@ AreLimited nodes facts = (n : ℕ) → n < nodes → IsLimited facts n
 -- ---- the place of the first that passes
 
 record IsPlace {A : Type 0} (p : A → Bool) (b : ℕ) (xs : List A) (r : ℕ) : Type 0 where
-  behind : ℕ
-  is : r ≡ b + behind
-  low : behind < length xs
-  passes : (d : A) → p (get_or xs behind d) ≡ true
+  later : ℕ
+  is : r ≡ b + later
+  low : later < length xs
+  passes : (d : A) → p (get_or xs later d) ≡ true
 
 place_is : {A : Type 0} (p : A → Bool) (b : ℕ) (xs : List A) (r : ℕ) → place_of p b xs ≡ Some r → IsPlace p b xs r
 place_is p b [] r found = absurd cc
 place_is p b (x ∷ xs) r found = by_test (p x)
     (λ is. let here : place_of p b (x ∷ xs) ≡ Some b = rw is refl in
     let same : b ≡ r = cc in
-    record { behind = 0; is = omega (arith, same); low = omega arith; passes = λ d. is })
+    record { later = 0; is = omega (arith, same); low = omega arith; passes = λ d. is })
     (λ clear. let later : place_of p b (x ∷ xs) ≡ place_of p (b + 1) xs = rw clear refl in
     let rest = place_is p (b + 1) xs r (sym later ∙ found) in
     let is = rest.is in
     let low = rest.low in
-    record { behind = suc rest.behind; is = omega (arith, is); low = omega (arith, low); passes = rest.passes })
+    record { later = suc rest.later; is = omega (arith, is); low = omega (arith, low); passes = rest.passes })
 
 place_found : {A : Type 0} (p : A → Bool) (b : ℕ) (xs : List A) (x : A) → Contains xs x → p x ≡ true → (r : ℕ) × (place_of p b xs ≡ Some r)
 place_found p b [] x there passes = no_member x there
@@ -116,7 +116,7 @@ module _ (columns : List Column) (ks : List Constraint) where
   node_of m x d is =
       let place = place_is (λ (c : Column). m == c.from) 0 columns x.1 is.column in
       let low = place.low in
-      let at_place : x.1 ≡ place.behind = (let i = place.is in omega (arith, i)) in
+      let at_place : x.1 ≡ place.later = (let i = place.is in omega (arith, i)) in
       (omega (arith, low, at_place), eqb-true m (get_or columns x.1 d).from (ap (λ (j : ℕ). m == (get_or columns j d).from) at_place ∙ place.passes d))
 
   one_node : (m l : ℕ) (x : ℕ × ℕ) → IsOpeningOf m x → IsOpeningOf l x → m ≡ l
@@ -181,9 +181,9 @@ module _ (columns : List Column) (ks : List Constraint) where
       → (x.0 < length ks) × (coefficient (row_at (map (λ k. row_of columns (weighing_of o k)) ks) x.0).terms e ≡ leaves m (get_or columns e d))
   row_weighs o m e x d is low =
       let place = place_is (λ k. is_limit_of m k) 0 ks x.0 is.row in
-      let behind = place.low in
-      let at_place : x.0 ≡ place.behind = (let i = place.is in omega (arith, i)) in
-      let within : x.0 < length ks = omega (arith, behind, at_place) in
+      let later = place.low in
+      let at_place : x.0 ≡ place.later = (let i = place.is in omega (arith, i)) in
+      let within : x.0 < length ks = omega (arith, later, at_place) in
       let k = get_or ks x.0 (Flow 0) in
       let limit : is_limit_of m (get_or ks x.0 (Flow 0)) ≡ true = ap (λ (j : ℕ). is_limit_of m (get_or ks j (Flow 0))) at_place ∙ place.passes (Flow 0) in (
         within,

@@ -54,7 +54,7 @@ turned (t ∷ ts) = (t.0, neg_ℤ t.1) ∷ turned ts
 abbrev pub slack_line : ℤ → List (ℕ × ℤ) → ℕ → Generator
 slack_line right ts s = (s, (0, right) ∷ (s, pos 1) ∷ placed ts)
 
--- the first slack behind those of a row
+-- the first slack after those of a row
 abbrev pub next_slack : Bool → ℕ → ℕ
 next_slack true s = suc (suc s)
 next_slack false s = suc s
@@ -69,7 +69,7 @@ abbrev pub generators : List Row → ℕ → List Generator
 generators [] s = []
 generators (r ∷ rs) s = row_lines r.equation r s (generators rs (next_slack r.equation s))
 
--- the place behind the last slack
+-- the place after the last slack
 abbrev pub width_from : List Row → ℕ → ℕ
 width_from [] s = s
 width_from (r ∷ rs) s = width_from rs (next_slack r.equation s)

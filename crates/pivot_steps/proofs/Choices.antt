@@ -16,7 +16,7 @@ use Rattle.tableau_lines.specs.TermLaws.{nothing_before}
 use Rattle.pivot_steps.specs.TermsFrom.{dropped_rises, dropped_from, dropped_within, dropped_same, cost_is}
 use Rattle.pivot_steps.specs.Choosing.{Chosen, lesser, chosen_among, chosen_with, dropped, number_first, and_on, candidate, choose, place_in, place_chosen, entering_answer}
 
--- ---- terms behind the first
+-- ---- terms after the first
 
 starts_less : (c q : ℕ) (ts : List (ℕ × ℤ)) → StartsAbove c ts → q ≤ suc c → IsFrom q ts
 starts_less c q [] above most = tt

@@ -27,7 +27,7 @@ fn edge_from(outline: &Outline, node: u32, start: u32) -> Option<u32>
     None
 }
 
-// The same, and behind the last edge the first again.
+// The same, and after the last edge the first again.
 fn next_edge(outline: &Outline, node: u32, start: u32) -> Option<u32>
     ensures { IfSome result (λ e. e < length outline.now.edges) }
 {

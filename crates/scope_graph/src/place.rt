@@ -40,15 +40,15 @@ pub fn is_called_from(graph: &Graph, m: u32, n: u32) -> bool
 }
 
 // Whether the path from the root on begins with another and then the call.
-fn goes_on_by(path: &[u32], front: &[u32], call: u32) -> bool
-    ensures yes { result ≡ true → Extends (reverse path.now) (call ∷ reverse front.now) }
-    ensures no { result ≡ false → Extends (reverse path.now) (call ∷ reverse front.now) → ⊥ }
+fn goes_on_by(path: &[u32], prefix: &[u32], call: u32) -> bool
+    ensures yes { result ≡ true → Extends (reverse path.now) (call ∷ reverse prefix.now) }
+    ensures no { result ≡ false → Extends (reverse path.now) (call ∷ reverse prefix.now) → ⊥ }
 {
-    if path.len() <= front.len() {
+    if path.len() <= prefix.len() {
         return false;
     }
-    if path[front.len()] != call {
+    if path[prefix.len()] != call {
         return false;
     }
-    path.starts_with(front)
+    path.starts_with(prefix)
 }

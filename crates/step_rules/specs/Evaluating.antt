@@ -3,7 +3,7 @@
 --   loaded rows m size at   what a load through the address gives
 --   operated op sizes vs    what an operator gives
 --   value_at rows m e       what the expression gives
---   values_at rows m es     what operands give, from left to right; behind one without a value nothing is
+--   values_at rows m es     what operands give, from left to right; after one without a value nothing is
 --       evaluated
 --   arguments_at rows m es  the same of the arguments of a call
 use Rattle.std.specs.Prelude.{ℕ, List, [], ◌∷◌, Option, Some, None}

@@ -192,7 +192,7 @@ module _ (table : List FrameRow) (k : ℕ) (rows : List FrameShape) (m : Mem abs
 
 -- ---- the arm that a run takes
 
--- targets differ from those behind them
+-- targets differ from those after them
 pair_apart : (target : ℕ × ℕ) (targets : List (ℕ × ℕ)) (other : ℕ × ℕ) → AllPairs (λ (s t : ℕ × ℕ). s.0 ≢ t.0) (target ∷ targets) → Contains targets other → target.0 ≢ other.0
 pair_apart target targets other apart among e =
     let low : among.0 < length targets = among.1 in
@@ -222,7 +222,7 @@ module _ (Sharp : Type 0) (rows : List FrameShape) (m : Mem abstract_sets) (hist
         only = λ sharp. same;
       }
 
-  -- the goals before and behind
+  -- the goals before and after
   in_front : (first second : Goals) (next : Node) → GoesTold Sharp rows first next history → (Sharp → second ≡ []) → GoesTold Sharp rows (first ++ second) next history
   in_front first second next told none = record {
     m = told.m;

@@ -5,7 +5,7 @@ use std::alloc::{AllocError, Global};
 use std::test::Fail;
 use sweet_cli::Status;
 
-/// A text, and behind ` @ ` the code and what is told, with `;` in place of the line feed at the end. What
+/// A text, and after ` @ ` the code and what is told, with `;` in place of the line feed at the end. What
 /// is due was worked out by hand.
 const TEXTS: &str = r#"int main(void){return 0x10;} @ 0 int main ( void ) { return 0x10 ; };
 int main(void){return 4294967296;} @ 2 fault 91 number 1 23;

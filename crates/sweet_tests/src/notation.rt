@@ -11,9 +11,9 @@ const LABELLED: &str = "\" } { dec_unsigned 32 0 } } ";
 /// The program with these exports and global frames, and these functions.
 ///
 /// In each of the three a single space stands between two words, and `-` is nothing. An export is the
-/// name of a frame, or `@f` for the function f. A frame has 32 bits, unless its size stands behind its
-/// name: `x%8`. It holds a number at first where one stands behind that: `x=5`, `x%8=5`. A function
-/// stands behind its name: `/f`, or `/f:x,y%8:z` with arguments and frames of its own. What stands
+/// name of a frame, or `@f` for the function f. A frame has 32 bits, unless its size stands after its
+/// name: `x%8`. It holds a number at first where one stands after that: `x=5`, `x%8=5`. A function
+/// stands after its name: `/f`, or `/f:x,y%8:z` with arguments and frames of its own. What stands
 /// before the first of them belongs to `main`. A word of a function is one of
 ///
 /// - `@A`: the label A, or the name of a called function; `^A`: a jump to A; `.`: a return
@@ -46,7 +46,7 @@ fn push_all(text: &mut String, parts: &[&str]) -> Result<(), AllocError> {
     Ok(())
 }
 
-// What stands before a mark, behind it, or behind the next one. Nothing where it is not there.
+// What stands before a mark, after it, or after the next one. Nothing where it is not there.
 fn part(word: &str, mark: char, number: usize) -> &str {
     word.split(mark).nth(number).unwrap_or("")
 }

@@ -11,8 +11,8 @@ const HEAD: &str =
 
 const TAIL: &str = "} } } } }";
 
-// Items of the function, behind what is due of them: `o` where they are read, else `s`, `n` or `p`
-// for syntax, number or profile at the caret. A caret at the end stands for the brace behind the
+// Items of the function, after what is due of them: `o` where they are read, else `s`, `n` or `p`
+// for syntax, number or profile at the caret. A caret at the end stands for the brace after the
 // items. `L:A` is the label A, `A:x` the address of the frame x, `V:x` a load of it, and `K:1` the
 // number 1.
 const ITEMS: &str = r#"o { null } { return }
@@ -160,9 +160,9 @@ o {return}
 o {return}{return{dec_unsigned 32 1}}
 o {call L:f result}{return}"#;
 
-// The tokens of the program that returns at once, each behind what is due where it is replaced by a
+// The tokens of the program that returns at once, each after what is due where it is replaced by a
 // brace, a word, a number and a name, and where it is left out: `o` where the text is read, else
-// `s` or `p` for syntax or profile at its place, `S` or `P` at the token behind it, and `e` for
+// `s` or `p` for syntax or profile at its place, `S` or `P` at the token after it, and `e` for
 // syntax at the end of the text.
 const TOKENS: &str = r#"ossss {
 spsss alf
@@ -411,7 +411,7 @@ fn line_due(alloc: Global, due: &str, column: usize, rest: &str) -> Result<Strin
     }
 }
 
-// What stands before the caret, and what behind it.
+// What stands before the caret, and what after it.
 fn part(marked: &str, number: usize) -> &str {
     marked.split('^').nth(number).unwrap_or("")
 }
@@ -465,7 +465,7 @@ fn with_token(alloc: Global, number: usize, new: &str) -> Result<String, AllocEr
     Ok(text)
 }
 
-// The column where a token begins, where each one before it has a space behind it.
+// The column where a token begins, where each one before it has a space after it.
 fn column_of(text: &str, number: usize) -> usize {
     let mut column: usize = 1;
     for token in text.split(' ').take(number) {
@@ -506,7 +506,7 @@ fn each_token_counts(rt: HostRuntime) -> Result<(), Fail> {
     Ok(())
 }
 
-// What is due of the program that returns at once, where it is cut behind this front.
+// What is due of the program that returns at once, where it is cut after this prefix.
 fn line_at_cut(alloc: Global, front: &str) -> Result<String, AllocError> {
     let number = front.split(' ').count().saturating_sub(1);
     let last = front.split(' ').nth(number).unwrap_or("");

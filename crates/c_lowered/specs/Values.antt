@@ -5,7 +5,8 @@
 --   cut_to t e                 a word as an object of the type has it
 --   cast_to t e                a cast
 --   loaded t at                what an object of the type holds at an address, as an expression has it
---   scaled i e, counted i e    as many bytes as so many elements have, and as many elements as so many bytes
+--   scaled i t e               as many bytes as so many elements of the type i have, where the number is of the type t
+--   counted i e                as many elements as so many bytes
 --   binary_value op a b l r    an operator at operands of the types a and b
 --   test_of op a b l r         the bit of a comparison, or of another operator's value against 0
 --   value_of program scopes e  the value of an expression
@@ -110,20 +111,21 @@ signed_or with_sign without i = if is_signed i then with_sign else without
 abbrev pub product : Integer → NamedExpression → NamedExpression → NamedExpression
 product i l r = of_one ops.Trunc (64 ∷ 32 ∷ []) (of_two (signed_or ops.SMul ops.UMul i) sizes l r)
 
-abbrev pub scaled : Integer → NamedExpression → NamedExpression
-scaled i e = if bytes_of_type i == 1 then e else product Int e (whole (bytes_of_type i))
+-- a product as any other, with or without a sign by the type of the number
+abbrev pub scaled : Integer → Scalar → NamedExpression → NamedExpression
+scaled i t e = if bytes_of_type i == 1 then e else product (left_type t) e (whole (bytes_of_type i))
 
 abbrev pub counted : Integer → NamedExpression → NamedExpression
 counted i e = if bytes_of_type i == 1 then e else of_two ops.SDiv sizes e (whole (bytes_of_type i))
 
 abbrev pub sum_value : Scalar → Scalar → NamedExpression → NamedExpression → NamedExpression
 sum_value (scalars.Integer a) (scalars.Integer b) l r = sum l r
-sum_value (scalars.Integer a) (scalars.Pointer b) l r = sum (scaled b l) r
-sum_value (scalars.Pointer a) b l r = sum l (scaled a r)
+sum_value (scalars.Integer a) (scalars.Pointer b) l r = sum (scaled b (scalars.Integer a) l) r
+sum_value (scalars.Pointer a) b l r = sum l (scaled a b r)
 
 abbrev pub difference_value : Scalar → Scalar → NamedExpression → NamedExpression → NamedExpression
 difference_value (scalars.Integer a) b l r = difference l r
-difference_value (scalars.Pointer a) (scalars.Integer b) l r = difference l (scaled a r)
+difference_value (scalars.Pointer a) (scalars.Integer b) l r = difference l (scaled a (scalars.Integer b) r)
 difference_value (scalars.Pointer a) (scalars.Pointer b) l r = counted a (difference l r)
 
 -- a bit as a word
@@ -188,8 +190,8 @@ unary_value unary.Plus t value place = value
 unary_value unary.Load t value place = loaded (scalars.Integer (pointee t)) value
 unary_value unary.Address t value place = place
 
-abbrev pub element_address : Scalar → NamedExpression → NamedExpression → NamedExpression
-element_address t base index = sum base (scaled (pointee t) index)
+abbrev pub element_address : Scalar → Scalar → NamedExpression → NamedExpression → NamedExpression
+element_address t of base index = sum base (scaled (pointee t) of index)
 
 abbrev mutual
   pub value_of : Program → List Scope → Expression → NamedExpression
@@ -201,7 +203,8 @@ abbrev mutual
   value_of program scopes (WithCast token to operand) = cast_to to (value_of program scopes operand)
   value_of program scopes (AtIndex base token index) =
       loaded (scalars.Integer (pointee (kind_of program.words scopes base)))
-      (element_address (kind_of program.words scopes base) (value_of program scopes base) (value_of program scopes index))
+      (element_address (kind_of program.words scopes base) (kind_of program.words scopes index)
+      (value_of program scopes base) (value_of program scopes index))
   value_of program scopes (WithBinary op token left right) =
       binary_value op (kind_of program.words scopes left) (kind_of program.words scopes right)
       (value_of program scopes left) (value_of program scopes right)
@@ -214,5 +217,6 @@ abbrev mutual
   address_of program scopes (WithUnary op token operand) = value_of program scopes operand
   address_of program scopes (WithCast token to operand) = whole 0
   address_of program scopes (AtIndex base token index) =
-      element_address (kind_of program.words scopes base) (value_of program scopes base) (value_of program scopes index)
+      element_address (kind_of program.words scopes base) (kind_of program.words scopes index)
+      (value_of program scopes base) (value_of program scopes index)
   address_of program scopes (WithBinary op token left right) = whole 0

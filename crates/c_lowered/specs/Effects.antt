@@ -6,7 +6,7 @@
 --   store to value rest        a store, and `rest` after it
 --   value_items within scopes value n made rest   the items of a value's call, if it is one, then the item that `made` makes of the value
 --   effect_items, locals_items within scopes x n rest   those of an effect and of declared locals, whose calls are numbered from n on
-use Rattle.std.specs.Prelude.{ℕ, zero, suc, ◌+◌, List, [], ◌∷◌, map, Option, Some, None, if◌then◌else◌}
+use Rattle.std.specs.Prelude.{ℕ, zero, suc, ◌+◌, List, [], ◌∷◌, Option, Some, None, if◌then◌else◌}
 use Rattle.std.specs.Option.{option_map_or}
 use Rattle.alf_program.specs.Tree.{NamedExpression, Address, Load, Store, Call, BodyItem, Do}
 use Rattle.c_unit.specs.declared.types.Integer.{Integer}
@@ -17,9 +17,8 @@ use Rattle.c_unit.specs.declared.types.Outcome.{Outcome}
 use Rattle.c_unit.specs.declared.types.Outcome.TheVariants as outcomes
 use Rattle.c_unit.specs.declared.types.Constant.{Constant}
 use Rattle.c_unit.specs.declared.expression.Binary.{Binary}
-use Rattle.c_unit.specs.declared.expression.Unary.TheVariants.{Minus}
 use Rattle.c_unit.specs.declared.external.Parameter.{Parameter}
-use Rattle.c_unit.specs.Tree.{Expression, OfConstant, CallTree, ValueTree, OfExpression, OfCall, EffectTree, Assigns, Updates, Steps, Calls, LocalShapeTree, LocalInteger, LocalPointer, LocalArray, LocalTree}
+use Rattle.c_unit.specs.Tree.{Expression, CallTree, ValueTree, OfExpression, OfCall, EffectTree, Assigns, Updates, Steps, Calls, LocalShapeTree, LocalInteger, LocalPointer, LocalArray, LocalTree}
 use Rattle.c_checks.specs.Names.{Scope, text_at, worth_at}
 use Rattle.c_checks.specs.Statements.{with_local}
 use Rattle.c_meaning.specs.Values.{bits_of_type, bytes_of_type}

@@ -5,7 +5,7 @@
 --   parameter_frames program ps  the frames of parameters
 --   global_frames program        those of the globals, in order
 --   first_words program xs       what the globals hold at first
-use Rattle.std.specs.Prelude.{ℕ, zero, suc, ◌+◌, Bool, true, false, List, [], ◌∷◌, ◌++◌, map, Option, Some, None, if◌then◌else◌}
+use Rattle.std.specs.Prelude.{ℕ, zero, suc, ◌+◌, List, [], ◌∷◌, ◌++◌, map, Option}
 use Rattle.std.specs.List.{flat_map}
 use Rattle.std.specs.Option.{option_map_or}
 use Rattle.alf_ops.specs.TwosComplement.{word}
@@ -22,7 +22,7 @@ use Rattle.c_meaning.specs.Values.{bits_of_type, bytes_of_type, is_signed}
 use Rattle.c_meaning.specs.Objects.{Program, Object, bits_of_scalar, bits_of_local, token_of_parameter, count_at}
 use Rattle.c_meaning.specs.Statements.{constant_number, further_elements}
 use Rattle.c_lowered.specs.Names.{call_name, frame_of}
-use Rattle.c_lowered.specs.Effects.{result_of, calls_in_shape, calls_in_call}
+use Rattle.c_lowered.specs.Effects.{result_of, calls_in_shape}
 use Rattle.c_lowered.specs.Statements.{calls_in, calls_if}
 
 abbrev pub object_frame : Program → ℕ → ℕ → Allocation

@@ -5,3 +5,4 @@ pub mod Effects
 pub mod Statements
 pub mod Frames
 pub mod Programs
+pub mod Worked

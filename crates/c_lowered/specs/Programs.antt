@@ -12,7 +12,6 @@ use Rattle.c_unit.specs.Units.{UnitTree}
 use Rattle.c_meaning.specs.Objects.{Program, Function, program_of, integers_of}
 use Rattle.c_lowered.specs.Names.{frame_of, function_name}
 use Rattle.c_lowered.specs.Values.{whole, cut}
-use Rattle.c_lowered.specs.Conditions.{Within}
 use Rattle.c_lowered.specs.Statements.{Around, all_items_of}
 use Rattle.c_lowered.specs.Frames.{all_frames_in, parameter_frames, global_frames, first_words}
 

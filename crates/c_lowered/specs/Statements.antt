@@ -9,13 +9,11 @@
 --   body_items within scopes ss cases labels calls around rest   those of the body of a switch, whose cases have labels from `cases` on
 -- Labels are numbered as they are allocated: those of a statement before those of its parts. Calls are numbered in the order of the text: so in
 -- a `for` those of the last part come before those of the body.
-use Rattle.std.specs.Prelude.{ℕ, zero, suc, ◌+◌, List, [], ◌∷◌, Option, Some, None}
+use Rattle.std.specs.Prelude.{ℕ, suc, ◌+◌, List, [], ◌∷◌, Option, Some, None}
 use Rattle.std.specs.Option.{option_map_or}
 use Rattle.alf_program.specs.declared.program.Num.{Num}
 use Rattle.alf_program.specs.Tree.{NamedExpression, Jump, Switch, Return, BodyItem, Do}
 use Rattle.c_unit.specs.declared.types.Integer.{Integer}
-use Rattle.c_unit.specs.declared.types.Scalar.{Scalar}
-use Rattle.c_unit.specs.declared.types.Scalar.TheVariants as scalars
 use Rattle.c_unit.specs.declared.types.Outcome.{Outcome}
 use Rattle.c_unit.specs.declared.types.Outcome.TheVariants as outcomes
 use Rattle.c_unit.specs.Tree.{Expression, ValueTree, EffectTree, Statement, Empty, Declares, Block, If, IfElse, While, Do as DoWhile, For, ForAfter, Switch as SwitchOn, Case, Default, Break, Continue, Returns, Does, Statements, Nothing, Then}

@@ -15,10 +15,8 @@
 use Rattle.std.specs.Prelude.{ℕ, ◌==◌, Bool, true, false, List, [], ◌∷◌, Option, Some, None, if◌then◌else◌}
 use Rattle.alf_ops.specs.declared.operator.Op.{Op}
 use Rattle.alf_ops.specs.declared.operator.Op.TheVariants as ops
-use Rattle.alf_program.specs.declared.program.Num.{Num}
 use Rattle.alf_program.specs.Tree.{NamedExpression, Number, Address, Load, Apply, Empty, With}
 use Rattle.c_unit.specs.declared.types.Integer.{Integer}
-use Rattle.c_unit.specs.declared.types.Integer.TheVariants.{Int, UnsignedInt}
 use Rattle.c_unit.specs.declared.types.Scalar.{Scalar}
 use Rattle.c_unit.specs.declared.types.Scalar.TheVariants as scalars
 use Rattle.c_unit.specs.declared.expression.Unary.{Unary}
@@ -28,7 +26,7 @@ use Rattle.c_unit.specs.declared.expression.Binary.TheVariants as binary
 use Rattle.c_unit.specs.Tree.{Expression, OfConstant, OfName, InParentheses, WithUnary, WithCast, AtIndex, WithBinary}
 use Rattle.c_constants.specs.declared.worth.Worth.{Worth}
 use Rattle.c_constants.specs.declared.worth.Worth.TheVariants as worth
-use Rattle.c_checks.specs.Names.{Bound, Variable, Array, Function, Entry, Scope, worth_at, number_of, look_up}
+use Rattle.c_checks.specs.Names.{Bound, Variable, Array, Function, Entry, Scope, worth_at, look_up}
 use Rattle.c_meaning.specs.Values.{bits_of_type, bytes_of_type, is_signed, shared, left_type}
 use Rattle.c_meaning.specs.Objects.{Program}
 use Rattle.c_meaning.specs.Expressions.{kind_of, pointee, declared_at}

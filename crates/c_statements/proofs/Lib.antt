@@ -1,3 +1,2 @@
--- What statements are read by at each level, and by their heads.
+-- What statements are read by at each level.
 pub mod Levels
-pub mod HeadsLaws

@@ -14,9 +14,7 @@ mod parts;
 // Labels of a switch.
 mod labels;
 
-// Statements: their heads, and what follows these.
-mod ends;
-mod heads;
+// Statements.
 mod loops;
 mod made;
 mod simple;

@@ -2,8 +2,7 @@
 
 ghost use Rattle.std.specs.Prelude.{◌≡◌, IfOk};
 ghost use Rattle.std.specs.Option.{option_map};
-ghost use Rattle.c_unit.specs.Tree.{expression_of, effect_of, statement_of, if_of, for_of, While, Do, Switch};
-ghost use Rattle.c_grammar.specs.Statements.{items_of};
+ghost use Rattle.c_unit.specs.Tree.{expression_of, effect_of, statement_of, if_of, for_of, While, Do};
 
 use c_unit::{Effect, Expr, Stmt};
 use std::alloc::{AllocError, Global};
@@ -55,14 +54,5 @@ pub fn for_statement(
             after,
             Box::new(alloc, body)?,
         )),
-    }
-}
-
-pub fn switch_statement(alloc: Global, value: Expr, body: Stmt) -> Stmt
-    ensures { statement_of result ≡ Switch (expression_of value) (items_of (statement_of body)) }
-{
-    match body {
-        Stmt::Block(items) => Stmt::Switch(value, items),
-        _ => Stmt::Switch(value, Vec::new(alloc)),
     }
 }

@@ -1,3 +1,4 @@
 mod Rows
 mod Objects
 mod Naming
+mod LaidOut

@@ -2,7 +2,7 @@
 use Rattle.std.specs.Prelude.{slice_get, unwrap_or, nat_le, ◌||◌, ◌==◌}
 use Rattle.std.specs.Option.{option_map, option_map_or}
 use Rattle.std.specs.List.{list_any, range_with_len}
-use Rattle.std.proofs.Common.{◌≡◌, ◌≢◌, ◌⊎◌, inl, inr, ◌<◌, ◌≤◌, ◌+◌, ℕ, zero, suc, Bool, true, false, List, [], ◌∷◌, ◌++◌, map, length, Contains, Option, Some, None, refl, sym, ap, ◌∙◌, subst, arith, ⊎_elim}
+use Rattle.std.proofs.Common.{◌≡◌, ◌⊎◌, ◌<◌, ◌≤◌, ◌+◌, ℕ, zero, suc, Bool, false, List, [], map, length, Contains, Option, Some, None, refl, sym, ap, ◌∙◌, subst, arith, ⊎_elim}
 use Rattle.std.proofs.lemmas.Option.{none-some, same_Some, slice_get_within}
 use Rattle.std.proofs.lemmas.Bool.{ne_eqb, leb-true}
 use Rattle.lists.specs.Tests.{by_test}
@@ -11,13 +11,12 @@ use Rattle.alf_program.specs.Tree.{Allocation}
 use Rattle.alf_names.specs.Places.{frame_place}
 use Rattle.alf_check.specs.declared.rows.FrameRow.{FrameRow}
 use Rattle.alf_check.specs.Numbers.{row_for, frame_rows, first_frame, placed, numbers_in}
-use Rattle.alf_check.specs.Numbers as view
 use Rattle.c_unit.specs.declared.types.Integer.{Integer}
 use Rattle.c_unit.specs.Units.{UnitTree}
 use Rattle.c_meaning.specs.Values.{bits_of_type}
 use Rattle.c_meaning.specs.Objects as meaning
 use Rattle.c_meaning.specs.Objects.{Object, Function, Program, program_of, objects_of, parameter_object, all_locals_in, owned_in, globals_in}
-use Rattle.c_lowered.specs.Names.{name_at, call_name, frame_of}
+use Rattle.c_lowered.specs.Names.{name_at, call_name}
 use Rattle.c_lowered.specs.Frames.{parameter_frames, all_frames_in, global_frames}
 use Rattle.c_lowered.specs.Programs.{lowered_function, lowered}
 use Rattle.lowered_names.specs.Lists.{EachOf, each_when, each_both, each_joined, each_at}
@@ -28,9 +27,9 @@ use Rattle.lowered_names.specs.Checked.{all_owned, parameters_owned, IsGlobal, g
 use Rattle.lowered_names.specs.Views.{globals_part, view_of}
 use Rattle.lowered_values.specs.Frames.{frame_number, is_object_frame, Sees, IsResultFrame, IsNaming, frames_in_body}
 use Rattle.lowered_frames.proofs.Rows.{one_number, global_at, arg_at, decl_at, placed_at, not_placed}
-use Rattle.lowered_frames.proofs.Objects.{lowered_at, from_functions, row_of, number_is, apart, frames_stand}
+use Rattle.lowered_frames.proofs.Objects.{lowered_at, from_functions, row_of, number_is, apart}
 
-by_place : {A : Type 0} (x : Option ℕ) → (x ≡ None → A) → ((p : ℕ) → x ≡ Some p → A) → A
+pub by_place : {A : Type 0} (x : Option ℕ) → (x ≡ None → A) → ((p : ℕ) → x ≡ Some p → A) → A
 by_place None first second = first refl
 by_place (Some p) first second = second p refl
 
@@ -187,28 +186,38 @@ module _ (unit : UnitTree) (names : HasNames (program_of unit)) where
       where
         result : Allocation
         result = record { name = call_name P f k; bits = bits_of_type i }
+
         number : ℕ
         number = (first + length args) + among.0
+
         at_row : slice_get rows number ≡ Some (row_for (Some f) result)
         at_row = decl_at (lowered unit) f (lowered_function P f function) among.0 result here (member_at decls result among)
+
         named : IsNamed (call_name P f k) (frame (call_name P f k))
         named = named_frame (call_name P f k) (of_decls result among refl)
+
         one : frame (call_name P f k) ≡ number
         one = one_number rows (frame (call_name P f k)) number named.row (row_for (Some f) result) (apart unit names) named.stands at_row named.named
+
         at_number : slice_get rows (frame (call_name P f k)) ≡ Some (row_for (Some f) result)
         at_number = ap (λ (n : ℕ). slice_get rows n) one ∙ at_row
+
         low : frame (call_name P f k) < length rows
         low = slice_get_within rows (frame (call_name P f k)) (row_for (Some f) result) at_number
+
         within : f < length P.functions
         within = slice_get_within P.functions f function at
+
         differs : (j : ℕ) (o : Object) → slice_get (objects_of unit) j ≡ Some o → frame_number unit j ≡ frame (call_name P f k) → ⊥
         differs j o at_o e =
             let own = row_of unit names j o at_o in
             let same : own.row ≡ row_for (Some f) result = same_Some own.row (row_for (Some f) result) (sym own.at ∙ ap (λ (n : ℕ). slice_get rows n) e ∙ at_number) in
             call_is_no_object P names j o f k at_o within (sym own.named ∙ ap (λ (x : FrameRow). x.name) same)
+
         past : (j : ℕ) → slice_get (objects_of unit) j ≡ None → frame_number unit j ≡ length rows + j
         past j none =
             ap (λ (x : Option Object). option_map_or (λ (object : Object). Rattle.lowered_values.specs.Frames.row_number object.owner (name_at P j) rows) x (length rows + j)) none
+
         no_object : is_object_frame unit (frame (call_name P f k)) ≡ false
         no_object =
             ap (λ (b : Bool). b || nat_le (length rows) (frame (call_name P f k)))

@@ -2,14 +2,12 @@
 use Rattle.std.specs.Prelude.{slice_get, nat_le, ◌||◌, ◌==◌}
 use Rattle.std.specs.Option.{option_map, option_map_or}
 use Rattle.std.specs.List.{list_any, range_with_len}
-use Rattle.std.proofs.Common.{◌≡◌, ◌≢◌, ◌⊎◌, ◌<◌, ◌≤◌, ◌+◌, ℕ, zero, suc, Bool, true, false, List, [], ◌∷◌, ◌++◌, map, length, Contains, Option, Some, None, refl, sym, ap, ◌∙◌, subst, arith, ltb, ltb-true, ltb-false}
+use Rattle.std.proofs.Common.{◌≡◌, ◌<◌, ◌≤◌, ◌+◌, ℕ, zero, suc, Bool, true, false, List, [], ◌∷◌, ◌++◌, map, length, Option, Some, None, refl, sym, ap, ◌∙◌, subst, arith, ltb, ltb-true, ltb-false}
 use Rattle.std.proofs.lemmas.Option.{none-some, same_Some, slice_get-map, slice_get_within, slice_get_past}
-use Rattle.std.proofs.lemmas.Bool.{ne_eqb, eq-eqb, le-leb}
+use Rattle.std.proofs.lemmas.Bool.{eq-eqb, le-leb}
 use Rattle.lists.specs.Tests.{by_test}
 use Rattle.lists.specs.Members.{placed as member_at}
 use Rattle.alf_ops.specs.declared.history.FrameShape.{FrameShape}
-use Rattle.alf_program.specs.Tree.{Allocation}
-use Rattle.alf_program.specs.Tree as alf
 use Rattle.alf_check.specs.declared.rows.FrameRow.{FrameRow}
 use Rattle.alf_check.specs.Numbers.{row_for, frame_rows, first_frame}
 use Rattle.c_unit.specs.Tree.{ExternalTree, Declaration, Definition, statements_of}
@@ -17,16 +15,15 @@ use Rattle.c_unit.specs.Units.{Word, UnitTree}
 use Rattle.c_checks.specs.Units.{File, external_after}
 use Rattle.c_meaning.specs.Objects as meaning
 use Rattle.c_meaning.specs.Objects.{Object, Function, Program, program_of, objects_of, object_at, functions_in, functions_of, parameter_object, all_locals_in, owned_in, globals_in, shape_of_object}
-use Rattle.c_lowered.specs.Names.{name_at, call_name, frame_of}
+use Rattle.c_lowered.specs.Names.{name_at, frame_of}
 use Rattle.c_lowered.specs.Frames.{parameter_frames, all_frames_in, global_frames}
 use Rattle.c_lowered.specs.Programs.{lowered_function, lowered_from, lowered}
-use Rattle.embedded_histories.specs.Embedding.{Places}
 use Rattle.lowered_names.specs.Lists.{EachOf, Apart, each_when, each_both, each_joined, each_parts, each_at}
 use Rattle.lowered_names.specs.Spelled.{HasNames}
 use Rattle.lowered_names.specs.Parts.{HasFrame}
-use Rattle.lowered_names.specs.Places.{object_found, frame_at, names_differ_at}
-use Rattle.lowered_names.specs.Checked.{OwnedBy, all_owned, parameters_owned, IsGlobal, globals_global}
-use Rattle.lowered_names.specs.Views.{View, globals_part, view_of, all_frames_apart}
+use Rattle.lowered_names.specs.Places.{frame_at, names_differ_at}
+use Rattle.lowered_names.specs.Checked.{all_owned, parameters_owned, IsGlobal, globals_global}
+use Rattle.lowered_names.specs.Views.{globals_part, view_of, all_frames_apart}
 use Rattle.lowered_values.specs.Frames.{frame_number, is_object_frame, frames_of, FramesStand}
 use Rattle.lowered_frames.proofs.Rows.{RowsDiffer, rows_apart, one_number, found_row, global_at, arg_at, decl_at}
 
@@ -266,3 +263,9 @@ module _ (unit : UnitTree) (names : HasNames (program_of unit)) where
 
   pub frames_stand : FramesStand unit
   frames_stand = record { same = same; apart = differ; told = told }
+
+-- function f of the lowered program
+pub numbered_at : (unit : UnitTree) (f : ℕ) (function : Function) → slice_get (functions_of unit) f ≡ Some function
+    → slice_get (lowered unit).funcs f ≡ Some (lowered_function (program_of unit) f function)
+numbered_at unit f function at =
+    lowered_at (program_of unit) 0 (functions_of unit) f function at ∙ ap (λ (n : ℕ). Some (lowered_function (program_of unit) n function)) (let e : 0 + f ≡ f = omega arith in e)

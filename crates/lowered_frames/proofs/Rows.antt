@@ -1,8 +1,8 @@
 -- Rows of frames, by their numbers and their names.
-use Rattle.std.specs.Prelude.{slice_get, unwrap_or, if◌then◌else◌}
+use Rattle.std.specs.Prelude.{slice_get, if◌then◌else◌}
 use Rattle.std.specs.Option.{option_map}
 use Rattle.std.specs.List.{flat_map}
-use Rattle.std.proofs.Common.{◌≡◌, ◌≢◌, ◌<◌, ◌≤◌, ◌+◌, ◌&&◌, ℕ, zero, suc, Bool, true, false, List, [], ◌∷◌, ◌++◌, map, length, Contains, Option, Some, None, refl, sym, ap, ◌∙◌, subst, arith, ltb, ltb-true, ltb-false, append_assoc, bytes_eq}
+use Rattle.std.proofs.Common.{◌≡◌, ◌≢◌, ◌≤◌, ◌+◌, ℕ, zero, suc, Bool, true, false, List, [], ◌∷◌, ◌++◌, map, length, Contains, Option, Some, None, refl, sym, ap, ◌∙◌, subst, arith, ltb, ltb-true, ltb-false, append_assoc, bytes_eq}
 use Rattle.std.proofs.lemmas.Option.{none-some, same_Some}
 use Rattle.std.proofs.lemmas.Bool.{and_parts, and_from, eqb-true, eq-eqb}
 use Rattle.std.proofs.lemmas.Slice.Eq.{bytes_eq-Decides}
@@ -12,9 +12,9 @@ use Rattle.alf_program.specs.Tree.{Allocation, Function, WholeProgram}
 use Rattle.alf_program.specs.Writable.{own_frames, frames_of}
 use Rattle.alf_names.specs.Places.{frame_place}
 use Rattle.alf_check.specs.declared.rows.FrameRow.{FrameRow}
-use Rattle.alf_check.specs.Numbers.{row_for, rows_of, rows_from, frame_rows, frames_before, first_frame, placed}
+use Rattle.alf_check.specs.Numbers.{row_for, rows_of, rows_from, frame_rows, frames_before, first_frame}
 use Rattle.c_lowered.specs.Names.{same_owner}
-use Rattle.lowered_names.specs.Lists.{EachOf, Apart, each_of_image, apart_at}
+use Rattle.lowered_names.specs.Lists.{Apart, each_of_image, apart_at}
 use Rattle.lowered_names.specs.Parts.{DifferInName}
 use Rattle.lowered_values.specs.Frames.{is_row_of, row_number}
 

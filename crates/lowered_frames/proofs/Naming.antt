@@ -25,17 +25,13 @@ use Rattle.lowered_names.specs.Parts.{HasFrame}
 use Rattle.lowered_names.specs.Places.{frame_at, call_is_no_object}
 use Rattle.lowered_names.specs.Checked.{all_owned, parameters_owned, IsGlobal, globals_global}
 use Rattle.lowered_names.specs.Views.{globals_part, view_of}
-use Rattle.lowered_values.specs.Frames.{frame_number, is_object_frame, Sees, IsResultFrame, IsNaming, frames_in_body}
+use Rattle.lowered_values.specs.Frames.{frame_number, is_object_frame, Sees, IsResultFrame, IsNaming}
 use Rattle.lowered_frames.proofs.Rows.{one_number, global_at, arg_at, decl_at, placed_at, not_placed}
-use Rattle.lowered_frames.proofs.Objects.{lowered_at, from_functions, row_of, number_is, apart}
+use Rattle.lowered_frames.proofs.Objects.{by_object, past, lowered_at, from_functions, row_of, number_is, apart}
 
 pub by_place : {A : Type 0} (x : Option ℕ) → (x ≡ None → A) → ((p : ℕ) → x ≡ Some p → A) → A
 by_place None first second = first refl
 by_place (Some p) first second = second p refl
-
-by_object : {A : Type 0} (x : Option Object) → (x ≡ None → A) → ((o : Object) → x ≡ Some o → A) → A
-by_object None first second = first refl
-by_object (Some o) first second = second o refl
 
 no_member_of : (test : ℕ → Bool) (start count : ℕ) → ((i : ℕ) → i < count → test (start + i) ≡ false) → list_any test (range_with_len start count) ≡ false
 no_member_of test start zero each = refl
@@ -214,17 +210,13 @@ module _ (unit : UnitTree) (names : HasNames (program_of unit)) where
             let same : own.row ≡ row_for (Some f) result = same_Some own.row (row_for (Some f) result) (sym own.at ∙ ap (λ (n : ℕ). slice_get rows n) e ∙ at_number) in
             call_is_no_object P names j o f k at_o within (sym own.named ∙ ap (λ (x : FrameRow). x.name) same)
 
-        past : (j : ℕ) → slice_get (objects_of unit) j ≡ None → frame_number unit j ≡ length rows + j
-        past j none =
-            ap (λ (x : Option Object). option_map_or (λ (object : Object). Rattle.lowered_values.specs.Frames.row_number object.owner (name_at P j) rows) x (length rows + j)) none
-
         no_object : is_object_frame unit (frame (call_name P f k)) ≡ false
         no_object =
             ap (λ (b : Bool). b || nat_le (length rows) (frame (call_name P f k)))
             (no_member_of (λ o. frame_number unit o == frame (call_name P f k)) 0 (length (objects_of unit))
             (λ j within_objects. ne_eqb (frame_number unit (0 + j)) (frame (call_name P f k))
             (λ e. by_object (slice_get (objects_of unit) (0 + j))
-            (λ none. let a = past (0 + j) none in absurd (omega (arith, a, e, low)))
+            (λ none. let a = past unit names (0 + j) none in absurd (omega (arith, a, e, low)))
             (λ o at_o. differs (0 + j) o at_o e))))
             ∙ by_test (nat_le (length rows) (frame (call_name P f k)))
             (λ high. let up : length rows ≤ frame (call_name P f k) = leb-true (length rows) (frame (call_name P f k)) high in absurd (omega (arith, up, low)))

@@ -12,7 +12,7 @@ use Rattle.alf_check.specs.declared.rows.FrameRow.{FrameRow}
 use Rattle.alf_check.specs.Numbers.{row_for, frame_rows, first_frame}
 use Rattle.c_unit.specs.Tree.{ExternalTree, Declaration, Definition, statements_of}
 use Rattle.c_unit.specs.Units.{Word, UnitTree}
-use Rattle.c_checks.specs.Units.{File, external_after}
+use Rattle.c_checks.specs.Units.{File, with_parameters, external_after}
 use Rattle.c_meaning.specs.Objects as meaning
 use Rattle.c_meaning.specs.Objects.{Object, Function, Program, program_of, objects_of, object_at, functions_in, functions_of, parameter_object, all_locals_in, owned_in, globals_in, shape_of_object}
 use Rattle.c_lowered.specs.Names.{name_at, frame_of}
@@ -24,8 +24,12 @@ use Rattle.lowered_names.specs.Parts.{HasFrame}
 use Rattle.lowered_names.specs.Places.{frame_at, names_differ_at}
 use Rattle.lowered_names.specs.Checked.{all_owned, parameters_owned, IsGlobal, globals_global}
 use Rattle.lowered_names.specs.Views.{globals_part, view_of, all_frames_apart}
-use Rattle.lowered_values.specs.Frames.{frame_number, is_object_frame, frames_of, FramesStand}
+use Rattle.lowered_values.specs.Frames.{row_number, frame_number, is_object_frame, frames_of, FramesStand}
 use Rattle.lowered_frames.proofs.Rows.{RowsDiffer, rows_apart, one_number, found_row, global_at, arg_at, decl_at}
+
+pub by_object : {A : Type 0} (x : Option Object) → (x ≡ None → A) → ((o : Object) → x ≡ Some o → A) → A
+by_object None first second = first refl
+by_object (Some o) first second = second o refl
 
 -- ---- functions, lowered
 
@@ -46,7 +50,7 @@ module _ (P : Object → Type 0) (words : List Word) where
   from_functions k file [] each = tt
   from_functions k file (Declaration first o ds ∷ xs) each = from_functions k (external_after file (Declaration first o ds)) xs each
   from_functions k file (Definition first o name params body ∷ xs) each =
-      let own = each 0 (record { name = name; result = o; parameters = params; scopes = Rattle.c_checks.specs.Units.with_parameters [] params ∷ (external_after file (Definition first o name params body)).scope ∷ []; body = statements_of body }) refl in
+      let own = each 0 (record { name = name; result = o; parameters = params; scopes = with_parameters [] params ∷ (external_after file (Definition first o name params body)).scope ∷ []; body = statements_of body }) refl in
       let same : k + 0 ≡ k = omega arith in
       each_joined P (map (parameter_object k) params) (all_locals_in words k (statements_of body) ++ owned_in words (k + 1) xs)
       (subst (λ (n : ℕ). EachOf P (map (parameter_object n) params)) same own.0)
@@ -67,7 +71,7 @@ module _ (P : Object → Type 0) (words : List Word) where
   to_function k file (Declaration first o ds ∷ xs) i function at all = to_function k (external_after file (Declaration first o ds)) xs i function at all
   to_function k file (Definition first o name params body ∷ xs) zero function at all =
       let same : k ≡ k + 0 = omega arith in
-      let here = same_Some (record { name = name; result = o; parameters = params; scopes = Rattle.c_checks.specs.Units.with_parameters [] params ∷ (external_after file (Definition first o name params body)).scope ∷ []; body = statements_of body }) function at in
+      let here = same_Some (record { name = name; result = o; parameters = params; scopes = with_parameters [] params ∷ (external_after file (Definition first o name params body)).scope ∷ []; body = statements_of body }) function at in
       let first = each_parts P (map (parameter_object k) params) (all_locals_in words k (statements_of body) ++ owned_in words (k + 1) xs) all in
       let second = each_parts P (all_locals_in words k (statements_of body)) (owned_in words (k + 1) xs) first.1 in
       subst (λ (x : Function). EachOf P (map (parameter_object (k + 0)) x.parameters) × EachOf P (all_locals_in words (k + 0) x.body)) here
@@ -161,9 +165,9 @@ module _ (unit : UnitTree) (names : HasNames (program_of unit)) where
     pub named : row.name ≡ name_at P i
     pub sized : row.bits ≡ o.bits
 
-  number_of : (i : ℕ) (o : Object) → slice_get (objects_of unit) i ≡ Some o → frame_number unit i ≡ Rattle.lowered_values.specs.Frames.row_number o.owner (name_at P i) rows
+  number_of : (i : ℕ) (o : Object) → slice_get (objects_of unit) i ≡ Some o → frame_number unit i ≡ row_number o.owner (name_at P i) rows
   number_of i o at =
-      ap (λ (x : Option Object). option_map_or (λ (object : Object). Rattle.lowered_values.specs.Frames.row_number object.owner (name_at P i) rows) x (length rows + i)) at
+      ap (λ (x : Option Object). option_map_or (λ (object : Object). row_number object.owner (name_at P i) rows) x (length rows + i)) at
 
   pub row_of : (i : ℕ) (o : Object) → slice_get (objects_of unit) i ≡ Some o → RowOf i o
   row_of i o at =
@@ -182,12 +186,8 @@ module _ (unit : UnitTree) (names : HasNames (program_of unit)) where
 
   -- ---- frames stand
 
-  past : (i : ℕ) → slice_get (objects_of unit) i ≡ None → frame_number unit i ≡ length rows + i
-  past i at = ap (λ (x : Option Object). option_map_or (λ (object : Object). Rattle.lowered_values.specs.Frames.row_number object.owner (name_at P i) rows) x (length rows + i)) at
-
-  by_object : {A : Type 0} (x : Option Object) → (x ≡ None → A) → ((o : Object) → x ≡ Some o → A) → A
-  by_object None first second = first refl
-  by_object (Some o) first second = second o refl
+  pub past : (i : ℕ) → slice_get (objects_of unit) i ≡ None → frame_number unit i ≡ length rows + i
+  past i at = ap (λ (x : Option Object). option_map_or (λ (object : Object). row_number object.owner (name_at P i) rows) x (length rows + i)) at
 
   abbrev shape : FrameRow → FrameShape
   shape row = record { owner = row.owner; bits = row.bits }

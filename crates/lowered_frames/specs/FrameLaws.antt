@@ -25,8 +25,10 @@ abbrev pub NamesAreNumbered : Type 0
 NamesAreNumbered = (unit : UnitTree) (f : ℕ) (function : Function)
     → HasNames (program_of unit)
     → slice_get (functions_of unit) f ≡ Some function
-    → IsNaming unit f (numbers_in (lowered unit) (first_frame (lowered unit) f) (lowered_function (program_of unit) f function)).frame
+    → IsNaming unit f (numbers_in (lowered unit) (first_frame (lowered unit) f)
+    (lowered_function (program_of unit) f function)).frame
 
 -- whatever the root and the ranks are
 abbrev pub ProgramsAreLaidOut : Type 0
-ProgramsAreLaidOut = (unit : UnitTree) (root ranks : List ℕ) → HasNames (program_of unit) → IsLaidOut unit (numbered (lowered unit) root ranks)
+ProgramsAreLaidOut = (unit : UnitTree) (root ranks : List ℕ) → HasNames (program_of unit)
+    → IsLaidOut unit (numbered (lowered unit) root ranks)

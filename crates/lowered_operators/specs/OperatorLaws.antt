@@ -54,7 +54,8 @@ IsApart place = (frame other : ℕ) → place frame ≡ place other → frame �
 
 -- a word that is taken away has 32 bits
 abbrev pub OperatorsGive : Type 0
-OperatorsGive = (place : ℕ → ℕ) (frames : List FrameShape) (frame : List ℕ → ℕ) (m : List RunEvent) (op : Binary) (a b : Scalar) (left right : NamedExpression) (l r : Valued)
+OperatorsGive = (place : ℕ → ℕ) (frames : List FrameShape) (frame : List ℕ → ℕ) (m : List RunEvent) (op : Binary)
+    (a b : Scalar) (left right : NamedExpression) (l r : Valued)
     → IsApart place
     → is_of_conditions op ≡ false
     → Gives place frames frame m left l
@@ -63,7 +64,8 @@ OperatorsGive = (place : ℕ → ℕ) (frames : List FrameShape) (frame : List �
     → Gives place frames frame m (lowered.binary_value op a b left right) (binary_value op a b l r)
 
 abbrev pub ComparisonsGive : Type 0
-ComparisonsGive = (place : ℕ → ℕ) (frames : List FrameShape) (frame : List ℕ → ℕ) (m : List RunEvent) (op : Binary) (a b : Scalar) (left right : NamedExpression) (l r : Valued)
+ComparisonsGive = (place : ℕ → ℕ) (frames : List FrameShape) (frame : List ℕ → ℕ) (m : List RunEvent) (op : Binary)
+    (a b : Scalar) (left right : NamedExpression) (l r : Valued)
     → IsApart place
     → is_of_conditions op ≡ false
     → Gives place frames frame m left l
@@ -72,34 +74,41 @@ ComparisonsGive = (place : ℕ → ℕ) (frames : List FrameShape) (frame : List
     → value_of frames m (with_frames frame (lowered.test_of op a b left right)) ≡ as_bit (truth_of (binary_value op a b l r))
 
 abbrev pub TestsGive : Type 0
-TestsGive = (place : ℕ → ℕ) (frames : List FrameShape) (frame : List ℕ → ℕ) (m : List RunEvent) (e : NamedExpression) (v : Valued)
+TestsGive = (place : ℕ → ℕ) (frames : List FrameShape) (frame : List ℕ → ℕ) (m : List RunEvent) (e : NamedExpression)
+    (v : Valued)
     → Gives place frames frame m e v
     → value_of frames m (with_frames frame (lowered.is_true e)) ≡ as_bit (truth_of v)
 
-pub record GiveUnaries (place : ℕ → ℕ) (frames : List FrameShape) (frame : List ℕ → ℕ) (m : List RunEvent) (e at : NamedExpression) (v : Valued) (t : Scalar) : Type 0 where
+pub record GiveUnaries (place : ℕ → ℕ) (frames : List FrameShape) (frame : List ℕ → ℕ) (m : List RunEvent)
+    (e at : NamedExpression) (v : Valued) (t : Scalar) : Type 0 where
   pub not_gives : Gives place frames frame m (lowered.unary_value unary.Not t e at) (on_value opposite v)
-  pub complement_gives : Gives place frames frame m (lowered.unary_value unary.Complement t e at) (on_value complement v)
+  pub complement_gives : Gives place frames frame m (lowered.unary_value unary.Complement t e at)
+      (on_value complement v)
   pub minus_gives : Gives place frames frame m (lowered.unary_value unary.Minus t e at) (on_value negation v)
 
 abbrev pub UnariesGive : Type 0
-UnariesGive = (place : ℕ → ℕ) (frames : List FrameShape) (frame : List ℕ → ℕ) (m : List RunEvent) (e at : NamedExpression) (v : Valued) (t : Scalar)
+UnariesGive = (place : ℕ → ℕ) (frames : List FrameShape) (frame : List ℕ → ℕ) (m : List RunEvent)
+    (e at : NamedExpression) (v : Valued) (t : Scalar)
     → Gives place frames frame m e v
     → GiveUnaries place frames frame m e at v t
 
 -- ---- conversions
 
 abbrev pub ExtendsGive : Type 0
-ExtendsGive = (place : ℕ → ℕ) (frames : List FrameShape) (frame : List ℕ → ℕ) (m : List RunEvent) (i : Integer) (e : NamedExpression) (v : Valued)
+ExtendsGive = (place : ℕ → ℕ) (frames : List FrameShape) (frame : List ℕ → ℕ) (m : List RunEvent) (i : Integer)
+    (e : NamedExpression) (v : Valued)
     → Gives place frames frame m e v
     → Gives place frames frame m (lowered.extended i e) (on_value (widened i) v)
 
 abbrev pub CutsGive : Type 0
-CutsGive = (place : ℕ → ℕ) (frames : List FrameShape) (frame : List ℕ → ℕ) (m : List RunEvent) (t : Scalar) (e : NamedExpression) (v : Valued)
+CutsGive = (place : ℕ → ℕ) (frames : List FrameShape) (frame : List ℕ → ℕ) (m : List RunEvent) (t : Scalar)
+    (e : NamedExpression) (v : Valued)
     → Gives place frames frame m e v
     → Gives place frames frame m (lowered.cut_to t e) (on_value (cut_to t) v)
 
 abbrev pub CastsGive : Type 0
-CastsGive = (place : ℕ → ℕ) (frames : List FrameShape) (frame : List ℕ → ℕ) (m : List RunEvent) (t : Scalar) (e : NamedExpression) (v : Valued)
+CastsGive = (place : ℕ → ℕ) (frames : List FrameShape) (frame : List ℕ → ℕ) (m : List RunEvent) (t : Scalar)
+    (e : NamedExpression) (v : Valued)
     → Gives place frames frame m e v
     → Gives place frames frame m (lowered.cast_to t e) (on_value (cast_to t) v)
 
@@ -109,7 +118,8 @@ WordsAreCut = (size more : ℕ) (z : ℤ) → size ≤ more → word size (pos (
 -- ---- elements
 
 abbrev pub ElementsGive : Type 0
-ElementsGive = (place : ℕ → ℕ) (frames : List FrameShape) (frame : List ℕ → ℕ) (m : List RunEvent) (t of : Scalar) (base index : NamedExpression) (b i : Valued)
+ElementsGive = (place : ℕ → ℕ) (frames : List FrameShape) (frame : List ℕ → ℕ) (m : List RunEvent) (t of : Scalar)
+    (base index : NamedExpression) (b i : Valued)
     → Gives place frames frame m base b
     → Gives place frames frame m index i
     → Gives place frames frame m (lowered.element_address t of base index) (element_address t b i)
@@ -117,7 +127,8 @@ ElementsGive = (place : ℕ → ℕ) (frames : List FrameShape) (frame : List �
 -- ---- sizes
 
 abbrev pub OperatorsFit : Type 0
-OperatorsFit = (op : Binary) (a b : Scalar) (l r : Valued) → FitsResult 32 l → FitsResult 32 r → FitsResult 32 (binary_value op a b l r)
+OperatorsFit = (op : Binary) (a b : Scalar) (l r : Valued) → FitsResult 32 l → FitsResult 32 r
+    → FitsResult 32 (binary_value op a b l r)
 
 pub record FitUnaries (v : Valued) : Type 0 where
   pub not_fits : FitsResult 32 (on_value opposite v)

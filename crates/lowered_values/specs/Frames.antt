@@ -45,19 +45,22 @@ row_number owner name (row ∷ rows) = if is_row_of owner name row then 0 else s
 
 abbrev pub frame_number : UnitTree → ℕ → ℕ
 frame_number unit o =
-    option_map_or (λ (object : Object). row_number object.owner (name_at (program_of unit) o) (frame_rows (lowered unit)))
+    option_map_or (λ (object : Object). row_number object.owner (name_at (program_of unit) o)
+    (frame_rows (lowered unit)))
     (slice_get (objects_of unit) o) (length (frame_rows (lowered unit)) + o)
 
 -- a number past all frames stands for none of a result
 abbrev pub is_object_frame : UnitTree → ℕ → Bool
 is_object_frame unit frame =
-    list_any (λ o. frame_number unit o == frame) (range_with_len 0 (length (objects_of unit))) || nat_le (length (frame_rows (lowered unit))) frame
+    list_any (λ o. frame_number unit o == frame)
+    (range_with_len 0 (length (objects_of unit))) || nat_le (length (frame_rows (lowered unit))) frame
 
 abbrev pub frames_of : UnitTree → List FrameShape
 frames_of unit = shapes_of (frame_rows (lowered unit))
 
 abbrev pub FramesStand : UnitTree → Type 0
-FramesStand unit = Places (frame_number unit) (is_object_frame unit) (meaning.shapes_of (program_of unit)) (frames_of unit)
+FramesStand unit = Places (frame_number unit) (is_object_frame unit) (meaning.shapes_of (program_of unit))
+    (frames_of unit)
 
 -- ---- what a function sees
 
@@ -67,7 +70,8 @@ pub record Sees (unit : UnitTree) (f o : ℕ) : Type 0 where
   pub seen : (object.owner ≡ None) ⊎ (object.owner ≡ Some f)
 
 abbrev pub ScopesSee : UnitTree → ℕ → List Scope → Type 0
-ScopesSee unit f scopes = (token : ℕ) (e : Entry) (t : Scalar) → look_up unit.words scopes token ≡ Some e → value_type e.bound ≡ Some t → Sees unit f (object_at (objects_of unit) e.token)
+ScopesSee unit f scopes = (token : ℕ) (e : Entry) (t : Scalar) → look_up unit.words scopes token ≡ Some e
+    → value_type e.bound ≡ Some t → Sees unit f (object_at (objects_of unit) e.token)
 
 pub record IsResultFrame (unit : UnitTree) (f : ℕ) (i : Integer) (frame : ℕ) : Type 0 where
   pub row : FrameRow
@@ -82,7 +86,8 @@ frames_in_body unit f = all_frames_in (program_of unit) f 0 (function_at (progra
 
 pub record IsNaming (unit : UnitTree) (f : ℕ) (frame : List ℕ → ℕ) : Type 0 where
   pub objects : (o : ℕ) → Sees unit f o → frame (name_at (program_of unit) o) ≡ frame_number unit o
-  pub results : (k : ℕ) (i : Integer) → Contains (frames_in_body unit f) (record { name = call_name (program_of unit) f k; bits = bits_of_type i })
+  pub results : (k : ℕ) (i : Integer) → Contains (frames_in_body unit f)
+      (record { name = call_name (program_of unit) f k; bits = bits_of_type i })
       → IsResultFrame unit f i (frame (call_name (program_of unit) f k))
 
 -- ---- memories

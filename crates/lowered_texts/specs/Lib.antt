@@ -1,0 +1,2 @@
+-- Lowered programs pass the checks of ALF.
+pub mod Functions

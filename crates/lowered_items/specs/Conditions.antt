@@ -2,8 +2,7 @@
 --   condition_stands   the items of a condition stand, whose labels are numbered from a label on
 --   targets_stand      the targets of a switch lead to labels, and no two have one number
 --   default_stands     so does its default
-use Rattle.std.proofs.Common.{◌≡◌, ◌≢◌, ◌<◌, ◌≤◌, ◌^◌, ◌+◌, ◌*◌, ◌-◌, ◌%◌, ◌==◌, ◌||◌, ℕ, zero, suc, max, Bool, true, false, List, [], ◌∷◌, ◌++◌, map, length, Option, None, Some, refl, sym, ap, ◌∙◌, subst, arith, if◌then◌else◌, eq-eqb, mod-lt}
-use Rattle.std.specs.Prelude.{⊤}
+use Rattle.std.proofs.Common.{◌≡◌, ◌≢◌, ◌<◌, ◌≤◌, ◌^◌, ◌+◌, ◌-◌, ◌%◌, ◌==◌, ◌||◌, ℕ, suc, max, Bool, true, false, List, ◌∷◌, refl, sym, ◌∙◌, arith, eq-eqb}
 use Rattle.lists.specs.Tests.{by_test}
 use Rattle.alf_program.specs.declared.program.Num.{Num}
 use Rattle.alf_program.specs.Tree.{NamedExpression, Switch, Jump, BodyItem, Label, Do, WholeProgram}
@@ -21,10 +20,8 @@ use Rattle.c_constants.specs.declared.worth.Worth.TheVariants as worth
 use Rattle.c_checks.specs.Names.{Scope, text_at, worth_at, number_of}
 use Rattle.c_checks.specs.Statements.{Around, label_of, is_label, around_after, scopes_after}
 use Rattle.c_checks.specs.Standing.{StatementsStand}
-use Rattle.c_meaning.specs.Values.{is_signed}
 use Rattle.c_meaning.specs.Objects.{Program}
 use Rattle.c_meaning.specs.Expressions.{kind_of}
-use Rattle.c_lowered.specs.Names.{label_name}
 use Rattle.c_lowered.specs.Values.{is_true, test_of, value_of}
 use Rattle.c_lowered.specs.Conditions.{label, label_item, by_unary, by_binary, condition_labels, branch, condition_items}
 use Rattle.c_lowered.specs.Statements.{is_case, cases_in, target, targets_in, default_in, if_case}
@@ -33,7 +30,7 @@ use Rattle.lowered_terms.specs.Terms.{Term, deeper}
 use Rattle.lowered_terms.specs.Constants.{Fits, worth_fits}
 use Rattle.lowered_terms.specs.Operators.{is_true_term, test_term}
 use Rattle.lowered_terms.specs.Values.{NamesStand, deep, ScopesUsable, value_term}
-use Rattle.lowered_items.specs.Standing.{IsLabel, TargetStands, ItemStands}
+use Rattle.lowered_items.specs.Standing.{IsLabel, TargetStands}
 use Rattle.lowered_items.specs.Effects.{Shallow, AreItems, within}
 
 either_false : (a b : Bool) → (a || b) ≡ false → (a ≡ false) × (b ≡ false)
@@ -69,7 +66,7 @@ module _ (whole : WholeProgram) (func : alf.Function) (program : Program) (defin
 
   branch_stands : (test : NamedExpression) (held failed : List ℕ) (rest : List BodyItem) → Term whole func 1 64 test → IsOwn held → IsOwn failed → Items rest → Items (branch test held failed ∷ rest)
   branch_stands test held failed rest term is_held is_failed are =
-      (record { size = 1; value_term = term; each = (record { same = refl; low = omega arith; leads = is_held }, tt); differ = (tt, tt); leads_else = is_failed }, are)
+      (record { size = 1; some = omega arith; small = omega arith; value_term = term; each = (record { same = refl; low = omega arith; leads = is_held }, tt); differ = (tt, tt); leads_else = is_failed }, are)
 
   negated_stands : (op : Unary) (negated plain : List BodyItem) (next k : ℕ) → next + by_unary op k 0 ≤ labels → (next + k ≤ labels → Items negated) → Items plain → Items (by_unary op negated plain)
   negated_stands unary.Not negated plain next k most h i = h most

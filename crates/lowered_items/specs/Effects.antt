@@ -3,11 +3,12 @@
 --   CalleeOf token o ps    the function of this name is defined, gives o and takes parameters of the types ps
 --   ScopesCall scopes      so for each name in the scopes that is declared as a function and defined
 --   Shallow e              at most ten operators are nested in the expression
-use Rattle.std.proofs.Common.{◌≡◌, ◌≢◌, ◌<◌, ◌≤◌, ◌^◌, ◌+◌, ◌*◌, ◌%◌, ◌==◌, ◌||◌, ℕ, zero, suc, max, Bool, true, false, List, [], ◌∷◌, ◌++◌, map, length, slice_get, Option, None, Some, refl, sym, ap, ◌∙◌, subst, arith, bytes_eq, if◌then◌else◌, suc-mul}
-use Rattle.std.specs.Prelude.{⊤}
+use Rattle.std.proofs.Common.{◌≡◌, ◌<◌, ◌≤◌, ◌+◌, ◌%◌, ℕ, suc, Bool, true, List, [], ◌∷◌, map, slice_get, Contains, option_map, Option, None, Some, refl, sym, ap, ◌∙◌, subst, arith, bytes_eq, if◌then◌else◌}
 use Rattle.std.specs.Option.{option_map_or}
-use Rattle.std.proofs.lemmas.Option.{none-some, same_Some}
+use Rattle.std.proofs.lemmas.Option.{none-some}
 use Rattle.lists.specs.Tests.{by_test}
+use Rattle.lists.specs.Members.{no_member, first_member, further_member, first_or_further}
+use Rattle.c_unit.specs.Units.{Word}
 use Rattle.alf_program.specs.Tree.{NamedExpression, Address, Load, Store, Call, BodyItem, Do, WholeProgram}
 use Rattle.alf_program.specs.Tree as alf
 use Rattle.alf_program.specs.Writable.{IsLoadSize}
@@ -17,32 +18,31 @@ use Rattle.c_unit.specs.declared.types.Scalar.{Scalar}
 use Rattle.c_unit.specs.declared.types.Scalar.TheVariants as scalars
 use Rattle.c_unit.specs.declared.types.Outcome.{Outcome}
 use Rattle.c_unit.specs.declared.types.Outcome.TheVariants as outcomes
-use Rattle.c_unit.specs.declared.types.Constant.{Constant}
 use Rattle.c_unit.specs.declared.expression.Binary.{Binary}
 use Rattle.c_unit.specs.declared.external.Parameter.{Parameter}
-use Rattle.c_unit.specs.Tree.{Expression, CallTree, ValueTree, OfExpression, OfCall, EffectTree, Assigns, Updates, Steps, Calls, LocalShapeTree, LocalInteger, LocalPointer, LocalArray, LocalTree}
+use Rattle.c_unit.specs.Tree.{Expression, CallTree, ValueTree, OfExpression, OfCall, EffectTree, Assigns, Updates, Steps, Calls}
 use Rattle.c_unit.specs.Measures.{depth_of}
-use Rattle.c_checks.specs.Names.{Bound, Variable, Array, Function as FunctionBound, Entry, Scope, text_at, worth_at, named, look_up, with_name}
+use Rattle.c_checks.specs.Names.{Function as FunctionBound, Entry, Scope, text_at, look_up}
 use Rattle.c_checks.specs.Calls.{is_defined}
 use Rattle.c_checks.specs.Units.{types_of}
-use Rattle.c_checks.specs.Statements.{local_bound, with_local, with_locals}
 use Rattle.c_checks.specs.Typed.{HasType}
-use Rattle.c_checks.specs.Standing.{Suits, IsTarget, ArgumentsSuit, IsCall, IsValuedCall, ValueSuits, IfValued, IsUpdate, EffectStands, IfDone, ArrayStands, ShapeStands, LocalsStand}
-use Rattle.c_meaning.specs.Values.{bits_of_type, bytes_of_type}
-use Rattle.c_meaning.specs.Objects.{Object, Function, Program, function_at, no_function, count_at, bits_of_scalar, bits_of_local, local_object}
+use Rattle.c_checks.specs.Standing.{ArgumentsSuit, IsCall, ValueSuits, EffectStands}
+use Rattle.c_meaning.specs.Values.{bits_of_type}
+use Rattle.c_meaning.specs.Objects.{Function, Program, function_at, no_function, bits_of_scalar}
 use Rattle.c_meaning.specs.Expressions.{kind_of}
-use Rattle.c_meaning.specs.Statements.{number_named, callee, step_operator, further_elements}
-use Rattle.c_lowered.specs.Names.{function_name, call_name, frame_of}
-use Rattle.c_lowered.specs.Values.{whole, extended, cut, cut_to, binary_value, constant_of, of_one, size, value_of, address_of}
+use Rattle.c_meaning.specs.Statements.{number_named, callee, step_operator}
+use Rattle.c_lowered.specs.Names.{function_name, call_name}
+use Rattle.c_lowered.specs.Values.{whole, value_of, address_of}
 use Rattle.c_lowered.specs.Conditions.{Within}
-use Rattle.c_lowered.specs.Effects.{result_of, calls_of_outcome, calls_in_call, arguments, result_frame, call_items, result_value, call_value, calls_in_value, value_items, assign, calls_in_effect, update, effect_items, calls_in_first, calls_in_shape, calls_in_locals, constant_value, first_element, element_items, first_items, array_items, shape_items, locals_items}
-use Rattle.spelled_trees.specs.Expressions.{Every, InCall, InValue, IfValue, InEffect, InShape, InLocals}
-use Rattle.lowered_names.specs.Lists.{EachOf, Apart}
+use Rattle.c_lowered.specs.Effects.{result_of, calls_of_outcome, calls_in_call, arguments, result_frame, call_items, result_value, call_value, calls_in_value, value_items, assign, calls_in_effect, update, effect_items}
+use Rattle.spelled_trees.specs.Expressions.{Every, InCall, InValue, InEffect}
+use Rattle.lowered_names.specs.Lists.{EachOf}
 use Rattle.lowered_terms.specs.Terms.{IsUsable, Term, deeper, address_term, load_term}
-use Rattle.lowered_terms.specs.Constants.{worth_fits}
-use Rattle.lowered_terms.specs.Operators.{whole_term, negation_term, extended_term, cut_term, cut_to_term, binary_term}
-use Rattle.lowered_terms.specs.Values.{NamesStand, names_stand, IsObject, deep, ScopesUsable, value_term, address_term_of}
-use Rattle.lowered_items.specs.Standing.{IsLabel, StoreStands, ArgumentsFit, ResultStands, CallStands, ItemStands}
+use Rattle.lowered_terms.specs.Operators.{whole_term, extended_term, cut_to_term, binary_term}
+use Rattle.lowered_terms.specs.Values.{names_stand, deep, ScopesUsable, value_term, address_term_of}
+use Rattle.c_checks.specs.Recursion.{number_at, with_number, numbers_at}
+use Rattle.c_checks.specs.Recursion as asked
+use Rattle.lowered_items.specs.Standing.{called_tokens, called_numbers, ArgumentsFit, ResultStands, CallStands, ItemStands}
 
 abbrev pub Shallow : Expression → Type 0
 Shallow e = depth_of e ≤ 10
@@ -67,6 +67,36 @@ load_bits UnsignedShort = record { some = omega arith; small = omega arith; byte
 load_bits Int = record { some = omega arith; small = omega arith; bytes = refl }
 load_bits UnsignedInt = record { some = omega arith; small = omega arith; bytes = refl }
 
+-- ---- the numbers of called functions
+
+number_found : (words : List Word) (fs : List Function) (token : ℕ) (function : Function) → slice_get fs (number_named words fs (text_at words token)) ≡ Some function
+    → number_at words (map (λ (g : Function). g.name) fs) token ≡ Some (number_named words fs (text_at words token))
+number_found words [] token function at = absurd (none-some function at)
+number_found words (f ∷ fs) token function at =
+    by_test (bytes_eq (text_at words f.name) (text_at words token))
+    (λ here. rw here refl)
+    (λ further.
+    let number : number_named words (f ∷ fs) (text_at words token) ≡ suc (number_named words fs (text_at words token)) =
+    ap (λ (b : Bool). if b then 0 else number_named words fs (text_at words token) + 1) further ∙ (omega arith)
+    in
+    let rest = number_found words fs token function (sym (ap (λ (k : ℕ). slice_get (f ∷ fs) k) number) ∙ at) in
+    rw further (ap (option_map (λ (n : ℕ). n + 1)) rest))
+
+number_among : (words : List Word) (names tokens : List ℕ) (token n : ℕ) → Contains tokens token → number_at words names token ≡ Some n → Contains (numbers_at words names tokens) n
+number_among words names [] token n c is = no_member token c
+number_among words names (t ∷ ts) token n c is =
+    first_or_further t ts token c
+    (λ same. subst (λ (x : Option ℕ). Contains (with_number x (numbers_at words names ts)) n) (sym (ap (number_at words names) same ∙ is)) (first_member n (numbers_at words names ts)))
+    (λ rest. with_more (number_at words names t) (number_among words names ts token n rest is))
+  where
+    with_more : (x : Option ℕ) → Contains (numbers_at words names ts) n → Contains (with_number x (numbers_at words names ts)) n
+    with_more None c = c
+    with_more (Some m) c = further_member m (numbers_at words names ts) n c
+
+called_number : (program : Program) (f token : ℕ) (function : Function) → slice_get program.functions (number_named program.words program.functions (text_at program.words token)) ≡ Some function → Contains (called_tokens program f) token
+    → Contains (called_numbers program f) (number_named program.words program.functions (text_at program.words token))
+called_number program f token function at asked = number_among program.words (map (λ (g : Function). g.name) program.functions) (called_tokens program f) token _ asked (number_found program.words program.functions token function at)
+
 module _ (whole_program : WholeProgram) (func : alf.Function) (program : Program) (defined : List ℕ) (f labels results : ℕ) where
   -- the frames of results that the function has
   abbrev pub ResultsUsable : Type 0
@@ -81,6 +111,10 @@ module _ (whole_program : WholeProgram) (func : alf.Function) (program : Program
 
   abbrev pub ScopesCall : List Scope → Type 0
   ScopesCall scopes = (token : ℕ) (entry : Entry) (o : Outcome) (ps : List Scalar) → look_up program.words scopes token ≡ Some entry → entry.bound ≡ FunctionBound o ps → is_defined program.words defined token ≡ true → CalleeOf token o ps
+
+  -- a call of the function's block
+  abbrev pub IsAsked : ℕ → Type 0
+  IsAsked token = Contains (called_tokens program f) token
 
   abbrev pub AreItems : List BodyItem → Type 0
   AreItems items = EachOf (ItemStands whole_program func program f labels) items
@@ -119,15 +153,16 @@ module _ (whole_program : WholeProgram) (func : alf.Function) (program : Program
     pub gives : (call : CallTree) (o : Outcome) → IsCall program.words defined scopes call o → result_of program call ≡ o
     gives call o stands = ap (λ (g : Function). g.result) (at_callee call o stands) ∙ (known call o stands).result
 
-    call_stands : (call : CallTree) (o : Outcome) (n : ℕ) → IsCall program.words defined scopes call o → InCall Shallow call → n + calls_in_call program call ≤ results
+    call_stands : (call : CallTree) (o : Outcome) (n : ℕ) → IsCall program.words defined scopes call o → InCall Shallow call → IsAsked call.name → n + calls_in_call program call ≤ results
         → CallStands whole_program func program f labels (text_at program.words call.name) (arguments program scopes call.arguments (function_at program (callee program call)).parameters) (result_frame (result_of program call) (call_name program f n))
-    call_stands call o n stands low most =
+    call_stands call o n stands low asked most =
         let of = known call o stands in
         let same = at_callee call o stands in
         record {
           callee = callee program call;
           function = of.function;
           at = of.at;
+          among = called_number program f call.name of.function of.at asked;
           named = of.named;
           fit = subst (λ (g : Function). ArgumentsFit whole_program func program f labels (arguments program scopes call.arguments g.parameters) of.function.parameters) (sym same)
               (arguments_fit call.arguments of.function.parameters (subst (λ (ps : List Scalar). ArgumentsSuit program.words scopes call.arguments ps) (sym of.takes) stands.arguments) low);
@@ -135,8 +170,8 @@ module _ (whole_program : WholeProgram) (func : alf.Function) (program : Program
               (result_stands (result_of program call) n most);
         }
 
-    pub call_items_stand : (call : CallTree) (o : Outcome) (n : ℕ) (rest : List BodyItem) → IsCall program.words defined scopes call o → InCall Shallow call → n + calls_in_call program call ≤ results → AreItems rest → AreItems (call_items within scopes call n rest)
-    call_items_stand call o n rest stands low most are = (call_stands call o n stands low most, are)
+    pub call_items_stand : (call : CallTree) (o : Outcome) (n : ℕ) (rest : List BodyItem) → IsCall program.words defined scopes call o → InCall Shallow call → IsAsked call.name → n + calls_in_call program call ≤ results → AreItems rest → AreItems (call_items within scopes call n rest)
+    call_items_stand call o n rest stands low asked most are = (call_stands call o n stands low asked most, are)
 
     result_value_term : (i : Integer) (n : ℕ) → n < results → Term whole_program func 32 3 (result_value (outcomes.Integer i) (call_name program f n))
     result_value_term i n low =
@@ -149,17 +184,17 @@ module _ (whole_program : WholeProgram) (func : alf.Function) (program : Program
     abbrev pub Makes : (NamedExpression → BodyItem) → Type 0
     Makes made = (e : NamedExpression) → Term whole_program func 32 53 e → ItemStands whole_program func program f labels (made e)
 
-    pub value_items_stand : (wanted : Scalar) (value : ValueTree) (n : ℕ) (made : NamedExpression → BodyItem) (rest : List BodyItem) → ValueSuits program.words defined scopes wanted value → InValue Shallow value
+    pub value_items_stand : (wanted : Scalar) (value : ValueTree) (n : ℕ) (made : NamedExpression → BodyItem) (rest : List BodyItem) → ValueSuits program.words defined scopes wanted value → InValue Shallow value → EachOf IsAsked (asked.calls_in_value value)
         → n + calls_in_value program value ≤ results → Makes made → AreItems rest → AreItems (value_items within scopes value n made rest)
-    value_items_stand wanted (OfExpression e) n made rest suits low most makes are = (makes (value_of program scopes e) (typed_term e suits.type suits.has low), are)
-    value_items_stand wanted (OfCall call) n made rest suits low most makes are =
+    value_items_stand wanted (OfExpression e) n made rest suits low asks most makes are = (makes (value_of program scopes e) (typed_term e suits.type suits.has low), are)
+    value_items_stand wanted (OfCall call) n made rest suits low asks most makes are =
         let o = outcomes.Integer suits.type in
         let is = gives call o suits.call_of in
         let some : n + calls_of_outcome o ≤ results = subst (λ (r : Outcome). n + calls_of_outcome r ≤ results) is most in
         let term : Term whole_program func 32 3 (call_value within call n) =
         subst (λ (r : Outcome). Term whole_program func 32 3 (result_value r (call_name program f n))) (sym is) (result_value_term suits.type n (omega (arith, some)))
         in
-        (call_stands call o n suits.call_of low most, (makes (call_value within call n) (deeper whole_program func 32 3 53 _ (omega arith) term), are))
+        (call_stands call o n suits.call_of low asks.0 most, (makes (call_value within call n) (deeper whole_program func 32 3 53 _ (omega arith) term), are))
 
     -- ---- effects
 
@@ -176,12 +211,12 @@ module _ (whole_program : WholeProgram) (func : alf.Function) (program : Program
           bytes = bytes_of_scalar kind;
         }
 
-    pub effect_items_stand : (effect : EffectTree) (n : ℕ) (rest : List BodyItem) → EffectStands program.words defined scopes effect → InEffect Shallow effect → n + calls_in_effect program effect ≤ results → AreItems rest
+    pub effect_items_stand : (effect : EffectTree) (n : ℕ) (rest : List BodyItem) → EffectStands program.words defined scopes effect → InEffect Shallow effect → EachOf IsAsked (asked.calls_in_effect effect) → n + calls_in_effect program effect ≤ results → AreItems rest
         → AreItems (effect_items within scopes effect n rest)
-    effect_items_stand (Assigns to token value) n rest stands low most are =
-        value_items_stand stands.0 value n (assign (kind_of program.words scopes to) (address_of program scopes to)) rest stands.2 low.1 most (assign_makes (kind_of program.words scopes to) (address_of program scopes to) (typed_address to stands.0 stands.1.has low.0)) are
-    effect_items_stand (Updates to op token e) n rest stands low most are =
+    effect_items_stand (Assigns to token value) n rest stands low asks most are =
+        value_items_stand stands.0 value n (assign (kind_of program.words scopes to) (address_of program scopes to)) rest stands.2 low.1 asks most (assign_makes (kind_of program.words scopes to) (address_of program scopes to) (typed_address to stands.0 stands.1.has low.0)) are
+    effect_items_stand (Updates to op token e) n rest stands low asks most are =
         (update_stands to op stands.type (kind_of program.words scopes e) (value_of program scopes e) stands.target.has low.0 (typed_term e stands.other stands.has low.1), are)
-    effect_items_stand (Steps operand up token) n rest stands low most are =
+    effect_items_stand (Steps operand up token) n rest stands low asks most are =
         (update_stands operand (step_operator up) stands.0 (scalars.Integer Int) (whole 1) stands.1.has low (whole_term whole_program func 1 53 (omega arith) (omega arith)), are)
-    effect_items_stand (Calls call) n rest stands low most are = call_items_stand call stands.0 n rest stands.1 low most are
+    effect_items_stand (Calls call) n rest stands low asks most are = call_items_stand call stands.0 n rest stands.1 low asks.0 most are

@@ -1,21 +1,28 @@
 -- What each item of a lowered function keeps.
 --   IsLabel name              a label of the function, of which there are so many
 --   StoreStands, SwitchStands, CallStands, ReturnStands   so of each statement
+--   called_tokens, called_numbers program f   the calls in function f, by their tokens and by the functions that they name
 --   ItemStands item           so of each item
-use Rattle.std.specs.Prelude.{◌≡◌, ◌≢◌, ◌<◌, ◌%◌, ◌^◌, ℕ, List, [], ◌∷◌, ⊤, Option, None, Some, slice_get, length}
-use Rattle.std.specs.Option.{option_map_or}
+use Rattle.std.specs.Prelude.{◌≡◌, ◌≢◌, ◌<◌, ◌≤◌, ◌%◌, ◌^◌, ℕ, map, Contains, List, [], ◌∷◌, ⊤, Option, None, Some, slice_get}
 use Rattle.alf_program.specs.declared.program.Num.{Num}
 use Rattle.alf_program.specs.Tree.{NamedExpression, Null, Store, Jump, Switch, Call, Return, BodyItem, Label, Do, WholeProgram}
 use Rattle.alf_program.specs.Tree as alf
-use Rattle.c_unit.specs.declared.types.Integer.{Integer}
 use Rattle.c_unit.specs.declared.types.Outcome.{Outcome}
 use Rattle.c_unit.specs.declared.types.Outcome.TheVariants as outcomes
 use Rattle.c_unit.specs.declared.external.Parameter.{Parameter}
+use Rattle.c_checks.specs.Recursion.{called_in, numbers_at}
 use Rattle.c_meaning.specs.Values.{bits_of_type}
 use Rattle.c_meaning.specs.Objects.{Function, Program, function_at, bits_of_scalar}
 use Rattle.c_lowered.specs.Names.{function_name, label_name}
 use Rattle.lowered_names.specs.Lists.{EachOf, Apart}
 use Rattle.lowered_terms.specs.Terms.{IsUsable, Term}
+
+-- the tokens of the calls in function f, and the functions that they name
+abbrev pub called_tokens : Program → ℕ → List ℕ
+called_tokens program f = called_in (function_at program f).body
+
+abbrev pub called_numbers : Program → ℕ → List ℕ
+called_numbers program f = numbers_at program.words (map (λ (g : Function). g.name) program.functions) (called_tokens program f)
 
 -- an expression of a statement is as deep as ALF allows at most
 module _ (whole : WholeProgram) (func : alf.Function) (program : Program) (f labels : ℕ) where
@@ -37,6 +44,8 @@ module _ (whole : WholeProgram) (func : alf.Function) (program : Program) (f lab
 
   pub record SwitchStands (value : NamedExpression) (targets : List (Num × List ℕ)) (others : List ℕ) : Type 0 where
     pub size : ℕ
+    pub some : 1 ≤ size
+    pub small : size ≤ 64
     pub value_term : Term whole func size 64 value
     pub each : EachOf (TargetStands size) targets
     pub differ : Apart (λ t u. t.0.bits ≢ u.0.bits) targets
@@ -59,6 +68,7 @@ module _ (whole : WholeProgram) (func : alf.Function) (program : Program) (f lab
     pub callee : ℕ
     pub function : Function
     pub at : slice_get program.functions callee ≡ Some function
+    pub among : Contains (called_numbers program f) callee
     pub named : name ≡ function_name program callee
     pub fit : ArgumentsFit args function.parameters
     pub gives : ResultStands function.result result

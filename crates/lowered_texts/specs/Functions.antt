@@ -2,46 +2,42 @@
 --   FunctionStands words globals defined function   its block stands in the parameters and what the file has declared before it
 --   functions_stand         so does each function of a unit
 --   ItemsStand unit k function   each item of the lowered function stands
-use Rattle.std.proofs.Common.{◌≡◌, ◌≢◌, ◌<◌, ◌≤◌, ◌^◌, ◌+◌, ◌==◌, ◌||◌, ℕ, zero, suc, Bool, true, false, List, [], ◌∷◌, ◌++◌, map, length, slice_get, Contains, Option, None, Some, refl, sym, ap, ◌∙◌, subst, arith, bytes_eq, if◌then◌else◌, inl, inr}
-use Rattle.std.specs.Prelude.{⊤}
+use Rattle.std.proofs.Common.{◌≡◌, ◌<◌, ◌≤◌, ◌^◌, ◌+◌, ◌||◌, ℕ, suc, Bool, true, false, List, [], ◌∷◌, map, length, slice_get, Contains, Option, None, Some, refl, sym, ap, ◌∙◌, subst, arith, bytes_eq, if◌then◌else◌, inl, inr}
 use Rattle.std.specs.Option.{option_map_or}
-use Rattle.std.proofs.lemmas.Option.{none-some, same_Some, slice_get_within}
+use Rattle.std.proofs.lemmas.Option.{none-some, slice_get_within}
 use Rattle.std.proofs.lemmas.Slice.Eq.{bytes_eq-Decides}
-use Rattle.lists.specs.Tests.{by_test}
 use Rattle.lists.specs.Members.{contained}
 use Rattle.alf_program.specs.Tree.{BodyItem, WholeProgram}
 use Rattle.alf_program.specs.Tree as alf
-use Rattle.alf_program.specs.Writable.{IsName}
-use Rattle.alf_faults.specs.NoFault.{IsSeen}
-use Rattle.c_unit.specs.declared.types.Integer.{Integer}
-use Rattle.c_unit.specs.declared.types.Scalar.{Scalar}
-use Rattle.c_unit.specs.declared.types.Scalar.TheVariants as scalars
+use Rattle.std.specs.List.{sum_by}
+use Rattle.alf_program.specs.Writable.{IsName, most_functions, most_frames, most_bytes, frame_bytes, frames_of}
 use Rattle.c_unit.specs.declared.types.Outcome.{Outcome}
 use Rattle.c_unit.specs.declared.types.Outcome.TheVariants as outcomes
 use Rattle.c_unit.specs.declared.external.Parameter.{Parameter}
 use Rattle.c_unit.specs.Tree.{ShapeTree, GlobalInteger, GlobalArray, FunctionOf, DeclaratorTree, ExternalTree, Declaration, Definition, statements_of}
 use Rattle.c_unit.specs.Units.{Word, UnitTree}
-use Rattle.c_checks.specs.Names.{Bound, Variable, Array, Function as FunctionBound, Entry, Scope, text_at, look_up}
+use Rattle.c_checks.specs.Names.{Entry, Scope, text_at}
 use Rattle.c_checks.specs.Calls.{is_defined}
+use Rattle.c_checks.specs.Recursion.{called_in}
 use Rattle.c_checks.specs.Statements.{in_function}
 use Rattle.c_checks.specs.Standing.{StatementsStand}
-use Rattle.c_checks.specs.Units.{File, definitions, element_of, function_of, types_of, global_bound, with_global, with_declarators, with_parameter, with_parameters, external_after}
+use Rattle.c_checks.specs.Units.{File, definitions, element_of, global_bound, with_global, with_declarators, with_parameter, with_parameters, external_after}
 use Rattle.c_checks.specs.UnitsStand.{ExternalsStand, UnitStands}
 use Rattle.c_meaning.specs.Objects.{Object, Function, Program, program_of, function_at, no_function, parameter_object, token_of_parameter, all_locals_in, global_object, globals_declared, globals_in, objects_of, functions_in, functions_of}
 use Rattle.c_meaning.specs.Statements.{number_named}
-use Rattle.c_lowered.specs.Names.{function_name, call_name, frame_of}
+use Rattle.c_lowered.specs.Names.{frame_of}
 use Rattle.c_lowered.specs.Statements.{labels_in_all, calls_in_all}
 use Rattle.c_lowered.specs.Frames.{global_frames}
 use Rattle.c_lowered.specs.Values.{whole, cut}
 use Rattle.c_lowered.specs.Programs.{last_return, nowhere, function_items, lowered_function, lowered}
 use Rattle.spelled_trees.specs.Expressions.{InStatements}
 use Rattle.declared_functions.specs.Declared.{EachEntry, EachScope, found_entry, EntryAgrees, entries_agree}
-use Rattle.lowered_names.specs.Lists.{EachOf, each_when, each_both, each_parts, each_member, each_at, each_of_image}
+use Rattle.lowered_names.specs.Lists.{EachOf, each_when, each_both, each_parts, each_member, each_at}
 use Rattle.lowered_names.specs.Spelled.{HasNames, HasFewCalls}
 use Rattle.lowered_names.specs.Places.{frame_at, each_of_places}
 use Rattle.lowered_names.specs.NameTexts.{object_is_name, call_is_name}
-use Rattle.lowered_names.specs.Parts.{IsObject, HasFrame, Part}
-use Rattle.lowered_names.specs.Views.{View, globals, owned, own_objects, each_own, all_objects, objects_are, view_of}
+use Rattle.lowered_names.specs.Parts.{IsObject, HasFrame}
+use Rattle.lowered_names.specs.Views.{View, globals, own_objects, each_own, all_objects, view_of}
 use Rattle.lowered_terms.specs.Terms.{IsUsable}
 use Rattle.lowered_terms.specs.Operators.{whole_term, cut_term}
 use Rattle.lowered_terms.specs.Terms.{deeper}
@@ -49,7 +45,7 @@ use Rattle.lowered_terms.specs.Values.{ScopesUsable}
 use Rattle.lowered_terms.specs.Values as values
 use Rattle.lowered_items.specs.Standing.{ItemStands}
 use Rattle.lowered_items.specs.Standing as standing
-use Rattle.lowered_items.specs.Effects.{Shallow, ResultsUsable, ScopesCall, CalleeOf}
+use Rattle.lowered_items.specs.Effects.{Shallow, ResultsUsable, ScopesCall, IsAsked}
 use Rattle.lowered_items.specs.Declarations.{IsLocal}
 use Rattle.lowered_items.specs.Statements.{all_items_stand}
 
@@ -132,6 +128,9 @@ pub record IsMeasured (unit : UnitTree) (names : HasNames (program_of unit)) : T
   pub small : EachOf (λ (o : Object). o.bits ≤ 262144) (objects_of unit)
   pub shallow : EachOf (λ (function : Function). InStatements Shallow Shallow function.body) (functions_of unit)
   pub few_labels : EachOf (λ (function : Function). labels_in_all function.body < 2 ^ 64) (functions_of unit)
+  pub few_functions : length (functions_of unit) ≤ most_functions
+  pub few_frames : length (frames_of (lowered unit)) ≤ most_frames
+  pub few_bytes : sum_by frame_bytes (frames_of (lowered unit)) ≤ most_bytes
 
 module _ (unit : UnitTree) (names : HasNames (program_of unit)) (stands : UnitStands unit) (measured : IsMeasured unit names) where
   abbrev pub program : Program
@@ -140,17 +139,17 @@ module _ (unit : UnitTree) (names : HasNames (program_of unit)) (stands : UnitSt
   abbrev pub defined : List ℕ
   defined = definitions unit.externals
 
-  object_name : (o : Object) → IsObject program o → IsName (frame_of program o.token)
+  pub object_name : (o : Object) → IsObject program o → IsName (frame_of program o.token)
   object_name o is = subst IsName (sym (frame_at program names is.0 o is.1)) (object_is_name program names is.0 o is.1)
 
   module _ (k : ℕ) (function : Function) (at : slice_get (functions_of unit) k ≡ Some function) where
     abbrev pub func : alf.Function
     func = lowered_function program k function
 
-    view : View program (globals unit names) k function
+    pub view : View program (globals unit names) k function
     view = view_of unit names k function at
 
-    low : k < length program.functions
+    pub low : k < length program.functions
     low = slice_get_within program.functions k function at
 
     global_usable : (o : Object) → Contains (globals unit names) o → IsUsable (lowered unit) func (frame_of program o.token)
@@ -158,7 +157,7 @@ module _ (unit : UnitTree) (names : HasNames (program_of unit)) (stands : UnitSt
         let has = each_member (HasFrame program (global_frames program)) (globals unit names) o among view.globals_part.objects_have in
         record { seen = inl (has.frame, has.among, has.name); written = object_name o (each_member (IsObject program) (globals unit names) o among (all_objects unit names).0) }
 
-    own_are : EachOf (IsObject program) (own_objects unit.words k function)
+    pub own_are : EachOf (IsObject program) (own_objects unit.words k function)
     own_are = subst (λ (n : ℕ). EachOf (IsObject program) (own_objects unit.words n function)) (let same : 0 + k ≡ k = omega arith in same) (each_own (IsObject program) unit.words 0 program.functions k function at (all_objects unit names).1)
 
     params : List Object
@@ -174,7 +173,7 @@ module _ (unit : UnitTree) (names : HasNames (program_of unit)) (stands : UnitSt
         (each_both (HasFrame program _) (IsObject program) (map (parameter_object k) function.parameters) view.args.objects_have
         (each_parts (IsObject program) (map (parameter_object k) function.parameters) (all_locals_in unit.words k function.body) own_are).0)
 
-    sizes_small : EachOf (λ (o : Object). o.bits ≤ 262144) (all_locals_in unit.words k function.body)
+    pub sizes_small : EachOf (λ (o : Object). o.bits ≤ 262144) (all_locals_in unit.words k function.body)
     sizes_small =
         let all : EachOf (λ (o : Object). o.bits ≤ 262144) (own_objects unit.words k function) =
         each_when (IsObject program) (λ (o : Object). o.bits ≤ 262144) (own_objects unit.words k function) (λ o is. each_at (λ (o : Object). o.bits ≤ 262144) (objects_of unit) is.0 o is.1 measured.small) own_are
@@ -223,13 +222,13 @@ module _ (unit : UnitTree) (names : HasNames (program_of unit)) (stands : UnitSt
     all_globals : EachOf (Contains (globals unit names)) (globals_in unit.words unit.externals)
     all_globals = each_of_places (Contains (globals unit names)) (globals unit names) (λ i o here. contained (globals unit names) i o here)
 
-    stand : FunctionStands unit.words (globals unit names) defined function
-    stand = each_at (FunctionStands unit.words (globals unit names) defined) program.functions k function at (functions_stand unit.words (globals unit names) defined (record { scope = []; made = [] }) unit.externals stands tt all_globals)
+    pub block : FunctionStands unit.words (globals unit names) defined function
+    block = each_at (FunctionStands unit.words (globals unit names) defined) program.functions k function at (functions_stand unit.words (globals unit names) defined (record { scope = []; made = [] }) unit.externals stands tt all_globals)
 
     scopes_usable : ScopesUsable (lowered unit) func program function.scopes
     scopes_usable token entry found object =
         let each : EachScope EntryUsable function.scopes =
-        subst (λ (scopes : List Scope). EachScope EntryUsable scopes) (sym stand.scopes) (parameters_entries [] function.parameters params_usable tt, (globals_entries stand.scope stand.entries, tt))
+        subst (λ (scopes : List Scope). EachScope EntryUsable scopes) (sym block.scopes) (parameters_entries [] function.parameters params_usable tt, (globals_entries block.scope block.entries, tt))
         in
         (found_entry EntryUsable unit.words function.scopes token entry each found).0 object
 
@@ -247,10 +246,15 @@ module _ (unit : UnitTree) (names : HasNames (program_of unit)) (stands : UnitSt
           takes = agrees.1;
         }
 
-    -- ---- items
-
-    same_function : function_at program k ≡ function
+    pub same_function : function_at program k ≡ function
     same_function = ap (λ (x : Option Function). option_map_or (λ function. function) x no_function) at
+
+    asks : EachOf (IsAsked (lowered unit) func program defined k many few) (called_in function.body)
+    asks =
+        subst (λ (g : Function). EachOf (λ (token : ℕ). Contains (called_in g.body) token) (called_in function.body)) (sym same_function)
+        (each_of_places (λ (token : ℕ). Contains (called_in function.body) token) (called_in function.body) (λ i token here. contained (called_in function.body) i token here))
+
+    -- ---- items
 
     last_stands : (o : Outcome) → (function_at program k).result ≡ o → ItemStands (lowered unit) func program k many (last_return o)
     last_stands outcomes.Nothing is = subst (λ (r : Outcome). standing.ReturnStands (lowered unit) func program k many r None) (sym is) tt
@@ -261,6 +265,6 @@ module _ (unit : UnitTree) (names : HasNames (program_of unit)) (stands : UnitSt
     items_stand =
         let result : (function_at program k).result ≡ function.result = ap (λ (g : Function). g.result) same_function in
         all_items_stand (lowered unit) func program defined k many few results_usable (in_function function.result) function.scopes function.body 0 0 nowhere (last_return function.result ∷ [])
-        stand.body (each_at (λ (g : Function). InStatements Shallow Shallow g.body) program.functions k function at measured.shallow) (scopes_usable, scopes_call) locals_local (omega arith) (omega arith)
+        block.body (each_at (λ (g : Function). InStatements Shallow Shallow g.body) program.functions k function at measured.shallow) (scopes_usable, scopes_call) locals_local asks (omega arith) (omega arith)
         (record { break = λ bad. absurd (let f : false ≡ true = bad in cc); continue = λ bad. absurd (let f : false ≡ true = bad in cc); result = sym result })
         (last_stands function.result result, tt)

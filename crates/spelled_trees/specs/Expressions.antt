@@ -2,7 +2,7 @@
 --   Every P es                   P holds of each of the expressions
 --   InCall, InValue, InEffect, InShape, InLocals P x   P holds of each expression in it that stands in no other
 --   InStatement, InStatements P C s   P holds of each value and each target in it, and C of each condition
-use Rattle.std.specs.Prelude.{ℕ, List, [], ◌∷◌, ⊤, Option, Some, None}
+use Rattle.std.specs.Prelude.{List, [], ◌∷◌, ⊤, Option, Some, None}
 use Rattle.c_unit.specs.Tree.{Expression, CallTree, ValueTree, OfExpression, OfCall, EffectTree, Assigns, Updates, Steps, Calls, LocalShapeTree, LocalInteger, LocalPointer, LocalArray, LocalTree, Statement, Empty, Declares, Block, If, IfElse, While, Do, For, ForAfter, Switch, Case, Default, Break, Continue, Returns, Does, Statements, Nothing, Then}
 
 abbrev pub Every : (Expression → Type 0) → List Expression → Type 0

@@ -1,2 +1,3 @@
--- What statements are read by at each level.
+-- What statements are read by at each level, and by their heads.
 pub mod Levels
+pub mod HeadsLaws

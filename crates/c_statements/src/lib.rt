@@ -14,7 +14,9 @@ mod parts;
 // Labels of a switch.
 mod labels;
 
-// Statements.
+// Statements: their heads, and what follows these.
+mod ends;
+mod heads;
 mod loops;
 mod made;
 mod simple;

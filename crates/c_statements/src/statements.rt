@@ -1,26 +1,25 @@
 //! Statements in which statements stand. Reading one goes as deep as they may be nested.
 
-ghost use Rattle.std.specs.Prelude.{◌≡◌, map};
+ghost use Rattle.std.specs.Prelude.{◌≡◌, ◌&&◌, map};
 ghost use Rattle.std.specs.Option.{option_map};
 ghost use Rattle.grammar.specs.Rule.{maybe, many};
-ghost use Rattle.c_unit.specs.Tree.{Block, statement_of, statements_of};
+ghost use Rattle.c_unit.specs.Tree.{Block, expression_of, statement_of, statements_of};
 ghost use Rattle.c_grammar.specs.declared.standing.Standing.TheVariants as standings;
-ghost use Rattle.c_grammar.specs.Statements.{at_else, else_part, if_after, while_after, do_after, for_after, switch_after, worded_after, worded, in_block, block, unworded_long, unworded, statement, item, switch_item, placed_statement, standing};
-ghost use Rattle.c_reader.specs.Reading.{position, seen, Reads};
+ghost use Rattle.c_grammar.specs.Statements.{at_else, else_part, in_block, standing};
+ghost use Rattle.c_reader.specs.Reading.{position, Reads};
+ghost use Rattle.c_statements.specs.Heads.{control_of, head_of, controlled, switched, after_head, braced};
 
-use crate::labels::{at_worded, read_label, too_nested};
-use crate::locals::{declaration, semicolon};
-use crate::loops::{controlling, for_condition, for_first, for_last, switch_value, while_word};
-use crate::made::{do_statement, for_statement, if_statement, while_statement};
-use crate::simple::{effect_statement, empty_statement, leaving_after};
-use c_expressions::open_paren;
+use crate::ends::{control_tail, is_if};
+use crate::heads::{Control, Head, read_head};
+use crate::labels::too_nested;
+use crate::made::control_statement;
 use c_grammar::{Others, Standing};
-use c_reader::{Departure, Reader, Token};
-use c_unit::Stmt;
+use c_reader::{Departure, Reader};
+use c_unit::{Expr, Stmt};
 
 /// What stands at a place of this kind, where statements may be nested so many times.
 #[cycle(statement)]
-#[tactic(auto, using(crate::proofs::Levels::standing_none, crate::proofs::Levels::standing_more))]
+#[tactic(auto, using(crate::proofs::Levels::standing_none, crate::proofs::Levels::standing_more), unfolding(crate::specs::Heads::headed))]
 pub fn read_standing(
     reader: &mut Reader<'_>,
     nesting: u32,
@@ -29,270 +28,103 @@ pub fn read_standing(
     ensures { Reads (standing nesting place) statement_of result reader.old reader.new }
 {
     if nesting == 0 {
-        Err(too_nested(reader, place))
-    } else {
-        placed_statement(reader, nesting - 1, place)
+        return Err(too_nested(reader, place));
     }
-}
-
-// The block of a switch.
-#[cycle(statement)]
-#[tactic(auto, using(crate::proofs::Levels::standing_none, crate::proofs::Levels::switch_more))]
-pub fn switch_block(reader: &mut Reader<'_>, nesting: u32) -> Result<Vec<Stmt>, Departure>
-    ensures { Reads (standing nesting standings.SwitchBlock) (λ x. Block (statements_of (map statement_of x.items))) result reader.old reader.new }
-{
-    if nesting == 0 {
-        Err(too_nested(reader, Standing::SwitchBlock))
-    } else {
-        braced(
-            reader,
-            Others::Statements,
-            nesting - 1,
-            Standing::SwitchItem,
-        )
-    }
-}
-
-#[cycle(statement)]
-#[tactic(auto, unfolding(c_grammar::specs::Statements::placed_statement))]
-pub fn placed_statement(
-    reader: &mut Reader<'_>,
-    nesting: u32,
-    place: Standing,
-) -> Result<Stmt, Departure>
-    ensures { Reads (placed_statement (standing nesting) place) statement_of result reader.old reader.new }
-{
-    match place {
-        Standing::Part => read_statement(reader, nesting, Others::Labels),
-        Standing::Item => read_item(reader, nesting, Others::Labels),
-        Standing::SwitchItem => switch_item(reader, nesting),
-        Standing::SwitchBlock => {
-            block(reader, Others::Statements, nesting, Standing::SwitchItem)
-        }
-    }
-}
-
-// A label, a declaration or a statement.
-#[cycle(statement)]
-#[tactic(auto, unfolding(c_grammar::specs::Statements::switch_item))]
-pub fn switch_item(reader: &mut Reader<'_>, nesting: u32) -> Result<Stmt, Departure>
-    ensures { Reads (switch_item (standing nesting)) statement_of result reader.old reader.new }
-{
-    if reader.at_label() {
-        let stmt = read_label(reader)?;
-        Ok(stmt)
-    } else {
-        let stmt = read_item(reader, nesting, Others::Nothing)?;
-        Ok(stmt)
-    }
-}
-
-// A declaration or a statement.
-#[cycle(statement)]
-#[tactic(auto, unfolding(c_grammar::specs::Statements::item))]
-pub fn read_item(reader: &mut Reader<'_>, nesting: u32, others: Others) -> Result<Stmt, Departure>
-    ensures { Reads (item (standing nesting) others) statement_of result reader.old reader.new }
-{
-    if reader.at_specifier() {
-        let stmt = declaration(reader)?;
-        Ok(stmt)
-    } else {
-        let stmt = read_statement(reader, nesting, others)?;
-        Ok(stmt)
-    }
-}
-
-#[cycle(statement)]
-#[tactic(auto, unfolding(c_grammar::specs::Statements::statement))]
-pub fn read_statement(
-    reader: &mut Reader<'_>,
-    nesting: u32,
-    others: Others,
-) -> Result<Stmt, Departure>
-    ensures { Reads (statement (standing nesting) others) statement_of result reader.old reader.new }
-{
-    if at_worded(reader) {
-        let stmt = worded(reader, nesting)?;
-        Ok(stmt)
-    } else {
-        let stmt = unworded(reader, nesting, others)?;
-        Ok(stmt)
-    }
-}
-
-#[cycle(statement)]
-#[tactic(auto, unfolding(c_grammar::specs::Statements::worded))]
-pub fn worded(reader: &mut Reader<'_>, nesting: u32) -> Result<Stmt, Departure>
-    ensures { Reads (worded (standing nesting)) statement_of result reader.old reader.new }
-{
-    let word = reader.some_token()?;
-    let stmt = worded_after(reader, nesting, &word)?;
+    let head = read_head(reader, place)?;
+    let stmt = after_head(reader, nesting - 1, head)?;
     Ok(stmt)
 }
 
+// What follows a head.
 #[cycle(statement)]
-#[tactic(auto, unfolding(c_grammar::specs::Statements::worded_after))]
-pub fn worded_after(
-    reader: &mut Reader<'_>,
-    nesting: u32,
-    word: &Token<'_>,
-) -> Result<Stmt, Departure>
-    ensures { Reads (worded_after (standing nesting) (seen word.now)) statement_of result reader.old reader.new }
+#[tactic(auto, unfolding(crate::specs::Heads::after_head))]
+fn after_head(reader: &mut Reader<'_>, nesting: u32, head: Head) -> Result<Stmt, Departure>
+    ensures { Reads (after_head (standing nesting) (head_of head)) statement_of result reader.old reader.new }
 {
-    if word.text == b"if".as_slice() {
-        if_after(reader, nesting)
-    } else if word.text == b"while".as_slice() {
-        while_after(reader, nesting)
-    } else if word.text == b"do".as_slice() {
-        do_after(reader, nesting)
-    } else if word.text == b"for".as_slice() {
-        for_after(reader, nesting)
-    } else if word.text == b"switch".as_slice() {
-        switch_after(reader, nesting)
-    } else {
-        leaving_after(reader, word)
+    match head {
+        Head::Whole(stmt) => Ok(stmt),
+        Head::InBraces(place) => braced(reader, nesting, place),
+        Head::AtSwitch(value) => switched(reader, nesting, value),
+        Head::Controls(control) => controlled(reader, nesting, control),
     }
 }
 
+// What stands in braces, after the first of them.
 #[cycle(statement)]
-#[tactic(auto, unfolding(c_grammar::specs::Statements::else_part))]
-pub fn else_part(reader: &mut Reader<'_>, nesting: u32) -> Result<Stmt, Departure>
-    ensures { Reads (else_part (standing nesting)) statement_of result reader.old reader.new }
+#[tactic(auto, unfolding(crate::specs::Heads::braced))]
+fn braced(reader: &mut Reader<'_>, nesting: u32, place: Standing) -> Result<Stmt, Departure>
+    ensures { Reads (braced (standing nesting place)) statement_of result reader.old reader.new }
 {
-    reader.mark(b"else", Others::Nothing)?;
-    let stmt = read_standing(reader, nesting, Standing::Part)?;
-    Ok(stmt)
+    let items = block_items(reader, nesting, place)?;
+    reader.close_brace()?;
+    Ok(Stmt::Block(items))
 }
 
+// A switch, after its value.
 #[cycle(statement)]
-pub fn maybe_else(reader: &mut Reader<'_>, nesting: u32) -> Result<Option<Stmt>, Departure>
-    ensures { Reads (maybe at_else (else_part (standing nesting))) (option_map statement_of) result reader.old reader.new }
+#[tactic(auto, unfolding(crate::specs::Heads::switched))]
+fn switched(reader: &mut Reader<'_>, nesting: u32, value: Expr) -> Result<Stmt, Departure>
+    ensures { Reads (switched (standing nesting) (expression_of value)) statement_of result reader.old reader.new }
 {
-    if !reader.at(b"else") {
-        return Ok(None);
-    }
-    let stmt = else_part(reader, nesting)?;
-    Ok(Some(stmt))
-}
-
-// An `else` belongs to the nearest `if`.
-#[cycle(statement)]
-#[tactic(auto, unfolding(c_grammar::specs::Statements::if_after))]
-pub fn if_after(reader: &mut Reader<'_>, nesting: u32) -> Result<Stmt, Departure>
-    ensures { Reads (if_after (standing nesting)) statement_of result reader.old reader.new }
-{
-    let condition = controlling(reader)?;
-    let body = read_standing(reader, nesting, Standing::Part)?;
-    let otherwise = maybe_else(reader, nesting)?;
-    Ok(if_statement(reader.alloc, condition, body, otherwise)?)
-}
-
-#[cycle(statement)]
-#[tactic(auto, unfolding(c_grammar::specs::Statements::while_after))]
-pub fn while_after(reader: &mut Reader<'_>, nesting: u32) -> Result<Stmt, Departure>
-    ensures { Reads (while_after (standing nesting)) statement_of result reader.old reader.new }
-{
-    let condition = controlling(reader)?;
-    let body = read_standing(reader, nesting, Standing::Part)?;
-    Ok(while_statement(reader.alloc, condition, body)?)
-}
-
-#[cycle(statement)]
-#[tactic(auto, unfolding(c_grammar::specs::Statements::do_after))]
-pub fn do_after(reader: &mut Reader<'_>, nesting: u32) -> Result<Stmt, Departure>
-    ensures { Reads (do_after (standing nesting)) statement_of result reader.old reader.new }
-{
-    let body = read_standing(reader, nesting, Standing::Part)?;
-    while_word(reader)?;
-    let condition = controlling(reader)?;
-    semicolon(reader, Others::Nothing)?;
-    Ok(do_statement(reader.alloc, body, condition)?)
-}
-
-#[cycle(statement)]
-#[tactic(auto, unfolding(c_grammar::specs::Statements::for_after))]
-pub fn for_after(reader: &mut Reader<'_>, nesting: u32) -> Result<Stmt, Departure>
-    ensures { Reads (for_after (standing nesting)) statement_of result reader.old reader.new }
-{
-    open_paren(reader)?;
-    let first = for_first(reader)?;
-    let condition = for_condition(reader)?;
-    let after = for_last(reader)?;
-    let body = read_standing(reader, nesting, Standing::Part)?;
-    Ok(for_statement(reader.alloc, first, condition, after, body)?)
-}
-
-#[cycle(statement)]
-#[tactic(auto, unfolding(c_grammar::specs::Statements::switch_after))]
-pub fn switch_after(reader: &mut Reader<'_>, nesting: u32) -> Result<Stmt, Departure>
-    ensures { Reads (switch_after (standing nesting)) statement_of result reader.old reader.new }
-{
-    let value = switch_value(reader)?;
     let body = switch_block(reader, nesting)?;
     Ok(Stmt::Switch(value, body))
 }
 
+// The block of a switch.
 #[cycle(statement)]
-#[tactic(auto, unfolding(c_grammar::specs::Statements::unworded, c_grammar::specs::Tokens::sees))]
-pub fn unworded(reader: &mut Reader<'_>, nesting: u32, others: Others) -> Result<Stmt, Departure>
-    ensures { Reads (unworded (standing nesting) others) statement_of result reader.old reader.new }
+#[tactic(auto, using(crate::proofs::Levels::standing_none, crate::proofs::Levels::switch_more), unfolding(c_grammar::specs::Statements::block))]
+fn switch_block(reader: &mut Reader<'_>, nesting: u32) -> Result<Vec<Stmt>, Departure>
+    ensures { Reads (standing nesting standings.SwitchBlock) (λ x. Block (statements_of (map statement_of x.items))) result reader.old reader.new }
 {
-    if reader.at(b";") {
-        let stmt = empty_statement(reader)?;
-        Ok(stmt)
-    } else {
-        let stmt = unworded_long(reader, nesting, others)?;
-        Ok(stmt)
+    if nesting == 0 {
+        return Err(too_nested(reader, Standing::SwitchBlock));
     }
-}
-
-#[cycle(statement)]
-#[tactic(auto, unfolding(c_grammar::specs::Statements::unworded_long, c_grammar::specs::Tokens::sees))]
-pub fn unworded_long(
-    reader: &mut Reader<'_>,
-    nesting: u32,
-    others: Others,
-) -> Result<Stmt, Departure>
-    ensures { Reads (unworded_long (standing nesting) others) statement_of result reader.old reader.new }
-{
-    if reader.at(b"{") {
-        let stmt = block(reader, Others::Nothing, nesting, Standing::Item)?;
-        Ok(stmt)
-    } else {
-        let stmt = effect_statement(reader, others)?;
-        Ok(stmt)
-    }
-}
-
-// A block, in which statements of this kind stand.
-#[cycle(statement)]
-pub fn block(
-    reader: &mut Reader<'_>,
-    others: Others,
-    nesting: u32,
-    place: Standing,
-) -> Result<Stmt, Departure>
-    ensures { Reads (block others (standing nesting place)) statement_of result reader.old reader.new }
-{
-    let body = braced(reader, others, nesting, place)?;
-    Ok(Stmt::Block(body))
-}
-
-// What stands in braces.
-#[cycle(statement)]
-#[tactic(auto, unfolding(c_grammar::specs::Statements::block))]
-pub fn braced(
-    reader: &mut Reader<'_>,
-    others: Others,
-    nesting: u32,
-    place: Standing,
-) -> Result<Vec<Stmt>, Departure>
-    ensures { Reads (block others (standing nesting place)) (λ x. Block (statements_of (map statement_of x.items))) result reader.old reader.new }
-{
-    reader.mark(b"{", others)?;
-    let items = block_items(reader, nesting, place)?;
+    reader.mark(b"{", Others::Statements)?;
+    let items = block_items(reader, nesting - 1, Standing::SwitchItem)?;
     reader.close_brace()?;
     Ok(items)
+}
+
+// A statement in which another stands, after what comes before that.
+#[cycle(statement)]
+#[tactic(auto, unfolding(crate::specs::Heads::controlled))]
+fn controlled(reader: &mut Reader<'_>, nesting: u32, control: Control) -> Result<Stmt, Departure>
+    ensures { Reads (controlled (standing nesting) (control_of control)) statement_of result reader.old reader.new }
+{
+    let body = boxed_part(reader, nesting)?;
+    let otherwise = maybe_else(reader, nesting, is_if(&control))?;
+    let tail = control_tail(reader, &control)?;
+    Ok(control_statement(control, body, otherwise, tail))
+}
+
+// A statement that stands in another.
+#[cycle(statement)]
+fn boxed_part(reader: &mut Reader<'_>, nesting: u32) -> Result<Box<Stmt>, Departure>
+    ensures { Reads (standing nesting standings.Part) (λ s. statement_of s.value) result reader.old reader.new }
+{
+    let stmt = read_standing(reader, nesting, Standing::Part)?;
+    Ok(Box::new(reader.alloc, stmt)?)
+}
+
+// An `else` belongs to the nearest `if`.
+#[cycle(statement)]
+#[tactic(auto, unfolding(c_grammar::specs::Statements::else_part))]
+fn maybe_else(
+    reader: &mut Reader<'_>,
+    nesting: u32,
+    may: bool,
+) -> Result<Option<Box<Stmt>>, Departure>
+    ensures { Reads (maybe (λ at. may && at_else at) (else_part (standing nesting))) (option_map (λ s. statement_of s.value)) result reader.old reader.new }
+{
+    if !may {
+        return Ok(None);
+    }
+    if !reader.at(b"else") {
+        return Ok(None);
+    }
+    reader.mark(b"else", Others::Nothing)?;
+    let stmt = boxed_part(reader, nesting)?;
+    Ok(Some(stmt))
 }
 
 // Whether more stands in a block.

@@ -4,28 +4,30 @@
 --   right_in        so it is sound, and its path bound is what the word says
 --   agree_in        where there is one input alone, both bounds are one number
 use Rattle.std.specs.Prelude.{All}
-use Rattle.std.specs.List.{AllZip}
-use lib.Signed.{◌≤ℤ◌, ≤ℤ_refl}
-use Rattle.std.proofs.Common.{◌≡◌, ◌≤◌, ℕ, List, [], ◌∷◌, length, refl, sym, ap, subst, ◌∙◌}
+use lib.Signed.{≤ℤ_refl}
+use Rattle.std.proofs.Common.{◌≡◌, ◌≤◌, ℕ, List, [], ◌∷◌, Option, None, Some, refl, sym, subst}
 use Rattle.std.proofs.lemmas.List.Elements.{All-head, All-tail}
-use Rattle.alf_ops.specs.declared.history.RunEvent.{RunEvent}
+use Rattle.alf_ops.specs.declared.history.RunFault.{RunFault}
 use Rattle.alf_check.specs.declared.rows.InputRow.{InputRow}
 use Rattle.alf_check.specs.CheckedPrograms.{NumberedProgram, seen}
 use Rattle.alf_check.specs.Inputs.{KeepsInput}
+use Rattle.alf_runs.specs.Outcomes.{Outcome}
 use Rattle.alf_runs.specs.Steps.{Moment}
 use Rattle.alf_runs.specs.Starts.{AreWithin, IsStart}
+use Rattle.run_counts.specs.Traces.{Runs}
 use Rattle.cost_table.specs.CostTables.{CostTable}
 use Rattle.domain_core.specs.Outlines.{Outlined, shape_of}
+use Rattle.flow_facts.specs.declared.fact.Fact.{Fact}
 use Rattle.flow_facts.specs.Reports.{Reported}
 use Rattle.pool_events.specs.declared.policy.Policy.{Policy}
 use Rattle.pool_events.specs.Events.{HappenAll}
 use Rattle.pool_events.specs.PolicyLaws.{run_happens}
-use Rattle.run_points.specs.Points.{points}
+use Rattle.run_points.specs.Points.{points, moment_at}
 use Rattle.seen_memories.specs.SeenOrders.{parts_order, parts_are_order}
 use Rattle.seen_machines.specs.PartMachines.{is_part_machine}
 use Rattle.abstract_step.specs.Steppers.{StepperParts, stepped_by}
-use Rattle.told_reports.specs.Told.{four_order, four_recording, found_of, costs_of, told_report}
-use Rattle.told_reports.specs.Runs.{IsSound as IsSoundSystem}
+use Rattle.told_reports.specs.Told.{four_order, four_recording, found_of, told_report}
+use Rattle.told_reports.specs.Runs.{HasAlarm as HasFaultAlarm, IsSound as IsSoundSystem}
 use Rattle.told_reports.specs.Exact.{LoneRun}
 use Rattle.told_reports.specs.EventLaws.{sound_events}
 use Rattle.told_reports.specs.LoneLaws.{lone_report}
@@ -33,13 +35,14 @@ use Rattle.path_bounds.specs.Bounding.{told_path_bound}
 use Rattle.path_bounds.specs.Holding.{IsRight, ToldBoundsAreRight}
 use Rattle.bounded_reports.specs.Bounded.{IsTold, HasRun, bounded, HasPathBound, IsPathSound, IsWithinCount}
 use Rattle.bounded_reports.specs.BoundedLaws.{facts_limited, bound_most, bounded_sound, sound_runs, events_told, run_at_bound}
-use Rattle.program_machines.specs.NodeCosts.{node_cost, HasCosts}
-use Rattle.program_machines.specs.ProgramRunLaws.{program_run}
+use Rattle.program_machines.specs.NodeCosts.{HasCosts}
+use Rattle.program_machines.specs.ProgramRunLaws.{program_run, stands_there}
 use Rattle.program_machines.specs.Starts.{AreLone, lows, lone_start, one_history}
 use Rattle.program_analysis.specs.Analyses.{first_pool, IsClosed}
-use Rattle.program_analysis.specs.SoundLaws.{same_cost, sound_of}
+use Rattle.program_analysis.specs.Sound.{HasAlarm}
+use Rattle.program_analysis.specs.SoundLaws.{IsOutcomeOf, passes_runs, same_cost}
 use Rattle.program_analysis.specs.LoneLaws.{AreFit, along_fit}
-use Rattle.bounded_analyses.specs.Sound.{IsSound, IsSoundFor, IsRightFor}
+use Rattle.bounded_analyses.specs.Sound.{IsSound, IsRightFor}
 
 -- ---- a program has a run
 
@@ -53,6 +56,12 @@ lows_within program (row ∷ rows) each = (
 -- the least numbers of the ranges are inputs
 pub low_start : (program : NumberedProgram) (rows : List InputRow) → All (KeepsInput program) rows → IsStart program rows (lone_start program rows)
 low_start program rows each = record { numbers = lows rows; within = lows_within program rows each; starts = refl }
+
+alarm_of : (facts : List Fact) (trace : List ℕ) (fault : Option RunFault) (outcome : Outcome) → IsOutcomeOf fault outcome → HasFaultAlarm facts trace fault → HasAlarm trace outcome facts
+alarm_of facts trace None outcome (outputs, is) alarm = subst (λ (end : Outcome). HasAlarm trace end facts) (sym is) tt
+alarm_of facts trace (Some fault) outcome is alarm = subst (λ (end : Outcome). HasAlarm trace end facts) (sym is) alarm
+
+-- ---- reports that are found
 
 module _ (parts : StepperParts) (o : Outlined) (policy : Policy) (turns : ℕ) (fit : AreFit parts o) (given : Reported) (closed : IsClosed parts o policy turns given) where
   happen : HappenAll stepped_by parts_order four_order four_recording (first_pool parts o) closed.events closed.pool
@@ -96,16 +105,20 @@ module _ (parts : StepperParts) (o : Outlined) (policy : Policy) (turns : ℕ) (
         let graph = parts.graph in
         let machine = fit.kept.machine in
         let run = given_sound.ends (points program graph start) (program_run machine.promises.points program graph machine.keeps machine.is parts.rows start from) in
+        let right = given_sound.right run.start run.trace run.fault run.starts run.passes in
         let low = (path_sound.right run.start run.trace run.fault run.starts run.passes).bound in
-        let h = sound_of machine.promises.points program graph parts.rows o costs given machine.keeps machine.is priced given_sound start from in
+        let so = passes_runs program graph parts.rows run.passes in
+        let begins : start ≡ moment_at graph 0 run.start = stands_there machine.promises.points program graph machine.keeps machine.is parts.rows start from 0 0 run.start run.here in
+        let runs : Runs program graph.nodes start run.trace so.outcome = subst (λ (m : Moment). Runs program graph.nodes m run.trace so.outcome) (sym begins) so.runs in
+        let cost = same_cost program graph costs o run.trace runs.run priced runs.numbers in
         record {
-          trace = h.trace;
-          outcome = h.outcome;
-          runs = h.runs;
-          facts = h.facts;
-          alarm = h.alarm;
-          count = h.bound;
-          path = subst (λ (cost : ℕ). HasPathBound (λ b. cost ≤ b.0) (bounded o given pivots)) (same_cost program graph costs o run.trace h.runs.run priced h.runs.numbers) low;
+          trace = run.trace;
+          outcome = so.outcome;
+          runs = runs;
+          facts = right.facts;
+          alarm = alarm_of given.facts run.trace run.fault so.outcome so.is right.alarm;
+          count = subst (λ (k : ℕ). k ≤ given.count_bound) cost right.bound;
+          path = subst (λ (k : ℕ). k ≤ (told_path_bound o given.facts pivots).0) cost low;
         }
 
     -- the report with its path bound is right

@@ -69,7 +69,7 @@ fn with_bound(
     report: Report,
     pivots: u32,
 ) -> Result<Analysed, AllocError>
-    requires told { IsTold outline.now (reported report) }
+    requires { IsTold outline.now (reported report) }
     ensures found { IfOk result (λ analysed. answer_of analysed ≡ Told (bounded outline.now (reported report) pivots)) }
     ensures writable { IsWritable (reported report) → IfOk result (λ analysed. IfTold (answer_of analysed) IsWritable) }
 {

@@ -6,8 +6,8 @@ use Rattle.bounded_analyses.specs.Bounds.{told_in}
 use Rattle.bounded_analyses.proofs.Found.{found_bounded}
 use Rattle.bounded_analyses.proofs.exploring.analyse.Goals as goal
 
-pub with_bound-requires-in-Told : goal.with_bound-requires-in-Told
-with_bound-requires-in-Told c =
+pub with_bound-requires : goal.with_bound-requires
+with_bound-requires c =
     let parts : StepperParts = record { checked = c.args.checked.now; graph = c.args.graph.now; rows = c.args.rows.now } in
     let o = c.args.outline.now in
     let fit = c.parts_fit.ensures parts o c.keeps.ensures c.requires.graph c.requires.rows c.kept.ensures c.requires.outline in

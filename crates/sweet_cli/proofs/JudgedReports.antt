@@ -101,6 +101,7 @@ module _ (checked : CheckedParts) (graph : GraphParts) (rows : List InputRow) (k
   pub found_of : (answer : Answer) → IsOutline (shape_of outline) → IsOutlined graph outline → HasCosts (unranked (seen checked)) graph costs outline
       → IsFoundWith (record { checked = checked; graph = graph; rows = rows }) outline policy turns pivots answer
       → IsBoundedAnalysis (unranked (seen checked)) graph rows costs policy turns pivots answer
+  unfolding analysis_of
   found_of (Told report) outline_kept outlined priced found =
       record { given = found.given; analysis = analysis_of (Told found.given) outline_kept outlined priced found.closed; bounded = found.bounded }
   found_of (LeftIn scope) outline_kept outlined priced found = analysis_of (LeftIn scope) outline_kept outlined priced found

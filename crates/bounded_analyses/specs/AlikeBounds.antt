@@ -3,7 +3,7 @@
 --   one_bounded       a program has one answer
 --   longer_bounded    and more turns find the same report
 --   lone_bounds       where there is one input alone, both bounds are one number
-use Rattle.std.proofs.Common.{◌≡◌, ℕ, List, length, refl, sym, ap, subst, ◌∙◌}
+use Rattle.std.proofs.Common.{◌≡◌, ℕ, List, length, sym, ap, ◌∙◌}
 use Rattle.alf_check.specs.declared.rows.InputRow.{InputRow}
 use Rattle.alf_check.specs.CheckedPrograms.{NumberedProgram, seen}
 use Rattle.flow_graph.specs.Numbering.{GraphParts}
@@ -26,7 +26,7 @@ use Rattle.program_analysis.specs.Answers.{Answer, Told, Unbounded}
 use Rattle.program_analysis.specs.AnalysisLaws.{AreAlike, HasOneAlike}
 use Rattle.program_analysis.specs.FourTwins.{by_shape}
 use Rattle.unranked_analyses.specs.Analyses.{IsAnalysis, HasOneAnalysis, StaysAnalysed}
-use Rattle.bounded_analyses.specs.Analyses.{IsBoundedReport, IsBoundedAnalysis, HasOneBoundedAnalysis, StaysBounded}
+use Rattle.bounded_analyses.specs.Analyses.{HasOneBoundedAnalysis, StaysBounded}
 use Rattle.bounded_analyses.specs.Fitting.{PartsFit}
 use Rattle.bounded_analyses.specs.Sound.{LoneBoundsAgree}
 use Rattle.bounded_analyses.specs.Bounds.{agree_in}

@@ -2,7 +2,7 @@
 --   program_of_outline   each row's terms are of the columns
 --   dual_bounds          a dual point bounds each point that meets the rows
 --   right_at             so the path bound is right
-use Rattle.std.proofs.Common.{◌≡◌, ◌<◌, ◌≤◌, ◌+◌, ℕ, zero, suc, ℤ, pos, negsuc, Bool, List, [], ◌∷◌, length, map, reverse, refl, ap, sym, ◌∙◌, subst, arith}
+use Rattle.std.proofs.Common.{◌≡◌, ◌≤◌, ℕ, zero, suc, ℤ, pos, negsuc, Bool, List, [], ◌∷◌, length, map, reverse, refl, ap, sym, ◌∙◌, subst, arith}
 use Rattle.std.specs.Prelude.{◌+ℤ◌, ◌-ℤ◌, ◌*ℤ◌, ◌≤ℤ◌, ◌<ℤ◌, unsigned_abs}
 use Rattle.std.specs.Int.{int_div_euclid, int_rem_euclid, int_max}
 use Rattle.std.proofs.lemmas.Int.{ints, clamps}
@@ -27,7 +27,7 @@ use Rattle.dual_rules.specs.Duals.{IsDual, dual_sum}
 use Rattle.dual_rules.specs.Duality.{weak_duality, times_rising}
 use Rattle.dual_rules.specs.SumLaws.{times_difference, swap_first}
 use Rattle.dual_rules.specs.Verdicts.{floor_of}
-use Rattle.dual_rules.specs.Fractions.{IsPoint, AreFractions, part_of, whole_of}
+use Rattle.dual_rules.specs.Fractions.{AreFractions, part_of, whole_of}
 use Rattle.dual_rules.specs.PointLaws.{whole_above, point_meets_all}
 use Rattle.dual_rules.specs.Bounds.{BoundsAll}
 use Rattle.dual_check.specs.Openings.{costs_of, system_of}
@@ -37,7 +37,7 @@ use Rattle.pivot_rules.specs.PivotRule.{RunEnd, TooWide, Ended, opening_at}
 use Rattle.pivot_rules.specs.Promise.{Answers, basic_point, point_whole, handed}
 use Rattle.pivot_rules.specs.OpeningPlaces.{OpensRows, ended}
 use Rattle.pivot_rules.specs.ReadOff.{AreParts, IsReadOff, IsLeastPoint}
-use Rattle.path_bounds.specs.Bounding.{word_of, told_path_bound, opening_sum, IsAbove, IsGreatest}
+use Rattle.path_bounds.specs.Bounding.{word_of, told_path_bound, opening_sum, IsGreatest}
 use Rattle.path_bounds.specs.Holding.{IsRight}
 use Rattle.path_bounds.specs.OpeningCosts.{openings_above}
 use Rattle.path_bounds.proofs.Floors.{floor_most}

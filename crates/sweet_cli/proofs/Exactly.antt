@@ -1,14 +1,13 @@
 -- Where each range has one number, what is told is exactly the one run.
-use Rattle.std.proofs.Common.{◌≡◌, ℕ, List, map, slice_index, Option, Result, Ok, Err, refl, sym, ap, subst, ◌∙◌}
+use Rattle.std.proofs.Common.{◌≡◌, ℕ, List, map, slice_index, Option, Ok, Err, refl, sym, ap, subst, ◌∙◌}
 use Rattle.alf_ops.specs.declared.history.RunFault.{RunFault}
 use Rattle.alf_check.specs.declared.rows.InputRow.{InputRow}
 use Rattle.alf_check.specs.CheckedPrograms.{CheckedParts, NumberedProgram, seen}
 use Rattle.flow_graph.specs.Nodes.{Node}
-use Rattle.flow_graph.specs.Numbering.{GraphParts}
 use Rattle.flow_graph.specs.Graphs.{HasProgram}
 use Rattle.alf_runs.specs.Outcomes.{Outcome as RunOutcome}
 use Rattle.alf_runs.specs.Runs.{Ends, cost_of}
-use Rattle.run_counts.specs.Traces.{Runs, IsPast}
+use Rattle.run_counts.specs.Traces.{IsPast}
 use Rattle.cost_table.specs.CostTables.{CostTable}
 use Rattle.domain_core.specs.Outlines.{Outlined, Shape, shape_of}
 use Rattle.scope_graph.specs.Laws.{HasOneOutline}
@@ -30,7 +29,7 @@ use Rattle.sweet_cli.specs.Scopes.{ScopedProgram, IsScoped}
 use Rattle.sweet_cli.specs.LeftLines.{left_line}
 use Rattle.sweet_cli.specs.Run.{IsLeft, low_start}
 use Rattle.sweet_cli.specs.Analyse.{IsLeftAt}
-use Rattle.sweet_cli.specs.Exact.{TellsOneRun, MeansOneRun, OneInputIsToldExactly}
+use Rattle.sweet_cli.specs.Exact.{TellsOneRun, OneInputIsToldExactly}
 use Rattle.sweet_cli.proofs.RanksRuns as ranks_runs
 use Rattle.sweet_cli.proofs.SoundReports.{costs_same}
 

@@ -1,13 +1,12 @@
 -- A report that is found is sound, and its path bound is what its word says.
 --   costs_same     ranks have no part in what nodes cost
 --   sound_of       why
-use Rattle.std.proofs.Common.{◌≡◌, ◌≤◌, ℕ, List, [], map, refl, sym, ap, subst, ◌∙◌}
+use Rattle.std.proofs.Common.{◌≡◌, ◌≤◌, ℕ, List, map, sym, ap, subst, ◌∙◌}
 use Rattle.alf_check.specs.declared.rows.InputRow.{InputRow}
 use Rattle.alf_check.specs.CheckedPrograms.{CheckedParts, NumberedProgram, seen}
 use Rattle.flow_graph.specs.Nodes.{Node}
 use Rattle.flow_graph.specs.Numbering.{GraphParts}
 use Rattle.alf_runs.specs.Steps.{Moment}
-use Rattle.alf_runs.specs.Starts.{IsStart}
 use Rattle.alf_runs.specs.Runs.{cost_of}
 use Rattle.cost_table.specs.CostTables.{CostTable}
 use Rattle.domain_core.specs.Outlines.{Shape, shape_of}

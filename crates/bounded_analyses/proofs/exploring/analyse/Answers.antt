@@ -1,5 +1,4 @@
 -- The report that was found is a told one, and is found with its path bound.
-use Rattle.alf_check.specs.CheckedPrograms.{seen}
 use Rattle.abstract_step.specs.Steppers.{StepperParts}
 use Rattle.flow_facts.specs.Reports.{reported}
 use Rattle.bounded_analyses.specs.Bounds.{told_in}

@@ -32,7 +32,10 @@ fn told(alloc: Global, words: &[String]) -> Result<String, AllocError> {
             let costs = given.costs.unwrap_or("-");
             let turns = given.turns;
             let merging = merging_word(given.merging);
-            Ok(format!(in alloc; "analyse {file} {root} {inputs} {costs} {turns} {merging}")?)
+            let pivots = given.pivots;
+            Ok(format!(in alloc;
+                "analyse {file} {root} {inputs} {costs} {turns} {merging} {pivots}"
+            )?)
         }
         Ok(Command::Print(file)) => Ok(format!(in alloc; "print {file}")?),
         Ok(Command::PrintC(file)) => Ok(format!(in alloc; "print of C {file}")?),
@@ -60,88 +63,122 @@ fn are_usage(alloc: Global, words: &[String]) -> bool {
 fn words_are_commands_in_any_order(rt: HostRuntime) -> Result<(), Fail> {
     // The words, and what they are.
     let cases = [
-        ("analyse,a.alf", "analyse a.alf main - - 100000 joins"),
+        ("analyse,a.alf", "analyse a.alf main - - 100000 joins 1000"),
         (
             "analyse,a.alf,--turns,24",
-            "analyse a.alf main - - 24 joins",
+            "analyse a.alf main - - 24 joins 1000",
         ),
         (
             "analyse,a.alf,--turns=24",
-            "analyse a.alf main - - 24 joins",
+            "analyse a.alf main - - 24 joins 1000",
         ),
         (
             "analyse,--turns,24,a.alf",
-            "analyse a.alf main - - 24 joins",
+            "analyse a.alf main - - 24 joins 1000",
         ),
         (
             "analyse,--turns=24,a.alf",
-            "analyse a.alf main - - 24 joins",
+            "analyse a.alf main - - 24 joins 1000",
         ),
-        ("analyse,a.alf,--turns,1", "analyse a.alf main - - 1 joins"),
+        (
+            "analyse,a.alf,--turns,1",
+            "analyse a.alf main - - 1 joins 1000",
+        ),
         (
             "analyse,a.alf,--turns,1000000",
-            "analyse a.alf main - - 1000000 joins",
+            "analyse a.alf main - - 1000000 joins 1000",
         ),
         (
             "analyse,a.alf,--turns,000002",
-            "analyse a.alf main - - 2 joins",
+            "analyse a.alf main - - 2 joins 1000",
         ),
         (
             "analyse,a.alf,--turns,00000000000000000002",
-            "analyse a.alf main - - 2 joins",
+            "analyse a.alf main - - 2 joins 1000",
         ),
-        ("analyse,--,a.alf", "analyse a.alf main - - 100000 joins"),
-        ("analyse,a.alf,--", "analyse a.alf main - - 100000 joins"),
+        (
+            "analyse,--,a.alf",
+            "analyse a.alf main - - 100000 joins 1000",
+        ),
+        (
+            "analyse,a.alf,--",
+            "analyse a.alf main - - 100000 joins 1000",
+        ),
         (
             "analyse,--turns,24,--,-a.alf",
-            "analyse -a.alf main - - 24 joins",
+            "analyse -a.alf main - - 24 joins 1000",
         ),
         (
             "analyse,--,--turns",
-            "analyse --turns main - - 100000 joins",
+            "analyse --turns main - - 100000 joins 1000",
         ),
-        ("analyse,--,--", "analyse -- main - - 100000 joins"),
-        ("analyse,-", "analyse - main - - 100000 joins"),
-        ("analyse,", "analyse  main - - 100000 joins"),
-        ("analyse,analyse", "analyse analyse main - - 100000 joins"),
-        ("analyse,a.C", "analyse a.C main - - 100000 joins"),
-        ("analyse,a.alf,--root,f", "analyse a.alf f - - 100000 joins"),
-        ("analyse,a.alf,--root=", "analyse a.alf  - - 100000 joins"),
+        ("analyse,--,--", "analyse -- main - - 100000 joins 1000"),
+        ("analyse,-", "analyse - main - - 100000 joins 1000"),
+        ("analyse,", "analyse  main - - 100000 joins 1000"),
+        (
+            "analyse,analyse",
+            "analyse analyse main - - 100000 joins 1000",
+        ),
+        ("analyse,a.C", "analyse a.C main - - 100000 joins 1000"),
+        (
+            "analyse,a.alf,--root,f",
+            "analyse a.alf f - - 100000 joins 1000",
+        ),
+        (
+            "analyse,a.alf,--root=",
+            "analyse a.alf  - - 100000 joins 1000",
+        ),
         (
             "analyse,a.alf,--root=-f",
-            "analyse a.alf -f - - 100000 joins",
+            "analyse a.alf -f - - 100000 joins 1000",
         ),
         (
             "analyse,a.alf,--costs,c.toml",
-            "analyse a.alf main - c.toml 100000 joins",
+            "analyse a.alf main - c.toml 100000 joins 1000",
         ),
         (
             "analyse,--costs,c.toml,--turns=7,a.alf,--root,g",
-            "analyse a.alf g - c.toml 7 joins",
+            "analyse a.alf g - c.toml 7 joins 1000",
         ),
         (
             "analyse,a.alf,--inputs,i.toml",
-            "analyse a.alf main i.toml - 100000 joins",
+            "analyse a.alf main i.toml - 100000 joins 1000",
         ),
         (
             "analyse,--inputs=-,a.alf,--costs,c",
-            "analyse a.alf main - c 100000 joins",
+            "analyse a.alf main - c 100000 joins 1000",
         ),
         (
             "analyse,a.alf,--merge,none",
-            "analyse a.alf main - - 100000 none",
+            "analyse a.alf main - - 100000 none 1000",
         ),
         (
             "analyse,--merge=exits,a.alf",
-            "analyse a.alf main - - 100000 exits",
+            "analyse a.alf main - - 100000 exits 1000",
         ),
         (
             "analyse,a.alf,--merge,joins",
-            "analyse a.alf main - - 100000 joins",
+            "analyse a.alf main - - 100000 joins 1000",
         ),
         (
             "analyse,--merge,none,--turns=9,--inputs,i,--root,f,a.alf,--costs=c",
-            "analyse a.alf f i c 9 none",
+            "analyse a.alf f i c 9 none 1000",
+        ),
+        (
+            "analyse,a.alf,--pivots,1",
+            "analyse a.alf main - - 100000 joins 1",
+        ),
+        (
+            "analyse,--pivots=4000,a.alf",
+            "analyse a.alf main - - 100000 joins 4000",
+        ),
+        (
+            "analyse,a.alf,--pivots,00000000000000004000",
+            "analyse a.alf main - - 100000 joins 4000",
+        ),
+        (
+            "analyse,--merge=none,--pivots,12,a.alf,--turns=9",
+            "analyse a.alf main - - 9 none 12",
         ),
         ("run,a.alf", "run a.alf main - - 100000"),
         (
@@ -251,6 +288,19 @@ fn other_words_are_no_command(rt: HostRuntime) -> Result<(), Fail> {
         "print,a.alf,--root,f",
         "print,a.alf,--inputs,i",
         "run,a.alf,--merge=none",
+        "analyse,a.alf,--pivots",
+        "analyse,a.alf,--pivots=",
+        "analyse,a.alf,--pivots,0",
+        "analyse,a.alf,--pivots,4001",
+        "analyse,a.alf,--pivots,000000000000000000001",
+        "analyse,a.alf,--pivots,+5",
+        "analyse,a.alf,--pivots,-5",
+        "analyse,a.alf,--pivots=-5",
+        "analyse,a.alf,--pivots,5x",
+        "analyse,a.alf,--pivots,5,--pivots,5",
+        "analyse,a.alf,--pivot,5",
+        "run,a.alf,--pivots,5",
+        "print,a.alf,--pivots,5",
         "analyse,a.alf,--merge",
         "analyse,a.alf,--merge,",
         "analyse,a.alf,--merge=",

@@ -77,7 +77,7 @@ value_fits s o facts scale y is above most room = below (floor_of (dual_sum s.pr
 pub system_bounds : (s : System) (o : Outlined) (facts : List Fact) (v : ℕ) → s ≡ system_of o facts → BoundsAll s.program v v → BoundsAll (system_of o facts).program v v
 system_bounds s o facts v is bounds = subst (λ (z : System). BoundsAll z.program v v) is bounds
 
-greatest_of : (p : Program) (scale : ℤ) (y : List ℤ) (point : List (ℤ × ℤ)) (v : ℕ) → IsProgram p → IsDual p scale y
+pub greatest_of : (p : Program) (scale : ℤ) (y : List ℤ) (point : List (ℤ × ℤ)) (v : ℕ) → IsProgram p → IsDual p scale y
     → v ≡ floor_of (dual_sum p y) scale → IsOptimal p scale y point → IsGreatest p v
 greatest_of p scale y point v is dual value optimal =
     let whole = whole_above point optimal.is.fractions in

@@ -1,3 +1,4 @@
 pub mod Fitting
 pub mod Floors
 pub mod BoundLaws
+pub mod RightLaws

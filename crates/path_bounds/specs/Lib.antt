@@ -3,3 +3,4 @@ pub mod Sizes
 pub mod GroupLaws
 pub mod SizeLaws
 pub mod OpeningCosts
+pub mod Holding

@@ -8,6 +8,7 @@ ghost use Rattle.dual_rules.specs.Duals.{dual_sum};
 ghost use Rattle.dual_rules.specs.Verdicts.{floor_of};
 ghost use Rattle.dual_rules.specs.Bounds.{BoundsAll};
 ghost use Rattle.dual_check.specs.Openings.{system_of};
+ghost use Rattle.pivot_rules.specs.NarrowOpening.{IsSmall};
 ghost use Rattle.pivot_rules.specs.OutlineOpenings.{AreLimited};
 ghost use Rattle.path_lp.specs.Solving.{HoldFrom};
 ghost use Rattle.path_bounds.specs.Bounding.{word_at, told_path_bound, opening_sum, IsAbove, IsGreatest};
@@ -72,6 +73,9 @@ pub fn path_bound(
 
     // It is at most the sum over the openings.
     ensures most { IfOk result (λ b. pos b.0 ≤ℤ opening_sum outline.now report.now.facts.items) }
+
+    // Costs, coefficients and right sides have about 32 bits: none is too wide for the solver.
+    ensures small { IfOk result (λ b. IsSmall (system_of outline.now report.now.facts.items).program) }
 {
     outline.kept();
     costs_fit(outline);

@@ -1,42 +1,41 @@
 -- Where each range has one number, what is told is exactly the one run.
-use Rattle.std.proofs.Common.{◌≡◌, ℕ, List, [], map, slice_index, Result, Ok, Err, sym, ap, subst, ◌∙◌}
+use Rattle.std.proofs.Common.{◌≡◌, ℕ, List, map, slice_index, Option, Ok, Err, refl, sym, ap, subst, ◌∙◌}
+use Rattle.alf_ops.specs.declared.history.RunFault.{RunFault}
 use Rattle.alf_check.specs.declared.rows.InputRow.{InputRow}
 use Rattle.alf_check.specs.CheckedPrograms.{CheckedParts, NumberedProgram, seen}
 use Rattle.flow_graph.specs.Nodes.{Node}
-use Rattle.flow_graph.specs.Numbering.{GraphParts}
 use Rattle.flow_graph.specs.Graphs.{HasProgram}
 use Rattle.alf_runs.specs.Outcomes.{Outcome as RunOutcome}
 use Rattle.alf_runs.specs.Runs.{Ends, cost_of}
-use Rattle.run_counts.specs.Traces.{Runs, IsPast}
+use Rattle.run_counts.specs.Traces.{IsPast}
 use Rattle.cost_table.specs.CostTables.{CostTable}
-use Rattle.domain_core.specs.Outlines.{Shape, shape_of}
+use Rattle.domain_core.specs.Outlines.{Outlined, Shape, shape_of}
 use Rattle.scope_graph.specs.Laws.{HasOneOutline}
+use Rattle.flow_facts.specs.declared.report.BoundWord.{BoundWord}
 use Rattle.flow_facts.specs.Reports.{Reported}
 use Rattle.pool_events.specs.declared.policy.Policy.{Policy}
-use Rattle.program_machines.specs.NodeCosts.{place_cost, node_cost}
+use Rattle.path_bounds.specs.Bounding.{told_path_bound}
+use Rattle.told_reports.specs.Exact.{IsExact}
+use Rattle.program_machines.specs.NodeCosts.{node_cost}
 use Rattle.program_machines.specs.Starts.{AreLone}
 use Rattle.program_analysis.specs.Answers.{Told, Unbounded as LeftIn}
-use Rattle.unranked_analyses.specs.Ranking.{with_ranks, function_same}
+use Rattle.bounded_reports.specs.Bounded.{with_path_bound, bounded}
 use Rattle.unranked_analyses.specs.UnrankedMachines.{IsProgramOf}
-use Rattle.unranked_analyses.specs.Analyses.{IsAnalysis}
 use Rattle.unranked_analyses.specs.Lone.{LoneAnalysisIsExact}
+use Rattle.bounded_analyses.specs.Analyses.{IsBoundedReport}
+use Rattle.bounded_analyses.specs.Sound.{LoneBoundsAgree}
 use Rattle.work.specs.Outcome.{Outcome, Unbounded}
 use Rattle.sweet_cli.specs.Scopes.{ScopedProgram, IsScoped}
 use Rattle.sweet_cli.specs.LeftLines.{left_line}
 use Rattle.sweet_cli.specs.Run.{IsLeft, low_start}
 use Rattle.sweet_cli.specs.Analyse.{IsLeftAt}
-use Rattle.sweet_cli.specs.Exact.{TellsOneRun, MeansOneRun, OneInputIsToldExactly}
+use Rattle.sweet_cli.specs.Exact.{TellsOneRun, OneInputIsToldExactly}
 use Rattle.sweet_cli.proofs.RanksRuns as ranks_runs
+use Rattle.sweet_cli.proofs.SoundReports.{costs_same}
 
 -- ---- ranks have no part
 
 module _ (program : NumberedProgram) (checked : CheckedParts) (is : IsProgramOf program checked) where
-  costs_same : (costs : CostTable) → node_cost (seen checked) costs ≡ node_cost program costs
-  costs_same costs =
-      let ranked : node_cost (seen checked) costs ≡ node_cost (with_ranks (seen checked) program.ranks) costs =
-      λ i node. place_cost costs (function_same (seen checked) program.ranks (seen checked).ranks node.path i) node.block in
-      ranked ∙ ap (λ (p : NumberedProgram). node_cost p costs) is
-
   ends_same : (rows : List InputRow) (run : List Node) (outcome : RunOutcome) → Ends (seen checked) (low_start (seen checked) rows) run outcome → Ends program (low_start program rows) run outcome
   ends_same rows run outcome h =
       subst (λ (p : NumberedProgram). Ends p (low_start p rows) run outcome) is
@@ -49,27 +48,38 @@ module _ (program : NumberedProgram) (checked : CheckedParts) (is : IsProgramOf 
 
 -- ---- what is told
 
-told_exactly : LoneAnalysisIsExact → (program : ScopedProgram) (rows : List InputRow) (costs : CostTable) (policy : Policy) (turns : ℕ) (report : Reported) → AreLone rows
-    → IsAnalysis program.expanded.program program.expanded.graph rows costs policy turns (Told report)
+-- a path bound changes nothing of it
+exact_with : (o : Outlined) (given : Reported) (b : ℕ × BoundWord) (trace : List ℕ) (fault : Option RunFault) → IsExact o given trace fault → IsExact o (with_path_bound given b) trace fault
+exact_with o given b trace fault is =
+    record { totals = is.totals; deads = is.deads; loops = is.loops; counts = is.counts; pairs = is.pairs; alarms = is.alarms; bound = is.bound }
+
+told_exactly : LoneAnalysisIsExact → LoneBoundsAgree → (program : ScopedProgram) (rows : List InputRow) (costs : CostTable) (policy : Policy) (turns pivots : ℕ) (report : Reported) → AreLone rows
+    → IsBoundedReport program.expanded.program program.expanded.graph rows costs policy turns pivots report
     → TellsOneRun program.expanded.program program.expanded.graph rows costs turns report
-told_exactly law program rows costs policy turns report lone h =
+told_exactly law agree program rows costs policy turns pivots report lone h =
     let numbered = program.expanded.program in
     let graph = program.expanded.graph in
-    let told = law numbered graph rows costs policy turns (Told report) lone h in
-    let same = costs_same numbered h.checked h.program_is costs in
-    let priced = h.costs_are ∙ ap (λ (cost : Node → ℕ). map cost graph.nodes) (sym same) in
-    record {
+    let a = h.analysis in
+    let given = h.given in
+    let told = law numbered graph rows costs policy turns (Told given) lone a in
+    let same = costs_same numbered a.checked a.program_is costs in
+    let priced = a.costs_are ∙ ap (λ (cost : Node → ℕ). map cost graph.nodes) (sym same) in
+    let count : given.count_bound ≡ cost_of (node_cost numbered costs) told.runs.run = told.cost costs priced ∙ ap (λ (cost : Node → ℕ). cost_of cost told.runs.run) same in
+    let both : (told_path_bound a.outline given.facts pivots).0 ≡ given.count_bound = agree numbered graph rows costs policy turns pivots (bounded a.outline given pivots) lone (record { given = given; analysis = a; bounded = refl }) in
+    subst (λ (r : Reported). TellsOneRun numbered graph rows costs turns r) (sym h.bounded)
+    (record {
       trace = told.nodes;
       outcome = told.outcome;
-      runs = record { run = told.runs.run; ends = ends_same numbered h.checked h.program_is rows told.runs.run told.outcome told.runs.ends; numbers = told.runs.numbers };
+      runs = record { run = told.runs.run; ends = ends_same numbered a.checked a.program_is rows told.runs.run told.outcome told.runs.ends; numbers = told.runs.numbers };
       within = told.within;
       fault = told.fault;
       ends = told.ends;
-      outline = h.outline;
-      outline_is = h.outline_is;
-      exact = told.exact;
-      cost = told.cost costs priced ∙ ap (λ (cost : Node → ℕ). cost_of cost told.runs.run) same;
-    }
+      outline = a.outline;
+      outline_is = a.outline_is;
+      exact = exact_with a.outline given (told_path_bound a.outline given.facts pivots) told.nodes told.fault told.exact;
+      count = count;
+      path = both ∙ count;
+    })
 
 left_exactly : HasOneOutline → LoneAnalysisIsExact → (program : ScopedProgram) (rows : List InputRow) (costs : CostTable) (policy : Policy) (turns : ℕ) (outcome : Outcome) → AreLone rows
     → IsScoped program.expanded.graph program.scoped → IsLeftAt program rows costs policy turns outcome → IsLeft program (low_start program.expanded.program rows) turns outcome
@@ -88,6 +98,6 @@ left_exactly one law program rows costs policy turns outcome lone scoped left =
       line = left.line ∙ ap (λ (s : ℕ). record { cause = Unbounded; text = left_line graph program.scoped.scopes s }) scope;
     }
 
-pub exactly : HasOneOutline → LoneAnalysisIsExact → OneInputIsToldExactly
-exactly one law program rows costs policy turns (Ok report) lone scoped means = told_exactly law program rows costs policy turns report lone means
-exactly one law program rows costs policy turns (Err outcome) lone scoped means = left_exactly one law program rows costs policy turns outcome lone scoped means
+pub exactly : HasOneOutline → LoneAnalysisIsExact → LoneBoundsAgree → OneInputIsToldExactly
+exactly one law agree program rows costs policy turns pivots (Ok report) lone scoped means = told_exactly law agree program rows costs policy turns pivots report lone means
+exactly one law agree program rows costs policy turns pivots (Err outcome) lone scoped means = left_exactly one law program rows costs policy turns outcome lone scoped means

@@ -10,6 +10,7 @@ pub mod JudgedTables
 pub mod JudgedUnit
 pub mod JudgedScopes
 pub mod JudgedReports
+pub mod SoundReports
 pub mod Staying
 pub mod Exactly
 pub mod Numbers

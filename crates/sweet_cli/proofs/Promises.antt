@@ -91,7 +91,7 @@ told_tables program inputs costs files before tables after (rows, a, first, (spe
 pub analysed : (given : AnalyseWords) (before mid end : ShelfState) (program : ScopedProgram) (tables : Tables) (report : Reported) (text : Vec ℕ Global)
     → (scoped_in given.file given.root).steps.Gives before.files (log_of before) program (log_of mid) × (mid.failed ≡ before.failed) → mid.files ≡ before.files → before.faults ≤ mid.faults
     → (tables_in program.expanded.program given.inputs given.costs).steps.Gives mid.files (log_of mid) tables (log_of end) × (end.failed ≡ mid.failed) → end.files ≡ mid.files → mid.faults ≤ end.faults
-    → IsOnly (ReportMeans program tables.rows tables.costs (policy_of given.merging) given.turns) (Ok report) → text.items ≡ report_text report
+    → IsOnly (ReportMeans program tables.rows tables.costs (policy_of given.merging) given.turns given.pivots) (Ok report) → text.items ≡ report_text report
     → Works (analysing given) (λ (t : Vec ℕ Global). t.items) before (Ok text) end
 unfolding analysing
 analysed given before mid end program tables report text first same later second same_again later_again only is =

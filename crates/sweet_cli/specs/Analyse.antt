@@ -1,9 +1,9 @@
 -- `analyse FILE`: what is told of all runs of the program.
 --   policy_of merging            the policy that merges there
 --   IsLeftAt program rows costs policy turns outcome   places are left after so many turns, and the outcome tells the scope of the first one
---   ReportMeans program rows costs policy turns meaning   the report of the exploration, or that places are left
+--   ReportMeans program rows costs policy turns pivots meaning   the report of the exploration with its path bound, or that places are left
 --   analysing given              the order of work
---   IsSoundOf program graph rows costs report   the report is sound for the program, with the scopes of its graph
+--   IsSoundOf program graph rows costs report   the report is sound for the program, with the scopes of its graph, and its path bound is what its word says
 --   IsSoundReport given files text   the promise: the text spells a report that is sound for the program that the file spells
 --   analyse given                the task
 use Rattle.std.specs.Prelude.{◌≡◌, ℕ, List, Some, Result, Ok, Err}
@@ -15,7 +15,7 @@ use Rattle.alf_check.specs.CheckedPrograms.{NumberedProgram}
 use Rattle.alf_check.specs.Checking.{Passes}
 use Rattle.flow_graph.specs.Numbering.{GraphParts, IsGraph}
 use Rattle.cost_table.specs.CostTables.{CostTable}
-use Rattle.domain_core.specs.Outlines.{Shape}
+use Rattle.domain_core.specs.Outlines.{Outlined, shape_of}
 use Rattle.domain_core.specs.OutlineOf.{IsOutlineOf}
 use Rattle.scope_graph.specs.Placing.{plan_of}
 use Rattle.flow_facts.specs.Reports.{Reported}
@@ -23,9 +23,12 @@ use Rattle.fact_printer.specs.Canonical.{report_text}
 use Rattle.fact_text.specs.Language.{SpellsReport}
 use Rattle.pool_events.specs.declared.policy.Policy.{Policy}
 use Rattle.pool_events.specs.declared.policy.Policy.TheVariants as policies
-use Rattle.program_analysis.specs.Answers.{Told, Unbounded as LeftIn}
-use Rattle.program_analysis.specs.Sound.{IsSound}
+use Rattle.program_machines.specs.NodeCosts.{HasCosts}
+use Rattle.program_analysis.specs.Answers.{Unbounded as LeftIn}
+use Rattle.bounded_reports.specs.Bounded.{IsWithinCount, IsLeastOf}
 use Rattle.unranked_analyses.specs.Analyses.{IsAnalysis}
+use Rattle.bounded_analyses.specs.Analyses.{IsBoundedReport}
+use Rattle.bounded_analyses.specs.Sound.{IsSound}
 use Rattle.work.specs.Outcome.{Outcome, Unbounded}
 use Rattle.work.specs.Work.{Work, judged, done, ◌>>=◌}
 use Rattle.sweet_cli.specs.Words.{AnalyseWords, Merging, Never, Exits, Joins}
@@ -47,26 +50,30 @@ pub record IsLeftAt (program : ScopedProgram) (rows : List InputRow) (costs : Co
   pub left : IsAnalysis program.expanded.program program.expanded.graph rows costs policy turns (LeftIn scope)
   pub line : outcome ≡ record { cause = Unbounded; text = left_line program.expanded.graph program.scoped.scopes scope }
 
--- the report of the exploration, or that places are left
-abbrev pub ReportMeans : ScopedProgram → List InputRow → CostTable → Policy → ℕ → Result Reported Outcome → Type 0
-ReportMeans program rows costs policy turns (Ok report) = IsAnalysis program.expanded.program program.expanded.graph rows costs policy turns (Told report)
-ReportMeans program rows costs policy turns (Err outcome) = IsLeftAt program rows costs policy turns outcome
+-- the report of the exploration, with the path bound of its facts after so many pivots at most, or that places are left
+abbrev pub ReportMeans : ScopedProgram → List InputRow → CostTable → Policy → ℕ → ℕ → Result Reported Outcome → Type 0
+ReportMeans program rows costs policy turns pivots (Ok report) = IsBoundedReport program.expanded.program program.expanded.graph rows costs policy turns pivots report
+ReportMeans program rows costs policy turns pivots (Err outcome) = IsLeftAt program rows costs policy turns outcome
 
 unfoldable pub analysing : AnalyseWords → Work (List ℕ)
 analysing given = do
   program ← scoped_in given.file given.root
   tables ← tables_in program.expanded.program given.inputs given.costs
-  report ← judged (ReportMeans program tables.rows tables.costs (policy_of given.merging) given.turns)
+  report ← judged (ReportMeans program tables.rows tables.costs (policy_of given.merging) given.turns given.pivots)
   done (report_text report)
 
--- the report is sound for the program, with the scopes of its graph
+-- the report is sound for the program, with the scopes of its graph; its path bound is at most its count bound, and where its word is
+-- `least`, it is the greatest worth of a point that meets the report's rows, rounded down
 pub record IsSoundOf (program : NumberedProgram) (graph : GraphParts) (rows : List InputRow) (costs : CostTable) (report : Reported) : Type 0 where
-  pub shape : Shape
-  pub outline_is : IsOutlineOf (plan_of graph) shape
-  pub sound : IsSound program graph rows shape costs report
+  pub outline : Outlined
+  pub outline_is : IsOutlineOf (plan_of graph) (shape_of outline)
+  pub costs_are : HasCosts program graph costs outline
+  pub sound : IsSound program graph rows (shape_of outline) costs report
+  pub within : IsWithinCount report
+  pub least : IsLeastOf outline report
 
 -- the text spells a report that is sound for the program that the file spells, with inputs and costs as the told files say:
--- every run from inputs inside the ranges ends, meets each fact, has an alarm for its fault, and costs no more than the count bound
+-- every run from inputs inside the ranges ends, meets each fact, has an alarm for its fault, and costs no more than each bound
 pub record IsSoundReport (given : AnalyseWords) (files : Files) (text : List ℕ) : Type 0 where
   pub bytes : List ℕ
   pub whole : WholeProgram

@@ -1,5 +1,5 @@
 -- What `analyse` tells where each range has one number: exactly the one run.
---   TellsOneRun program graph rows costs turns report   the run ends within the turns, and the report tells its own numbers, its fault and its cost
+--   TellsOneRun program graph rows costs turns report   the run ends within the turns, and the report tells its own numbers, its fault and its cost, twice
 --   MeansOneRun program rows costs turns meaning        so it is of a report; places are left where the run has more nodes than the turns
 --   OneInputIsToldExactly       the law
 use Rattle.std.specs.Prelude.{◌≡◌, ◌≤◌, ℕ, List, length, Option, Result, Ok, Err}
@@ -17,6 +17,7 @@ use Rattle.scope_graph.specs.Placing.{plan_of}
 use Rattle.flow_facts.specs.Reports.{Reported}
 use Rattle.pool_events.specs.declared.policy.Policy.{Policy}
 use Rattle.told_reports.specs.Exact.{IsExact}
+use Rattle.bounded_reports.specs.Bounded.{HasPathBound}
 use Rattle.program_machines.specs.NodeCosts.{node_cost}
 use Rattle.program_machines.specs.Starts.{AreLone}
 use Rattle.program_analysis.specs.SoundLaws.{IsOutcomeOf}
@@ -25,7 +26,7 @@ use Rattle.sweet_cli.specs.Scopes.{ScopedProgram, IsScoped}
 use Rattle.sweet_cli.specs.Run.{IsLeft, low_start}
 use Rattle.sweet_cli.specs.Analyse.{ReportMeans}
 
--- the run from the one input ends within the turns, and the report tells its own numbers, its fault and its cost
+-- the run from the one input ends within the turns, and the report tells its own numbers and its fault; both bounds are its cost
 pub record TellsOneRun (program : NumberedProgram) (graph : GraphParts) (rows : List InputRow) (costs : CostTable) (turns : ℕ) (report : Reported) : Type 0 where
   pub trace : List ℕ
   pub outcome : RunOutcome
@@ -36,7 +37,8 @@ pub record TellsOneRun (program : NumberedProgram) (graph : GraphParts) (rows : 
   pub outline : Outlined
   pub outline_is : IsOutlineOf (plan_of graph) (shape_of outline)
   pub exact : IsExact outline report trace fault
-  pub cost : report.count_bound ≡ cost_of (node_cost program costs) runs.run
+  pub count : report.count_bound ≡ cost_of (node_cost program costs) runs.run
+  pub path : HasPathBound (λ b. b.0 ≡ cost_of (node_cost program costs) runs.run) report
 
 -- so it is of a report; places are left where the run has more nodes than the turns, and the line tells the scope of the one that comes after so many
 abbrev pub MeansOneRun : ScopedProgram → List InputRow → CostTable → ℕ → Result Reported Outcome → Type 0
@@ -45,5 +47,5 @@ MeansOneRun program rows costs turns (Err outcome) = IsLeft program (low_start p
 
 -- where each range has one number
 abbrev pub OneInputIsToldExactly : Type 0
-OneInputIsToldExactly = (program : ScopedProgram) (rows : List InputRow) (costs : CostTable) (policy : Policy) (turns : ℕ) (meaning : Result Reported Outcome) → AreLone rows
-    → IsScoped program.expanded.graph program.scoped → ReportMeans program rows costs policy turns meaning → MeansOneRun program rows costs turns meaning
+OneInputIsToldExactly = (program : ScopedProgram) (rows : List InputRow) (costs : CostTable) (policy : Policy) (turns pivots : ℕ) (meaning : Result Reported Outcome) → AreLone rows
+    → IsScoped program.expanded.graph program.scoped → ReportMeans program rows costs policy turns pivots meaning → MeansOneRun program rows costs turns meaning

@@ -22,6 +22,7 @@ with_turns given turns = record {
   costs = given.costs;
   turns = turns;
   merging = given.merging;
+  pivots = given.pivots;
 }
 
 -- a report that is printed in so many turns is printed in more: the turns are no part of what it tells

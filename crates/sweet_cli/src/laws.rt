@@ -3,8 +3,9 @@
 ghost use Rattle.sweet_cli.specs.Exact.{OneInputIsToldExactly};
 ghost use Rattle.sweet_cli.specs.Laws.{HaveOneAnswer, ReportsStay};
 
+use bounded_analyses::{a_program_has_one_bounded_analysis, bounds_of_an_input_alone_agree};
 use scope_graph::a_graph_has_one_outline;
-use unranked_analyses::{an_input_alone_is_told_exactly, ranks_have_no_part};
+use unranked_analyses::an_input_alone_is_told_exactly;
 
 /// Told files have one answer to the words, but for a line that gives one example of several, and the
 /// same names are read, whatever was read before, where no read fails. Does nothing when it is called.
@@ -16,15 +17,16 @@ pub fn one_answer()
 pub fn reports_stay()
     ensures { ReportsStay }
 {
-    ranks_have_no_part();
+    a_program_has_one_bounded_analysis();
 }
 
 /// Where each range has one number, what `analyse` tells is exactly the one run: totals, dead nodes, loops,
-/// counts and pairs are the run's own, the only alarm is its fault, and the count bound is its cost. Places
+/// counts and pairs are the run's own, the only alarm is its fault, and both bounds are its cost. Places
 /// are left exactly where the run has more nodes than the turns. Does nothing when it is called.
 pub fn one_input_is_told_exactly()
     ensures { OneInputIsToldExactly }
 {
     a_graph_has_one_outline();
     an_input_alone_is_told_exactly();
+    bounds_of_an_input_alone_agree();
 }

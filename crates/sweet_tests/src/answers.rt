@@ -10,7 +10,7 @@ pub const RETURNS: &str =
 
 /// The report of a run with one block.
 pub const REPORT: &str =
-    "facts 2\nnode 0 0 0 \"main\":entry\nnode 1 0 1 \"main\":0\nscope 0 - 0 call\ntotal 0 1 1\ntotal 1 1 1\ncount-bound 1\nend\n";
+    "facts 2\nnode 0 0 0 \"main\":entry\nnode 1 0 1 \"main\":0\nscope 0 - 0 call\ntotal 0 1 1\ntotal 1 1 1\ncount-bound 1\npath-bound 1 least\nend\n";
 
 /// A part of a line, where ` | ` stands between two parts. Empty where it is not there.
 pub fn field(line: &str, number: usize) -> &str {

@@ -39,7 +39,15 @@ analyse a.alf --merge all
 analyse a.alf --merge Joins
 analyse a.alf --merge none --merge none
 run a.alf --merge none
-analyse a.alf --pivots 1000
+analyse a.alf --pivots
+analyse a.alf --pivots=
+analyse a.alf --pivots 0
+analyse a.alf --pivots 4001
+analyse a.alf --pivots -5
+analyse a.alf --pivots 5x
+analyse a.alf --pivots 5 --pivots 5
+run a.alf --pivots 5
+print a.alf --pivots 5
 analyse a.alf --cert
 analyse a.alf -- --root main
 print
@@ -126,6 +134,8 @@ fn a_run_ends_within_its_turns_or_is_unbounded(rt: HostRuntime) -> Result<(), Fa
             REPORT,
         ),
         ("analyse a.alf --turns 1000000", Status::Done, REPORT),
+        ("analyse a.alf --pivots 1", Status::Done, REPORT),
+        ("analyse --pivots=4000 a.alf", Status::Done, REPORT),
         ("analyse a.alf --turns 1", Status::Unbounded, unbounded),
         ("run a.alf", Status::Done, told),
         ("run -- a.alf", Status::Done, told),
@@ -202,7 +212,7 @@ fn options_stand_in_any_order_and_form(rt: HostRuntime) -> Result<(), Fail> {
         let files = three_files(alloc, program.as_str(), "[[", COSTS)?;
         let found = told(alloc, line, files)?;
         let wanted = if line.contains("3") {
-            r#"0 facts 2;node 0 0 0 "f":entry;node 1 0 2 "f":0;node 2 1 2 "f":1;node 3 1 5 "f":2;node 4 0 2 "f":3;scope 0 - 0 call;scope 1 0 2 loop;loop 1 1 1;dead 3;dead 4;total 0 1 1;total 1 1 1;total 2 1 1;alarm 2 uninit;count-bound 4;end;"#
+            r#"0 facts 2;node 0 0 0 "f":entry;node 1 0 2 "f":0;node 2 1 2 "f":1;node 3 1 5 "f":2;node 4 0 2 "f":3;scope 0 - 0 call;scope 1 0 2 loop;loop 1 1 1;dead 3;dead 4;total 0 1 1;total 1 1 1;total 2 1 1;alarm 2 uninit;count-bound 4;path-bound 4 least;end;"#
         } else {
             "3 unbounded 1 \"f\":1;"
         };

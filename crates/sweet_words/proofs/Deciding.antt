@@ -30,7 +30,7 @@ IsTable (form ∷ table) = HasSeats (built_rules form) 1 form.positionals × Has
 forms_are : IsTable forms
 forms_are = (
   (refl, refl, refl),
-  (refl, (refl, (refl, (refl, (refl, tt))))),
+  (refl, (refl, (refl, (refl, (refl, (refl, tt)))))),
   ((refl, refl, refl), tt, ((refl, refl, refl), (refl, (refl, (refl, (refl, tt)))), tt)),
 )
 

@@ -13,7 +13,7 @@ use Rattle.sweet_words.specs.Merges.{merging_or_joins}
 use Rattle.sweet_words.specs.declared.merging.Merging.{Merging}
 
 -- what `analyse` is given: the file of the program, the function that it starts with, the files of inputs and of costs,
--- the most turns, and where states are merged
+-- the most turns, where states are merged, and the most pivots of the path bound
 pub record AnalyseWords : Type 0 where
   pub file : Text
   pub root : Text
@@ -21,8 +21,9 @@ pub record AnalyseWords : Type 0 where
   pub costs : Option Text
   pub turns : ℕ
   pub merging : Merging
+  pub pivots : ℕ
 
--- what `run` is given: the same, but that nothing is merged
+-- what `run` is given: the same, but that nothing is merged and no pivot is made
 pub record RunWords : Type 0 where
   pub file : Text
   pub root : Text
@@ -65,14 +66,29 @@ turns_in value = number_or 100000 1 1000000 (value (codes "turns"))
 abbrev pub merging_in : (Text → Option Text) → Option Merging
 merging_in value = merging_or_joins (value (codes "merge"))
 
--- `analyse FILE --root NAME --inputs FILE --costs FILE --turns N --merge none|exits|joins`
-abbrev pub analyse_words : (Text → Option Text) → Text → ℕ → Merging → AnalyseWords
-analyse_words value file turns merging =
-    record { file = file; root = root_in value; inputs = value (codes "inputs"); costs = value (codes "costs"); turns = turns; merging = merging }
+-- the pivots are 1 to 4,000, and 1,000 where they are left out
+abbrev pub pivots_in : (Text → Option Text) → Option ℕ
+pivots_in value = number_or 1000 1 4000 (value (codes "pivots"))
+
+-- `analyse FILE --root NAME --inputs FILE --costs FILE --turns N --merge none|exits|joins --pivots N`
+abbrev pub analyse_words : (Text → Option Text) → Text → ℕ → Merging → ℕ → AnalyseWords
+analyse_words value file turns merging pivots = record {
+  file = file;
+  root = root_in value;
+  inputs = value (codes "inputs");
+  costs = value (codes "costs");
+  turns = turns;
+  merging = merging;
+  pivots = pivots;
+}
+
+-- with such turns, and merging there
+abbrev pub analyse_merging : (Text → Option Text) → Text → ℕ → Merging → Option Command
+analyse_merging value file turns merging = option_map (λ pivots. Analyse (analyse_words value file turns merging pivots)) (pivots_in value)
 
 -- with such turns
 abbrev pub analyse_with : (Text → Option Text) → Text → ℕ → Option Command
-analyse_with value file turns = option_map (λ merging. Analyse (analyse_words value file turns merging)) (merging_in value)
+analyse_with value file turns = option_and_then (analyse_merging value file turns) (merging_in value)
 
 abbrev pub analyse_of : (Text → Option Text) → Option Command
 analyse_of value = option_and_then (λ file. option_and_then (analyse_with value file) (turns_in value)) (program_file (value (codes "file")))

@@ -25,7 +25,7 @@ abbrev pub analyse_form : Form
 analyse_form = record {
   name = codes "analyse";
   positionals = codes "file" ∷ [];
-  values = codes "root" ∷ codes "inputs" ∷ codes "costs" ∷ codes "turns" ∷ codes "merge" ∷ [];
+  values = codes "root" ∷ codes "inputs" ∷ codes "costs" ∷ codes "turns" ∷ codes "merge" ∷ codes "pivots" ∷ [];
   flags = [];
 }
 

@@ -16,6 +16,7 @@ analyse_meant given = record {
   costs = option_map (λ name. name.now) given.costs;
   turns = given.turns;
   merging = given.merging;
+  pivots = given.pivots;
 }
 
 abbrev pub run_meant : RunValue → RunWords

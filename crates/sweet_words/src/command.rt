@@ -1,7 +1,7 @@
 //! The commands, each with what it was given.
 ghost use Rattle.std.specs.Prelude.{◌≡◌, ◌≤◌, option_map, IfSome};
 ghost use Rattle.clap.specs.Words.{first_value, found_of};
-ghost use Rattle.sweet_words.specs.Commands.{HasFewTurns, analyse_of, command_named, merging_in, print_of, print_words, root_in, run_of, turns_in};
+ghost use Rattle.sweet_words.specs.Commands.{HasFewTurns, analyse_of, command_named, merging_in, pivots_in, print_of, print_words, root_in, run_of, turns_in};
 ghost use Rattle.sweet_words.specs.Meant.{command_meant};
 
 use crate::merging::{Merging, merging_or_joins};
@@ -10,8 +10,9 @@ use clap::ArgMatches;
 
 /// What `analyse` is given: the name of the program's file, that of the function that it starts with,
 /// which is `main` where the words do not say, the names of the inputs file and of the costs file, the
-/// most turns of the exploration, 1 to 1,000,000, and 100,000 where the words do not say, and where
-/// states are merged.
+/// most turns of the exploration, 1 to 1,000,000, and 100,000 where the words do not say, where
+/// states are merged, and the most pivots of the path bound, 1 to 4,000, and 1,000 where the words do
+/// not say.
 #[derive(Clone, Copy)]
 pub struct AnalyseWords<'a> {
     pub file: &'a str,
@@ -20,10 +21,11 @@ pub struct AnalyseWords<'a> {
     pub costs: Option<&'a str>,
     pub turns: u32,
     pub merging: Merging,
+    pub pivots: u32,
 }
 
-/// What `run` is given: the same, where the turns are the most nodes that the run may have, and nothing
-/// is merged.
+/// What `run` is given: the same, where the turns are the most nodes that the run may have, nothing
+/// is merged, and no pivot is made.
 #[derive(Clone, Copy)]
 pub struct RunWords<'a> {
     pub file: &'a str,
@@ -75,6 +77,13 @@ fn turns(given: &ArgMatches<'_>) -> Option<u32>
     number(given.get_str("turns"), 100_000, 1, 1_000_000)
 }
 
+// The most pivots.
+fn pivots(given: &ArgMatches<'_>) -> Option<u32>
+    ensures { result ≡ pivots_in (first_value (found_of given.now)) }
+{
+    number(given.get_str("pivots"), 1_000, 1, 4_000)
+}
+
 // Where states are merged.
 fn merging(given: &ArgMatches<'_>) -> Option<Merging>
     ensures { result ≡ merging_in (first_value (found_of given.now)) }
@@ -89,6 +98,7 @@ fn analyse<'a>(given: &ArgMatches<'a>) -> Option<Command<'a>>
     let file = program_file(given.get_str("file"))?;
     let turns = turns(given)?;
     let merging = merging(given)?;
+    let pivots = pivots(given)?;
     Some(Command::Analyse(AnalyseWords {
         file,
         root: root(given),
@@ -96,6 +106,7 @@ fn analyse<'a>(given: &ArgMatches<'a>) -> Option<Command<'a>>
         costs: given.get_str("costs"),
         turns,
         merging,
+        pivots,
     }))
 }
 

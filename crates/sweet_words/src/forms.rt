@@ -14,7 +14,7 @@ pub static FORMS: [Form; 3] = [
     Form {
         name: "analyse",
         positionals: &["file"],
-        values: &["root", "inputs", "costs", "turns", "merge"],
+        values: &["root", "inputs", "costs", "turns", "merge", "pivots"],
         flags: &[],
     },
     Form {

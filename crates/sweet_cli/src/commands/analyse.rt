@@ -9,14 +9,14 @@ ghost use Rattle.flow_facts.specs.Writable.{IsWritable};
 ghost use Rattle.program_machines.specs.NodeCosts.{HasCosts};
 ghost use Rattle.work.specs.Works.{Works, Judges};
 ghost use Rattle.sweet_cli.specs.Words.{analyse_meant};
-ghost use Rattle.sweet_cli.specs.Programs.{unranked};
 ghost use Rattle.sweet_cli.specs.Seen.{IsOutlined, scoped_of};
-ghost use Rattle.sweet_cli.specs.Analyse.{ReportMeans, IsSoundOf, IsSoundReport, analysing, policy_of};
+ghost use Rattle.sweet_cli.specs.Analyse.{ReportMeans, IsSoundReport, analysing, policy_of};
 
 use crate::commands::scopes::{ScopedProgram, scoped_in};
 use crate::commands::tables::{Tables, tables_in};
 use crate::lines::left_line;
 use crate::words::{AnalyseWords, Merging};
+use bounded_analyses::{a_program_has_one_bounded_analysis, found_reports_are_right};
 use cost_table::Costs;
 use fact_text::print;
 use flow_base::Shelf;
@@ -24,7 +24,6 @@ use flow_facts::Report;
 use pool_events::Policy;
 use program_analysis::{Analysed, set_costs};
 use std::alloc::Global;
-use unranked_analyses::ranks_have_no_part;
 use work::{Stop, Why};
 
 /// The text of the report.
@@ -38,6 +37,7 @@ pub fn analyse<F: Shelf>(
     ensures work { Works (analysing (analyse_meant given.entry)) (λ text. text.items) (F.state shelf.old) result (F.state shelf.new) }
     ensures promise { IfOk result (λ text. IfSome (F.state shelf.old).files (λ files. IsSoundReport (analyse_meant given.entry) files text.items)) }
 {
+    found_reports_are_right();
     let program = scoped_in(alloc, given.file, given.root, shelf)?;
     let tables = tables_in(
         alloc,
@@ -46,7 +46,14 @@ pub fn analyse<F: Shelf>(
         given.costs,
         shelf,
     )?;
-    let report = report_of(alloc, program, &tables, given.merging, given.turns)?;
+    let report = report_of(
+        alloc,
+        program,
+        &tables,
+        given.merging,
+        given.turns,
+        given.pivots,
+    )?;
     let text = print(alloc, &report)?;
     Ok(text)
 }
@@ -81,17 +88,17 @@ fn report_of(
     tables: &Tables,
     merging: Merging,
     turns: u32,
+    pivots: u32,
 ) -> Result<Report, Stop>
     requires graph { IsGraph (seen program.expanded.checked) program.expanded.graph }
     requires rows { KeepInputs (seen program.expanded.checked) tables.now.rows.items }
     requires outline { IsOutlined program.expanded.graph program.outline }
     requires turns { turns ≤ 1000000 }
-    ensures means { Judges (ReportMeans (scoped_of program) tables.now.rows.items tables.now.costs (policy_of merging) turns) (λ report. reported report) result }
-    ensures sound { IfOk result (λ report. IsSoundOf (unranked (seen program.expanded.checked)) program.expanded.graph tables.now.rows.items tables.now.costs (reported report)) }
+    ensures means { Judges (ReportMeans (scoped_of program) tables.now.rows.items tables.now.costs (policy_of merging) turns pivots) (λ report. reported report) result }
     ensures writable { IfOk result (λ report. IsWritable (reported report)) }
 {
     let program = priced(program, &tables.costs);
-    explored(alloc, &program, tables, policy(merging), turns)
+    explored(alloc, &program, tables, policy(merging), turns, pivots)
 }
 
 // The same where the outline says what nodes cost.
@@ -101,23 +108,23 @@ fn explored(
     tables: &Tables,
     policy: Policy,
     turns: u32,
+    pivots: u32,
 ) -> Result<Report, Stop>
     requires graph { IsGraph (seen program.now.expanded.checked) program.now.expanded.graph }
     requires rows { KeepInputs (seen program.now.expanded.checked) tables.now.rows.items }
     requires outline { IsOutlined program.now.expanded.graph program.now.outline }
     requires priced { (other : NumberedProgram) → IsGraph other program.now.expanded.graph → HasCosts other program.now.expanded.graph tables.now.costs program.now.outline }
     requires turns { turns ≤ 1000000 }
-    ensures means { Judges (ReportMeans (scoped_of program.now) tables.now.rows.items tables.now.costs policy turns) (λ report. reported report) result }
-    ensures sound { IfOk result (λ report. IsSoundOf (unranked (seen program.now.expanded.checked)) program.now.expanded.graph tables.now.rows.items tables.now.costs (reported report)) }
+    ensures means { Judges (ReportMeans (scoped_of program.now) tables.now.rows.items tables.now.costs policy turns pivots) (λ report. reported report) result }
     ensures writable { IfOk result (λ report. IsWritable (reported report)) }
 {
     let expanded = &program.expanded;
     let outline = &program.outline;
     expanded.checked.keeps();
     outline.kept();
-    ranks_have_no_part();
+    a_program_has_one_bounded_analysis();
     let rows = tables.rows.as_slice();
-    match program_analysis::analyse(
+    match bounded_analyses::analyse(
         alloc,
         &expanded.checked,
         &expanded.graph,
@@ -125,6 +132,7 @@ fn explored(
         rows,
         policy,
         turns,
+        pivots,
     )? {
         Analysed::Told(report) => Ok(report),
         Analysed::Unbounded(scope) => {

@@ -1,5 +1,10 @@
 -- What is left to show of `path_bound`.
+use Rattle.std.proofs.Common.{◌<◌, ◌^◌, List, All, length, subst}
+use Rattle.flow_facts.specs.declared.fact.Fact.{Fact}
+use Rattle.dual_check.specs.Systems.{System}
+use Rattle.path_bounds.specs.Sizes.{NumbersFit}
 use Rattle.pivot_rules.specs.OpeningPlaces.{ended}
+use Rattle.path_bounds.specs.SizeLaws.{rows_small}
 use Rattle.path_bounds.proofs.BoundLaws.{handed_count, value_most, value_fits, system_bounds, greatest_at}
 use Rattle.path_bounds.proofs.bounds.path_bound.Goals as goal
 
@@ -39,3 +44,10 @@ returns-clause-most c =
     let told = c.in_ok-solved.ensures in
     rw c.value-bound.ensures.told
     (value_most c.in_ok-rows.rows c.args.outline.now c.args.report.now.facts.items d.scale d.multipliers.items c.in_ok-rows.ensures told.dual.above told.most)
+
+pub returns-clause-small : goal.returns-clause-small
+returns-clause-small c =
+    let o = c.args.outline.now in
+    let facts = c.args.report.now.facts.items in
+    let fit : All NumbersFit facts = subst (λ (fs : List Fact). All NumbersFit fs) c.deref.ensures.value c.facts_fit.ensures in
+    rows_small o facts c.costs_fit.ensures fit (subst (λ (s : System). length s.program.rows < 2 ^ 32) c.in_ok-rows.ensures c.kept-2.ensures.few_rows)

@@ -3,4 +3,4 @@ use Rattle.sweet_cli.proofs.Exactly.{exactly}
 use Rattle.sweet_cli.proofs.laws.one_input_is_told_exactly.Goals as goal
 
 pub returns : goal.returns
-returns c = exactly c.a_graph_has_one_outline.ensures c.an_input_alone_is_told_exactly.ensures
+returns c = exactly c.a_graph_has_one_outline.ensures c.an_input_alone_is_told_exactly.ensures c.bounds_of_an_input_alone_agree.ensures

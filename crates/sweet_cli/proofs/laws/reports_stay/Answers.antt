@@ -3,4 +3,4 @@ use Rattle.sweet_cli.proofs.Staying.{stays}
 use Rattle.sweet_cli.proofs.laws.reports_stay.Goals as goal
 
 pub returns : goal.returns
-returns c = stays c.ranks_have_no_part.ensures.one c.ranks_have_no_part.ensures.longer
+returns c = stays c.a_program_has_one_bounded_analysis.ensures.one c.a_program_has_one_bounded_analysis.ensures.longer

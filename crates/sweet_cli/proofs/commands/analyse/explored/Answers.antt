@@ -9,9 +9,9 @@ use Rattle.work.specs.Outcome.{Outcome, Unbounded}
 use Rattle.work.specs.Work.{IsOnly}
 use Rattle.sweet_cli.specs.Programs.{unranked}
 use Rattle.sweet_cli.specs.Seen.{scoped_of}
-use Rattle.sweet_cli.specs.Analyse.{ReportMeans, IsSoundOf}
+use Rattle.sweet_cli.specs.Analyse.{ReportMeans}
 use Rattle.sweet_cli.proofs.Ranks as ranks
-use Rattle.sweet_cli.proofs.JudgedReports.{report_only, left_only, found_of, sound_of}
+use Rattle.sweet_cli.proofs.JudgedReports.{report_only, left_only, found_of}
 use Rattle.sweet_cli.proofs.commands.analyse.explored.Goals as goal
 
 pub returns-in-Told : goal.returns-in-Told
@@ -25,12 +25,10 @@ returns-in-Told c =
     let told = rw c.in-Told.is at c.in_ok-report.ensures in
     let keep = subst (λ (l : List InputRow). KeepInputs (seen checked) l) (sym c.as_slice-rows.ensures.value) c.requires.rows in
     let priced = c.requires.priced (unranked (seen checked)) (ranks.graph (seen checked) (seen checked).ranks [] graph c.requires.graph) in
-    let found = found_of checked graph rows c.keeps.ensures c.requires.graph keep costs program.outline c.args.policy c.args.turns (Told report) c.kept.ensures c.requires.outline priced told.found in
-    let only = report_only c.ranks_have_no_part.ensures.one (scoped_of program) rows costs c.args.policy c.args.turns report found in
-    let sound = sound_of checked graph rows program.outline costs report c.requires.outline (told.sound costs (c.requires.priced (seen checked) c.requires.graph)) in
+    let found = found_of checked graph rows c.keeps.ensures c.requires.graph keep costs program.outline c.args.policy c.args.turns c.args.pivots (Told report) c.kept.ensures c.requires.outline priced told.found in
+    let only = report_only c.a_program_has_one_bounded_analysis.ensures.one (scoped_of program) rows costs c.args.policy c.args.turns c.args.pivots report found in
     record {
-      means = subst (λ (l : List InputRow). IsOnly (ReportMeans (scoped_of program) l costs c.args.policy c.args.turns) (Ok report)) c.as_slice-rows.ensures.value only;
-      sound = subst (λ (l : List InputRow). IsSoundOf (unranked (seen checked)) graph l costs report) c.as_slice-rows.ensures.value sound;
+      means = subst (λ (l : List InputRow). IsOnly (ReportMeans (scoped_of program) l costs c.args.policy c.args.turns c.args.pivots) (Ok report)) c.as_slice-rows.ensures.value only;
       writable = told.writable;
     }
 
@@ -46,7 +44,7 @@ returns-in_ok-line-in-Unbounded-clause-means c =
     let told = rw c.in-Unbounded.is at c.in_ok-report.ensures in
     let keep = subst (λ (l : List InputRow). KeepInputs (seen checked) l) (sym c.as_slice-rows.ensures.value) c.requires.rows in
     let priced = c.requires.priced (unranked (seen checked)) (ranks.graph (seen checked) (seen checked).ranks [] graph c.requires.graph) in
-    let found = found_of checked graph rows c.keeps.ensures c.requires.graph keep costs program.outline c.args.policy c.args.turns (LeftIn scope) c.kept.ensures c.requires.outline priced told.found in
-    let only = left_only c.ranks_have_no_part.ensures.one (scoped_of program) rows costs c.args.policy c.args.turns scope text found c.in_ok-line-in-Unbounded.ensures in
+    let found = found_of checked graph rows c.keeps.ensures c.requires.graph keep costs program.outline c.args.policy c.args.turns c.args.pivots (LeftIn scope) c.kept.ensures c.requires.outline priced told.found in
+    let only = left_only c.a_program_has_one_bounded_analysis.ensures.one (scoped_of program) rows costs c.args.policy c.args.turns c.args.pivots scope text found c.in_ok-line-in-Unbounded.ensures in
     let outcome : Outcome = record { cause = Unbounded; text = text } in
-    (refl, subst (λ (l : List InputRow). IsOnly (ReportMeans (scoped_of program) l costs c.args.policy c.args.turns) (Err outcome)) c.as_slice-rows.ensures.value only)
+    (refl, subst (λ (l : List InputRow). IsOnly (ReportMeans (scoped_of program) l costs c.args.policy c.args.turns c.args.pivots) (Err outcome)) c.as_slice-rows.ensures.value only)

@@ -1,25 +1,17 @@
 -- What nodes cost has no part in the scopes.
-use Rattle.std.proofs.Common.{IfOk, subst}
-use Rattle.alf_check.specs.CheckedPrograms.{seen}
+use Rattle.std.proofs.Common.{subst}
 use Rattle.flow_facts.specs.Reports.{reported}
 use Rattle.pool_events.specs.declared.policy.Policy.{Policy}
 use Rattle.work.specs.Works.{Judges}
-use Rattle.sweet_cli.specs.declared.commands.programs.Expanded.{Expanded as Value}
-use Rattle.sweet_cli.specs.Programs.{unranked}
 use Rattle.sweet_cli.specs.Scopes.{ScopedProgram}
 use Rattle.sweet_cli.specs.Seen.{scoped_of}
-use Rattle.sweet_cli.specs.Analyse.{ReportMeans, IsSoundOf}
+use Rattle.sweet_cli.specs.Analyse.{ReportMeans}
 use Rattle.sweet_cli.proofs.commands.analyse.report_of.Goals as goal
 
 pub returns-clause-means : goal.returns-clause-means
 returns-clause-means c =
     let rows = c.args.tables.now.rows.items in
     let costs = c.args.tables.now.costs in
-    subst (λ (p : Policy). Judges (ReportMeans (scoped_of c.args.program) rows costs p c.args.turns) (λ report. reported report) c.explored.result) c.policy.ensures
-    (subst (λ (p : ScopedProgram). Judges (ReportMeans p rows costs c.policy.result c.args.turns) (λ report. reported report) c.explored.result) c.priced-program.ensures.scopes
+    subst (λ (p : Policy). Judges (ReportMeans (scoped_of c.args.program) rows costs p c.args.turns c.args.pivots) (λ report. reported report) c.explored.result) c.policy.ensures
+    (subst (λ (p : ScopedProgram). Judges (ReportMeans p rows costs c.policy.result c.args.turns c.args.pivots) (λ report. reported report) c.explored.result) c.priced-program.ensures.scopes
     c.explored.ensures.means)
-
-pub returns-clause-sound : goal.returns-clause-sound
-returns-clause-sound c =
-    subst (λ (e : Value). IfOk c.explored.result (λ report. IsSoundOf (unranked (seen e.checked)) e.graph c.args.tables.now.rows.items c.args.tables.now.costs (reported report)))
-    c.priced-program.ensures.expanded c.explored.ensures.sound

@@ -1,0 +1,5 @@
+pub mod Analyses
+pub mod Sound
+pub mod Fitting
+pub mod Bounds
+pub mod AlikeBounds

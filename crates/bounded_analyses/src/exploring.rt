@@ -1,0 +1,78 @@
+//! The analysis.
+
+ghost use Rattle.std.specs.Prelude.{◌≡◌, ◌≤◌, IfOk};
+ghost use Rattle.alf_check.specs.CheckedPrograms.{seen};
+ghost use Rattle.alf_check.specs.Inputs.{KeepInputs};
+ghost use Rattle.domain_core.specs.Outlines.{shape_of};
+ghost use Rattle.domain_core.specs.OutlineOf.{IsOutlineOf};
+ghost use Rattle.flow_facts.specs.Reports.{reported};
+ghost use Rattle.flow_facts.specs.Writable.{IsWritable};
+ghost use Rattle.flow_graph.specs.Numbering.{IsGraph};
+ghost use Rattle.scope_graph.specs.Placing.{plan_of};
+ghost use Rattle.bounded_reports.specs.Bounded.{IsTold, bounded};
+ghost use Rattle.program_analysis.specs.Answers.{Told, answer_of, IfTold};
+ghost use Rattle.program_analysis.specs.AnalysisLaws.{names_of};
+ghost use Rattle.program_analysis.specs.Bounds.{most_turns};
+ghost use Rattle.bounded_analyses.specs.Analyses.{IsFoundWith};
+
+use crate::laws::parts_fit;
+use alf_check::{Checked, InputRow};
+use bounded_reports::bounded_report;
+use domain_core::Outline;
+use flow_facts::Report;
+use flow_graph::Graph;
+use pool_events::Policy;
+use program_analysis::Analysed;
+use std::alloc::{AllocError, Global};
+
+/// Explores a program's graph along its outline, for runs with inputs inside the ranges of the rows, and tells what
+/// each run does, with the path bound of the facts after so many pivots at most, or the scope in which the turns were
+/// used up.
+///
+/// Takes time by the turns and by what steps take, then by the pivots; and memory for the places that are left, then
+/// for the rows.
+pub fn analyse(
+    alloc: Global,
+    checked: &Checked,
+    graph: &Graph,
+    outline: &Outline,
+    rows: &[InputRow],
+    policy: Policy,
+    turns: u32,
+    pivots: u32,
+) -> Result<Analysed, AllocError>
+    requires graph { IsGraph (seen checked.now) graph.now }
+    requires rows { KeepInputs (seen checked.now) rows.now }
+    requires outline { IsOutlineOf (plan_of graph.now) (shape_of outline.now) }
+    requires named { names_of outline.now ≡ graph.now.names }
+    requires turns { turns ≤ most_turns }
+
+    // What the policy finds over the pools of the program's machine, with the path bound of it.
+    ensures found { IfOk result (λ analysed. IsFoundWith (record { checked = checked.now; graph = graph.now; rows = rows.now }) outline.now policy turns pivots (answer_of analysed)) }
+
+    // The report is one that some text spells.
+    ensures writable { IfOk result (λ analysed. IfTold (answer_of analysed) IsWritable) }
+{
+    checked.keeps();
+    outline.kept();
+    parts_fit();
+    match program_analysis::analyse(alloc, checked, graph, outline, rows, policy, turns)? {
+        Analysed::Told(report) => with_bound(alloc, outline, report, pivots),
+        Analysed::Unbounded(scope) => Ok(Analysed::Unbounded(scope)),
+    }
+}
+
+// The report with its path bound.
+fn with_bound(
+    alloc: Global,
+    outline: &Outline,
+    report: Report,
+    pivots: u32,
+) -> Result<Analysed, AllocError>
+    requires { IsTold outline.now (reported report) }
+    ensures found { IfOk result (λ analysed. answer_of analysed ≡ Told (bounded outline.now (reported report) pivots)) }
+    ensures writable { IsWritable (reported report) → IfOk result (λ analysed. IfTold (answer_of analysed) IsWritable) }
+{
+    let report = bounded_report(alloc, outline, report, pivots)?;
+    Ok(Analysed::Told(report))
+}

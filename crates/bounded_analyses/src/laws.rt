@@ -1,0 +1,53 @@
+//! What the definitions promise, as clauses of functions that do nothing.
+
+ghost use Rattle.bounded_analyses.specs.Analyses.{HasOneBoundedAnalysis, StaysBounded};
+ghost use Rattle.bounded_analyses.specs.Fitting.{PartsFit};
+ghost use Rattle.bounded_analyses.specs.Sound.{FoundReportsAreRight, LoneBoundsAgree};
+
+use alf_runs::{
+    a_step_leads_along_an_edge, active_frames_follow_the_call_path,
+    starts_and_calls_store_without_a_fault, values_have_their_size,
+};
+use flow_graph::graphs_are_expansions;
+use path_bounds::told_bounds_are_right;
+use program_analysis::a_program_has_one_analysis;
+use unranked_analyses::ranks_have_no_part;
+
+// The parts of a checked program, its graph, rows that keep the rules and the graph's outline fit.
+pub(crate) fn parts_fit()
+    ensures { PartsFit }
+{
+    a_step_leads_along_an_edge();
+    active_frames_follow_the_call_path();
+    graphs_are_expansions();
+    starts_and_calls_store_without_a_fault();
+    values_have_their_size();
+}
+
+/// A program has one answer with a path bound, whatever ranks its functions have, and a report that was found in so many
+/// turns is found in more.
+pub fn a_program_has_one_bounded_analysis()
+    ensures one { HasOneBoundedAnalysis }
+    ensures longer { StaysBounded }
+{
+    a_program_has_one_analysis();
+    ranks_have_no_part();
+}
+
+/// A report that is found is sound for the program: each run from inputs inside the ranges ends, meets each fact, faults
+/// only where an alarm says so, and costs at most the count bound and at most the path bound. The path bound is at most
+/// the count bound, and with `Least` it is the greatest worth of a point that meets the report's rows, rounded down.
+pub fn found_reports_are_right()
+    ensures { FoundReportsAreRight }
+{
+    parts_fit();
+    told_bounds_are_right();
+}
+
+/// Where each range has one number, the path bound of a report is its count bound, and so the run's cost.
+pub fn bounds_of_an_input_alone_agree()
+    ensures { LoneBoundsAgree }
+{
+    parts_fit();
+    told_bounds_are_right();
+}

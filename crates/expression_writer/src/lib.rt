@@ -1,0 +1,17 @@
+//! Expressions of C, lowered: one walk over an expression makes the expression of ALF and tells the type.
+//!
+//! `value_of` makes the value of an expression, and `address_of` where the object lies that it designates. Both go
+//! over each part once, and as deep as the expression.
+#![tactic(auto)]
+
+// What an expression is lowered to, with its type.
+mod typed;
+
+// Names and constants.
+mod leaves;
+
+// Expressions.
+mod expressions;
+
+pub use expressions::{address_of, value_of};
+pub use typed::{Typed, kind_or_int};

@@ -91,8 +91,7 @@ worded_head_after t =
 unfoldable pub worded_head : Rule true HeadTree
 worded_head = do
   t ← some_token
-  h ← worded_head_after t
-  value h
+  worded_head_after t
 
 unfoldable pub empty_head : Rule true HeadTree
 empty_head = do
@@ -112,20 +111,17 @@ effect_head o = do
 unfoldable pub unworded_long_head : Others → Rule true HeadTree
 unworded_long_head o = do
   b ← sees (codes "{")
-  h ← either b (block_head others.Nothing standings.Item) (effect_head o)
-  value h
+  either b (block_head others.Nothing standings.Item) (effect_head o)
 
 unfoldable pub unworded_head : Others → Rule true HeadTree
 unworded_head o = do
   e ← sees (codes ";")
-  h ← either e empty_head (unworded_long_head o)
-  value h
+  either e empty_head (unworded_long_head o)
 
 unfoldable pub statement_head : Others → Rule true HeadTree
 statement_head o = do
   w ← sees_symbol is_statement
-  h ← either w worded_head (unworded_head o)
-  value h
+  either w worded_head (unworded_head o)
 
 unfoldable pub declared_head : Rule true HeadTree
 declared_head = do
@@ -135,8 +131,7 @@ declared_head = do
 unfoldable pub item_head : Others → Rule true HeadTree
 item_head o = do
   d ← sees_symbol is_specifier
-  h ← either d declared_head (statement_head o)
-  value h
+  either d declared_head (statement_head o)
 
 unfoldable pub label_head : Rule true HeadTree
 label_head = do
@@ -146,8 +141,7 @@ label_head = do
 unfoldable pub switch_item_head : Rule true HeadTree
 switch_item_head = do
   l ← sees_symbol is_label
-  h ← either l label_head (item_head others.Nothing)
-  value h
+  either l label_head (item_head others.Nothing)
 
 unfoldable pub placed_head : Standing → Rule true HeadTree
 placed_head standings.Part = statement_head others.Labels
@@ -185,8 +179,7 @@ unfoldable pub controlled : Inside → ControlTree → Rule true Statement
 controlled inner c = do
   s ← inner (body_place c)
   e ← maybe (λ at. is_if c && at_else at) (else_part inner)
-  r ← control_end c s e
-  value r
+  control_end c s e
 
 unfoldable pub braced : Rule true Statement → Rule true Statement
 braced item = do
@@ -203,5 +196,4 @@ after_head inner (Controls c) = weaken (controlled inner c)
 unfoldable pub headed : Inside → Standing → Rule true Statement
 headed inner place = do
   h ← placed_head place
-  s ← after_head inner h
-  value s
+  after_head inner h

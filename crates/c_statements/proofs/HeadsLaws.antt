@@ -1,9 +1,9 @@
 -- A statement by its head reads what the rules read.
-use Rattle.std.proofs.Common.{◌≡◌, refl, sym, ap, ◌∙◌, Bool, true, false, Result, Ok, Err}
+use Rattle.std.proofs.Common.{◌≡◌, refl, ◌∙◌, Bool, true, false, Result, Ok, Err}
 use Rattle.std.specs.Prelude.{codes}
 use Rattle.std.specs.Str.{bytes_eq}
 use Rattle.grammar.specs.Form.{and_then}
-use Rattle.grammar.specs.Rule.{value, weaken, many, maybe}
+use Rattle.grammar.specs.Rule.{value, weaken}
 use Rattle.c_unit.specs.Tree.{Statement}
 use Rattle.c_grammar.specs.declared.others.Others.{Others}
 use Rattle.c_grammar.specs.declared.others.Others.TheVariants as others
@@ -12,8 +12,8 @@ use Rattle.c_grammar.specs.declared.standing.Standing.TheVariants as standings
 use Rattle.c_grammar.specs.Symbols.{is_specifier, is_label}
 use Rattle.c_grammar.specs.Tokens.{Fault, Seen, Place, Rule, at_symbol, at_text, either, mark, sees}
 use Rattle.c_grammar.specs.Expressions.{open_paren, some_token}
-use Rattle.c_grammar.specs.Statements.{Inside, after_word, block, controlling, declaration, do_after, effect_statement, empty_statement, for_after, for_condition, for_first, for_last, if_after, is_statement, item, label, leaving_after, placed_statement, statement, switch_after, switch_item, switch_value, unworded, unworded_long, while_after, worded, worded_after}
-use Rattle.c_statements.specs.Heads.{HeadTree, Whole, Controls, OfDo, after_head, block_head, braced, control_end, controlled, declared_head, do_end, effect_head, empty_head, for_head, headed, if_head, item_head, label_head, leaving_head, placed_head, statement_head, switch_head, switch_item_head, unworded_head, unworded_long_head, while_head, worded_head, worded_head_after}
+use Rattle.c_grammar.specs.Statements.{Inside, block, controlling, declaration, do_after, effect_statement, empty_statement, for_after, for_condition, for_first, for_last, if_after, is_statement, item, label, leaving_after, placed_statement, semicolon, statement, switch_after, switch_item, switch_value, unworded, unworded_long, while_after, while_word, worded, worded_after}
+use Rattle.c_statements.specs.Heads.{HeadTree, Whole, Controls, OfDo, after_head, block_head, braced, control_tail, controlled, declared_head, do_tail, effect_head, empty_head, for_head, if_head, item_head, label_head, leaving_head, placed_head, statement_head, switch_head, switched, switch_item_head, unworded_head, unworded_long_head, while_head, worded_head, worded_head_after}
 
 abbrev pub Read : Type 0 → Type 0
 Read A = Result (A × Place) Fault
@@ -31,6 +31,10 @@ pub after_both : {A B C : Type 0} (read : Read A) (f : A × Place → Read B) (g
     → ((r : A × Place) → f r ≡ and_then (g r) k) → and_then read f ≡ and_then (and_then read g) k
 after_both (Ok r) f g k same = same r
 after_both (Err e) f g k same = refl
+
+pub same_after : {A B : Type 0} (read : Read A) (f g : A × Place → Read B) → ((r : A × Place) → f r ≡ g r) → and_then read f ≡ and_then read g
+same_after (Ok r) f g same = same r
+same_after (Err e) f g same = refl
 
 -- what was read is given
 pub given : {A : Type 0} (read : Read A) → and_then {A = A × Place} {B = A × Place} read (λ r. Ok (r.0, r.1)) ≡ read
@@ -51,24 +55,25 @@ either_splits inner p q h k s t false = t
 -- ---- after the first word
 
 pub if_splits : (inner : Inside) → Splits inner (if_after inner) if_head
-unfolding if_after if_head after_head controlled control_end
+unfolding if_after if_head after_head controlled control_tail
 if_splits inner at = after_both (controlling.form.reading at) _ _ _ (λ r. refl)
 
 pub while_splits : (inner : Inside) → Splits inner (while_after inner) while_head
-unfolding while_after while_head after_head controlled control_end
+unfolding while_after while_head after_head controlled control_tail
 while_splits inner at = after_both (controlling.form.reading at) _ _ _ (λ r. refl)
 
 pub do_splits : (inner : Inside) → Splits inner (do_after inner) (value (Controls OfDo))
-unfolding do_after after_head controlled control_end do_end
-do_splits inner at = refl
+unfolding do_after after_head controlled control_tail do_tail
+do_splits inner at = same_after ((inner standings.Part).form.reading at) _ _ (λ s. after_both (while_word.form.reading s.1) _ _ _ (λ w.
+    after_both (controlling.form.reading w.1) _ _ _ (λ c. after_both ((semicolon others.Nothing).form.reading c.1) _ _ _ (λ e. refl))))
 
 pub for_splits : (inner : Inside) → Splits inner (for_after inner) for_head
-unfolding for_after for_head after_head controlled control_end
+unfolding for_after for_head after_head controlled control_tail
 for_splits inner at = after_both (open_paren.form.reading at) _ _ _ (λ o. after_both (for_first.form.reading o.1) _ _ _ (λ f.
     after_both (for_condition.form.reading f.1) _ _ _ (λ c. after_both (for_last.form.reading c.1) _ _ _ (λ e. refl))))
 
 pub switch_splits : (inner : Inside) → Splits inner (switch_after inner) switch_head
-unfolding switch_after switch_head after_head controlled control_end
+unfolding switch_after switch_head after_head switched
 switch_splits inner at = after_both (switch_value.form.reading at) _ _ _ (λ r. refl)
 
 pub leaving_splits : (inner : Inside) (t : Seen) → Splits inner (leaving_after t) (leaving_head t)
@@ -77,7 +82,7 @@ leaving_splits inner t at = whole_read inner ((leaving_after t).form.reading at)
 
 pub words_split : (inner : Inside) (t : Seen) (i w d f s : Bool)
     → Splits inner (either i (if_after inner) (either w (while_after inner) (either d (do_after inner) (either f (for_after inner) (either s (switch_after inner) (leaving_after t))))))
-        (either i (weaken if_head) (either w (weaken while_head) (either d (value (Controls OfDo)) (either f (weaken for_head) (either s (weaken switch_head) (weaken (leaving_head t)))))))
+    (either i (weaken if_head) (either w (weaken while_head) (either d (value (Controls OfDo)) (either f (weaken for_head) (either s (weaken switch_head) (weaken (leaving_head t)))))))
 words_split inner t true w d f s = if_splits inner
 words_split inner t false true d f s = while_splits inner
 words_split inner t false false true f s = do_splits inner

@@ -4,7 +4,7 @@
 --   HeadTree          a statement, as far as it was read before any that stands in it
 --   placed_head s     the head of what stands at a place of kind s
 --   after_head inner h   what follows the head, where `inner` is what stands in statements
-use Rattle.std.specs.Prelude.{ℕ, ◌&&◌, Bool, true, false, Option, codes}
+use Rattle.std.specs.Prelude.{◌&&◌, Bool, true, false, Option, Some, None, codes}
 use Rattle.grammar.specs.Rule.{value, weaken, ◌>>=◌, ◌>>◌, many, maybe}
 use Rattle.c_unit.specs.Tree.{Expression, EffectTree, Statement, Block, While, Do, Switch, expression_of, effect_of, statement_of, statements_of, if_of, for_of}
 use Rattle.std.specs.Option.{option_map}
@@ -13,7 +13,7 @@ use Rattle.c_grammar.specs.declared.others.Others.TheVariants as others
 use Rattle.c_grammar.specs.declared.standing.Standing.{Standing}
 use Rattle.c_grammar.specs.declared.standing.Standing.TheVariants as standings
 use Rattle.c_grammar.specs.Symbols.{is_specifier, is_label}
-use Rattle.c_grammar.specs.Tokens.{Seen, Place, Rule, mark, sees, sees_symbol, either}
+use Rattle.c_grammar.specs.Tokens.{Seen, Rule, mark, sees, sees_symbol, either}
 use Rattle.c_grammar.specs.Types.{close_brace}
 use Rattle.c_grammar.specs.Expressions.{open_paren, some_token}
 use Rattle.c_grammar.specs.Statements.{Inside, after_word, at_else, controlling, declaration, effect_statement, else_part, empty_statement, for_condition, for_first, for_last, in_block, is_statement, items_of, label, leaving_after, semicolon, switch_value, while_word}
@@ -27,25 +27,26 @@ pub data ControlTree : Type 0 where
   OfWhile : Expression → ControlTree
   OfDo : ControlTree
   OfFor : Option Statement → Option Expression → Option EffectTree → ControlTree
-  OfSwitch : Expression → ControlTree
 
 pub data HeadTree : Type 0 where
   -- no statement stands in it
   Whole : Statement → HeadTree
   -- a brace is open, and what stands in the block is of this kind
   InBraces : Standing → HeadTree
+  -- a switch, after its value
+  AtSwitch : Expression → HeadTree
   Controls : ControlTree → HeadTree
 
 abbrev pub control_of : Control → ControlTree
 control_of (controls.If condition) = OfIf (expression_of condition)
 control_of (controls.While condition) = OfWhile (expression_of condition)
 control_of controls.Do = OfDo
-control_of (controls.For first condition after) = OfFor (option_map statement_of first) (option_map expression_of condition) (option_map effect_of after)
-control_of (controls.Switch e) = OfSwitch (expression_of e)
+control_of (controls.For first condition after) = OfFor (option_map (λ s. statement_of s.value) first) (option_map expression_of condition) (option_map effect_of after)
 
 abbrev pub head_of : Head → HeadTree
 head_of (heads.Whole stmt) = Whole (statement_of stmt)
 head_of (heads.InBraces place) = InBraces place
+head_of (heads.AtSwitch e) = AtSwitch (expression_of e)
 head_of (heads.Controls control) = Controls (control_of control)
 
 -- ---- heads
@@ -71,7 +72,7 @@ for_head = do
 unfoldable pub switch_head : Rule true HeadTree
 switch_head = do
   e ← switch_value
-  value (Controls (OfSwitch e))
+  value (AtSwitch e)
 
 unfoldable pub leaving_head : Seen → Rule true HeadTree
 leaving_head t = do
@@ -151,35 +152,46 @@ placed_head standings.SwitchBlock = block_head others.Statements standings.Switc
 
 -- ---- what follows a head
 
-abbrev pub body_place : ControlTree → Standing
-body_place (OfSwitch e) = standings.SwitchBlock
-body_place _ = standings.Part
-
 abbrev pub is_if : ControlTree → Bool
 is_if (OfIf c) = true
 is_if _ = false
 
 -- the rest of a `do`, after its body
-unfoldable pub do_end : Statement → Rule true Statement
-do_end s = do
+unfoldable pub do_tail : Rule true (Option Expression)
+do_tail = do
   while_word
   c ← controlling
   semicolon others.Nothing
-  value (Do s c)
+  value (Some c)
 
--- what ends the statement, after its body and what is done otherwise
-unfoldable pub control_end : ControlTree → Statement → Option Statement → Rule false Statement
-control_end (OfIf c) s e = value (if_of c s e)
-control_end (OfWhile c) s e = value (While c s)
-control_end OfDo s e = weaken (do_end s)
-control_end (OfFor f c a) s e = value (for_of f c a s)
-control_end (OfSwitch v) s e = value (Switch v (items_of s))
+-- what is read after the body and what is done otherwise
+unfoldable pub control_tail : ControlTree → Rule false (Option Expression)
+control_tail OfDo = weaken do_tail
+control_tail _ = value None
+
+-- of a `do` with the condition in its tail
+abbrev pub do_of : Statement → Option Expression → Statement
+do_of s None = s
+do_of s (Some c) = Do s c
+
+-- the statement, from its parts
+abbrev pub control_tree : ControlTree → Statement → Option Statement → Option Expression → Statement
+control_tree (OfIf c) s e t = if_of c s e
+control_tree (OfWhile c) s e t = While c s
+control_tree OfDo s e t = do_of s t
+control_tree (OfFor f c a) s e t = for_of f c a s
 
 unfoldable pub controlled : Inside → ControlTree → Rule true Statement
 controlled inner c = do
-  s ← inner (body_place c)
+  s ← inner standings.Part
   e ← maybe (λ at. is_if c && at_else at) (else_part inner)
-  control_end c s e
+  t ← control_tail c
+  value (control_tree c s e t)
+
+unfoldable pub switched : Inside → Expression → Rule true Statement
+switched inner v = do
+  b ← inner standings.SwitchBlock
+  value (Switch v (items_of b))
 
 unfoldable pub braced : Rule true Statement → Rule true Statement
 braced item = do
@@ -190,6 +202,7 @@ braced item = do
 unfoldable pub after_head : Inside → HeadTree → Rule false Statement
 after_head inner (Whole s) = value s
 after_head inner (InBraces place) = weaken (braced (inner place))
+after_head inner (AtSwitch v) = weaken (switched inner v)
 after_head inner (Controls c) = weaken (controlled inner c)
 
 -- what stands at a place of this kind, by its head

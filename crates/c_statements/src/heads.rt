@@ -19,8 +19,7 @@ pub enum Control {
     If(Expr),
     While(Expr),
     Do,
-    For(Option<Stmt>, Option<Expr>, Option<Effect>),
-    Switch(Expr),
+    For(Option<Box<Stmt>>, Option<Expr>, Option<Effect>),
 }
 
 /// A statement, as far as it was read before any that stands in it.
@@ -30,6 +29,8 @@ pub enum Head {
     Whole(Stmt),
     /// A brace is open, and what stands in the block is of this kind.
     InBraces(Standing),
+    /// A switch, after its value.
+    AtSwitch(Expr),
     Controls(Control),
 }
 
@@ -65,7 +66,7 @@ fn switch_head(reader: &mut Reader<'_>) -> Result<Head, Departure>
     ensures { Reads switch_head head_of result reader.old reader.new }
 {
     let value = switch_value(reader)?;
-    Ok(Head::Controls(Control::Switch(value)))
+    Ok(Head::AtSwitch(value))
 }
 
 #[tactic(auto, unfolding(crate::specs::Heads::leaving_head))]

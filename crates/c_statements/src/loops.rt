@@ -32,33 +32,33 @@ pub fn while_word(reader: &mut Reader<'_>) -> Result<u32, Departure>
 }
 
 #[tactic(auto, unfolding(c_grammar::specs::Statements::empty_first))]
-fn empty_first(reader: &mut Reader<'_>) -> Result<Option<Stmt>, Departure>
-    ensures { Reads empty_first (option_map statement_of) result reader.old reader.new }
+fn empty_first(reader: &mut Reader<'_>) -> Result<Option<Box<Stmt>>, Departure>
+    ensures { Reads empty_first (option_map (λ s. statement_of s.value)) result reader.old reader.new }
 {
     semicolon(reader, Others::Nothing)?;
     Ok(None)
 }
 
 #[tactic(auto, unfolding(c_grammar::specs::Statements::declared_first))]
-fn declared_first(reader: &mut Reader<'_>) -> Result<Option<Stmt>, Departure>
-    ensures { Reads declared_first (option_map statement_of) result reader.old reader.new }
+fn declared_first(reader: &mut Reader<'_>) -> Result<Option<Box<Stmt>>, Departure>
+    ensures { Reads declared_first (option_map (λ s. statement_of s.value)) result reader.old reader.new }
 {
     let declared = declaration(reader)?;
-    Ok(Some(declared))
+    Ok(Some(Box::new(reader.alloc, declared)?))
 }
 
 #[tactic(auto, unfolding(c_grammar::specs::Statements::effect_first))]
-fn effect_first(reader: &mut Reader<'_>) -> Result<Option<Stmt>, Departure>
-    ensures { Reads effect_first (option_map statement_of) result reader.old reader.new }
+fn effect_first(reader: &mut Reader<'_>) -> Result<Option<Box<Stmt>>, Departure>
+    ensures { Reads effect_first (option_map (λ s. statement_of s.value)) result reader.old reader.new }
 {
     let effect = read_effect(reader, MOST_PARENS - 1, Others::Nothing, false)?;
     semicolon(reader, Others::Nothing)?;
-    Ok(Some(Stmt::Effect(effect)))
+    Ok(Some(Box::new(reader.alloc, Stmt::Effect(effect))?))
 }
 
 #[tactic(auto, unfolding(c_grammar::specs::Statements::some_first))]
-fn some_first(reader: &mut Reader<'_>) -> Result<Option<Stmt>, Departure>
-    ensures { Reads some_first (option_map statement_of) result reader.old reader.new }
+fn some_first(reader: &mut Reader<'_>) -> Result<Option<Box<Stmt>>, Departure>
+    ensures { Reads some_first (option_map (λ s. statement_of s.value)) result reader.old reader.new }
 {
     if reader.at_specifier() {
         let first = declared_first(reader)?;
@@ -71,8 +71,8 @@ fn some_first(reader: &mut Reader<'_>) -> Result<Option<Stmt>, Departure>
 
 /// The first part of a `for`, with its semicolon.
 #[tactic(auto, unfolding(c_grammar::specs::Statements::for_first, c_grammar::specs::Tokens::sees))]
-pub fn for_first(reader: &mut Reader<'_>) -> Result<Option<Stmt>, Departure>
-    ensures { Reads for_first (option_map statement_of) result reader.old reader.new }
+pub fn for_first(reader: &mut Reader<'_>) -> Result<Option<Box<Stmt>>, Departure>
+    ensures { Reads for_first (option_map (λ s. statement_of s.value)) result reader.old reader.new }
 {
     if reader.at(b";") {
         let first = empty_first(reader)?;

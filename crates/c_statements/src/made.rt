@@ -1,68 +1,59 @@
 //! Statements, made of what stands in them.
 
-ghost use Rattle.std.specs.Prelude.{◌≡◌, IfOk};
+ghost use Rattle.std.specs.Prelude.{◌≡◌};
 ghost use Rattle.std.specs.Option.{option_map};
-ghost use Rattle.c_unit.specs.Tree.{expression_of, effect_of, statement_of, if_of, for_of, While, Do, Switch};
-ghost use Rattle.c_grammar.specs.Statements.{items_of};
+ghost use Rattle.c_unit.specs.Tree.{expression_of, effect_of, statement_of, if_of, for_of};
+ghost use Rattle.c_statements.specs.Heads.{control_of, control_tree, do_of};
 
+use crate::heads::Control;
 use c_unit::{Effect, Expr, Stmt};
-use std::alloc::{AllocError, Global};
 
-pub fn if_statement(
-    alloc: Global,
-    condition: Expr,
-    body: Stmt,
-    otherwise: Option<Stmt>,
-) -> Result<Stmt, AllocError>
-    ensures { IfOk result (λ s. statement_of s ≡ if_of (expression_of condition) (statement_of body) (option_map statement_of otherwise)) }
+fn if_statement(condition: Expr, body: Box<Stmt>, otherwise: Option<Box<Stmt>>) -> Stmt
+    ensures { statement_of result ≡ if_of (expression_of condition) (statement_of body.value) (option_map (λ s. statement_of s.value) otherwise) }
 {
     match otherwise {
-        None => Ok(Stmt::If(condition, Box::new(alloc, body)?, None)),
-        Some(otherwise) => Ok(Stmt::If(
-            condition,
-            Box::new(alloc, body)?,
-            Some(Box::new(alloc, otherwise)?),
-        )),
+        None => Stmt::If(condition, body, None),
+        Some(otherwise) => Stmt::If(condition, body, Some(otherwise)),
     }
 }
 
-pub fn while_statement(alloc: Global, condition: Expr, body: Stmt) -> Result<Stmt, AllocError>
-    ensures { IfOk result (λ s. statement_of s ≡ While (expression_of condition) (statement_of body)) }
+// Of a `do`, with the condition in what was read after its body.
+fn do_statement(body: Box<Stmt>, tail: Option<Expr>) -> Stmt
+    ensures { statement_of result ≡ do_of (statement_of body.value) (option_map expression_of tail) }
 {
-    Ok(Stmt::While(condition, Box::new(alloc, body)?))
+    match tail {
+        None => Box::into_inner(body),
+        Some(condition) => Stmt::Do(body, condition),
+    }
 }
 
-pub fn do_statement(alloc: Global, body: Stmt, condition: Expr) -> Result<Stmt, AllocError>
-    ensures { IfOk result (λ s. statement_of s ≡ Do (statement_of body) (expression_of condition)) }
-{
-    Ok(Stmt::Do(Box::new(alloc, body)?, condition))
-}
-
-pub fn for_statement(
-    alloc: Global,
-    first: Option<Stmt>,
+fn for_statement(
+    first: Option<Box<Stmt>>,
     condition: Option<Expr>,
     after: Option<Effect>,
-    body: Stmt,
-) -> Result<Stmt, AllocError>
-    ensures { IfOk result (λ s. statement_of s ≡ for_of (option_map statement_of first) (option_map expression_of condition) (option_map effect_of after) (statement_of body)) }
+    body: Box<Stmt>,
+) -> Stmt
+    ensures { statement_of result ≡ for_of (option_map (λ s. statement_of s.value) first) (option_map expression_of condition) (option_map effect_of after) (statement_of body.value) }
 {
     match first {
-        None => Ok(Stmt::For(None, condition, after, Box::new(alloc, body)?)),
-        Some(first) => Ok(Stmt::For(
-            Some(Box::new(alloc, first)?),
-            condition,
-            after,
-            Box::new(alloc, body)?,
-        )),
+        None => Stmt::For(None, condition, after, body),
+        Some(first) => Stmt::For(Some(first), condition, after, body),
     }
 }
 
-pub fn switch_statement(alloc: Global, value: Expr, body: Stmt) -> Stmt
-    ensures { statement_of result ≡ Switch (expression_of value) (items_of (statement_of body)) }
+/// The statement, from its parts.
+pub fn control_statement(
+    control: Control,
+    body: Box<Stmt>,
+    otherwise: Option<Box<Stmt>>,
+    tail: Option<Expr>,
+) -> Stmt
+    ensures { statement_of result ≡ control_tree (control_of control) (statement_of body.value) (option_map (λ s. statement_of s.value) otherwise) (option_map expression_of tail) }
 {
-    match body {
-        Stmt::Block(items) => Stmt::Switch(value, items),
-        _ => Stmt::Switch(value, Vec::new(alloc)),
+    match control {
+        Control::If(condition) => if_statement(condition, body, otherwise),
+        Control::While(condition) => Stmt::While(condition, body),
+        Control::Do => do_statement(body, tail),
+        Control::For(first, condition, after) => for_statement(first, condition, after, body),
     }
 }

@@ -3,21 +3,23 @@
 ghost use Rattle.std.specs.Prelude.{◌≡◌, ◌&&◌, map};
 ghost use Rattle.std.specs.Option.{option_map};
 ghost use Rattle.grammar.specs.Rule.{maybe, many};
-ghost use Rattle.c_unit.specs.Tree.{statement_of};
+ghost use Rattle.c_unit.specs.Tree.{Block, expression_of, statement_of, statements_of};
+ghost use Rattle.c_grammar.specs.declared.standing.Standing.TheVariants as standings;
 ghost use Rattle.c_grammar.specs.Statements.{at_else, else_part, in_block, standing};
 ghost use Rattle.c_reader.specs.Reading.{position, Reads};
-ghost use Rattle.c_statements.specs.Heads.{control_of, head_of, controlled, after_head, braced};
+ghost use Rattle.c_statements.specs.Heads.{control_of, head_of, controlled, switched, after_head, braced};
 
-use crate::ends::{body_place, control_end, is_if};
+use crate::ends::{control_tail, is_if};
 use crate::heads::{Control, Head, read_head};
 use crate::labels::too_nested;
+use crate::made::control_statement;
 use c_grammar::{Others, Standing};
 use c_reader::{Departure, Reader};
-use c_unit::Stmt;
+use c_unit::{Expr, Stmt};
 
 /// What stands at a place of this kind, where statements may be nested so many times.
 #[cycle(statement)]
-#[tactic(auto, using(crate::proofs::Levels::standing_none, crate::proofs::Levels::standing_more))]
+#[tactic(auto, using(crate::proofs::Levels::standing_none, crate::proofs::Levels::standing_more), unfolding(crate::specs::Heads::headed))]
 pub fn read_standing(
     reader: &mut Reader<'_>,
     nesting: u32,
@@ -42,6 +44,7 @@ fn after_head(reader: &mut Reader<'_>, nesting: u32, head: Head) -> Result<Stmt,
     match head {
         Head::Whole(stmt) => Ok(stmt),
         Head::InBraces(place) => braced(reader, nesting, place),
+        Head::AtSwitch(value) => switched(reader, nesting, value),
         Head::Controls(control) => controlled(reader, nesting, control),
     }
 }
@@ -57,16 +60,50 @@ fn braced(reader: &mut Reader<'_>, nesting: u32, place: Standing) -> Result<Stmt
     Ok(Stmt::Block(items))
 }
 
+// A switch, after its value.
+#[cycle(statement)]
+#[tactic(auto, unfolding(crate::specs::Heads::switched))]
+fn switched(reader: &mut Reader<'_>, nesting: u32, value: Expr) -> Result<Stmt, Departure>
+    ensures { Reads (switched (standing nesting) (expression_of value)) statement_of result reader.old reader.new }
+{
+    let body = switch_block(reader, nesting)?;
+    Ok(Stmt::Switch(value, body))
+}
+
+// The block of a switch.
+#[cycle(statement)]
+#[tactic(auto, using(crate::proofs::Levels::standing_none, crate::proofs::Levels::switch_more), unfolding(c_grammar::specs::Statements::block))]
+fn switch_block(reader: &mut Reader<'_>, nesting: u32) -> Result<Vec<Stmt>, Departure>
+    ensures { Reads (standing nesting standings.SwitchBlock) (λ x. Block (statements_of (map statement_of x.items))) result reader.old reader.new }
+{
+    if nesting == 0 {
+        return Err(too_nested(reader, Standing::SwitchBlock));
+    }
+    reader.mark(b"{", Others::Statements)?;
+    let items = block_items(reader, nesting - 1, Standing::SwitchItem)?;
+    reader.close_brace()?;
+    Ok(items)
+}
+
 // A statement in which another stands, after what comes before that.
 #[cycle(statement)]
 #[tactic(auto, unfolding(crate::specs::Heads::controlled))]
 fn controlled(reader: &mut Reader<'_>, nesting: u32, control: Control) -> Result<Stmt, Departure>
     ensures { Reads (controlled (standing nesting) (control_of control)) statement_of result reader.old reader.new }
 {
-    let body = read_standing(reader, nesting, body_place(&control))?;
+    let body = boxed_part(reader, nesting)?;
     let otherwise = maybe_else(reader, nesting, is_if(&control))?;
-    let stmt = control_end(reader, control, body, otherwise)?;
-    Ok(stmt)
+    let tail = control_tail(reader, &control)?;
+    Ok(control_statement(control, body, otherwise, tail))
+}
+
+// A statement that stands in another.
+#[cycle(statement)]
+fn boxed_part(reader: &mut Reader<'_>, nesting: u32) -> Result<Box<Stmt>, Departure>
+    ensures { Reads (standing nesting standings.Part) (λ s. statement_of s.value) result reader.old reader.new }
+{
+    let stmt = read_standing(reader, nesting, Standing::Part)?;
+    Ok(Box::new(reader.alloc, stmt)?)
 }
 
 // An `else` belongs to the nearest `if`.
@@ -76,8 +113,8 @@ fn maybe_else(
     reader: &mut Reader<'_>,
     nesting: u32,
     may: bool,
-) -> Result<Option<Stmt>, Departure>
-    ensures { Reads (maybe (λ at. may && at_else at) (else_part (standing nesting))) (option_map statement_of) result reader.old reader.new }
+) -> Result<Option<Box<Stmt>>, Departure>
+    ensures { Reads (maybe (λ at. may && at_else at) (else_part (standing nesting))) (option_map (λ s. statement_of s.value)) result reader.old reader.new }
 {
     if !may {
         return Ok(None);
@@ -86,7 +123,7 @@ fn maybe_else(
         return Ok(None);
     }
     reader.mark(b"else", Others::Nothing)?;
-    let stmt = read_standing(reader, nesting, Standing::Part)?;
+    let stmt = boxed_part(reader, nesting)?;
     Ok(Some(stmt))
 }
 

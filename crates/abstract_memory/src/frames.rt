@@ -60,7 +60,7 @@ pub(crate) fn copied_frames(
 ) -> Result<Vec<FrameSlots>, AllocError>
     ensures { IfOk result (λ copy. copy.items ≡ frames.now) }
 {
-    let mut copy = Vec::new(alloc);
+    let mut copy = Vec::with_capacity(alloc, frames.len())?;
     for slots in frames {
         copy.push(slots.copy()?)?;
     }

@@ -1,6 +1,6 @@
 //! Loads.
 
-ghost use Rattle.std.specs.Prelude.{◌≡◌, ◌↔◌, ◌⊎◌, true, IfOk, IfSome, Contains};
+ghost use Rattle.std.specs.Prelude.{◌≡◌, ◌↔◌, ◌⊎◌, true, false, None, Some, IfOk, IfSome, Contains};
 ghost use Rattle.alf_ops.specs.declared.history.RunFault.{RunFault};
 ghost use Rattle.domain_core.specs.FaultSets.{has_fault};
 ghost use Rattle.pointer_rules.specs.Covering.{IsValue};
@@ -15,8 +15,10 @@ ghost use Rattle.frame_loads.specs.LoadedResults.{onto};
 use crate::loaded::{Loaded, fault_onto, value_onto, word_onto};
 use crate::word::{some_pointer, word_of_bytes};
 use alf_ops::RunFault;
+use domain_core::Lattice;
 use frame_cells::{cell_of_bytes, kept_cell};
 use memory_pages::{FrameSlots, Held};
+use pointer_domain::AVal;
 use std::alloc::{AllocError, Global};
 
 /// What the bytes of a cell give, onto what was loaded before.
@@ -39,6 +41,17 @@ fn bytes_onto(
     Ok(fault_onto(own, of_pointer, RunFault::Mixed))
 }
 
+/// The value of a cell that is known to hold it, where nothing was loaded before.
+fn first_known<'c>(cell: &'c Held, before: &Loaded) -> Option<&'c AVal>
+    ensures first { IfSome result (λ value. before.now.value ≡ None) }
+    ensures known { IfSome result (λ value. seen cell.now ≡ record { value = Some value.now; u = false; x = false }) }
+{
+    match (&before.value, &cell.value) {
+        (None, Some(value)) => { if cell.u || cell.x { None } else { Some(value) } }
+        _ => None,
+    }
+}
+
 /// What a cell gives over its bytes, onto what was loaded before.
 fn cell_onto(
     alloc: Global,
@@ -54,6 +67,12 @@ fn cell_onto(
     requires before_sized { IfSome before.value (IsValue size) }
     ensures { IfOk result (λ now. now ≡ onto before (results abstract_sets (taken abstract_sets (frame_of slots.now) offset size) (seen cell.now))) }
 {
+    if let Some(value) = first_known(cell, &before) {
+        return Ok(Loaded {
+            value: Some(value.copy(alloc)?),
+            faults: before.faults,
+        });
+    }
     let own = value_onto(alloc, before, &cell.value)?;
     let told = fault_onto(own, cell.u, RunFault::Uninit);
     if cell.x {

@@ -5,9 +5,10 @@
 --   strong_before, strong_inside  a place of a strong store
 --   weak_before, weak_inside      a place of a weak store
 --   pins                          a pin
+--   pinned_before                 a pin to what is there
 use Rattle.std.specs.Prelude.{slice_get, slice_set, ◌==◌, if◌then◌else◌}
 use Rattle.std.proofs.Common.{◌≡◌, sym, subst, ◌∙◌, ap, ℕ, suc, zero, true, false, List, Some, None, refl, arith, ◌+◌, ◌-◌, ◌*◌, ◌/◌, ◌<◌, ◌≤◌, length}
-use Rattle.std.proofs.lemmas.Bool.{eqb-true, eq-eqb, lt-ltb, le-ltb, false≢true}
+use Rattle.std.proofs.lemmas.Bool.{and_parts, eqb-true, eq-eqb, lt-ltb, le-ltb, false≢true}
 use Rattle.lists.specs.Tests.{by_test}
 use Rattle.pointer_rules.specs.AbstractValues.{AbstractValue}
 use Rattle.memory_pages.specs.declared.byte.Byte.{Byte}
@@ -216,3 +217,14 @@ module _ (old new : List HeldSlot) (offset size : ℕ) (value : AbstractValue) (
   pins = subst (λ slots. Becomes old slots (pinned abstract_sets (frame_of old) offset size value)) (sym put)
       (subst (λ m. Becomes old (slice_set old offset (with_cell slot size (known value))) m) pin_is
       (put_becomes old offset (with_cell slot size (known value)) low refl))
+
+-- a pin to what is there changes nothing
+pub pinned_before : (m : FrameMem abstract_sets) (offset size : ℕ) (value : AbstractValue) → m.cells offset size ≡ Some (known_seen value) → m ≡ pinned abstract_sets m offset size value
+pinned_before m offset size value kept = λ i. record { bytes = m.bytes; cells = λ place width. same place width i }
+  where
+    same : (place width : ℕ) → m.cells place width ≡ (if is_same offset size place width then Some (known_seen value) else m.cells place width)
+    same place width = by_test (is_same offset size place width)
+        (λ is.
+        let parts = and_parts (place == offset) (width == size) is in
+        rw is (ap (λ (p : ℕ). m.cells p width) (eqb-true place offset parts.0) ∙ (ap (λ (w : ℕ). m.cells offset w) (eqb-true width size parts.1) ∙ kept)))
+        (λ other. rw other refl)

@@ -1,17 +1,18 @@
 //! A pin.
 
-ghost use Rattle.std.specs.Prelude.{◌≡◌, ◌≤◌, ◌+◌, ◌/◌, true, OnOk, IfOk, length};
+ghost use Rattle.std.specs.Prelude.{◌≡◌, ◌≤◌, ◌+◌, ◌/◌, true, Some, IsTrue, OnOk, IfOk, length};
 ghost use Rattle.pointer_rules.specs.AbstractValues.{Words, alone};
 ghost use Rattle.memory_rules.specs.AbstractSets.{abstract_sets};
 ghost use Rattle.memory_rules.specs.Frames.{pinned};
 ghost use Rattle.memory_pages.specs.Slots.{with_cell};
 ghost use Rattle.held_memories.specs.HeldFrames.{frame_of, is_cell_size};
-ghost use Rattle.frame_stores.specs.Places.{AreCanonical, known};
+ghost use Rattle.frame_stores.specs.Places.{AreCanonical, known, known_seen};
 
 use crate::cell::known_cell;
 use crate::slots::put;
+use frame_cells::kept_cell;
 use interval_congruence::Strided;
-use memory_pages::{FrameSlots, Slot};
+use memory_pages::{FrameSlots, Held, Slot};
 use pointer_domain::AVal;
 use std::alloc::{AllocError, Global};
 
@@ -22,6 +23,27 @@ fn pinned_slot(alloc: Global, slot: &Slot, size: u32, value: &AVal) -> Result<Sl
     let mut copy = slot.copy(alloc)?;
     copy.keep(size, known_cell(alloc, value)?)?;
     Ok(copy)
+}
+
+/// The cell is known to hold the value.
+fn is_known(cell: &Held, value: &AVal) -> bool
+    ensures { IsTrue result → cell.now ≡ known value.now }
+{
+    match &cell.value {
+        None => false,
+        Some(own) => !cell.u && !cell.x && own.is_same(value),
+    }
+}
+
+/// The cell is kept, and is known to hold the value.
+fn is_pinned(slots: &FrameSlots, offset: u32, size: u32, value: &AVal) -> bool
+    requires size { is_cell_size size ≡ true }
+    ensures { IsTrue result → (frame_of slots.now).cells offset size ≡ Some (known_seen value.now) }
+{
+    match kept_cell(slots, offset, size) {
+        None => false,
+        Some(cell) => is_known(cell, value),
+    }
 }
 
 /// Keeps a cell with these words, which it is known to hold. Bytes and other cells stay.
@@ -41,6 +63,9 @@ pub fn pin(
     ensures canonical { OnOk result (AreCanonical slots.old → AreCanonical slots.new) }
 {
     let value = AVal::word(alloc, words);
+    if is_pinned(slots, offset, size, &value) {
+        return Ok(());
+    }
     let Some(slot) = slots.slot(offset as usize) else {
         return Ok(());
     };

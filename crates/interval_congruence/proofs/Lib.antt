@@ -3,6 +3,8 @@ mod Cuts
 mod Divisors
 mod DivisorSizes
 mod Fits
+mod LonePieces
+mod NormalParts
 mod OperandLists
 mod Readings
 mod Takes

@@ -7,6 +7,7 @@ ghost use Rattle.strided_rules.specs.Strides.{norm as norm_of};
 ghost use Rattle.strided_rules.specs.Joins.{IfPlaced, settled as settled_of};
 ghost use Rattle.strided_rules.specs.Operators.{unsigned_each as unsigned_each_of, signed_each as signed_each_of};
 
+use crate::turns::are_words;
 use crate::value::Strided;
 use progressions::Progression;
 use strided_operators::{Rule, each, normed};
@@ -38,6 +39,10 @@ impl Strided {
         requires { IsWordSize size }
         ensures { result ≡ unsigned_each_of size (R.gives rule.now) self }
     {
+        let numbers = self.numbers();
+        if are_words(self.size(), &numbers) {
+            return normal(size, &rule.at(&numbers));
+        }
         let pieces = self.unsigned();
         settled(size, each(size, rule, &pieces))
     }

@@ -8,6 +8,7 @@
 mod kept;
 mod member;
 mod relation;
+mod turns;
 mod value;
 
 // What operators give at values.

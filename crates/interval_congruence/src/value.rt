@@ -1,6 +1,6 @@
 //! The values.
 
-ghost use Rattle.std.specs.Prelude.{◌≡◌, ◌≤◌, ◌<◌, ◌^◌, pos, neg_ℤ, ◌-ℤ◌, ◌≤ℤ◌, ◌<ℤ◌};
+ghost use Rattle.std.specs.Prelude.{◌≡◌, ◌≤◌, ◌<◌, ◌^◌, pos, neg_ℤ, ◌+ℤ◌, ◌-ℤ◌, ◌≤ℤ◌, ◌<ℤ◌, unsigned_abs};
 ghost use Rattle.domain_core.specs.WordSets.{IsWordSize};
 ghost use Rattle.progressions.specs.Progressions.{IsProgression, IsPlaced, full, half};
 ghost use Rattle.progressions.specs.Parts.{ArePieces};
@@ -8,6 +8,7 @@ ghost use Rattle.progressions.specs.Limits.{IsSmall};
 ghost use Rattle.strided_rules.specs.Strides.{Stride, IsStride, norm as norm_of, one_word as one_word_of, every_word as every_word_of, joined as joined_of};
 ghost use Rattle.strided_rules.specs.Members.{unsigned_of, signed_of, is_one as is_one_of, word_of};
 
+use crate::turns::{signed_pieces, unsigned_pieces};
 use progressions::{Pieces, Progression};
 use std::marker::Model;
 use strided_operators::{joined, normed, power, whole};
@@ -19,17 +20,24 @@ use whole_numbers::Whole;
 #[derive(Clone, Copy, Debug, PartialEq, Eq, Drop)]
 pub struct Strided {
     size: u32,
-    numbers: Progression,
+    lo: i64,
+    width: u64,
+    step: u64,
 }
 
 impl Model for Strided {
     ghost Value = { Stride };
 
-    ghost view = { λ s. record { size = s.size; numbers = s.numbers } };
+    ghost view = { λ s. record { size = s.size; numbers = record { lo = s.lo; hi = s.lo +ℤ pos s.width; step = pos s.step } } };
 
-    ghost inverse = { λ x. record { size = x.size; numbers = x.numbers } };
+    ghost inverse = { λ x. record {
+      size = x.size;
+      lo = x.numbers.lo;
+      width = unsigned_abs (x.numbers.hi -ℤ x.numbers.lo);
+      step = unsigned_abs x.numbers.step;
+    } };
 
-    ghost invariant = { λ s. IsStride (record { size = s.size; numbers = s.numbers }) };
+    ghost invariant = { λ s. IsStride (record { size = s.size; numbers = record { lo = s.lo; hi = s.lo +ℤ pos s.width; step = pos s.step } }) };
 }
 
 impl Strided {
@@ -39,7 +47,12 @@ impl Strided {
         requires placed { IsPlaced size numbers }
         ensures { result ≡ record { size = size; numbers = numbers } }
     {
-        Strided { size, numbers }
+        Strided {
+            size,
+            lo: numbers.lo.number() as i64,
+            width: (numbers.hi - numbers.lo).word(),
+            step: numbers.step.word(),
+        }
     }
 
     /// How many bits its words have.
@@ -50,34 +63,47 @@ impl Strided {
         self.size
     }
 
+    /// The progression of its low end, its width and its step.
+    fn progression(self) -> Progression
+        ensures value { result ≡ self.numbers }
+        ensures stride { IsStride self }
+    {
+        let lo = Whole::of(self.lo as i128);
+        Progression {
+            lo,
+            hi: lo + Whole::of_word(self.width),
+            step: Whole::of_word(self.step),
+        }
+    }
+
     /// Its progression, whose ends are far from the limits of the machine.
     pub fn numbers(self) -> Progression
         ensures value { result ≡ self.numbers }
         ensures stride { IsStride self }
         ensures small { IsSmall result }
     {
-        self.numbers
+        self.progression()
     }
 
     /// The least number.
     pub fn lo(self) -> i128
         ensures { result ≡ self.numbers.lo }
     {
-        self.numbers.lo.number()
+        self.lo as i128
     }
 
     /// The greatest number.
     pub fn hi(self) -> i128
         ensures { result ≡ self.numbers.hi }
     {
-        self.numbers.hi.number()
+        self.lo as i128 + self.width as i128
     }
 
     /// The distance of two numbers that follow one another; 0 where there is one number.
     pub fn step(self) -> i128
         ensures { result ≡ self.numbers.step }
     {
-        self.numbers.step.number()
+        self.step as i128
     }
 
     /// The numbers lo, lo + step, .., hi modulo 2 to the size, in normal form.
@@ -93,10 +119,7 @@ impl Strided {
             hi: Whole::of(hi),
             step: Whole::of(step),
         };
-        Strided {
-            size,
-            numbers: normed(size, &numbers),
-        }
+        Strided::of(size, normed(size, &numbers))
     }
 
     /// Every word of the size.
@@ -104,10 +127,7 @@ impl Strided {
         requires { IsWordSize size }
         ensures { result ≡ every_word_of size }
     {
-        Strided {
-            size,
-            numbers: whole(size),
-        }
+        Strided::of(size, whole(size))
     }
 
     /// The one word.
@@ -116,10 +136,7 @@ impl Strided {
         ensures { result ≡ one_word_of size bits }
     {
         let lone = Progression::lone(Whole::of_word(bits));
-        Strided {
-            size,
-            numbers: normed(size, &lone),
-        }
+        Strided::of(size, normed(size, &lone))
     }
 
     /// The words of both, of one size.
@@ -130,10 +147,7 @@ impl Strided {
         let size = self.size();
         let first = self.numbers();
         let second = other.numbers();
-        Strided {
-            size,
-            numbers: joined(size, &first, &second),
-        }
+        Strided::of(size, joined(size, &first, &second))
     }
 
     /// Its words as numbers from 0 on.
@@ -144,7 +158,7 @@ impl Strided {
         ensures are { ArePieces (pos 0) (full self.size -ℤ pos 1) result }
     {
         let numbers = self.numbers();
-        numbers.unsigned_pieces(self.size())
+        unsigned_pieces(self.size(), &numbers)
     }
 
     /// Its words as numbers of the signed range.
@@ -155,14 +169,14 @@ impl Strided {
         ensures are { ArePieces (neg_ℤ (half self.size)) (half self.size -ℤ pos 1) result }
     {
         let numbers = self.numbers();
-        numbers.signed_pieces(self.size())
+        signed_pieces(self.size(), &numbers)
     }
 
     /// It has one member.
     pub fn is_one(self) -> bool
         ensures { result ≡ is_one_of self }
     {
-        self.numbers.hi.at_most(self.numbers.lo)
+        self.width == 0
     }
 
     /// The word of its low end.
@@ -172,6 +186,10 @@ impl Strided {
         ensures fits { result < 2 ^ self.size }
     {
         let lo = self.numbers().lo;
-        lo.rest(power(self.size())).word()
+        if Whole::of(0).at_most(lo) {
+            lo.word()
+        } else {
+            lo.rest(power(self.size())).word()
+        }
     }
 }

@@ -44,7 +44,7 @@ owned_is words f file (Definition first o name params body ∷ xs) =
 
 -- ---- one function of several
 
-each_own : (P : Object → Type 0) (words : List Word) (k : ℕ) (fs : List Function) (i : ℕ) (function : Function) → slice_get fs i ≡ Some function → EachOf P (owned_from words k fs) → EachOf P (own_objects words (k + i) function)
+pub each_own : (P : Object → Type 0) (words : List Word) (k : ℕ) (fs : List Function) (i : ℕ) (function : Function) → slice_get fs i ≡ Some function → EachOf P (owned_from words k fs) → EachOf P (own_objects words (k + i) function)
 each_own P words k [] i function at h = absurd (none-some function at)
 each_own P words k (g ∷ fs) zero function at h =
     subst (λ (x : Function). EachOf P (own_objects words (k + 0) x)) (same_Some g function at)
@@ -53,7 +53,7 @@ each_own P words k (g ∷ fs) (suc i) function at h =
     subst (λ (n : ℕ). EachOf P (own_objects words n function)) (let same : suc k + i ≡ k + suc i = omega arith in same)
     (each_own P words (suc k) fs i function at (each_parts P (own_objects words k g) (owned_from words (suc k) fs) h).1)
 
-apart_own : (R : Object → Object → Type 0) (words : List Word) (k : ℕ) (fs : List Function) (i : ℕ) (function : Function) → slice_get fs i ≡ Some function → Apart R (owned_from words k fs) → Apart R (own_objects words (k + i) function)
+pub apart_own : (R : Object → Object → Type 0) (words : List Word) (k : ℕ) (fs : List Function) (i : ℕ) (function : Function) → slice_get fs i ≡ Some function → Apart R (owned_from words k fs) → Apart R (own_objects words (k + i) function)
 apart_own R words k [] i function at h = absurd (none-some function at)
 apart_own R words k (g ∷ fs) zero function at h =
     subst (λ (x : Function). Apart R (own_objects words (k + 0) x)) (same_Some g function at)
@@ -104,13 +104,13 @@ module _ (unit : UnitTree) (names : HasNames (program_of unit)) where
   abbrev pub owned : List Object
   owned = owned_from unit.words 0 (functions_of unit)
 
-  objects_are : objects_of unit ≡ globals ++ owned
+  pub objects_are : objects_of unit ≡ globals ++ owned
   objects_are = ap (λ (os : List Object). globals ++ os) (owned_is unit.words 0 (record { scope = []; made = [] }) unit.externals)
 
   pub objects_apart : InParts (OfOtherFrames whole names) globals owned
   objects_apart = apart_parts (OfOtherFrames whole names) globals owned (subst (λ (os : List Object). Apart (OfOtherFrames whole names) os) objects_are (frames_apart whole names))
 
-  all_objects : EachOf (IsObject whole) globals × EachOf (IsObject whole) owned
+  pub all_objects : EachOf (IsObject whole) globals × EachOf (IsObject whole) owned
   all_objects = each_parts (IsObject whole) globals owned (subst (λ (os : List Object). EachOf (IsObject whole) os) objects_are (each_of_places (IsObject whole) (objects_of unit) (λ i o at. (i, at))))
 
   pub globals_part : (f : ℕ) → Part whole f globals 0 0 (global_frames whole)

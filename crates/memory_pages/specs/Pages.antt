@@ -1,6 +1,7 @@
 -- The slots of a frame, page by page.
 --   slots_on page        the slots of a page
 --   pages_of pages       those of each page
+--   all_pages whole last those of these pages, and of the last
 --   page_at lists n      the page of this number, or none
 --   joined lists         the lists in their order, as one
 --   ArePages lists       each has 64 members, but the last, which has at most 64
@@ -17,6 +18,10 @@ slots_on page = page.value
 -- those of each page
 abbrev pub pages_of : {Z : Type 0} → List (Rc (List HeldSlot) Z) → List (List HeldSlot)
 pages_of pages = map slots_on pages
+
+-- the slots of these pages, and of the last
+abbrev pub all_pages : {Z : Type 0} → List (Rc (List HeldSlot) Z) → Rc (List HeldSlot) Z → List (List HeldSlot)
+all_pages whole last = pages_of whole ++ slots_on last ∷ []
 
 abbrev pub list_or : {A : Type 0} → Option (List A) → List A
 list_or None = []

@@ -1,12 +1,12 @@
 //! The slots of a frame.
 
-ghost use Rattle.std.specs.Prelude.{◌≡◌, ◌≤◌, ◌<◌, ◌+◌, ◌%◌, ◌/◌, ℕ, IsTrue, IfOk, OnOk, length, replicate, slice_get, slice_set};
+ghost use Rattle.std.specs.Prelude.{◌≡◌, ◌≤◌, ◌<◌, ◌+◌, ◌%◌, ◌/◌, ℕ, IsTrue, IfOk, OnOk, OnErr, length, replicate, slice_get, slice_set};
 ghost use Rattle.std.specs.Option.{option_map};
 ghost use Rattle.memory_pages.specs.Slots.{bare};
-ghost use Rattle.memory_pages.specs.Pages.{pages_of, page_at};
+ghost use Rattle.memory_pages.specs.Pages.{all_pages, list_or, page_at, slots_on};
 
 use crate::byte::Byte;
-use crate::page::{Page, bare_page, put_in, share_page, shared_pages};
+use crate::page::{Page, bare_page, put_in, put_on, share_page, shared_pages};
 use crate::slot::Slot;
 use std::alloc::{AllocError, Global};
 use std::marker::Model;
@@ -14,11 +14,12 @@ use std::rc::Rc;
 
 /// The slots of a frame, one for each byte.
 ///
-/// They lie on pages of 64, the last page as long as what is left. Copies share each page until a slot is put
-/// on it.
+/// They lie on pages of 64, and on a last page as long as what is left, which a frame of fewer bytes has alone.
+/// Copies share each page until a slot is put on it.
 #[derive(Drop)]
 pub struct FrameSlots {
-    pages: Vec<Rc<Page>>,
+    whole: Vec<Rc<Page>>,
+    last: Rc<Page>,
 }
 
 impl Model for FrameSlots {
@@ -27,30 +28,63 @@ impl Model for FrameSlots {
 
     ghost Value = { List HeldSlot };
 
-    ghost use Rattle.memory_pages.specs.Pages.{pages_of, joined, ArePages};
+    ghost use Rattle.memory_pages.specs.Pages.{all_pages, joined, ArePages};
 
-    ghost view = { λ frame. joined (pages_of frame.pages.items) };
+    ghost view = { λ frame. joined (all_pages frame.whole.items frame.last) };
 
-    ghost invariant = { λ frame. ArePages (pages_of frame.pages.items) };
+    ghost invariant = { λ frame. ArePages (all_pages frame.whole.items frame.last) };
+}
+
+/// The page of this number.
+fn page_of<'p>(whole: &'p [Rc<Page>], last: &'p Rc<Page>, number: usize) -> Option<&'p Rc<Page>>
+    ensures { list_or (option_map (λ page. slots_on page.now) result) ≡ page_at (all_pages whole.now last.now) number }
+{
+    let count = whole.len();
+    if number < count {
+        Some(&whole[number])
+    } else if number == count {
+        Some(last)
+    } else {
+        None
+    }
 }
 
 /// The slot at this place.
-fn slot_in(pages: &[Rc<Page>], at: usize) -> Option<&Slot>
-    ensures { option_map (λ slot. slot.now) result ≡ slice_get (page_at (pages_of pages.now) (at / 64)) (at % 64) }
+fn slot_in<'p>(whole: &'p [Rc<Page>], last: &'p Rc<Page>, at: usize) -> Option<&'p Slot>
+    ensures { option_map (λ slot. slot.now) result ≡ slice_get (page_at (all_pages whole.now last.now) (at / 64)) (at % 64) }
 {
-    match pages.get(at / 64) {
+    match page_of(whole, last, at / 64) {
         None => None,
         Some(page) => page.slot(at % 64),
     }
 }
 
-/// Whether the pages that begin at this place are the same.
-fn same_pages(a: &[Rc<Page>], b: &[Rc<Page>], page: usize) -> bool
-    ensures { IsTrue result → page_at (pages_of a.now) page ≡ page_at (pages_of b.now) page }
+/// Whether both pages are there, and are the same.
+fn are_same(a: Option<&Rc<Page>>, b: Option<&Rc<Page>>) -> bool
+    ensures { IsTrue result → list_or (option_map (λ page. slots_on page.now) a.entry) ≡ list_or (option_map (λ page. slots_on page.now) b.entry) }
 {
-    match (a.get(page), b.get(page)) {
+    match (a, b) {
         (Some(first), Some(second)) => first.is_same(second),
         _ => false,
+    }
+}
+
+/// Puts a slot on the page of its place.
+fn put_among(
+    whole: &mut [Rc<Page>],
+    last: &mut Rc<Page>,
+    at: usize,
+    slot: Slot,
+) -> Result<(), AllocError>
+    requires page { at / 64 < length (all_pages whole.old last.old) }
+    requires slot { at % 64 < length (page_at (all_pages whole.old last.old) (at / 64)) }
+    ensures put { OnOk result (all_pages whole.new last.new ≡ slice_set (all_pages whole.old last.old) (at / 64) (slice_set (page_at (all_pages whole.old last.old) (at / 64)) (at % 64) slot)) }
+    ensures refused { OnErr result (all_pages whole.new last.new ≡ all_pages whole.old last.old) }
+{
+    if at / 64 < whole.len() {
+        put_in(whole, at, slot)
+    } else {
+        put_on(last, at % 64, slot)
     }
 }
 
@@ -61,17 +95,16 @@ impl FrameSlots {
     {
         let page = bare_page(alloc, byte, 64)?;
         let last = bare_page(alloc, byte, count % 64)?;
-        let mut pages = Vec::new(alloc);
-        share_page(&mut pages, &page, count / 64)?;
-        share_page(&mut pages, &last, 1)?;
-        Ok(FrameSlots { pages })
+        let mut whole = Vec::new(alloc);
+        share_page(&mut whole, &page, count / 64)?;
+        Ok(FrameSlots { whole, last })
     }
 
     /// The slot of this byte, if the frame has it.
     pub fn slot(&self, at: usize) -> Option<&Slot>
         ensures { option_map (λ slot. slot.now) result ≡ slice_get self.now at }
     {
-        slot_in(&self.pages, at)
+        slot_in(&self.whole, &self.last, at)
     }
 
     /// Puts a slot. After want of memory the slots are given up.
@@ -79,7 +112,7 @@ impl FrameSlots {
         requires { at < length self.old }
         ensures { OnOk result (self.new ≡ slice_set self.old at slot) }
     {
-        put_in(&mut self.pages, at, slot)
+        put_among(&mut self.whole, &mut self.last, at, slot)
     }
 
     /// The same slots, on shared pages.
@@ -87,7 +120,8 @@ impl FrameSlots {
         ensures { IfOk result (λ copy. copy ≡ self.now) }
     {
         Ok(FrameSlots {
-            pages: shared_pages(*self.pages.allocator(), &self.pages)?,
+            whole: shared_pages(*self.whole.allocator(), &self.whole)?,
+            last: self.last.clone()?,
         })
     }
 
@@ -96,7 +130,9 @@ impl FrameSlots {
     pub fn same_ahead(&self, other: &FrameSlots, at: usize) -> usize
         ensures { (place : ℕ) → at ≤ place → place < at + result → slice_get self.now place ≡ slice_get other.now place }
     {
-        if at % 64 == 0 && same_pages(&self.pages, &other.pages, at / 64) {
+        let own = page_of(&self.whole, &self.last, at / 64);
+        let others = page_of(&other.whole, &other.last, at / 64);
+        if at % 64 == 0 && are_same(own, others) {
             64
         } else {
             0

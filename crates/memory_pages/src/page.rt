@@ -78,7 +78,7 @@ impl Page {
 fn copied_slots(alloc: Global, slots: &[Slot]) -> Result<Vec<Slot>, AllocError>
     ensures { IfOk result (λ copy. copy.items ≡ slots.now) }
 {
-    let mut copy = Vec::new(alloc);
+    let mut copy = Vec::with_capacity(alloc, slots.len())?;
     for slot in slots {
         copy.push(slot.copy(alloc)?)?;
     }
@@ -89,7 +89,7 @@ fn copied_slots(alloc: Global, slots: &[Slot]) -> Result<Vec<Slot>, AllocError>
 fn bare_slots(alloc: Global, byte: &Byte, count: usize) -> Result<Vec<Slot>, AllocError>
     ensures { IfOk result (λ slots. slots.items ≡ replicate count (bare byte.now)) }
 {
-    let mut slots = Vec::new(alloc);
+    let mut slots = Vec::with_capacity(alloc, count)?;
     for _number in 0..count {
         slots.push(Slot::bare(alloc, byte))?;
     }
@@ -129,7 +129,7 @@ pub(crate) fn share_page(
 pub(crate) fn shared_pages(alloc: Global, pages: &[Rc<Page>]) -> Result<Vec<Rc<Page>>, AllocError>
     ensures { IfOk result (λ shared. pages_of shared.items ≡ pages_of pages.now) }
 {
-    let mut shared = Vec::new(alloc);
+    let mut shared = Vec::with_capacity(alloc, pages.len())?;
     for page in pages {
         shared.push(page.clone()?)?;
     }
@@ -150,7 +150,7 @@ fn same_slots(a: &[Slot], b: &[Slot]) -> bool
 }
 
 /// Puts a slot on a page, which is made its own first.
-fn put_on(page: &mut Rc<Page>, at: usize, slot: Slot) -> Result<(), AllocError>
+pub(crate) fn put_on(page: &mut Rc<Page>, at: usize, slot: Slot) -> Result<(), AllocError>
     requires { at < length (slots_on page.old) }
     ensures put { OnOk result (slots_on page.new ≡ slice_set (slots_on page.old) at slot) }
     ensures refused { OnErr result (slots_on page.new ≡ slots_on page.old) }

@@ -61,7 +61,7 @@ fn copied_kept(alloc: Global, kept: &Kept) -> Result<Kept, AllocError>
 fn copied_cells(alloc: Global, cells: &[Kept]) -> Result<Vec<Kept>, AllocError>
     ensures { IfOk result (λ copy. copy.items ≡ cells.now) }
 {
-    let mut copy = Vec::new(alloc);
+    let mut copy = Vec::with_capacity(alloc, cells.len())?;
     for kept in cells {
         copy.push(copied_kept(alloc, kept)?)?;
     }
@@ -103,7 +103,7 @@ fn marked_copy(alloc: Global, kept: &Kept, than: u32) -> Result<Kept, AllocError
 fn marked_copies(alloc: Global, cells: &[Kept], than: u32) -> Result<Vec<Kept>, AllocError>
     ensures { IfOk result (λ copy. copy.items ≡ map (marked_kept than) cells.now) }
 {
-    let mut copy = Vec::new(alloc);
+    let mut copy = Vec::with_capacity(alloc, cells.len())?;
     for kept in cells {
         copy.push(marked_copy(alloc, kept, than)?)?;
     }

@@ -89,6 +89,12 @@ impl Lattice for AVal {
     ghost is_order = { value_is_order };
 
     fn copy(&self, alloc: Global) -> Result<Self, AllocError> {
+        if self.places.is_empty() {
+            return Ok(AVal {
+                words: self.words,
+                places: Vec::new(alloc),
+            });
+        }
         Ok(AVal {
             words: self.words,
             places: Vec::from_slice(alloc, &self.places)?,

@@ -46,7 +46,12 @@ fn tested(memory: &AMem<'_>, frame: u32, offset: u32, size: u32) -> Option<(u32,
 }
 
 /// The cell at the one offset, where there is one alone.
-fn cell_at(memory: &AMem<'_>, frame: u32, offsets: Strided, size: u32) -> Option<(u32, u32)>
+pub(crate) fn cell_at(
+    memory: &AMem<'_>,
+    frame: u32,
+    offsets: Strided,
+    size: u32,
+) -> Option<(u32, u32)>
     requires offsets { offsets.size ≡ 32 }
     requires size { size ≤ 64 }
     ensures { result ≡ (if is_one_of offsets then result_ok (tested_of (rows_of memory.now.checked) (memory_in memory.now).runs (Ptr frame (word_of offsets)) size) else None) }

@@ -1,22 +1,23 @@
 //! Sides of comparisons: the words of an expression and the place that it is.
 
-ghost use Rattle.std.specs.Prelude.{◌≡◌, ◌∷◌, [], true, false, IfOk, IfSome, IsSome, Some, map};
+ghost use Rattle.std.specs.Prelude.{◌≡◌, ◌∷◌, [], true, false, IfOk, IfSome, IsSome, None, Some, map};
 ghost use Rattle.std.specs.List.{AllZip};
 ghost use Rattle.std.specs.Option.{option_map};
 ghost use Rattle.alf_ops.specs.Table.{result_size, operand_sizes};
-ghost use Rattle.alf_program.specs.Tree.{Load, Apply, expressions_of};
+ghost use Rattle.alf_program.specs.Tree.{Address, Load, Apply, expressions_of};
 ghost use Rattle.alf_check.specs.CheckedPrograms.{term_of};
 ghost use Rattle.memory_rules.specs.Covers.{IsCellSize};
+ghost use Rattle.strided_rules.specs.Strides.{one_word};
 ghost use Rattle.pointer_rules.specs.AbstractValues.{HasSize};
 ghost use Rattle.pointer_rules.specs.Covering.{IsValue};
 ghost use Rattle.seen_memories.specs.Parts.{memory_in, rows_of, IsMemory};
-ghost use Rattle.step_rules.specs.Evaluating.{value_at};
+ghost use Rattle.step_rules.specs.Evaluating.{pointer_value, value_at};
 ghost use Rattle.step_rules.specs.Refining.{is_extension as is_extension_of, cell_of, cell_where as cell_where_of, loaded_cell, place_in, place_of, words_alone as words_alone_of, operand_place};
 ghost use Rattle.step_statements.specs.Typed.{IsTyped};
 ghost use Rattle.step_arms.specs.Places.{seen_place};
 ghost use Rattle.step_arms.specs.Sides.{loaded_value, at_one, IsSide};
 
-use crate::places::{one_cell, place_at};
+use crate::places::{cell_at, one_cell, place_at};
 use crate::refinements::{Place, Side};
 use crate::relations::is_extension;
 use abstract_memory::AMem;
@@ -86,6 +87,53 @@ fn load_from(
     }
 }
 
+/// The cell that the expression is the address of, where it is an address as it stands.
+fn address_of(term: &Term) -> Option<(u32, u32)>
+    ensures { IfSome result (λ cell. term_of term.now ≡ Address cell.0 cell.1) }
+{
+    match term {
+        Term::Num(_) => None,
+        Term::Addr(frame, offset) => Some((*frame, *offset)),
+        Term::Load(_, _) => None,
+        Term::Apply(_, _, _) => None,
+    }
+}
+
+/// The cell of the pointer, where these are words.
+fn cell_for(
+    memory: &AMem<'_>,
+    words: Option<Strided>,
+    frame: u32,
+    offset: u32,
+    size: u32,
+) -> Option<(u32, u32)>
+    requires { IsCellSize size }
+    ensures { result ≡ cell_where_of words (cell_of (rows_of memory.now.checked) (memory_in memory.now).runs size None ((frame, one_word 32 offset) ∷ [])) }
+{
+    match words {
+        None => None,
+        Some(_) => cell_at(memory, frame, Strided::one_word(32, offset as u64), size),
+    }
+}
+
+/// What a load of a cell gives, and the cell, as through the pointer to it, which need not be made.
+fn load_cell(
+    alloc: Global,
+    memory: &AMem<'_>,
+    frame: u32,
+    offset: u32,
+    size: u32,
+) -> Result<(Option<AVal>, Option<(u32, u32)>), AllocError>
+    requires kept { IsMemory memory.now }
+    requires size { IsCellSize size }
+    ensures value { IfOk result (λ answer. answer.0 ≡ loaded_value (rows_of memory.now.checked) (memory_in memory.now) size (Some (pointer_value frame offset))) }
+    ensures cell { IfOk result (λ answer. answer.1 ≡ loaded_cell (rows_of memory.now.checked) (memory_in memory.now) size (Some (pointer_value frame offset))) }
+{
+    let (value, _) = memory.load_cell(alloc, frame, offset, size)?;
+    let cell = cell_for(memory, words_of(&value), frame, offset, size);
+    Ok((value, cell))
+}
+
 /// What a load gives, and its cell.
 fn load(
     alloc: Global,
@@ -98,6 +146,9 @@ fn load(
     ensures value { IfOk result (λ answer. answer.0 ≡ (value_at (rows_of memory.now.checked) (memory_in memory.now) (Load size (term_of at.now))).left) }
     ensures cell { IfOk result (λ answer. answer.1 ≡ loaded_cell (rows_of memory.now.checked) (memory_in memory.now) size (value_at (rows_of memory.now.checked) (memory_in memory.now) (term_of at.now)).left) }
 {
+    if let Some((frame, offset)) = address_of(at) {
+        return load_cell(alloc, memory, frame, offset, size);
+    }
     let (at, _) = evaluate(alloc, memory, at)?;
     load_from(alloc, memory, &at, size)
 }

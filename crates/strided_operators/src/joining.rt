@@ -1,25 +1,48 @@
 //! Joins of two progressions in normal form.
 
-ghost use Rattle.std.specs.Prelude.{◌≡◌, ◌≤◌, ◌^◌, pos, neg_ℤ, ◌≤ℤ◌, ◌<ℤ◌};
-ghost use Rattle.progressions.specs.Progressions.{full};
+ghost use Rattle.std.specs.Prelude.{◌≡◌, ◌≤◌, ◌^◌, pos, neg_ℤ, ◌-ℤ◌, ◌≤ℤ◌, ◌<ℤ◌};
+ghost use Rattle.progressions.specs.Progressions.{full, hull as hull_of};
 ghost use Rattle.progressions.specs.Images.{moved as moved_by};
 ghost use Rattle.progressions.specs.Limits.{AreNear, IsSmall};
 ghost use Rattle.strided_rules.specs.Strides.{shorter as shorter_of, join as join_of};
 
 use crate::placing::{normed, power};
 use progressions::Progression;
+use whole_numbers::Whole;
 
-/// The first, or the second where that is shorter.
-fn shorter(p: &Progression, q: &Progression) -> Progression
+/// How far the ends of the hull of two are apart.
+#[tactic(auto, unfolding(progressions::specs::Progressions::hull))]
+fn width(p: &Progression, q: &Progression) -> Whole
     requires p { AreNear p.now }
     requires q { AreNear q.now }
-    ensures value { result ≡ shorter_of p.now q.now }
+    ensures { result ≡ (hull_of p.now q.now).hi -ℤ (hull_of p.now q.now).lo }
+{
+    p.hi.greatest(q.hi) - p.lo.least(q.lo)
+}
+
+/// The shortest hull of the two as they are, with the first moved up and with the second moved up. The
+/// others are not made.
+fn shortest(p: &Progression, q: &Progression, p_up: &Progression, q_up: &Progression) -> Progression
+    requires p { IsSmall p.now }
+    requires q { IsSmall q.now }
+    requires p_up { AreNear p_up.now }
+    requires q_up { AreNear q_up.now }
+    requires p_step { p_up.now.step ≡ p.now.step }
+    requires q_step { q_up.now.step ≡ q.now.step }
+    ensures value { result ≡ shorter_of (shorter_of (hull_of p.now q.now) (hull_of p_up.now q.now)) (hull_of p.now q_up.now) }
     ensures near { AreNear result }
 {
-    if (q.hi - q.lo).below(p.hi - p.lo) {
-        *q
+    let (first, second, third) = (width(p, q), width(p_up, q), width(p, q_up));
+    if second.below(first) {
+        if third.below(second) {
+            p.hull(q_up)
+        } else {
+            p_up.hull(q)
+        }
+    } else if third.below(first) {
+        p.hull(q_up)
     } else {
-        *p
+        p.hull(q)
     }
 }
 
@@ -33,8 +56,7 @@ fn raised(size: u32, p: &Progression) -> Progression
     p.moved(power(size))
 }
 
-/// The shortest hull of the two as they are, with the first moved up and with the second moved up,
-/// in normal form.
+/// The shortest of the three hulls, in normal form.
 #[tactic(auto, unfolding(strided_rules::specs::Strides::join))]
 pub fn joined(size: u32, p: &Progression, q: &Progression) -> Progression
     requires least { 1 ≤ size }
@@ -45,10 +67,5 @@ pub fn joined(size: u32, p: &Progression, q: &Progression) -> Progression
 {
     let p_up = raised(size, p);
     let q_up = raised(size, q);
-    let first = p.hull(q);
-    let second = p_up.hull(q);
-    let third = p.hull(&q_up);
-    let best = shorter(&first, &second);
-    let best_of_three = shorter(&best, &third);
-    normed(size, &best_of_three)
+    normed(size, &shortest(p, q, &p_up, &q_up))
 }

@@ -1,11 +1,12 @@
 -- What is left to show of `pin`: the frame has what the slot that was put holds.
 use Rattle.std.specs.Prelude.{slice_set, length}
-use Rattle.std.proofs.Common.{◌∙◌, sym, ap}
+use Rattle.std.proofs.Common.{◌∙◌, sym, ap, refl, Some}
 use Rattle.std.proofs.lemmas.Result.{on_ok_weaker}
 use Rattle.pointer_rules.specs.AbstractValues.{Words, alone}
 use Rattle.memory_pages.specs.Slots.{with_cell}
-use Rattle.frame_stores.specs.Places.{known}
-use Rattle.frame_stores.proofs.Stores.{begins_in, pins}
+use Rattle.frame_stores.specs.Places.{known, known_seen}
+use Rattle.frame_stores.proofs.Stores.{begins_in, pins, pinned_before}
+use Rattle.held_memories.specs.HeldFrames.{frame_of}
 use Rattle.frame_stores.proofs.pins.pin.Goals as goal
 
 pub returns-clause-pinned : goal.returns-clause-pinned
@@ -23,3 +24,7 @@ returns-clause-canonical c = on_ok_weaker c.put.result (λ put.
     (put ∙ ap (λ s. slice_set c.args.slots.now c.args.offset s)
     (c.in_ok-changed.ensures ∙ ap (λ v. with_cell c.in-Some.slot.now c.args.size (known v)) c.word-value.ensures))).canonical)
     c.put.ensures
+
+pub returns-then-is_pinned-clause-pinned : goal.returns-then-is_pinned-clause-pinned
+returns-then-is_pinned-clause-pinned c = pinned_before (frame_of c.args.slots.now) c.args.offset c.args.size (alone (Words c.args.words))
+    (c.if-is_pinned.ensures refl ∙ ap (λ v. Some (known_seen v)) c.word-value.ensures)

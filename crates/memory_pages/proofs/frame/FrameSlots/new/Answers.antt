@@ -2,17 +2,17 @@
 use Rattle.std.proofs.Common.{◌∙◌, sym, subst, ap, List}
 use Rattle.memory_pages.specs.Slots.{HeldSlot, bare}
 use Rattle.memory_pages.specs.Pages.{pages_of, joined, ArePages}
-use Rattle.memory_pages.proofs.PageLists.{steps, made_pages, made_joined}
+use Rattle.memory_pages.proofs.PageLists.{made, made_pages, made_joined}
 use Rattle.memory_pages.proofs.frame.FrameSlots.new.Goals as goal
 
 pub invariant_of-result : goal.invariant_of-result
 invariant_of-result c = subst (λ (pages : List (List HeldSlot)). ArePages pages)
-    (sym (steps (pages_of c.new-pages.result.items) (pages_of c.share_page.new.pages.items) (pages_of c.share_page-2.new.pages.items) _ _ c.args.count (bare c.args.byte.now)
-    (ap pages_of c.new-pages.ensures.items) c.in_ok-share_page.ensures c.in_ok-share_page-2.ensures c.in_ok-page.ensures c.in_ok-last.ensures))
+    (sym (made (pages_of c.new-whole.result.items) (pages_of c.share_page.new.pages.items) _ _ c.args.count (bare c.args.byte.now)
+    (ap pages_of c.new-whole.ensures.items) c.in_ok-share_page.ensures c.in_ok-page.ensures c.in_ok-last.ensures))
     (made_pages c.args.count (bare c.args.byte.now))
 
 pub returns : goal.returns
 returns c =
-    ap joined (steps (pages_of c.new-pages.result.items) (pages_of c.share_page.new.pages.items) (pages_of c.share_page-2.new.pages.items) _ _ c.args.count (bare c.args.byte.now)
-    (ap pages_of c.new-pages.ensures.items) c.in_ok-share_page.ensures c.in_ok-share_page-2.ensures c.in_ok-page.ensures c.in_ok-last.ensures)
+    ap joined (made (pages_of c.new-whole.result.items) (pages_of c.share_page.new.pages.items) _ _ c.args.count (bare c.args.byte.now)
+    (ap pages_of c.new-whole.ensures.items) c.in_ok-share_page.ensures c.in_ok-page.ensures c.in_ok-last.ensures)
     ∙ made_joined c.args.count (bare c.args.byte.now)

@@ -1,0 +1,4 @@
+mod Rows
+mod Objects
+mod Naming
+mod LaidOut

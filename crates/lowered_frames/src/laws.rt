@@ -1,0 +1,30 @@
+//! What is true of the frames of each lowered program, as clauses of functions that do nothing.
+
+ghost use Rattle.lowered_frames.specs.FrameLaws.{FramesHavePlaces, FunctionsAreLowered, NamesAreNumbered, ProgramsAreLaidOut};
+
+use embedded_histories::events_keep_agreement;
+use lowered_values::constants_agree;
+
+/// Each object has a frame of its own, with its owner and its size.
+pub fn each_object_has_its_frame()
+    ensures { FramesHavePlaces }
+{}
+
+/// A function keeps its number.
+pub fn functions_keep_their_number()
+    ensures { FunctionsAreLowered }
+{}
+
+/// A name in a function's code stands for the frame of its object, or for that of a result.
+pub fn names_stand_for_their_frames()
+    ensures { NamesAreNumbered }
+{}
+
+/// The arguments of functions, what is exported, and what globals hold at first lie where the objects
+/// lie, whatever the root and the ranks are.
+pub fn programs_are_laid_out()
+    ensures { ProgramsAreLaidOut }
+{
+    events_keep_agreement();
+    constants_agree();
+}

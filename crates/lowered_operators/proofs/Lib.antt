@@ -1,0 +1,5 @@
+mod Words
+mod Outcomes
+mod Tests
+mod Sizes
+mod Given

@@ -1,0 +1,23 @@
+//! What lowering promises.
+
+ghost use Rattle.lowered_programs.specs.Lowering.{LoweringIsRight};
+
+use lowered_frames::{
+    each_object_has_its_frame, functions_keep_their_number, names_stand_for_their_frames,
+    programs_are_laid_out,
+};
+use lowered_leaves::lowered_programs_have_the_units_outcome;
+
+/// Where a unit passes the checks and its names and its `&&` and `||` are as the grammar has them, a checked
+/// program to which it is lowered has its outcome for each input: an outcome of the unit with some number of
+/// turns is that of the run by nodes; a run that is over after so many steps has the outcome of the unit with
+/// as many turns; and turns are used up for every number exactly where the run never ends.
+pub fn each_program_has_the_outcome_of_its_unit()
+    ensures { LoweringIsRight }
+{
+    each_object_has_its_frame();
+    functions_keep_their_number();
+    names_stand_for_their_frames();
+    programs_are_laid_out();
+    lowered_programs_have_the_units_outcome();
+}

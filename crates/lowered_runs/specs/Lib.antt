@@ -1,0 +1,5 @@
+-- The files of this folder.
+pub mod Leaves
+pub mod Functions
+pub mod Outcomes
+pub mod Related

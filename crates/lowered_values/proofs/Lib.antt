@@ -1,0 +1,6 @@
+mod Constants
+mod Fitting
+mod Agreeing
+mod Stores
+mod Calls
+mod Lower

@@ -1,0 +1,7 @@
+-- The files of this folder.
+mod Keeping
+mod TypesKeep
+mod Expressions
+mod Statements
+mod Tokens
+mod Units

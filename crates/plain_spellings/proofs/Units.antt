@@ -1,0 +1,104 @@
+-- What is spelled at file level is plain.
+use Rattle.c_grammar.specs.Statements.{in_block}
+use Rattle.c_grammar.specs.Tokens.{Seen, most_nesting}
+use Rattle.c_grammar.specs.Types.{at_assign, at_list_comma}
+use Rattle.c_grammar.specs.Units.{after_global, after_sole, body, declaration_after, declarator, definition_after, external, external_after, further_declarator, gives, global_array, global_initial, global_integer, is_left, object, open_body, parameters_of, prototype, sees_body, unit}
+use Rattle.c_checks.specs.Units.{File}
+use Rattle.c_checks.specs.Units as checks
+use Rattle.c_meaning.specs.Objects.{Function, functions_in, functions_of}
+use Rattle.c_text.specs.Language.{IsSpelled, start}
+use Rattle.c_tokens.specs.Tokens.{tokens_of}
+use Rattle.c_unit.specs.Tree.{DeclaratorTree, ExternalTree, Declaration, Definition, statements_of}
+use Rattle.c_unit.specs.Units.{UnitTree}
+use Rattle.c_unit.specs.declared.types.Outcome.{Outcome}
+use Rattle.grammar.specs.Rule.{weaken}
+use Rattle.std.proofs.Common.{List, [], ◌∷◌, length, slice_get, Some, suc, zero, ℕ, ◌-◌, ◌≡◌, subst}
+use Rattle.std.proofs.lemmas.Option.{none-some, same_Some}
+use Rattle.std.specs.Prelude.{codes, ⊤}
+use Rattle.c_grammar.specs.declared.others.Others.TheVariants as others
+use Rattle.c_grammar.specs.declared.specifiers.Setting.TheVariants as settings
+use Rattle.c_grammar.specs.declared.standing.Standing.TheVariants as standings
+use Rattle.lowered_names.specs.Lists.{EachOf}
+use Rattle.lowered_leaves.specs.Plain.{StatementIsPlain, StatementsArePlain}
+use Rattle.plain_spellings.proofs.Keeping.{Keeps, Makes, done, either_keeps, either_makes, judged_keeps, made_keeps, mark_keeps, maybe_keeps, row_keeps, row_makes, ◌>>>◌, ◌>>-◌, ◌>>+◌}
+use Rattle.plain_spellings.proofs.Tokens.{tokens_fine}
+use Rattle.plain_spellings.proofs.TypesKeep.{array_keeps, assign_mark_keeps, before_either_keeps, close_brace_keeps, comma_mark_keeps, declares_keeps, integer_told_keeps, name_keeps, next_number_keeps, one_function_keeps, parameters_keeps, sees_keeps, signed_constant_keeps, some_frames_keeps, type_of_keeps}
+use Rattle.plain_spellings.proofs.Expressions.{open_paren_keeps}
+use Rattle.plain_spellings.proofs.Statements.{semicolon_keeps, standing_makes, statements_made}
+
+global_initial_keeps : Keeps global_initial.form
+unfolding global_initial
+global_initial_keeps = assign_mark_keeps >>> λ _. signed_constant_keeps others.ExpressionsAndBraces >>> λ c. made_keeps
+
+global_integer_keeps : Keeps global_integer.form
+unfolding global_integer
+global_integer_keeps = maybe_keeps at_assign _ global_initial_keeps >>> λ c. before_either_keeps (codes ",") (codes ";") (after_global c) >>> λ _. made_keeps
+
+global_array_keeps : Keeps global_array.form
+unfolding global_array
+global_array_keeps = array_keeps >>> λ a. made_keeps
+
+object_keeps : (o : Outcome) (n : ℕ) → Keeps (object o n).form
+unfolding object
+object_keeps o n = integer_told_keeps others.Object o >>> λ _. some_frames_keeps 1 >>> λ _. sees_keeps (codes "[") >>> λ b. either_keeps b (weaken global_array) global_integer global_array_keeps global_integer_keeps >>> λ s. made_keeps
+
+prototype_keeps : (o : Outcome) (t : Seen) → Keeps (prototype o t).form
+unfolding prototype
+prototype_keeps o t = open_paren_keeps >>> λ _. parameters_keeps >>> λ ps. declares_keeps t.text (gives o) >>> λ _. made_keeps
+
+declarator_keeps : (o : Outcome) → Keeps (declarator o).form
+unfolding declarator
+declarator_keeps o = name_keeps others.Stars >>> λ t. sees_keeps (codes "(") >>> λ f. either_keeps f (weaken (prototype o t)) (object o t.number) (prototype_keeps o t) (object_keeps o t.number) >>> λ d. made_keeps
+
+further_declarator_keeps : (o : Outcome) → Keeps (further_declarator o).form
+unfolding further_declarator
+further_declarator_keeps o = comma_mark_keeps >>> λ _. declarator_keeps o >>> λ d. made_keeps
+
+abbrev ExternalIsPlain : ExternalTree → Type 0
+ExternalIsPlain (Declaration first o ds) = ⊤
+ExternalIsPlain (Definition first o name params body) = StatementsArePlain (statements_of body)
+
+declaration_after_makes : (n : ℕ) (o : Outcome) (d : DeclaratorTree) → Makes (declaration_after n o d).form ExternalIsPlain
+unfolding declaration_after
+declaration_after_makes n o d = row_keeps at_list_comma _ (further_declarator_keeps o) >>- λ ds. semicolon_keeps (after_sole d ds) >>- λ _. done tt
+
+body_makes : Makes body.form (EachOf StatementIsPlain)
+unfolding body
+body_makes = row_makes in_block _ (standing_makes (most_nesting - 1) standings.Item) >>+ λ ss made. close_brace_keeps >>- λ _. done made
+
+open_body_keeps : (count : ℕ) → Keeps (open_body count).form
+unfolding open_body
+open_body_keeps count = mark_keeps (codes "{") others.Nothing >>> λ _. one_function_keeps >>> λ _. some_frames_keeps count >>> λ _. made_keeps
+
+definition_after_makes : (n : ℕ) (o : Outcome) (d : DeclaratorTree) → Makes (definition_after n o d).form ExternalIsPlain
+unfolding definition_after
+definition_after_makes n o d = open_body_keeps (length (parameters_of d.shape)) >>- λ _. body_makes >>+ λ ss made. done (statements_made ss made)
+
+sees_body_keeps : (d : DeclaratorTree) → Keeps (sees_body d).form
+unfolding sees_body
+sees_body_keeps d = judged_keeps
+
+external_after_makes : (n : ℕ) (o : Outcome) (d : DeclaratorTree) → Makes (external_after n o d).form ExternalIsPlain
+unfolding external_after
+external_after_makes n o d = sees_body_keeps d >>- λ b. either_makes b (definition_after n o d) (declaration_after n o d) (definition_after_makes n o d) (declaration_after_makes n o d) >>+ λ e made. done made
+
+external_makes : Makes external.form ExternalIsPlain
+unfolding external
+external_makes = next_number_keeps >>- λ n. type_of_keeps settings.File >>- λ o. declarator_keeps o >>- λ d. external_after_makes n o d >>+ λ e made. done made
+
+unit_makes : Makes unit.form (EachOf ExternalIsPlain)
+unfolding unit
+unit_makes = row_makes is_left _ external_makes
+
+-- ---- functions
+
+plain_function : (file : File) (xs : List ExternalTree) → EachOf ExternalIsPlain xs → (f : ℕ) (function : Function) → slice_get (functions_in file xs) f ≡ Some function → StatementsArePlain function.body
+plain_function file [] plain f function at = absurd (none-some function at)
+plain_function file (Declaration first o ds ∷ xs) plain f function at = plain_function (checks.external_after file (Declaration first o ds)) xs plain.1 f function at
+plain_function file (Definition first o name params body ∷ xs) plain zero function at = subst (λ (g : Function). StatementsArePlain g.body) (same_Some _ function at) plain.0
+plain_function file (Definition first o name params body ∷ xs) plain (suc f) function at = plain_function (checks.external_after file (Definition first o name params body)) xs plain.1 f function at
+
+pub spelled_are_plain : (whole : UnitTree) → IsSpelled whole → (f : ℕ) (function : Function) → slice_get (functions_of whole) f ≡ Some function → StatementsArePlain function.body
+spelled_are_plain whole spelled f function at =
+    let trees = spelled.1.trees in
+    plain_function (record { scope = []; made = [] }) whole.externals (unit_makes.each (start spelled.0) whole.externals trees.0 trees.1 (tokens_fine 0 (tokens_of spelled.0))).0 f function at

@@ -1,0 +1,7 @@
+//! In a unit that some text spells `&&` and `||` stand in conditions alone.
+#![tactic(auto)]
+
+// What the definitions promise.
+mod laws;
+
+pub use laws::spelled_units_are_plain;

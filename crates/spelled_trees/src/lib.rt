@@ -1,0 +1,2 @@
+//! What the trees of a unit keep that some text spells.
+#![tactic(auto)]

@@ -2,3 +2,4 @@ mod Rows
 mod Objects
 mod Naming
 mod LaidOut
+mod Globals

@@ -2,15 +2,17 @@
 --   FramesHavePlaces        each object has a frame of its own, with its owner and its size
 --   FunctionsAreLowered     function f of the lowered program is function f, lowered
 --   NamesAreNumbered        names in a function's code stand for the frames of its objects and of its results
+--   GlobalFramesAreObjects  each global frame is that of an object
 --   ProgramsAreLaidOut      arguments, exports and first words lie where the objects lie
-use Rattle.std.specs.Prelude.{◌≡◌, ℕ, List, Some, slice_get}
-use Rattle.alf_check.specs.Numbers.{first_frame, numbers_in}
+use Rattle.std.specs.Prelude.{◌≡◌, ℕ, List, None, Some, slice_get}
+use Rattle.alf_check.specs.declared.rows.FrameRow.{FrameRow}
+use Rattle.alf_check.specs.Numbers.{frame_rows, first_frame, numbers_in}
 use Rattle.alf_check.specs.Numbered.{numbered}
 use Rattle.c_unit.specs.Units.{UnitTree}
 use Rattle.c_meaning.specs.Objects.{Function, program_of, functions_of}
 use Rattle.c_lowered.specs.Programs.{lowered_function, lowered}
 use Rattle.lowered_names.specs.Spelled.{HasNames}
-use Rattle.lowered_values.specs.Frames.{FramesStand, IsNaming}
+use Rattle.lowered_values.specs.Frames.{frame_number, FramesStand, IsNaming}
 use Rattle.lowered_values.specs.Agreement.{IsLaidOut}
 
 abbrev pub FramesHavePlaces : Type 0
@@ -27,6 +29,13 @@ NamesAreNumbered = (unit : UnitTree) (f : ℕ) (function : Function)
     → slice_get (functions_of unit) f ≡ Some function
     → IsNaming unit f (numbers_in (lowered unit) (first_frame (lowered unit) f)
     (lowered_function (program_of unit) f function)).frame
+
+abbrev pub GlobalFramesAreObjects : Type 0
+GlobalFramesAreObjects = (unit : UnitTree) (n : ℕ) (row : FrameRow)
+    → HasNames (program_of unit)
+    → slice_get (frame_rows (lowered unit)) n ≡ Some row
+    → row.owner ≡ None
+    → (o : ℕ) × (n ≡ frame_number unit o)
 
 -- whatever the root and the ranks are
 abbrev pub ProgramsAreLaidOut : Type 0

@@ -1,13 +1,15 @@
 //! What is true of the frames of each lowered program, as clauses of functions that do nothing.
 
-ghost use Rattle.lowered_frames.specs.FrameLaws.{FramesHavePlaces, FunctionsAreLowered, NamesAreNumbered, ProgramsAreLaidOut};
+ghost use Rattle.lowered_frames.specs.FrameLaws.{FramesHavePlaces, GlobalFramesAreObjects, FunctionsAreLowered, NamesAreNumbered, ProgramsAreLaidOut};
 
 use embedded_histories::events_keep_agreement;
 use lowered_values::constants_agree;
 
-/// Each object has a frame of its own, with its owner and its size.
+/// Each object has a frame of its own, with its owner and its size, and each global frame is that of an
+/// object.
 pub fn each_object_has_its_frame()
-    ensures { FramesHavePlaces }
+    ensures places { FramesHavePlaces }
+    ensures globals { GlobalFramesAreObjects }
 {}
 
 /// A function keeps its number.

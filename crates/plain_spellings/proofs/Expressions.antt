@@ -87,7 +87,7 @@ operator_stands : (min : ℕ) (logical : Bool) (left : Expression) (ts : List Se
 operator_stands min logical left [] at x is e = absurd (false≢true is)
 operator_stands min logical left (t ∷ ts) at x is e = symbol_stands min logical left t.symbol t x is e
 
-operator_keeps : Keeps operator.form
+pub operator_keeps : Keeps operator.form
 unfolding operator
 operator_keeps = one_keeps
 
@@ -95,7 +95,7 @@ shallow_keeps : (d : ℕ) (e : Expression) → Keeps (shallow d e).form
 unfolding shallow
 shallow_keeps d e = judged_keeps
 
-some_depth_keeps : (d : ℕ) → Keeps (some_depth d).form
+pub some_depth_keeps : (d : ℕ) → Keeps (some_depth d).form
 unfolding some_depth
 some_depth_keeps d = judged_keeps
 
@@ -118,11 +118,11 @@ operation_step d min deeper deeper_makes logical left at y rest is good s g =
     let stands : may_stand min logical left op.0 ≡ true = operator_stands min logical left at.ahead at op is s.2.0 in
     (after_operator d min deeper deeper_makes logical left op stands good).each s.1 y rest s.3 (operator_keeps.each at op s.1 s.2 g)
 
-open_bracket_keeps : Keeps open_bracket.form
+pub open_bracket_keeps : Keeps open_bracket.form
 unfolding open_bracket
 open_bracket_keeps = mark_keeps (codes "[") others.Nothing
 
-close_bracket_keeps : (o : Others) → Keeps (close_bracket o).form
+pub close_bracket_keeps : (o : Others) → Keeps (close_bracket o).form
 unfolding close_bracket
 close_bracket_keeps o = mark_keeps (codes "]") o >>> λ _. made_keeps
 
@@ -149,7 +149,7 @@ parenthesised_makes : (inner : Inner) → InnerMakes inner → (logical : Bool) 
 unfolding parenthesised
 parenthesised_makes inner inner_makes logical o n = inner_makes logical o >>+ λ e made. close_paren_keeps (rest_of true e) >>- λ _. done (record { plain = made.plain; may = made.may })
 
-cast_type_keeps : Keeps cast_type.form
+pub cast_type_keeps : Keeps cast_type.form
 unfolding cast_type
 cast_type_keeps = integer_type_keeps settings.Cast >>> λ i. sees_keeps (codes "*") >>> λ p. pointer_stars_keeps p i >>> λ t. close_paren_keeps (after_cast_type p) >>> λ _. made_keeps
 
@@ -157,7 +157,7 @@ cast_makes : (d : ℕ) (deeper : Operand) → DeeperMakes deeper → (logical : 
 unfolding cast
 cast_makes d deeper deeper_makes logical n = some_depth_keeps d >>- λ _. cast_type_keeps >>- λ t. deeper_makes 11 false >>+ λ e made. done (record { plain = plain_value_of e made; may = λ t. absurd (false≢true t) })
 
-one_paren_keeps : (p : ℕ) → Keeps (one_paren p).form
+pub one_paren_keeps : (p : ℕ) → Keeps (one_paren p).form
 unfolding one_paren
 one_paren_keeps p = judged_keeps
 
@@ -173,7 +173,7 @@ prefixed_makes : (d : ℕ) (deeper : Operand) → DeeperMakes deeper → (logica
 unfolding prefixed
 prefixed_makes d deeper deeper_makes logical op n = some_depth_keeps d >>- λ _. deeper_makes 11 (logical && is_not op) >>+ λ e made. done (unary_good logical op n e made)
 
-lead_keeps : (o : Others) → Keeps (lead o).form
+pub lead_keeps : (o : Others) → Keeps (lead o).form
 unfolding lead
 lead_keeps o = one_keeps
 
@@ -228,11 +228,11 @@ pub sees_call_keeps : Keeps sees_call.form
 unfolding sees_call
 sees_call_keeps = judged_keeps
 
-call_frame_keeps : (text : List ℕ) → Keeps (call_frame text).form
+pub call_frame_keeps : (text : List ℕ) → Keeps (call_frame text).form
 unfolding call_frame
 call_frame_keeps text = judged_keeps >>> λ known. either_keeps known (some_frames 1) (value tt) (some_frames_keeps 1) made_keeps
 
-comma_keeps : Keeps comma.form
+pub comma_keeps : Keeps comma.form
 unfolding comma
 comma_keeps = mark_keeps (codes ",") others.Nothing >>> λ _. made_keeps
 

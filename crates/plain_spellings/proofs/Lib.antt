@@ -4,4 +4,6 @@ mod TypesKeep
 mod Expressions
 mod Statements
 mod Tokens
+mod Depths
+mod ShallowStatements
 mod Units

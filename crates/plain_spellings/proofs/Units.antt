@@ -25,6 +25,8 @@ use Rattle.plain_spellings.proofs.Tokens.{tokens_fine}
 use Rattle.plain_spellings.proofs.TypesKeep.{array_keeps, assign_mark_keeps, before_either_keeps, close_brace_keeps, comma_mark_keeps, declares_keeps, integer_told_keeps, name_keeps, next_number_keeps, one_function_keeps, parameters_keeps, sees_keeps, signed_constant_keeps, some_frames_keeps, type_of_keeps}
 use Rattle.plain_spellings.proofs.Expressions.{open_paren_keeps}
 use Rattle.plain_spellings.proofs.Statements.{semicolon_keeps, standing_makes, statements_made}
+use Rattle.plain_spellings.proofs.ShallowStatements.{StatementIsShallow, StatementsAreShallow}
+use Rattle.plain_spellings.proofs.ShallowStatements as shallow
 
 global_initial_keeps : Keeps global_initial.form
 unfolding global_initial
@@ -90,15 +92,56 @@ unit_makes : Makes unit.form (EachOf ExternalIsPlain)
 unfolding unit
 unit_makes = row_makes is_left _ external_makes
 
+-- ---- nested operators
+
+abbrev ExternalIsShallow : ExternalTree → Type 0
+ExternalIsShallow (Declaration first o ds) = ⊤
+ExternalIsShallow (Definition first o name params body) = StatementsAreShallow (statements_of body)
+
+shallow_declaration : (n : ℕ) (o : Outcome) (d : DeclaratorTree) → Makes (declaration_after n o d).form ExternalIsShallow
+unfolding declaration_after
+shallow_declaration n o d = row_keeps at_list_comma _ (further_declarator_keeps o) >>- λ ds. semicolon_keeps (after_sole d ds) >>- λ _. done tt
+
+shallow_body : Makes body.form (EachOf StatementIsShallow)
+unfolding body
+shallow_body = row_makes in_block _ (shallow.standing_makes (most_nesting - 1) standings.Item) >>+ λ ss made. close_brace_keeps >>- λ _. done made
+
+shallow_definition : (n : ℕ) (o : Outcome) (d : DeclaratorTree) → Makes (definition_after n o d).form ExternalIsShallow
+unfolding definition_after
+shallow_definition n o d = open_body_keeps (length (parameters_of d.shape)) >>- λ _. shallow_body >>+ λ ss made. done (shallow.statements_made ss made)
+
+shallow_after : (n : ℕ) (o : Outcome) (d : DeclaratorTree) → Makes (external_after n o d).form ExternalIsShallow
+unfolding external_after
+shallow_after n o d = sees_body_keeps d >>- λ b. either_makes b (definition_after n o d) (declaration_after n o d) (shallow_definition n o d) (shallow_declaration n o d) >>+ λ e made. done made
+
+shallow_external : Makes external.form ExternalIsShallow
+unfolding external
+shallow_external = next_number_keeps >>- λ n. type_of_keeps settings.File >>- λ o. declarator_keeps o >>- λ d. shallow_after n o d >>+ λ e made. done made
+
+shallow_unit : Makes unit.form (EachOf ExternalIsShallow)
+unfolding unit
+shallow_unit = row_makes is_left _ shallow_external
+
 -- ---- functions
 
 plain_function : (file : File) (xs : List ExternalTree) → EachOf ExternalIsPlain xs → (f : ℕ) (function : Function) → slice_get (functions_in file xs) f ≡ Some function → StatementsArePlain function.body
 plain_function file [] plain f function at = absurd (none-some function at)
 plain_function file (Declaration first o ds ∷ xs) plain f function at = plain_function (checks.external_after file (Declaration first o ds)) xs plain.1 f function at
-plain_function file (Definition first o name params body ∷ xs) plain zero function at = subst (λ (g : Function). StatementsArePlain g.body) (same_Some _ function at) plain.0
-plain_function file (Definition first o name params body ∷ xs) plain (suc f) function at = plain_function (checks.external_after file (Definition first o name params body)) xs plain.1 f function at
+plain_function file (Definition first o name params block ∷ xs) plain zero function at = subst (λ (g : Function). StatementsArePlain g.body) (same_Some _ function at) plain.0
+plain_function file (Definition first o name params block ∷ xs) plain (suc f) function at = plain_function (checks.external_after file (Definition first o name params block)) xs plain.1 f function at
 
 pub spelled_are_plain : (whole : UnitTree) → IsSpelled whole → (f : ℕ) (function : Function) → slice_get (functions_of whole) f ≡ Some function → StatementsArePlain function.body
 spelled_are_plain whole spelled f function at =
     let trees = spelled.1.trees in
     plain_function (record { scope = []; made = [] }) whole.externals (unit_makes.each (start spelled.0) whole.externals trees.0 trees.1 (tokens_fine 0 (tokens_of spelled.0))).0 f function at
+
+shallow_function : (file : File) (xs : List ExternalTree) → EachOf ExternalIsShallow xs → (f : ℕ) (function : Function) → slice_get (functions_in file xs) f ≡ Some function → StatementsAreShallow function.body
+shallow_function file [] plain f function at = absurd (none-some function at)
+shallow_function file (Declaration first o ds ∷ xs) plain f function at = shallow_function (checks.external_after file (Declaration first o ds)) xs plain.1 f function at
+shallow_function file (Definition first o name params block ∷ xs) plain zero function at = subst (λ (g : Function). StatementsAreShallow g.body) (same_Some _ function at) plain.0
+shallow_function file (Definition first o name params block ∷ xs) plain (suc f) function at = shallow_function (checks.external_after file (Definition first o name params block)) xs plain.1 f function at
+
+pub spelled_are_shallow : (whole : UnitTree) → IsSpelled whole → (f : ℕ) (function : Function) → slice_get (functions_of whole) f ≡ Some function → StatementsAreShallow function.body
+spelled_are_shallow whole spelled f function at =
+    let trees = spelled.1.trees in
+    shallow_function (record { scope = []; made = [] }) whole.externals (shallow_unit.each (start spelled.0) whole.externals trees.0 trees.1 (tokens_fine 0 (tokens_of spelled.0))).0 f function at

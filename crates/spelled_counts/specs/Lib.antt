@@ -1,0 +1,9 @@
+-- What the rules of C count.
+pub mod Taking
+pub mod TypesTake
+pub mod ExpressionsTake
+pub mod Measuring
+pub mod Depths
+pub mod Spending
+pub mod Effects
+pub mod Statements

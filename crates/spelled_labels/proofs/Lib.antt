@@ -1,0 +1,5 @@
+-- The files of this folder.
+mod Spending
+mod Expressions
+mod Statements
+mod Units

@@ -62,35 +62,39 @@ fn are_usage(alloc: Global, words: &[String]) -> bool {
 
 /// In each row the words, and what they are.
 static COMMANDS: &str = "\
-analyse,a.alf = analyse a.alf main - - 100000 joins
-analyse,a.alf,--turns,24 = analyse a.alf main - - 24 joins
-analyse,a.alf,--turns=24 = analyse a.alf main - - 24 joins
-analyse,--turns,24,a.alf = analyse a.alf main - - 24 joins
-analyse,--turns=24,a.alf = analyse a.alf main - - 24 joins
-analyse,a.alf,--turns,1 = analyse a.alf main - - 1 joins
-analyse,a.alf,--turns,1000000 = analyse a.alf main - - 1000000 joins
-analyse,a.alf,--turns,000002 = analyse a.alf main - - 2 joins
-analyse,a.alf,--turns,00000000000000000002 = analyse a.alf main - - 2 joins
-analyse,--,a.alf = analyse a.alf main - - 100000 joins
-analyse,a.alf,-- = analyse a.alf main - - 100000 joins
-analyse,--turns,24,--,-a.alf = analyse -a.alf main - - 24 joins
-analyse,--,--turns = analyse --turns main - - 100000 joins
-analyse,--,-- = analyse -- main - - 100000 joins
-analyse,- = analyse - main - - 100000 joins
-analyse, = analyse  main - - 100000 joins
-analyse,analyse = analyse analyse main - - 100000 joins
-analyse,a.C = analyse a.C main - - 100000 joins
-analyse,a.alf,--root,f = analyse a.alf f - - 100000 joins
-analyse,a.alf,--root= = analyse a.alf  - - 100000 joins
-analyse,a.alf,--root=-f = analyse a.alf -f - - 100000 joins
-analyse,a.alf,--costs,c.toml = analyse a.alf main - c.toml 100000 joins
-analyse,--costs,c.toml,--turns=7,a.alf,--root,g = analyse a.alf g - c.toml 7 joins
-analyse,a.alf,--inputs,i.toml = analyse a.alf main i.toml - 100000 joins
-analyse,--inputs=-,a.alf,--costs,c = analyse a.alf main - c 100000 joins
-analyse,a.alf,--merge,none = analyse a.alf main - - 100000 none
-analyse,--merge=exits,a.alf = analyse a.alf main - - 100000 exits
-analyse,a.alf,--merge,joins = analyse a.alf main - - 100000 joins
-analyse,--merge,none,--turns=9,--inputs,i,--root,f,a.alf,--costs=c = analyse a.alf f i c 9 none
+analyse,a.alf = analyse a.alf main - - 100000 joins 1000
+analyse,a.alf,--turns,24 = analyse a.alf main - - 24 joins 1000
+analyse,a.alf,--turns=24 = analyse a.alf main - - 24 joins 1000
+analyse,--turns,24,a.alf = analyse a.alf main - - 24 joins 1000
+analyse,--turns=24,a.alf = analyse a.alf main - - 24 joins 1000
+analyse,a.alf,--turns,1 = analyse a.alf main - - 1 joins 1000
+analyse,a.alf,--turns,1000000 = analyse a.alf main - - 1000000 joins 1000
+analyse,a.alf,--turns,000002 = analyse a.alf main - - 2 joins 1000
+analyse,a.alf,--turns,00000000000000000002 = analyse a.alf main - - 2 joins 1000
+analyse,--,a.alf = analyse a.alf main - - 100000 joins 1000
+analyse,a.alf,-- = analyse a.alf main - - 100000 joins 1000
+analyse,--turns,24,--,-a.alf = analyse -a.alf main - - 24 joins 1000
+analyse,--,--turns = analyse --turns main - - 100000 joins 1000
+analyse,--,-- = analyse -- main - - 100000 joins 1000
+analyse,- = analyse - main - - 100000 joins 1000
+analyse, = analyse  main - - 100000 joins 1000
+analyse,analyse = analyse analyse main - - 100000 joins 1000
+analyse,a.C = analyse a.C main - - 100000 joins 1000
+analyse,a.alf,--root,f = analyse a.alf f - - 100000 joins 1000
+analyse,a.alf,--root= = analyse a.alf  - - 100000 joins 1000
+analyse,a.alf,--root=-f = analyse a.alf -f - - 100000 joins 1000
+analyse,a.alf,--costs,c.toml = analyse a.alf main - c.toml 100000 joins 1000
+analyse,--costs,c.toml,--turns=7,a.alf,--root,g = analyse a.alf g - c.toml 7 joins 1000
+analyse,a.alf,--inputs,i.toml = analyse a.alf main i.toml - 100000 joins 1000
+analyse,--inputs=-,a.alf,--costs,c = analyse a.alf main - c 100000 joins 1000
+analyse,a.alf,--merge,none = analyse a.alf main - - 100000 none 1000
+analyse,--merge=exits,a.alf = analyse a.alf main - - 100000 exits 1000
+analyse,a.alf,--merge,joins = analyse a.alf main - - 100000 joins 1000
+analyse,--merge,none,--turns=9,--inputs,i,--root,f,a.alf,--costs=c = analyse a.alf f i c 9 none 1000
+analyse,a.alf,--pivots,1 = analyse a.alf main - - 100000 joins 1
+analyse,--pivots=4000,a.alf = analyse a.alf main - - 100000 joins 4000
+analyse,a.alf,--pivots,00000000000000004000 = analyse a.alf main - - 100000 joins 4000
+analyse,--merge=none,--pivots,12,a.alf,--turns=9 = analyse a.alf main - - 9 none 12
 run,a.alf = run a.alf main - - 100000
 run,a.alf,--inputs,i.toml = run a.alf main i.toml - 100000
 run,a.alf,--inputs=a.c = run a.alf main a.c - 100000
@@ -101,7 +105,7 @@ print,a.alf = print a.alf
 print,--,a.alf = print a.alf
 print,--,-a.alf = print -a.alf
 print,- = print -
-print, = print\x20
+print, = print 
 print,a b.alf = print a b.alf
 print,c = print c
 print,a.C = print a.C
@@ -111,8 +115,8 @@ print,--,-a.c = print of C -a.c";
 
 /// In each row words that are no command. The row with nothing in it has the empty word alone.
 static NO_COMMANDS: &str = "\
-analyse
 
+analyse
 print
 a.alf,analyse
 Analyse,a.alf
@@ -141,7 +145,7 @@ analyse,a.alf,--turns=+5
 analyse,a.alf,--turns,-5
 analyse,a.alf,--turns=-5
 analyse,a.alf,--turns, 5
-analyse,a.alf,--turns,5\x20
+analyse,a.alf,--turns,5 
 analyse,a.alf,--turns,5x
 analyse,a.alf,--turns,--,5
 analyse,--turns,a.alf
@@ -181,6 +185,19 @@ run,a.alf,--input,i
 print,a.alf,--root,f
 print,a.alf,--inputs,i
 run,a.alf,--merge=none
+analyse,a.alf,--pivots
+analyse,a.alf,--pivots=
+analyse,a.alf,--pivots,0
+analyse,a.alf,--pivots,4001
+analyse,a.alf,--pivots,000000000000000000001
+analyse,a.alf,--pivots,+5
+analyse,a.alf,--pivots,-5
+analyse,a.alf,--pivots=-5
+analyse,a.alf,--pivots,5x
+analyse,a.alf,--pivots,5,--pivots,5
+analyse,a.alf,--pivot,5
+run,a.alf,--pivots,5
+print,a.alf,--pivots,5
 analyse,a.alf,--merge
 analyse,a.alf,--merge,
 analyse,a.alf,--merge=
@@ -210,160 +227,9 @@ tasks,t.toml";
 
 #[test]
 fn words_are_commands_in_any_order(rt: HostRuntime) -> Result<(), Fail> {
-<<<<<<< HEAD
-    // The words, and what they are.
-    let cases = [
-        ("analyse,a.alf", "analyse a.alf main - - 100000 joins 1000"),
-        (
-            "analyse,a.alf,--turns,24",
-            "analyse a.alf main - - 24 joins 1000",
-        ),
-        (
-            "analyse,a.alf,--turns=24",
-            "analyse a.alf main - - 24 joins 1000",
-        ),
-        (
-            "analyse,--turns,24,a.alf",
-            "analyse a.alf main - - 24 joins 1000",
-        ),
-        (
-            "analyse,--turns=24,a.alf",
-            "analyse a.alf main - - 24 joins 1000",
-        ),
-        (
-            "analyse,a.alf,--turns,1",
-            "analyse a.alf main - - 1 joins 1000",
-        ),
-        (
-            "analyse,a.alf,--turns,1000000",
-            "analyse a.alf main - - 1000000 joins 1000",
-        ),
-        (
-            "analyse,a.alf,--turns,000002",
-            "analyse a.alf main - - 2 joins 1000",
-        ),
-        (
-            "analyse,a.alf,--turns,00000000000000000002",
-            "analyse a.alf main - - 2 joins 1000",
-        ),
-        (
-            "analyse,--,a.alf",
-            "analyse a.alf main - - 100000 joins 1000",
-        ),
-        (
-            "analyse,a.alf,--",
-            "analyse a.alf main - - 100000 joins 1000",
-        ),
-        (
-            "analyse,--turns,24,--,-a.alf",
-            "analyse -a.alf main - - 24 joins 1000",
-        ),
-        (
-            "analyse,--,--turns",
-            "analyse --turns main - - 100000 joins 1000",
-        ),
-        ("analyse,--,--", "analyse -- main - - 100000 joins 1000"),
-        ("analyse,-", "analyse - main - - 100000 joins 1000"),
-        ("analyse,", "analyse  main - - 100000 joins 1000"),
-        (
-            "analyse,analyse",
-            "analyse analyse main - - 100000 joins 1000",
-        ),
-        ("analyse,a.C", "analyse a.C main - - 100000 joins 1000"),
-        (
-            "analyse,a.alf,--root,f",
-            "analyse a.alf f - - 100000 joins 1000",
-        ),
-        (
-            "analyse,a.alf,--root=",
-            "analyse a.alf  - - 100000 joins 1000",
-        ),
-        (
-            "analyse,a.alf,--root=-f",
-            "analyse a.alf -f - - 100000 joins 1000",
-        ),
-        (
-            "analyse,a.alf,--costs,c.toml",
-            "analyse a.alf main - c.toml 100000 joins 1000",
-        ),
-        (
-            "analyse,--costs,c.toml,--turns=7,a.alf,--root,g",
-            "analyse a.alf g - c.toml 7 joins 1000",
-        ),
-        (
-            "analyse,a.alf,--inputs,i.toml",
-            "analyse a.alf main i.toml - 100000 joins 1000",
-        ),
-        (
-            "analyse,--inputs=-,a.alf,--costs,c",
-            "analyse a.alf main - c 100000 joins 1000",
-        ),
-        (
-            "analyse,a.alf,--merge,none",
-            "analyse a.alf main - - 100000 none 1000",
-        ),
-        (
-            "analyse,--merge=exits,a.alf",
-            "analyse a.alf main - - 100000 exits 1000",
-        ),
-        (
-            "analyse,a.alf,--merge,joins",
-            "analyse a.alf main - - 100000 joins 1000",
-        ),
-        (
-            "analyse,--merge,none,--turns=9,--inputs,i,--root,f,a.alf,--costs=c",
-            "analyse a.alf f i c 9 none 1000",
-        ),
-        (
-            "analyse,a.alf,--pivots,1",
-            "analyse a.alf main - - 100000 joins 1",
-        ),
-        (
-            "analyse,--pivots=4000,a.alf",
-            "analyse a.alf main - - 100000 joins 4000",
-        ),
-        (
-            "analyse,a.alf,--pivots,00000000000000004000",
-            "analyse a.alf main - - 100000 joins 4000",
-        ),
-        (
-            "analyse,--merge=none,--pivots,12,a.alf,--turns=9",
-            "analyse a.alf main - - 9 none 12",
-        ),
-        ("run,a.alf", "run a.alf main - - 100000"),
-        (
-            "run,a.alf,--inputs,i.toml",
-            "run a.alf main i.toml - 100000",
-        ),
-        ("run,a.alf,--inputs=a.c", "run a.alf main a.c - 100000"),
-        (
-            "run,--turns,3,--costs,c,--root,f,--inputs,i,a.alf",
-            "run a.alf f i c 3",
-        ),
-        (
-            "run,a.alf,--inputs=i,--root=f,--costs=c,--turns=3",
-            "run a.alf f i c 3",
-        ),
-        ("run,--inputs,a.alf,a.alf", "run a.alf main a.alf - 100000"),
-        ("print,a.alf", "print a.alf"),
-        ("print,--,a.alf", "print a.alf"),
-        ("print,--,-a.alf", "print -a.alf"),
-        ("print,-", "print -"),
-        ("print,", "print "),
-        ("print,a b.alf", "print a b.alf"),
-        ("print,c", "print c"),
-        ("print,a.C", "print a.C"),
-        ("print,a.c", "print of C a.c"),
-        ("print,.c", "print of C .c"),
-        ("print,--,-a.c", "print of C -a.c"),
-    ];
-    for (line, wanted) in cases {
-        let words = words_of(rt.alloc(), line)?;
-=======
-    assert_eq!(rt; COMMANDS.split('\n').count(), 46);
+    assert_eq!(rt; COMMANDS.split('\n').count(), 50);
     for row in COMMANDS.split('\n') {
         let words = words_of(rt.alloc(), part(row, " = ", 0))?;
->>>>>>> 478425c9
         let found = told(rt.alloc(), &words)?;
         assert!(rt; found.as_str() == part(row, " = ", 1), "{row}");
     }
@@ -372,127 +238,10 @@ fn words_are_commands_in_any_order(rt: HostRuntime) -> Result<(), Fail> {
 
 #[test]
 fn other_words_are_no_command(rt: HostRuntime) -> Result<(), Fail> {
-<<<<<<< HEAD
-    let lines = [
-        "",
-        "analyse",
-        "print",
-        "a.alf,analyse",
-        "Analyse,a.alf",
-        "anal,a.alf",
-        "prin,a.alf",
-        "--,analyse,a.alf",
-        "--",
-        "help",
-        "help,analyse",
-        "--help",
-        "-h",
-        "--version",
-        "-V",
-        "analyse,--help",
-        "analyse,a.alf,-h",
-        "analyse,a.alf,--turns",
-        "analyse,a.alf,--turns,",
-        "analyse,a.alf,--turns=",
-        "analyse,a.alf,--turns=5=5",
-        "analyse,a.alf,--turns,0",
-        "analyse,a.alf,--turns,1000001",
-        "analyse,a.alf,--turns,000000000000000000002",
-        "analyse,a.alf,--turns,99999999999999999999",
-        "analyse,a.alf,--turns,+5",
-        "analyse,a.alf,--turns=+5",
-        "analyse,a.alf,--turns,-5",
-        "analyse,a.alf,--turns=-5",
-        "analyse,a.alf,--turns, 5",
-        "analyse,a.alf,--turns,5 ",
-        "analyse,a.alf,--turns,5x",
-        "analyse,a.alf,--turns,--,5",
-        "analyse,--turns,a.alf",
-        "analyse,a.alf,--turns,24,--turns,24",
-        "analyse,--turns=24,a.alf,--turns=24",
-        "analyse,a.alf,--tur,5",
-        "analyse,a.alf,--tur=5",
-        "analyse,a.alf,--turnss,5",
-        "analyse,a.alf,-turns,5",
-        "analyse,a.alf,---turns,5",
-        "analyse,a.alf,-t,5",
-        "analyse,a.alf,--=5",
-        "analyse,a.alf,--file,b.alf",
-        "analyse,a.alf,a.alf",
-        "analyse,-a.alf",
-        "analyse,a.c",
-        "analyse,.c",
-        "analyse,--,a.c",
-        "analyse,a.alf,--root",
-        "analyse,a.alf,--root,-f",
-        "analyse,a.alf,--root,f,--root,f",
-        "analyse,a.alf,--inputs",
-        "analyse,a.alf,--inputs,-i",
-        "analyse,a.alf,--inputs,i,--inputs,i",
-        "analyse,a.alf,--costs",
-        "analyse,a.alf,--costs,c.toml,--costs,c.toml",
-        "run",
-        "run,a.c",
-        "run,-a.alf",
-        "run,a.alf,b.alf",
-        "run,a.alf,--turns,0",
-        "run,a.alf,--inputs",
-        "run,a.alf,--inputs,--costs,c",
-        "run,a.alf,--inputs,i,--inputs,i",
-        "run,a.alf,--merge,joins",
-        "run,a.alf,--input,i",
-        "print,a.alf,--root,f",
-        "print,a.alf,--inputs,i",
-        "run,a.alf,--merge=none",
-        "analyse,a.alf,--pivots",
-        "analyse,a.alf,--pivots=",
-        "analyse,a.alf,--pivots,0",
-        "analyse,a.alf,--pivots,4001",
-        "analyse,a.alf,--pivots,000000000000000000001",
-        "analyse,a.alf,--pivots,+5",
-        "analyse,a.alf,--pivots,-5",
-        "analyse,a.alf,--pivots=-5",
-        "analyse,a.alf,--pivots,5x",
-        "analyse,a.alf,--pivots,5,--pivots,5",
-        "analyse,a.alf,--pivot,5",
-        "run,a.alf,--pivots,5",
-        "print,a.alf,--pivots,5",
-        "analyse,a.alf,--merge",
-        "analyse,a.alf,--merge,",
-        "analyse,a.alf,--merge=",
-        "analyse,a.alf,--merge,all",
-        "analyse,a.alf,--merge,None",
-        "analyse,a.alf,--merge,join",
-        "analyse,a.alf,--merge, joins",
-        "analyse,a.alf,--merge,joins,--merge,joins",
-        "analyse,a.alf,--merges,joins",
-        "analyse,a.alf,--pivots,5",
-        "analyse,a.alf,--cert",
-        "print,a.c,b.c",
-        "print,a.c,--root,f",
-        "print,-a.c",
-        "print,-a.alf",
-        "print,a.alf,b.alf",
-        "print,a.alf,--turns,5",
-        "check,a.alf,r.txt",
-        "replay,a.alf,r.txt",
-        "lower,a.alf",
-        "lower,a.c",
-        "generate,5",
-        "cache,a.alf",
-        "worst,a.alf",
-        "migrate,r.txt",
-        "tasks,t.toml",
-    ];
-    for line in lines {
-        let words = words_of(rt.alloc(), line)?;
-        assert!(rt; are_usage(rt.alloc(), &words), "{line}");
-=======
-    assert_eq!(rt; NO_COMMANDS.split('\n').count(), 96);
+    assert_eq!(rt; NO_COMMANDS.split('\n').count(), 109);
     for row in NO_COMMANDS.split('\n') {
         let words = words_of(rt.alloc(), row)?;
         assert!(rt; are_usage(rt.alloc(), &words), "{row}");
->>>>>>> 478425c9
     }
     let none = Vec::new(rt.alloc());
     assert!(rt; are_usage(rt.alloc(), &none), "no words");

@@ -105,7 +105,7 @@ print,a.alf = print a.alf
 print,--,a.alf = print a.alf
 print,--,-a.alf = print -a.alf
 print,- = print -
-print, = print 
+print, = print\x20
 print,a b.alf = print a b.alf
 print,c = print c
 print,a.C = print a.C
@@ -115,8 +115,8 @@ print,--,-a.c = print of C -a.c";
 
 /// In each row words that are no command. The row with nothing in it has the empty word alone.
 static NO_COMMANDS: &str = "\
-
 analyse
+
 print
 a.alf,analyse
 Analyse,a.alf
@@ -145,7 +145,7 @@ analyse,a.alf,--turns=+5
 analyse,a.alf,--turns,-5
 analyse,a.alf,--turns=-5
 analyse,a.alf,--turns, 5
-analyse,a.alf,--turns,5 
+analyse,a.alf,--turns,5\x20
 analyse,a.alf,--turns,5x
 analyse,a.alf,--turns,--,5
 analyse,--turns,a.alf

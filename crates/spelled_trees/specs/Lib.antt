@@ -1,3 +1,4 @@
 -- What the trees of a unit keep that some text spells.
 pub mod Expressions
 pub mod Counts
+pub mod Units

@@ -7,3 +7,5 @@ pub mod Depths
 pub mod Spending
 pub mod Effects
 pub mod Statements
+pub mod Parameters
+pub mod Externals

@@ -1,42 +1,36 @@
 -- What stands at file level counts.
 --   Filed n at rest ds fr el fn new   from a position on these tokens are declared, so much is counted, and these functions become known
 --   externals_filed                   so is what declarations and definitions count
-use Rattle.std.proofs.Common.{◌≡◌, ◌≤◌, ◌+◌, ◌-◌, ◌&&◌, ℕ, zero, suc, Bool, true, false, cond, List, [], ◌∷◌, ◌++◌, length, Result, Ok, Err, Option, Some, None, refl, sym, ap, ap₂, subst, ◌∙◌, arith, append_assoc, append-nil, length-append, leb, leb-true, bytes_eq, if◌then◌else◌}
-use Rattle.std.specs.Prelude.{⊤, codes}
-use Rattle.std.specs.List.{list_all}
-use Rattle.std.specs.Option.{is_some}
-use Rattle.lists.specs.Tests.{by_test}
-use Rattle.grammar.specs.Form.{Form, InARow}
-use Rattle.grammar.specs.Rule.{weaken, value}
+use Rattle.std.proofs.Common.{◌≡◌, ◌≤◌, ◌+◌, ◌-◌, ◌&&◌, ℕ, suc, Bool, true, false, List, [], ◌∷◌, ◌++◌, length, refl, sym, ap, ap₂, subst, ◌∙◌, arith, append_assoc, append-nil, length-append, bytes_eq, if◌then◌else◌}
+use Rattle.std.specs.Prelude.{codes}
+use Rattle.grammar.specs.Form.{InARow}
+use Rattle.grammar.specs.Rule.{weaken}
 use Rattle.grammar.specs.Exact.{ok_is}
 use Rattle.c_unit.specs.declared.types.Outcome.{Outcome}
 use Rattle.c_unit.specs.declared.types.Outcome.TheVariants as outcomes
-use Rattle.c_unit.specs.declared.types.Constant.{Constant}
 use Rattle.c_unit.specs.declared.external.Parameter.{Parameter}
-use Rattle.c_unit.specs.Tree.{Statement, ShapeTree, GlobalInteger, GlobalArray, FunctionOf, DeclaratorTree, ExternalTree, Declaration, Definition, statements_of}
+use Rattle.c_unit.specs.Tree.{ShapeTree, GlobalInteger, GlobalArray, FunctionOf, DeclaratorTree, ExternalTree, Declaration, Definition, statements_of}
 use Rattle.c_unit.specs.Units.{Word}
 use Rattle.c_checks.specs.Names.{text_at}
 use Rattle.c_checks.specs.Recursion.{called_in}
 use Rattle.c_checks.specs.Units.{definitions}
-use Rattle.c_grammar.specs.declared.others.Others.{Others}
 use Rattle.c_grammar.specs.declared.others.Others.TheVariants as others
 use Rattle.c_grammar.specs.declared.specifiers.Setting.TheVariants as settings
 use Rattle.c_grammar.specs.declared.standing.Standing.TheVariants as standings
-use Rattle.c_grammar.specs.Tokens.{Fault, Seen, Room, Place, Rule, name, at_text, some_frames, declares, gives_value, latest_gives, either, most_nesting}
-use Rattle.c_grammar.specs.Types.{at_list_comma, array, parameters}
+use Rattle.c_grammar.specs.Tokens.{Fault, Seen, Room, Place, name, at_text, declares, gives_value, latest_gives, either, most_nesting}
+use Rattle.c_grammar.specs.Types.{at_list_comma}
 use Rattle.c_grammar.specs.Statements.{in_block, standing}
 use Rattle.c_grammar.specs.Units.{global_initial, global_integer, global_array, after_global, object, prototype, declarator, further_declarator, may_be_defined, all_named, parameters_of, declaration_after, after_sole, body, open_body, definition_after, sees_body, external_after, external, is_left, unit}
 use Rattle.c_grammar.specs.Units as grammar
 use Rattle.lowered_names.specs.Texts.{IsIdentifier}
-use Rattle.spelled_trees.specs.Counts.{all_tokens_in, all_elements_in}
-use Rattle.spelled_trees.specs.Expressions.{InStatements}
+use Rattle.spelled_trees.specs.Counts.{all_tokens_in}
 use Rattle.spelled_trees.specs.Units.{Names, gives, known_after, is_known, names_of_shape, names_of_declarators, names_after, tokens_of_shape, tokens_of_declarators, tokens_of_parameters, tokens_of, all_tokens_of, elements_of_shape, elements_of_declarators, elements_of, all_elements_of, frames_of, all_frames_of, Ascends, FunctionStands, FunctionsStand}
 use Rattle.spelled_trees.specs.Units as units
-use Rattle.spelled_counts.specs.Taking.{Good, good_from, Later, later_on, same_place, Takes, mark_takes, maybe_takes, made_takes, ◌>>>◌}
+use Rattle.spelled_counts.specs.Taking.{Good, Later, later_on, same_place, Takes, mark_takes, maybe_takes, made_takes, ◌>>>◌}
 use Rattle.spelled_counts.specs.TypesTake.{assign_mark_takes, signed_constant_takes, before_either_takes, integer_told_takes, sees_takes, next_number_takes, type_of_takes, comma_mark_takes, close_brace_takes}
 use Rattle.spelled_counts.specs.ExpressionsTake.{open_paren_takes}
-use Rattle.spelled_counts.specs.Measuring.{Tokens, tokens_joined, one_if, given, Taken, Quietly, Fits, q_takes, q_made, q_then, q_either, fits_quiet, fits_last, fits_either, fits_as, fits_row}
-use Rattle.spelled_counts.specs.Spending.{Shallow, Spends, frames_spend, function_spends, name_seen, Counted, array_fits}
+use Rattle.spelled_counts.specs.Measuring.{Tokens, tokens_joined, given, Taken, Fits, q_takes, q_made, q_then, fits_quiet, fits_last, fits_either, fits_as, fits_row}
+use Rattle.spelled_counts.specs.Spending.{Spends, frames_spend, function_spends, name_seen, array_fits}
 use Rattle.spelled_counts.specs.Effects.{semicolon_takes, IsStatement}
 use Rattle.spelled_counts.specs.Statements.{AreStatements, one_statement_more, standing_fits}
 use Rattle.spelled_counts.specs.Parameters.{Marked, parameters_mark}

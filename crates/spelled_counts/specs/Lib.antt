@@ -9,3 +9,5 @@ pub mod Effects
 pub mod Statements
 pub mod Parameters
 pub mod Externals
+pub mod Starts
+pub mod Spelled

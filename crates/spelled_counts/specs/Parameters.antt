@@ -1,12 +1,11 @@
 -- The tokens of parameters.
 --   Marks p D          p counts nothing, and the tokens that D tells ascend and are identifiers
 --   parameters_mark    so it is with the names of parameters
-use Rattle.std.proofs.Common.{◌≡◌, ◌≤◌, ◌+◌, ℕ, zero, suc, Bool, true, false, List, [], ◌∷◌, ◌++◌, Option, Some, None, refl, sym, ap, ap₂, subst, ◌∙◌, arith}
+use Rattle.std.proofs.Common.{◌≡◌, ◌≤◌, ℕ, suc, Bool, true, false, List, [], ◌∷◌, Option, Some, None, refl, sym, subst, ◌∙◌, arith}
 use Rattle.std.specs.Prelude.{codes}
-use Rattle.grammar.specs.Form.{Form, bound, made, InARow, row, AtMostOne, at_most_one}
-use Rattle.grammar.specs.Rule.{weaken, value, maybe, many}
+use Rattle.grammar.specs.Form.{Form, bound, InARow, AtMostOne, at_most_one}
+use Rattle.grammar.specs.Rule.{weaken}
 use Rattle.c_unit.specs.declared.types.Integer.{Integer}
-use Rattle.c_unit.specs.declared.types.Scalar.TheVariants as scalars
 use Rattle.c_unit.specs.declared.types.Outcome.{Outcome}
 use Rattle.c_unit.specs.declared.types.Outcome.TheVariants as outcomes
 use Rattle.c_unit.specs.declared.external.Parameter.{Parameter}
@@ -14,9 +13,8 @@ use Rattle.c_unit.specs.Units.{Word}
 use Rattle.c_grammar.specs.declared.others.Others.{Others}
 use Rattle.c_grammar.specs.declared.others.Others.TheVariants as others
 use Rattle.c_grammar.specs.declared.specifiers.Setting.TheVariants as settings
-use Rattle.c_grammar.specs.Tokens.{Fault, Seen, Room, Place, Rule, name, either, sees, before_either}
-use Rattle.c_grammar.specs.Types.{at_name, parameter_end, number_of_name, after_pointer, pointer_parameter, empty_brackets, bracketed_type, after_plain, plain_parameter, parameter_tail, further_parameter, right_paren, parameters_from, void_parameters, parameters_after, some_parameters, no_parameters, parameters, at_list_comma, star, comma_mark, integer_type, type_of}
-use Rattle.c_grammar.specs.Tokens as tokens
+use Rattle.c_grammar.specs.Tokens.{Fault, Seen, Room, Place, Rule, name, either}
+use Rattle.c_grammar.specs.Types.{at_name, number_of_name, after_pointer, pointer_parameter, after_plain, plain_parameter, parameter_tail, further_parameter, parameters_from, void_parameters, parameters_after, some_parameters, no_parameters, parameters, at_list_comma}
 use Rattle.spelled_trees.specs.Units.{token_if, tokens_of_parameters}
 use Rattle.spelled_counts.specs.Taking.{Good, Later, later_on, same_place, Takes}
 use Rattle.spelled_counts.specs.TypesTake.{star_takes, sees_takes, bracketed_type_takes, parameter_end_takes, comma_mark_takes, next_number_takes, integer_type_takes, right_paren_takes, type_of_takes}

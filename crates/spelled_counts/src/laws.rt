@@ -1,14 +1,28 @@
 //! What is counted while a text is read.
 
 ghost use Rattle.std.specs.Prelude.{ℕ, List};
-ghost use Rattle.c_unit.specs.Units.{Word};
+ghost use Rattle.c_unit.specs.Units.{Word, UnitTree};
 ghost use Rattle.c_grammar.specs.declared.standing.Standing.{Standing};
 ghost use Rattle.c_grammar.specs.declared.others.Others.{Others};
 ghost use Rattle.c_grammar.specs.Expressions.{whole_expr, condition};
 ghost use Rattle.c_grammar.specs.Statements.{standing};
+ghost use Rattle.c_text.specs.Language.{IsSpelled};
+ghost use Rattle.lowered_names.specs.Texts.{IsIdentifier};
+ghost use Rattle.spelled_trees.specs.Units.{IsCounted};
 ghost use Rattle.spelled_counts.specs.Measuring.{Quietly, Fits};
 ghost use Rattle.spelled_counts.specs.Spending.{Shallow};
 ghost use Rattle.spelled_counts.specs.Statements.{IsStanding};
+
+use c_tokens::tokens_are_known_by_their_texts;
+
+/// A unit that some text spells is within the limits: its frames, its elements and its functions are as few as
+/// the grammar says. The tokens that declare ascend, and each is an identifier, as is the name of each function; a
+/// parameter of a definition has a name; and at most ten operators are nested.
+pub fn spelled_units_are_counted()
+    ensures { (unit : UnitTree) → IsSpelled unit → IsCounted IsIdentifier unit }
+{
+    tokens_are_known_by_their_texts();
+}
 
 /// What the rules of statements spell declares locals by tokens that ascend, each of which is an identifier; each
 /// local and each call of a function that gives something takes a frame; arrays take their elements; and at most

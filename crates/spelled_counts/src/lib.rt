@@ -3,4 +3,6 @@
 
 mod laws;
 
-pub use laws::{expressions_are_shallow, statements_count_what_they_declare};
+pub use laws::{
+    expressions_are_shallow, spelled_units_are_counted, statements_count_what_they_declare,
+};

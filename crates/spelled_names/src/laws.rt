@@ -1,0 +1,8 @@
+//! What counts promise of names.
+
+ghost use Rattle.spelled_names.specs.Counted.{CountedUnitsHaveSpelledNames};
+
+/// The names of a counted unit whose checks pass are identifiers, each object has a token of its own, and there are few.
+pub fn counted_units_have_spelled_names()
+    ensures { CountedUnitsHaveSpelledNames }
+{}

@@ -1,0 +1,7 @@
+//! The names of a counted unit are spelled.
+#![tactic(auto)]
+
+// What the definitions promise.
+mod laws;
+
+pub use laws::counted_units_have_spelled_names;

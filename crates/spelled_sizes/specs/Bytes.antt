@@ -2,8 +2,7 @@
 --   bytes_in frames       the bytes of all of them
 --   IsLight frames n      four bytes for each frame and for each of n elements are enough
 --   all_frames_light      so it is with all frames of a lowered program
-use Rattle.std.proofs.Common.{◌≡◌, ◌≢◌, ◌≤◌, ◌+◌, ◌*◌, ◌/◌, ℕ, zero, suc, List, [], ◌∷◌, ◌++◌, map, fold, flat_map, length, length-append, append_assoc, Option, None, Some, refl, sym, ap, subst, ◌∙◌, arith}
-use Rattle.std.specs.Prelude.{⊤}
+use Rattle.std.proofs.Common.{◌≡◌, ◌≢◌, ◌≤◌, ◌+◌, ◌*◌, ◌/◌, ℕ, suc, List, [], ◌∷◌, ◌++◌, fold, flat_map, length, length-append, append_assoc, Option, None, Some, refl, sym, ap, subst, ◌∙◌, arith}
 use Rattle.std.specs.List.{sum_by}
 use Rattle.std.specs.Option.{option_map_or}
 use Rattle.alf_program.specs.Tree.{Allocation}
@@ -16,17 +15,17 @@ use Rattle.c_unit.specs.declared.types.Outcome.{Outcome}
 use Rattle.c_unit.specs.declared.types.Outcome.TheVariants as outcomes
 use Rattle.c_unit.specs.declared.external.Parameter.{Parameter}
 use Rattle.c_unit.specs.Tree.{ValueTree, OfExpression, OfCall, EffectTree, Assigns, Updates, Steps, Calls, LocalShapeTree, LocalInteger, LocalPointer, LocalArray, LocalTree, Statement, Empty, Declares, Block, If, IfElse, While, Do, For, ForAfter, Switch, Case, Default, Break, Continue, Returns, Does, Statements, Nothing, Then, ShapeTree, GlobalInteger, GlobalArray, FunctionOf, DeclaratorTree, ExternalTree, Declaration, Definition, statements_of}
-use Rattle.c_unit.specs.Units.{Word, UnitTree}
+use Rattle.c_unit.specs.Units.{UnitTree}
 use Rattle.c_checks.specs.Units.{File, element_of, external_after}
 use Rattle.c_meaning.specs.Values.{bits_of_type}
-use Rattle.c_meaning.specs.Objects.{Object, Function, Program, program_of, bits_of_scalar, bits_of_local, count_at, global_object, globals_declared, globals_in, owned_in, functions_in, functions_of}
+use Rattle.c_meaning.specs.Objects.{Object, Program, program_of, bits_of_scalar, bits_of_local, count_at, global_object, globals_declared, globals_in, owned_in, functions_in}
 use Rattle.c_lowered.specs.Effects.{result_of, calls_in_shape}
 use Rattle.c_lowered.specs.Statements.{calls_if, calls_in}
 use Rattle.c_lowered.specs.Frames.{object_frame, result_frames, value_frames, first_frames, effect_frames, last_frames, shape_frames, locals_frames, frames_in, all_frames_in, parameter_frames, global_frame, global_frames}
 use Rattle.c_lowered.specs.Programs.{lowered_from, lowered}
 use Rattle.spelled_trees.specs.Counts.{elements_of_all, elements_in, all_elements_in}
 use Rattle.spelled_trees.specs.Counts as counts
-use Rattle.spelled_trees.specs.Units.{elements_of_shape, elements_of_declarators, elements_of, all_elements_of, IsCounted}
+use Rattle.spelled_trees.specs.Units.{elements_of_shape, elements_of_declarators, all_elements_of, IsCounted}
 use Rattle.lowered_names.specs.Lists.{EachOf}
 use Rattle.lowered_names.specs.Checked.{owned_owned}
 

@@ -2,13 +2,11 @@
 --   objects_small    each object has at most 262144 bits, where arrays have at most 8192 elements in all
 --   blocks_shallow   at most ten operators are nested in the block of each function
 --   functions_few    there are at most 256 functions
-use Rattle.std.proofs.Common.{◌≡◌, ◌≤◌, ◌+◌, ◌*◌, ℕ, zero, suc, Bool, true, List, [], ◌∷◌, ◌++◌, map, length, Option, None, Some, refl, sym, ap, subst, ◌∙◌, arith}
-use Rattle.std.specs.Prelude.{⊤}
+use Rattle.std.proofs.Common.{◌≡◌, ◌≤◌, ◌+◌, ◌*◌, ℕ, suc, List, [], ◌∷◌, ◌++◌, map, length, refl, ap, arith}
 use Rattle.c_unit.specs.declared.types.Integer.{Integer}
 use Rattle.c_unit.specs.declared.types.Integer.TheVariants.{Char, UnsignedChar, Short, UnsignedShort, Int, UnsignedInt}
 use Rattle.c_unit.specs.declared.types.Scalar.{Scalar}
 use Rattle.c_unit.specs.declared.types.Scalar.TheVariants as scalars
-use Rattle.c_unit.specs.declared.types.Outcome.{Outcome}
 use Rattle.c_unit.specs.declared.external.Parameter.{Parameter}
 use Rattle.c_unit.specs.Tree.{LocalShapeTree, LocalInteger, LocalPointer, LocalArray, LocalTree, Statement, Empty, Declares, Block, If, IfElse, While, Do, For, ForAfter, Switch, Case, Default, Break, Continue, Returns, Does, Statements, Nothing, Then, ShapeTree, GlobalInteger, GlobalArray, FunctionOf, DeclaratorTree, ExternalTree, Declaration, Definition, statements_of}
 use Rattle.c_unit.specs.Units.{Word, UnitTree}
@@ -18,7 +16,7 @@ use Rattle.c_meaning.specs.Objects.{Object, Function, bits_of_scalar, bits_of_lo
 use Rattle.spelled_trees.specs.Expressions.{InStatements}
 use Rattle.spelled_trees.specs.Counts.{elements_of_all, elements_in, all_elements_in}
 use Rattle.spelled_trees.specs.Counts as counts
-use Rattle.spelled_trees.specs.Units.{elements_of_shape, elements_of_declarators, elements_of, all_elements_of, FunctionsStand, Shallow, IsCounted}
+use Rattle.spelled_trees.specs.Units.{elements_of_shape, elements_of_declarators, all_elements_of, FunctionsStand, Shallow, IsCounted}
 use Rattle.lowered_names.specs.Lists.{EachOf, each_joined}
 
 type_small : (i : Integer) → bits_of_type i ≤ 262144

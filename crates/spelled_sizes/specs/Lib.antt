@@ -1,0 +1,3 @@
+-- Sizes of a counted unit.
+pub mod Objects
+pub mod Bytes

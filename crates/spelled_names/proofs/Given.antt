@@ -1,5 +1,5 @@
 -- A function has no more calls with a frame than its names so far count, and so there are few.
-use Rattle.std.proofs.Common.{◌≡◌, ◌≤◌, ◌+◌, ℕ, suc, Bool, List, [], ◌∷◌, ◌++◌, length, slice_get, Option, None, Some, if◌then◌else◌, refl, sym, ap, ◌∙◌, arith}
+use Rattle.std.proofs.Common.{◌≡◌, ◌≤◌, ◌+◌, ℕ, suc, Bool, List, [], ◌∷◌, ◌++◌, length, length-append, map, slice_get, Option, None, Some, if◌then◌else◌, refl, sym, ap, ◌∙◌, arith}
 use Rattle.c_unit.specs.declared.types.Integer.{Integer}
 use Rattle.c_unit.specs.declared.types.Scalar.{Scalar}
 use Rattle.c_unit.specs.declared.types.Outcome.{Outcome}
@@ -9,12 +9,12 @@ use Rattle.c_unit.specs.Tree.{CallTree, ValueTree, OfExpression, OfCall, EffectT
 use Rattle.c_unit.specs.Units.{Word, UnitTree}
 use Rattle.c_checks.specs.Names.{Scope, text_at}
 use Rattle.c_checks.specs.Statements.{Around, inside, in_loop_of, in_switch_of, around_after, scopes_after, with_local, local_bound, in_function}
-use Rattle.c_checks.specs.Units.{File, definitions, is_function, with_parameter, with_parameters, external_after}
+use Rattle.c_checks.specs.Units.{element_of, File, definitions, is_function, with_parameter, with_parameters, external_after}
 use Rattle.c_checks.specs.UnitsStand.{ExternalsStand}
 use Rattle.c_checks.specs.Recursion as names_called
 use Rattle.c_checks.specs.Recursion.{called_in}
 use Rattle.c_checks.specs.Standing.{IsCall, ValueSuits, IfValued, EffectStands, IfDone, ShapeStands, LocalsStand, ReturnStands, StatementStands, StatementsStand}
-use Rattle.c_meaning.specs.Objects.{Function, Program, program_of, function_at, functions_in, functions_of}
+use Rattle.c_meaning.specs.Objects.{Object, globals_declared, globals_in, owned_in, all_locals_in, parameter_object, Function, Program, program_of, function_at, functions_in, functions_of}
 use Rattle.c_meaning.specs.Statements.{number_named}
 use Rattle.c_lowered.specs.Effects.{calls_of_outcome, calls_in_call, calls_in_value, calls_in_effect, calls_in_first, calls_in_shape, calls_in_locals}
 use Rattle.c_lowered.specs.Statements.{calls_if, calls_in_returned, calls_in, calls_in_all}
@@ -22,7 +22,11 @@ use Rattle.declared_functions.specs.Declared.{EachEntry, EachScope, EntryAgrees,
 use Rattle.lowered_names.specs.Lists.{EachOf}
 use Rattle.lowered_names.specs.Spelled.{HasFewCalls}
 use Rattle.spelled_trees.specs.Counts.{all_tokens_in}
-use Rattle.spelled_trees.specs.Units.{Names, gives, is_known, given, names_after, all_frames_of, tokens_of_declarators}
+use Rattle.spelled_trees.specs.Units.{FunctionsStand, Shallow, Names, gives, is_known, given, names_after, all_frames_of, tokens_of_declarators}
+use Rattle.lowered_names.specs.Texts.{IsIdentifier}
+use Rattle.spelled_names.specs.Counted.{calls_of_all}
+use Rattle.spelled_names.proofs.Tokens.{declared_tokens, all_tokens}
+use Rattle.spelled_names.proofs.Objects.{tokens_length}
 use Rattle.spelled_names.proofs.Callees.{low_named, named_text, function_there}
 use Rattle.spelled_names.proofs.Calls.{Mirrors, mirrors_after, given_joined, NoFunction, Inside, outermost, deeper, with_inside, local_none, statement_inside, found_outer}
 
@@ -155,6 +159,10 @@ parameters_none : (scope : Scope) (params : List Parameter) → EachEntry NoFunc
 parameters_none scope [] each = each
 parameters_none scope (p ∷ ps) each = parameters_none (with_parameter scope p.name p.kind) ps (parameter_none scope p.name p.kind each)
 
+images_length : {A B : Type 0} (f : A → B) (xs : List A) → length (map f xs) ≡ length xs
+images_length f [] = refl
+images_length f (x ∷ xs) = ap suc (images_length f xs)
+
 module _ (unit : UnitTree) where
   pub few_calls : (file : File) (xs : List ExternalTree) (names : Names) → ExternalsStand unit.words (definitions unit.externals) file xs → Mirrors unit.words file.scope names
       → ((i : ℕ) (function : Function) → slice_get (functions_in file xs) i ≡ Some function → EachScope (EntryAgrees unit) function.scopes)
@@ -172,3 +180,39 @@ module _ (unit : UnitTree) where
       let same : calls_in_all (program_of unit) (statements_of body) ≡ given unit.words known (called_in (statements_of body)) =
       statements_given unit further.scope known now (agree 0 _ refl).1.0 (in_function o) (with_parameters [] params ∷ further.scope ∷ []) (statements_of body) (outermost (parameters_none [] params tt)) stand.0.body_stands in
       (omega arith, few_calls further xs known stand.1 now (λ i function at. agree (suc i) function at) (omega arith))
+
+  -- the objects and the calls of functions that give something are no more than the frames that are counted
+  pub calls_counted : (file : File) (xs : List ExternalTree) (names : Names) (k : ℕ) → ExternalsStand unit.words (definitions unit.externals) file xs → Mirrors unit.words file.scope names
+      → ((i : ℕ) (function : Function) → slice_get (functions_in file xs) i ≡ Some function → EachScope (EntryAgrees unit) function.scopes)
+      → FunctionsStand IsIdentifier Shallow unit.words xs
+      → length (globals_in unit.words xs) + (length (owned_in unit.words k xs) + calls_of_all (program_of unit) (functions_in file xs)) ≤ all_frames_of unit.words names xs
+  calls_counted file [] names k stand mirrors agree named = omega arith
+  calls_counted file (Declaration first o ds ∷ xs) names k stand mirrors agree named =
+      let here : List Object = globals_declared unit.words (element_of o) ds in
+      omega (
+        arith,
+        length-append here (globals_in unit.words xs),
+        tokens_length here,
+        ap (λ (ts : List ℕ). length ts) (declared_tokens unit.words (element_of o) ds),
+        calls_counted (external_after file (Declaration first o ds)) xs (names_after unit.words names (Declaration first o ds)) k stand.1 (mirrors_after unit.words file (Declaration first o ds) names mirrors) agree named.1,
+      )
+  calls_counted file (Definition first o name params body ∷ xs) names k stand mirrors agree named =
+      let x : ExternalTree = Definition first o name params body in
+      let further : File = external_after file x in
+      let known : Names = names_after unit.words names x in
+      let now : Mirrors unit.words further.scope known = mirrors_after unit.words file x names mirrors in
+      let same : calls_in_all (program_of unit) (statements_of body) ≡ given unit.words known (called_in (statements_of body)) =
+      statements_given unit further.scope known now (agree 0 _ refl).1.0 (in_function o) (with_parameters [] params ∷ further.scope ∷ []) (statements_of body) (outermost (parameters_none [] params tt)) stand.0.body_stands in
+      let ps : List Object = map (parameter_object k) params in
+      let ls : List Object = all_locals_in unit.words k (statements_of body) in
+      let others : List Object = owned_in unit.words (k + 1) xs in
+      omega (
+        arith,
+        same,
+        length-append ps (ls ++ others),
+        length-append ls others,
+        images_length (parameter_object k) params,
+        tokens_length ls,
+        ap (λ (ts : List ℕ). length ts) (all_tokens unit.words k (statements_of body)),
+        calls_counted further xs known (k + 1) stand.1 now (λ i function at. agree (suc i) function at) named.1,
+      )

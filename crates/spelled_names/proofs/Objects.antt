@@ -11,7 +11,7 @@ use Rattle.spelled_trees.specs.Counts.{all_tokens_in}
 use Rattle.spelled_trees.specs.Units.{Names, names_after, tokens_of_declarators, tokens_of_parameters, all_tokens_of, all_frames_of, Ascends, FunctionsStand}
 use Rattle.spelled_names.proofs.Tokens.{tokens, tokens_joined, all_tokens, parameter_tokens, declared_tokens, Split, split, Row, row, Both, joined_rows, lower_row, across, flipped, across_left, across_right}
 
-tokens_length : (os : List Object) → length (tokens os) ≡ length os
+pub tokens_length : (os : List Object) → length (tokens os) ≡ length os
 tokens_length [] = refl
 tokens_length (o ∷ os) = ap suc (tokens_length os)
 

@@ -10,8 +10,8 @@ use Rattle.spelled_trees.specs.Units.{Shallow, all_frames_of}
 use Rattle.spelled_names.proofs.Tokens.{Lies, Both}
 use Rattle.spelled_names.proofs.Objects.{both_rows, few_objects, functions_named}
 use Rattle.spelled_names.proofs.Calls.{mirrors_nothing}
-use Rattle.spelled_names.proofs.Given.{few_calls}
-use Rattle.spelled_names.specs.Counted.{CountedUnitsHaveSpelledNames}
+use Rattle.spelled_names.proofs.Given.{few_calls, calls_counted}
+use Rattle.spelled_names.specs.Counted.{CountedUnitsHaveSpelledNames, CountedUnitsHaveFewFrames}
 
 pub names_spelled : CountedUnitsHaveSpelledNames
 names_spelled unit counted stands =
@@ -28,3 +28,11 @@ names_spelled unit counted stands =
       few = omega (arith, length-append gs os, few_objects unit.words IsIdentifier Shallow 0 [] unit.externals);
       few_calls = few_calls unit file unit.externals [] stands (mirrors_nothing unit.words) (entries_agree unit stands) few;
     }
+
+pub frames_few : CountedUnitsHaveFewFrames
+frames_few unit counted stands =
+    let file : File = record { scope = []; made = [] } in
+    let gs : List Object = globals_in unit.words unit.externals in
+    let os : List Object = owned_in unit.words 0 unit.externals in
+    let few : all_frames_of unit.words [] unit.externals ≤ 256 = counted.frames in
+    omega (arith, few, length-append gs os, calls_counted unit file unit.externals [] 0 stands (mirrors_nothing unit.words) (entries_agree unit stands) counted.stand)

@@ -4,4 +4,4 @@
 // What the definitions promise.
 mod laws;
 
-pub use laws::counted_units_have_spelled_names;
+pub use laws::{counted_units_have_few_frames, counted_units_have_spelled_names};

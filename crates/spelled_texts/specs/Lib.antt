@@ -1,0 +1,2 @@
+-- Counted units are measured.
+pub mod Measured

@@ -1,0 +1,26 @@
+//! What lowering promises.
+
+ghost use Rattle.std.specs.Prelude.{ℕ, List};
+ghost use Rattle.alf_program.specs.Writable.{IsWritable};
+ghost use Rattle.alf_check.specs.Checking.{Passes};
+ghost use Rattle.c_unit.specs.Units.{UnitTree};
+ghost use Rattle.c_checks.specs.Programs.{IsProgram};
+ghost use Rattle.c_text.specs.Language.{IsSpelled};
+ghost use Rattle.c_lowered.specs.Programs.{lowered};
+ghost use Rattle.spelled_texts.specs.Measured.{HasFewLabels};
+
+use lowered_texts::measured_programs_pass;
+use spelled_counts::spelled_units_are_counted;
+use spelled_names::{counted_units_have_few_frames, counted_units_have_spelled_names};
+
+/// The lowered program of a unit that some text spells and that the checks pass can be written, and passes the
+/// checks of ALF with the same root, where no function has 2 to 64 labels or more.
+pub fn lowered_programs_pass()
+    ensures written { (unit : UnitTree) (root ranks : List ℕ) → IsProgram unit root ranks → IsSpelled unit → HasFewLabels unit → IsWritable (lowered unit) }
+    ensures passes { (unit : UnitTree) (root ranks : List ℕ) → IsProgram unit root ranks → IsSpelled unit → HasFewLabels unit → Passes (lowered unit) root }
+{
+    spelled_units_are_counted();
+    counted_units_have_spelled_names();
+    counted_units_have_few_frames();
+    measured_programs_pass();
+}

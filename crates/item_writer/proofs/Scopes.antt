@@ -1,0 +1,38 @@
+-- Scopes after statements.
+--   others_after   a statement declares in the innermost scope alone
+--   left_after     a scope that a statement had for itself is left
+use Rattle.std.proofs.Common.{◌≡◌, List, [], ◌∷◌, refl, ap}
+use Rattle.c_unit.specs.declared.types.Integer.{Integer}
+use Rattle.c_unit.specs.Tree.{LocalTree, Statement, Empty, Declares, Block, If, IfElse, While, Do, For, ForAfter, Switch, Case, Default, Break, Continue, Returns, Does}
+use Rattle.c_checks.specs.Names.{Scope}
+use Rattle.c_checks.specs.Statements.{scopes_after, with_local, with_locals}
+use Rattle.c_names.specs.Views.{Known, others, entered, left}
+use Rattle.item_writer.specs.Views.{known_after}
+
+other_locals : (kind : Integer) (scopes : List Scope) (locals : List LocalTree) → others (with_locals kind scopes locals) ≡ others scopes
+other_locals kind scopes [] = refl
+other_locals kind [] (local ∷ locals) = other_locals kind (with_local kind [] local) locals
+other_locals kind (scope ∷ scopes) (local ∷ locals) = other_locals kind (with_local kind (scope ∷ scopes) local) locals
+
+-- a statement declares in the innermost scope alone
+pub others_after : (scopes : List Scope) (s : Statement) → others (scopes_after scopes s) ≡ others scopes
+others_after scopes (Empty token) = refl
+others_after scopes (Declares first kind locals) = other_locals kind scopes locals
+others_after scopes (Block body) = refl
+others_after scopes (If condition body) = refl
+others_after scopes (IfElse condition body otherwise) = refl
+others_after scopes (While condition body) = refl
+others_after scopes (Do body condition) = refl
+others_after scopes (For condition after body) = refl
+others_after scopes (ForAfter first condition after body) = refl
+others_after scopes (Switch value body) = refl
+others_after scopes (Case token c) = refl
+others_after scopes (Default token) = refl
+others_after scopes (Break token) = refl
+others_after scopes (Continue token) = refl
+others_after scopes (Returns token value) = refl
+others_after scopes (Does effect) = refl
+
+-- a scope that a statement had for itself is left
+pub left_after : (known : Known) (s : Statement) → left (known_after (entered known) s) ≡ known
+left_after known s = ap (λ (scopes : List Scope). record known { scopes = scopes }) (others_after ([] ∷ known.scopes) s)

@@ -1,2 +1,3 @@
 -- Counted units are measured.
 pub mod Measured
+pub mod Passing

@@ -8,9 +8,11 @@ ghost use Rattle.c_checks.specs.Programs.{IsProgram};
 ghost use Rattle.c_text.specs.Language.{IsSpelled};
 ghost use Rattle.c_lowered.specs.Programs.{lowered};
 ghost use Rattle.spelled_texts.specs.Measured.{HasFewLabels};
+ghost use Rattle.spelled_texts.specs.Passing.{SpelledProgramsAreWritten, SpelledProgramsPass};
 
 use lowered_texts::measured_programs_pass;
 use spelled_counts::spelled_units_are_counted;
+use spelled_labels::spelled_units_have_few_labels;
 use spelled_names::{counted_units_have_few_frames, counted_units_have_spelled_names};
 
 /// The lowered program of a unit that some text spells and that the checks pass can be written, and passes the
@@ -23,4 +25,13 @@ pub fn lowered_programs_pass()
     counted_units_have_spelled_names();
     counted_units_have_few_frames();
     measured_programs_pass();
+}
+
+/// So it is with each unit that a text of at most 2^32 tokens spells and that the checks pass.
+pub fn spelled_programs_pass()
+    ensures written { SpelledProgramsAreWritten }
+    ensures passes { SpelledProgramsPass }
+{
+    spelled_units_have_few_labels();
+    lowered_programs_pass();
 }

@@ -4,4 +4,4 @@
 
 mod laws;
 
-pub use laws::lowered_programs_pass;
+pub use laws::{lowered_programs_pass, spelled_programs_pass};

@@ -207,7 +207,6 @@ analyse,a.alf,--merge,join
 analyse,a.alf,--merge, joins
 analyse,a.alf,--merge,joins,--merge,joins
 analyse,a.alf,--merges,joins
-analyse,a.alf,--pivots,5
 analyse,a.alf,--cert
 print,a.c,b.c
 print,a.c,--root,f
@@ -238,7 +237,7 @@ fn words_are_commands_in_any_order(rt: HostRuntime) -> Result<(), Fail> {
 
 #[test]
 fn other_words_are_no_command(rt: HostRuntime) -> Result<(), Fail> {
-    assert_eq!(rt; NO_COMMANDS.split('\n').count(), 109);
+    assert_eq!(rt; NO_COMMANDS.split('\n').count(), 108);
     for row in NO_COMMANDS.split('\n') {
         let words = words_of(rt.alloc(), row)?;
         assert!(rt; are_usage(rt.alloc(), &words), "{row}");

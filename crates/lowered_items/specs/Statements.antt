@@ -8,14 +8,18 @@ use Rattle.c_unit.specs.declared.types.Integer.{Integer}
 use Rattle.c_unit.specs.declared.types.Scalar.TheVariants as scalars
 use Rattle.c_unit.specs.declared.types.Outcome.{Outcome}
 use Rattle.c_unit.specs.declared.types.Outcome.TheVariants as outcomes
-use Rattle.c_unit.specs.Tree.{Expression, ValueTree, EffectTree, Statement, Empty, Declares, Block, If, IfElse, While, Do as DoWhile, For, ForAfter, Switch as SwitchOn, Case, Default, Break, Continue, Returns, Does, Statements, Nothing, Then}
+use Rattle.c_unit.specs.Tree.{Expression, ValueTree, EffectTree, Statement, Empty, Declares, Block, If, IfElse, While, Do as DoWhile}
+use Rattle.c_unit.specs.Tree.{For, ForAfter, Switch as SwitchOn, Case, Default, Break, Continue, Returns, Does, Statements, Nothing}
+use Rattle.c_unit.specs.Tree.{Then}
 use Rattle.c_checks.specs.Names.{Scope}
 use Rattle.c_checks.specs.Statements.{Around, inside, in_loop_of, in_switch_of, around_after, scopes_after}
 use Rattle.c_checks.specs.Standing.{IsCondition, IfCondition, IfDone, ReturnStands, StatementStands, StatementsStand}
 use Rattle.c_checks.specs.Recursion as asked
 use Rattle.c_meaning.specs.Objects.{Object, Program, function_at, locals_in, all_locals_in}
 use Rattle.c_lowered.specs.Conditions.{Within, label, condition_labels, condition_items}
-use Rattle.c_lowered.specs.Statements.{is_case, cases_in, labels_in, labels_in_all, labels_if, calls_if, calls_in, calls_in_all, condition_if, effect_if, result_within, as_result, return_item, return_items, switch_type, switch_item, Body, loop_items, items_of, all_items_of, body_items}
+use Rattle.c_lowered.specs.Statements.{is_case, cases_in, labels_in, labels_in_all, labels_if, calls_if, calls_in, calls_in_all}
+use Rattle.c_lowered.specs.Statements.{condition_if, effect_if, result_within, as_result, return_item, return_items, switch_type}
+use Rattle.c_lowered.specs.Statements.{switch_item, Body, loop_items, items_of, all_items_of, body_items}
 use Rattle.c_lowered.specs.Statements as lowered
 use Rattle.spelled_trees.specs.Expressions.{IfValue, IfEffect, IfCondition as InCondition, InStatement, InStatements}
 use Rattle.lowered_names.specs.Lists.{EachOf, each_parts}
@@ -28,7 +32,8 @@ use Rattle.lowered_items.specs.Effects.{Shallow, ResultsUsable, IsAsked, within,
 use Rattle.lowered_items.specs.Declarations.{IsLocal, AreKnown, known_with_locals, locals_items_stand}
 use Rattle.lowered_items.specs.Conditions.{Items, IsOwn, own_label, condition_stands, targets_stand, default_stands, case_stands}
 
-module _ (whole : WholeProgram) (func : alf.Function) (program : Program) (defined : List ℕ) (f labels results : ℕ) (usable_results : ResultsUsable whole func program defined f labels results) where
+module _ (whole : WholeProgram) (func : alf.Function) (program : Program) (defined : List ℕ) (f labels results : ℕ)
+    (usable_results : ResultsUsable whole func program defined f labels results) where
   abbrev pub Stands : List BodyItem → Type 0
   Stands items = Items whole func program defined f labels results items
 
@@ -57,24 +62,34 @@ module _ (whole : WholeProgram) (func : alf.Function) (program : Program) (defin
 
   -- ---- parts
 
-  condition_part : (scopes : List Scope) (e : Expression) (next : ℕ) (held failed : List ℕ) (rest : List BodyItem) → Known scopes → IsCondition program.words scopes e → Shallow e → next + condition_labels e ≤ labels → Own held → Own failed → Stands rest
+  condition_part : (scopes : List Scope) (e : Expression) (next : ℕ) (held failed : List ℕ) (rest : List BodyItem) → Known scopes
+      → IsCondition program.words scopes e → Shallow e → next + condition_labels e ≤ labels → Own held → Own failed → Stands rest
       → Stands (condition_items w scopes e next held failed rest)
   condition_part scopes e next held failed rest known is low most is_held is_failed are =
-      condition_stands whole func program defined f labels results scopes known.0 e next held failed rest (names_stand program.words scopes e is.type is.has) low most is_held is_failed are
+      condition_stands whole func program defined f labels results scopes known.0 e next held failed rest
+      (names_stand program.words scopes e is.type is.has) low most is_held is_failed are
 
-  condition_if_stands : (scopes : List Scope) (e : Option Expression) (next held failed : ℕ) (rest : List BodyItem) → Known scopes → IfCondition program.words scopes e → InCondition Shallow e → next + labels_if e ≤ labels → held < labels → failed < labels → Stands rest
+  condition_if_stands : (scopes : List Scope) (e : Option Expression) (next held failed : ℕ) (rest : List BodyItem) → Known scopes
+      → IfCondition program.words scopes e → InCondition Shallow e → next + labels_if e ≤ labels → held < labels
+      → failed < labels → Stands rest
       → Stands (condition_if w scopes e next held failed rest)
   condition_if_stands scopes None next held failed rest known is low most is_held is_failed are = (own held is_held, are)
   condition_if_stands scopes (Some e) next held failed rest known is low most is_held is_failed are =
       condition_part scopes e next (label w held) (label w failed) rest known is low most (own held is_held) (own failed is_failed) are
 
-  effect_if_stands : (scopes : List Scope) (effect : Option EffectTree) (n : ℕ) (rest : List BodyItem) → Known scopes → IfDone program.words defined scopes effect → IfEffect Shallow effect → Asks (asked.calls_if_done effect) → n + calls_if program effect ≤ results → Stands rest → Stands (effect_if w scopes effect n rest)
+  effect_if_stands : (scopes : List Scope) (effect : Option EffectTree) (n : ℕ) (rest : List BodyItem) → Known scopes
+      → IfDone program.words defined scopes effect → IfEffect Shallow effect → Asks (asked.calls_if_done effect)
+      → n + calls_if program effect ≤ results → Stands rest → Stands (effect_if w scopes effect n rest)
   effect_if_stands scopes None n rest known is low asks most are = are
-  effect_if_stands scopes (Some effect) n rest known is low asks most are = effect_items_stand whole func program defined f labels results usable_results scopes known.0 known.1 effect n rest is low asks most are
+  effect_if_stands scopes (Some effect) n rest known is low asks most are =
+      effect_items_stand whole func program defined f labels results usable_results scopes known.0 known.1 effect n rest is low asks most are
 
-  loop_stands : (scopes : List Scope) (condition : Option Expression) (last : Option EffectTree) (body : Body) (n c more : ℕ) (rest : List BodyItem) → Known scopes → IfCondition program.words scopes condition → InCondition Shallow condition
-      → IfDone program.words defined scopes last → IfEffect Shallow last → Asks (asked.calls_if_done last) → n + (4 + labels_if condition + more) ≤ labels → c + calls_if program last ≤ results
-      → ((b : lowered.Around) (items : List BodyItem) → Own b.break → Own b.continue → Stands items → Stands (body (4 + n + labels_if condition) (c + calls_if program last) b items)) → Stands rest
+  loop_stands : (scopes : List Scope) (condition : Option Expression) (last : Option EffectTree) (body : Body) (n c more : ℕ)
+      (rest : List BodyItem) → Known scopes → IfCondition program.words scopes condition → InCondition Shallow condition
+      → IfDone program.words defined scopes last → IfEffect Shallow last → Asks (asked.calls_if_done last)
+      → n + (4 + labels_if condition + more) ≤ labels → c + calls_if program last ≤ results
+      → ((b : lowered.Around) (items : List BodyItem) → Own b.break → Own b.continue → Stands items
+      → Stands (body (4 + n + labels_if condition) (c + calls_if program last) b items)) → Stands rest
       → Stands (loop_items w scopes condition last body n c rest)
   loop_stands scopes condition last body n c more rest known is low done low_last asks most most_calls in_body are = (
     own n (omega (arith, most)),
@@ -88,17 +103,23 @@ module _ (whole : WholeProgram) (func : alf.Function) (program : Program) (defin
     ),
   )
 
-  return_makes : (o : Outcome) (i : Integer) (e : NamedExpression) → o ≡ outcomes.Integer i → Term whole func 32 53 e → standing.ReturnStands whole func program f labels o (Some (as_result o e))
+  return_makes : (o : Outcome) (i : Integer) (e : NamedExpression) → o ≡ outcomes.Integer i → Term whole func 32 53 e
+      → standing.ReturnStands whole func program f labels o (Some (as_result o e))
   return_makes o i e is term =
-      subst (λ (r : Outcome). standing.ReturnStands whole func program f labels r (Some (as_result r e))) (sym is) (deeper whole func _ 54 64 _ (omega arith) (cut_term whole func i 53 e term))
+      subst (λ (r : Outcome). standing.ReturnStands whole func program f labels r (Some (as_result r e))) (sym is)
+      (deeper whole func _ 54 64 _ (omega arith) (cut_term whole func i 53 e term))
 
-  returns_stand : (o : Outcome) (scopes : List Scope) (value : Option ValueTree) (n : ℕ) (rest : List BodyItem) → o ≡ (function_at program f).result → Known scopes → ReturnStands program.words defined scopes o value → IfValue Shallow value → Asks (asked.calls_if_valued value)
+  returns_stand : (o : Outcome) (scopes : List Scope) (value : Option ValueTree) (n : ℕ) (rest : List BodyItem)
+      → o ≡ (function_at program f).result → Known scopes → ReturnStands program.words defined scopes o value → IfValue Shallow value
+      → Asks (asked.calls_if_valued value)
       → n + lowered.calls_in_returned program value ≤ results → Stands rest → Stands (return_items w scopes value n rest)
-  returns_stand outcomes.Nothing scopes None n rest same known stand low asks most are = (subst (λ (r : Outcome). standing.ReturnStands whole func program f labels r None) same tt, are)
+  returns_stand outcomes.Nothing scopes None n rest same known stand low asks most are =
+      (subst (λ (r : Outcome). standing.ReturnStands whole func program f labels r None) same tt, are)
   returns_stand outcomes.Nothing scopes (Some value) n rest same known stand low asks most are = absurd stand
   returns_stand (outcomes.Integer i) scopes None n rest same known stand low asks most are = absurd stand
   returns_stand (outcomes.Integer i) scopes (Some value) n rest same known stand low asks most are =
-      value_items_stand whole func program defined f labels results usable_results scopes known.0 known.1 (scalars.Integer i) value n (return_item w) rest stand low asks most
+      value_items_stand whole func program defined f labels results usable_results scopes known.0 known.1 (scalars.Integer i) value n
+      (return_item w) rest stand low asks most
       (λ e term. return_makes (function_at program f).result i e (sym same) term) are
 
   -- ---- what is known after a statement
@@ -107,7 +128,8 @@ module _ (whole : WholeProgram) (func : alf.Function) (program : Program) (defin
   again a b around = record { break = around.break; continue = around.continue; result = around.result }
 
   known_after : (scopes : List Scope) (s : Statement) → Known scopes → Locals (locals_in program.words f s) → Known (scopes_after scopes s)
-  known_after scopes (Declares first kind names) known locals = known_with_locals whole func program defined f labels results usable_results kind scopes names known locals
+  known_after scopes (Declares first kind names) known locals =
+      known_with_locals whole func program defined f labels results usable_results kind scopes names known locals
   known_after scopes (Case token c) known locals = known
   known_after scopes (Default token) known locals = known
   known_after scopes (Empty token) known locals = known
@@ -145,77 +167,104 @@ module _ (whole : WholeProgram) (func : alf.Function) (program : Program) (defin
   -- ---- statements
 
   mutual
-    pub items_stand : (a : Around) (scopes : List Scope) (s : Statement) (n c : ℕ) (b : lowered.Around) (rest : List BodyItem) → StatementStands program.words defined a scopes s → InStatement Shallow Shallow s → Known scopes
-        → Locals (locals_in program.words f s) → Asks (asked.calls_in s) → n + labels_in s ≤ labels → c + calls_in program s ≤ results → AroundStands a b → Stands rest → Stands (items_of w scopes s n c b rest)
+    pub items_stand : (a : Around) (scopes : List Scope) (s : Statement) (n c : ℕ) (b : lowered.Around) (rest : List BodyItem)
+        → StatementStands program.words defined a scopes s → InStatement Shallow Shallow s → Known scopes
+        → Locals (locals_in program.words f s) → Asks (asked.calls_in s) → n + labels_in s ≤ labels → c + calls_in program s ≤ results
+        → AroundStands a b → Stands rest → Stands (items_of w scopes s n c b rest)
     items_stand a scopes (Empty token) n c b rest stand low known locals asks most few around are = are
     items_stand a scopes (Declares first kind names) n c b rest stand low known locals asks most few around are =
         locals_items_stand whole func program defined f labels results usable_results kind scopes names c rest known locals stand low asks few are
-    items_stand a scopes (Block body) n c b rest stand low known locals asks most few around are = all_items_stand (inside a) ([] ∷ scopes) body n c b rest stand low known locals asks most few (again a b around) are
+    items_stand a scopes (Block body) n c b rest stand low known locals asks most few around are =
+        all_items_stand (inside a) ([] ∷ scopes) body n c b rest stand low known locals asks most few (again a b around) are
     items_stand a scopes (If condition body) n c b rest stand low known locals asks most few around are =
-        condition_part scopes condition (2 + n) (label w n) (label w (1 + n)) _ known stand.0 low.0 (omega (arith, most)) (own n (omega (arith, most))) (own (1 + n) (omega (arith, most))) (
+        condition_part scopes condition (2 + n) (label w n) (label w (1 + n)) _ known stand.0 low.0 (omega (arith, most))
+        (own n (omega (arith, most))) (own (1 + n) (omega (arith, most))) (
           own n (omega (arith, most)),
-          items_stand (inside a) ([] ∷ scopes) body (2 + n + condition_labels condition) c b _ stand.1 low.1 known locals asks (omega (arith, most)) few (again a b around)
+          items_stand (inside a) ([] ∷ scopes) body (2 + n + condition_labels condition) c b _ stand.1 low.1 known locals asks
+              (omega (arith, most)) few (again a b around)
               (own (1 + n) (omega (arith, most)), (own (1 + n) (omega (arith, most)), are)),
         )
     items_stand a scopes (IfElse condition body otherwise) n c b rest stand low known locals asks most few around are =
-        let parts = each_parts (IsLocal whole func program defined f labels results) (locals_in program.words f body) (locals_in program.words f otherwise) locals in
+        let parts = each_parts (IsLocal whole func program defined f labels results) (locals_in program.words f body)
+        (locals_in program.words f otherwise) locals in
         let ask = each_parts (IsAsked whole func program defined f labels results) (asked.calls_in body) (asked.calls_in otherwise) asks in
-        condition_part scopes condition (3 + n) (label w n) (label w (1 + n)) _ known stand.0 low.0 (omega (arith, most)) (own n (omega (arith, most))) (own (1 + n) (omega (arith, most))) (
+        condition_part scopes condition (3 + n) (label w n) (label w (1 + n)) _ known stand.0 low.0 (omega (arith, most))
+        (own n (omega (arith, most))) (own (1 + n) (omega (arith, most))) (
           own n (omega (arith, most)),
-          items_stand (inside a) ([] ∷ scopes) body (3 + n + condition_labels condition) c b _ stand.1 low.1 known parts.0 ask.0 (omega (arith, most)) (omega (arith, few)) (again a b around) (
-            own (2 + n) (omega (arith, most)),
-            (
-              own (1 + n) (omega (arith, most)),
-              items_stand (inside a) ([] ∷ scopes) otherwise (3 + n + condition_labels condition + labels_in body) (c + calls_in program body) b _ stand.2 low.2 known parts.1 ask.1 (omega (arith, most)) (omega (arith, few)) (again a b around)
-                  (own (2 + n) (omega (arith, most)), are),
-            ),
-          ),
+          items_stand (inside a) ([] ∷ scopes) body (3 + n + condition_labels condition) c b _ stand.1 low.1 known parts.0 ask.0
+              (omega (arith, most)) (omega (arith, few)) (again a b around) (
+                own (2 + n) (omega (arith, most)),
+                (
+                  own (1 + n) (omega (arith, most)),
+                  items_stand (inside a) ([] ∷ scopes) otherwise (3 + n + condition_labels condition + labels_in body)
+                      (c + calls_in program body) b _ stand.2 low.2 known parts.1 ask.1 (omega (arith, most))
+                      (omega (arith, few)) (again a b around)
+                      (own (2 + n) (omega (arith, most)), are),
+                ),
+              ),
         )
     items_stand a scopes (While condition body) n c b rest stand low known locals asks most few around are = (
       own n (omega (arith, most)),
-      condition_part scopes condition (3 + n) (label w (1 + n)) (label w (2 + n)) _ known stand.0 low.0 (omega (arith, most)) (own (1 + n) (omega (arith, most))) (own (2 + n) (omega (arith, most))) (
-        own (1 + n) (omega (arith, most)),
-        items_stand (in_loop_of a) ([] ∷ scopes) body (3 + n + condition_labels condition) c (record { break = label w (2 + n); continue = label w n }) _ stand.1 low.1 known locals asks (omega (arith, most)) few
-            (record { break = λ _. own (2 + n) (omega (arith, most)); continue = λ _. own n (omega (arith, most)); result = around.result })
-            (own n (omega (arith, most)), (own (2 + n) (omega (arith, most)), are)),
-      ),
+      condition_part scopes condition (3 + n) (label w (1 + n)) (label w (2 + n)) _ known stand.0 low.0 (omega (arith, most))
+          (own (1 + n) (omega (arith, most))) (own (2 + n) (omega (arith, most))) (
+            own (1 + n) (omega (arith, most)),
+            items_stand (in_loop_of a) ([] ∷ scopes) body (3 + n + condition_labels condition) c
+                (record { break = label w (2 + n); continue = label w n }) _ stand.1 low.1 known locals asks (omega (arith, most)) few
+                (record { break = λ _. own (2 + n) (omega (arith, most)); continue = λ _. own n (omega (arith, most)); result = around.result })
+                (own n (omega (arith, most)), (own (2 + n) (omega (arith, most)), are)),
+          ),
     )
     items_stand a scopes (DoWhile body condition) n c b rest stand low known locals asks most few around are = (
       own n (omega (arith, most)),
-      items_stand (in_loop_of a) ([] ∷ scopes) body (3 + n) c (record { break = label w (2 + n); continue = label w (1 + n) }) _ stand.0 low.0 known locals asks (omega (arith, most)) few
+      items_stand (in_loop_of a) ([] ∷ scopes) body (3 + n) c (record { break = label w (2 + n); continue = label w (1 + n) })
+          _ stand.0 low.0 known locals asks (omega (arith, most)) few
           (record { break = λ _. own (2 + n) (omega (arith, most)); continue = λ _. own (1 + n) (omega (arith, most)); result = around.result }) (
             own (1 + n) (omega (arith, most)),
-            condition_part scopes condition (3 + n + labels_in body) (label w n) (label w (2 + n)) _ known stand.1 low.1 (omega (arith, most)) (own n (omega (arith, most))) (own (2 + n) (omega (arith, most)))
+            condition_part scopes condition (3 + n + labels_in body) (label w n) (label w (2 + n)) _ known stand.1 low.1
+                (omega (arith, most)) (own n (omega (arith, most))) (own (2 + n) (omega (arith, most)))
                 (own (2 + n) (omega (arith, most)), are),
           ),
     )
     items_stand a scopes (For condition last body) n c b rest stand low known locals asks most few around are =
         let ask = each_parts (IsAsked whole func program defined f labels results) (asked.calls_if_done last) (asked.calls_in body) asks in
-        loop_stands scopes condition last (items_of w ([] ∷ scopes) body) n c (labels_in body) rest known stand.0 low.0 stand.1 low.1 ask.0 most (omega (arith, few))
-        (λ d items is_break is_continue standing. items_stand (in_loop_of a) ([] ∷ scopes) body (4 + n + labels_if condition) (c + calls_if program last) d items stand.2 low.2 known locals ask.1 (omega (arith, most)) (omega (arith, few))
+        loop_stands scopes condition last (items_of w ([] ∷ scopes) body) n c (labels_in body)
+        rest known stand.0 low.0 stand.1 low.1 ask.0 most (omega (arith, few))
+        (λ d items is_break is_continue standing. items_stand (in_loop_of a) ([] ∷ scopes) body (4 + n + labels_if condition)
+        (c + calls_if program last) d items stand.2 low.2 known locals ask.1 (omega (arith, most)) (omega (arith, few))
         (record { break = λ _. is_break; continue = λ _. is_continue; result = around.result }) standing) are
     items_stand a scopes (ForAfter first condition last body) n c b rest stand low known locals asks most few around are =
-        let parts = each_parts (IsLocal whole func program defined f labels results) (locals_in program.words f first) (locals_in program.words f body) locals in
-        let ask = each_parts (IsAsked whole func program defined f labels results) (asked.calls_in first) (asked.calls_if_done last ++ asked.calls_in body) asks in
+        let parts = each_parts (IsLocal whole func program defined f labels results) (locals_in program.words f first)
+        (locals_in program.words f body) locals in
+        let ask = each_parts (IsAsked whole func program defined f labels results) (asked.calls_in first)
+        (asked.calls_if_done last ++ asked.calls_in body) asks in
         let later = each_parts (IsAsked whole func program defined f labels results) (asked.calls_if_done last) (asked.calls_in body) ask.1 in
         let further = scopes_after ([] ∷ scopes) first in
         let known_further = known_after ([] ∷ scopes) first known parts.0 in
         items_stand (inside a) ([] ∷ scopes) first n c b _ stand.0 low.0 known parts.0 ask.0 (omega (arith, most)) (omega (arith, few)) (again a b around)
-        (loop_stands further condition last (items_of w ([] ∷ further) body) (n + labels_in first) (c + calls_in program first) (labels_in body) rest known_further stand.1 low.1 stand.2 low.2 later.0 (omega (arith, most)) (omega (arith, few))
-        (λ d items is_break is_continue standing. items_stand (in_loop_of a) ([] ∷ further) body (4 + (n + labels_in first) + labels_if condition) (c + calls_in program first + calls_if program last) d items stand.3 low.3 known_further parts.1 later.1 (omega (arith, most)) (omega (arith, few))
+        (loop_stands further condition last (items_of w ([] ∷ further) body) (n + labels_in first) (c + calls_in program first)
+        (labels_in body) rest known_further stand.1 low.1 stand.2 low.2 later.0 (omega (arith, most)) (omega (arith, few))
+        (λ d items is_break is_continue standing. items_stand (in_loop_of a) ([] ∷ further) body
+        (4 + (n + labels_in first) + labels_if condition) (c + calls_in program first + calls_if program last)
+        d items stand.3 low.3 known_further parts.1 later.1 (omega (arith, most)) (omega (arith, few))
         (record { break = λ _. is_break; continue = λ _. is_continue; result = around.result }) standing) are)
     items_stand a scopes (SwitchOn value body) n c b rest stand low known locals asks most few around are =
-        let targets = targets_stand whole func program defined f labels results (switch_type w scopes value) n (in_switch_of a) ([] ∷ scopes) body stand.1 (omega (arith, most)) in (
+        let targets = targets_stand whole func program defined f labels results (switch_type w scopes value) n (in_switch_of a)
+        ([] ∷ scopes) body stand.1 (omega (arith, most)) in (
           record {
             size = 32;
             some = omega arith;
             small = omega arith;
-            value_term = deeper whole func 32 (deep value) 64 _ (let shallow : Shallow value = low.0 in omega (arith, shallow)) (value_term whole func program scopes known.0 value (names_stand program.words scopes value stand.0.type stand.0.has));
+            value_term =
+                deeper whole func 32 (deep value) 64 _ (let shallow : Shallow value = low.0 in
+                omega (arith, shallow)) (value_term whole func program scopes known.0 value
+                (names_stand program.words scopes value stand.0.type stand.0.has));
             each = targets.each;
             differ = targets.differ;
             leads_else = default_stands whole func program defined f labels results n (n + cases_in body) body (omega (arith, most)) (omega (arith, most));
           },
-          body_stands (in_switch_of a) ([] ∷ scopes) body n (n + cases_in body + 1) c (record { break = label w (n + cases_in body); continue = b.continue }) _ stand.1 low.1 known locals asks (omega (arith, most)) (omega (arith, most)) few
+          body_stands (in_switch_of a) ([] ∷ scopes) body n (n + cases_in body + 1) c
+              (record { break = label w (n + cases_in body); continue = b.continue }) _ stand.1 low.1 known locals asks
+              (omega (arith, most)) (omega (arith, most)) few
               (record { break = λ _. own (n + cases_in body) (omega (arith, most)); continue = around.continue; result = around.result })
               (own (n + cases_in body) (omega (arith, most)), are),
         )
@@ -223,24 +272,35 @@ module _ (whole : WholeProgram) (func : alf.Function) (program : Program) (defin
     items_stand a scopes (Default token) n c b rest stand low known locals asks most few around are = are
     items_stand a scopes (Break token) n c b rest stand low known locals asks most few around are = (around.break stand, are)
     items_stand a scopes (Continue token) n c b rest stand low known locals asks most few around are = (around.continue stand, are)
-    items_stand a scopes (Returns token value) n c b rest stand low known locals asks most few around are = returns_stand a.result scopes value c rest around.result known stand low asks few are
-    items_stand a scopes (Does effect) n c b rest stand low known locals asks most few around are = effect_items_stand whole func program defined f labels results usable_results scopes known.0 known.1 effect c rest stand low asks few are
+    items_stand a scopes (Returns token value) n c b rest stand low known locals asks most few around are =
+        returns_stand a.result scopes value c rest around.result known stand low asks few are
+    items_stand a scopes (Does effect) n c b rest stand low known locals asks most few around are =
+        effect_items_stand whole func program defined f labels results usable_results scopes known.0 known.1 effect c rest stand low asks few are
 
-    pub all_items_stand : (a : Around) (scopes : List Scope) (ss : Statements) (n c : ℕ) (b : lowered.Around) (rest : List BodyItem) → StatementsStand program.words defined a scopes ss → InStatements Shallow Shallow ss → Known scopes
-        → Locals (all_locals_in program.words f ss) → Asks (asked.called_in ss) → n + labels_in_all ss ≤ labels → c + calls_in_all program ss ≤ results → AroundStands a b → Stands rest → Stands (all_items_of w scopes ss n c b rest)
+    pub all_items_stand : (a : Around) (scopes : List Scope) (ss : Statements) (n c : ℕ) (b : lowered.Around) (rest : List BodyItem)
+        → StatementsStand program.words defined a scopes ss → InStatements Shallow Shallow ss → Known scopes
+        → Locals (all_locals_in program.words f ss) → Asks (asked.called_in ss) → n + labels_in_all ss ≤ labels
+        → c + calls_in_all program ss ≤ results → AroundStands a b → Stands rest → Stands (all_items_of w scopes ss n c b rest)
     all_items_stand a scopes Nothing n c b rest stand low known locals asks most few around are = are
     all_items_stand a scopes (Then s ss) n c b rest stand low known locals asks most few around are =
         let parts = each_parts (IsLocal whole func program defined f labels results) (locals_in program.words f s) (all_locals_in program.words f ss) locals in
         let ask = each_parts (IsAsked whole func program defined f labels results) (asked.calls_in s) (asked.called_in ss) asks in
         items_stand a scopes s n c b _ stand.0 low.0 known parts.0 ask.0 (omega (arith, most)) (omega (arith, few)) around
-        (all_items_stand (around_after program.words a s) (scopes_after scopes s) ss (n + labels_in s) (c + calls_in program s) b rest stand.1 low.1 (known_after scopes s known parts.0) parts.1 ask.1 (omega (arith, most)) (omega (arith, few)) (around_still a s b around) are)
+        (all_items_stand (around_after program.words a s) (scopes_after scopes s) ss (n + labels_in s) (c + calls_in program s)
+        b rest stand.1 low.1 (known_after scopes s known parts.0) parts.1 ask.1 (omega (arith, most)) (omega (arith, few))
+        (around_still a s b around) are)
 
-    pub body_stands : (a : Around) (scopes : List Scope) (ss : Statements) (k n c : ℕ) (b : lowered.Around) (rest : List BodyItem) → StatementsStand program.words defined a scopes ss → InStatements Shallow Shallow ss → Known scopes
-        → Locals (all_locals_in program.words f ss) → Asks (asked.called_in ss) → k + cases_in ss ≤ labels → n + labels_in_all ss ≤ labels → c + calls_in_all program ss ≤ results → AroundStands a b → Stands rest → Stands (body_items w scopes ss k n c b rest)
+    pub body_stands : (a : Around) (scopes : List Scope) (ss : Statements) (k n c : ℕ) (b : lowered.Around) (rest : List BodyItem)
+        → StatementsStand program.words defined a scopes ss → InStatements Shallow Shallow ss → Known scopes
+        → Locals (all_locals_in program.words f ss) → Asks (asked.called_in ss) → k + cases_in ss ≤ labels
+        → n + labels_in_all ss ≤ labels → c + calls_in_all program ss ≤ results → AroundStands a b → Stands rest
+        → Stands (body_items w scopes ss k n c b rest)
     body_stands a scopes Nothing k n c b rest stand low known locals asks cases most few around are = are
     body_stands a scopes (Then s ss) k n c b rest stand low known locals asks cases most few around are =
         let parts = each_parts (IsLocal whole func program defined f labels results) (locals_in program.words f s) (all_locals_in program.words f ss) locals in
         let ask = each_parts (IsAsked whole func program defined f labels results) (asked.calls_in s) (asked.called_in ss) asks in
         case_stands whole func program defined f labels results s k _ (omega (arith, cases))
         (items_stand a scopes s n c b _ stand.0 low.0 known parts.0 ask.0 (omega (arith, most)) (omega (arith, few)) around
-        (body_stands (around_after program.words a s) (scopes_after scopes s) ss (is_case s + k) (n + labels_in s) (c + calls_in program s) b rest stand.1 low.1 (known_after scopes s known parts.0) parts.1 ask.1 (omega (arith, cases)) (omega (arith, most)) (omega (arith, few)) (around_still a s b around) are))
+        (body_stands (around_after program.words a s) (scopes_after scopes s) ss (is_case s + k) (n + labels_in s)
+        (c + calls_in program s) b rest stand.1 low.1 (known_after scopes s known parts.0) parts.1 ask.1 (omega (arith, cases))
+        (omega (arith, most)) (omega (arith, few)) (around_still a s b around) are))

@@ -1,13 +1,15 @@
 -- Constants are words of 32 bits.
 --   Fits worth      a constant's number is below 2 to 32
 --   worth_fits      so is that of each text
-use Rattle.std.proofs.Common.{◌≡◌, ◌<◌, ◌≤◌, ◌^◌, ◌==◌, ◌&&◌, ◌||◌, ℕ, Bool, true, false, not, List, [], ◌∷◌, Option, None, Some, leb, leb-true, eqb-true, refl, arith, if◌then◌else◌}
+use Rattle.std.proofs.Common.{◌≡◌, ◌<◌, ◌≤◌, ◌^◌, ◌==◌, ◌&&◌, ◌||◌, ℕ, Bool, true, false, not, List, [], ◌∷◌, Option, None, Some, leb}
+use Rattle.std.proofs.Common.{leb-true, eqb-true, refl, arith, if◌then◌else◌}
 use Rattle.std.specs.Prelude.{⊤}
 use Rattle.std.specs.Int.{is_in_range}
 use Rattle.lists.specs.Tests.{by_test}
 use Rattle.c_constants.specs.declared.worth.Worth.{Worth}
 use Rattle.c_constants.specs.declared.worth.Worth.TheVariants as worth
-use Rattle.c_constants.specs.Worth.{most_int, most_unsigned, unsigned_worth, plain_worth, judge, zero_worth, number_worth, number_from, plain_character, escaped_character, character_worth}
+use Rattle.c_constants.specs.Worth.{most_int, most_unsigned, unsigned_worth, plain_worth, judge, zero_worth, number_worth, number_from}
+use Rattle.c_constants.specs.Worth.{plain_character, escaped_character, character_worth}
 use Rattle.c_checks.specs.Names.{worth_of_text}
 
 abbrev pub Fits : Worth → Type 0
@@ -22,11 +24,14 @@ chosen true x y h k = h refl
 chosen false x y h k = k refl
 
 unsigned_fits : (n : ℕ) → Fits (unsigned_worth n)
-unsigned_fits n = chosen (leb n most_unsigned) (worth.UnsignedInt n) worth.TooLarge (λ low. let small : n ≤ 4294967295 = leb-true n most_unsigned low in omega (arith, small)) (λ _. tt)
+unsigned_fits n =
+    chosen (leb n most_unsigned) (worth.UnsignedInt n) worth.TooLarge
+    (λ low. let small : n ≤ 4294967295 = leb-true n most_unsigned low in omega (arith, small)) (λ _. tt)
 
 plain_fits : (decimal : Bool) (n : ℕ) → Fits (plain_worth decimal n)
 plain_fits decimal n =
-    chosen (leb n most_int) (worth.Int n) (if decimal then worth.TooLarge else unsigned_worth n) (λ low. let small : n ≤ 2147483647 = leb-true n most_int low in omega (arith, small))
+    chosen (leb n most_int) (worth.Int n) (if decimal then worth.TooLarge else unsigned_worth n)
+    (λ low. let small : n ≤ 2147483647 = leb-true n most_int low in omega (arith, small))
     (λ _. chosen decimal worth.TooLarge (unsigned_worth n) (λ _. tt) (λ _. unsigned_fits n))
 
 judge_fits : (base : ℕ) (r : Option (ℕ × Bool)) → Fits (judge base r)
@@ -41,7 +46,9 @@ zero_fits (x ∷ bs) =
 
 number_fits : (bs : List ℕ) → Fits (number_worth bs)
 number_fits [] = tt
-number_fits (b ∷ bs) = chosen (b == 48) (zero_worth bs) (judge 10 (number_from 10 false 0 (b ∷ bs))) (λ _. zero_fits bs) (λ _. judge_fits 10 (number_from 10 false 0 (b ∷ bs)))
+number_fits (b ∷ bs) =
+    chosen (b == 48) (zero_worth bs) (judge 10 (number_from 10 false 0 (b ∷ bs))) (λ _. zero_fits bs)
+    (λ _. judge_fits 10 (number_from 10 false 0 (b ∷ bs)))
 
 both_first : (a b : Bool) → (a && b) ≡ true → a ≡ true
 both_first true b e = refl
@@ -69,7 +76,8 @@ escaped_fits e =
     (λ _. chosen (e == 116) (worth.Int 9) _ (λ _. omega arith)
     (λ _. chosen (e == 48) (worth.Int 0) _ (λ _. omega arith)
     (λ _. chosen ((e == 92) || (e == 39)) (worth.Int e) worth.NoConstant
-    (λ is. either_of (e == 92) (e == 39) is (λ t. let low = eqb-true e 92 t in omega (arith, low)) (λ t. let low = eqb-true e 39 t in omega (arith, low))) (λ _. tt))))
+    (λ is. either_of (e == 92) (e == 39) is (λ t. let low = eqb-true e 92 t in omega (arith, low)) (λ t. let low = eqb-true e 39 t in
+    omega (arith, low))) (λ _. tt))))
 
 character_fits : (bs : List ℕ) → Fits (character_worth bs)
 character_fits [] = tt

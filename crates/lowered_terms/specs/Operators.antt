@@ -21,7 +21,9 @@ use Rattle.c_unit.specs.declared.expression.Binary.{Binary}
 use Rattle.c_unit.specs.declared.expression.Binary.TheVariants as binary
 use Rattle.c_meaning.specs.Values.{bits_of_type, bytes_of_type, shared, left_type}
 use Rattle.c_meaning.specs.Expressions.{pointee}
-use Rattle.c_lowered.specs.Values.{constant, whole, bit, of_one, of_two, size, sizes, sum, difference, extended, cut, cut_to, cast_to, loaded, signed_or, product, scaled, counted, sum_value, difference_value, bit_value, compared, binary_value, is_true, test_of, unary_value, element_address}
+use Rattle.c_lowered.specs.Values.{constant, whole, bit, of_one, of_two, size, sizes, sum, difference, extended, cut, cut_to, cast_to}
+use Rattle.c_lowered.specs.Values.{loaded, signed_or, product, scaled, counted, sum_value, difference_value, bit_value, compared}
+use Rattle.c_lowered.specs.Values.{binary_value, is_true, test_of, unary_value, element_address}
 use Rattle.lowered_terms.specs.Terms.{TakesTwo, Term, deeper, number_term, load_term, one_term, two_term, three_term}
 
 -- ---- sizes
@@ -82,25 +84,46 @@ module _ (program : WholeProgram) (func : Function) where
 
   pub sum_term : (n : ℕ) (l r : NamedExpression) → 1 ≤ n → Term program func 32 n l → Term program func 32 n r → Term program func 32 (suc n) (sum l r)
   sum_term n l r some t u =
-      three_term program func ops.Add size 32 32 1 32 n l r (bit 0) (record { are = are_one ops.Add 32 refl size_32; count = refl; first = refl; second = refl; third = refl; none = refl; result = refl }) t u (bit_term 0 n (omega arith) some)
+      three_term program func ops.Add size 32 32 1 32 n l r (bit 0)
+      (record { are = are_one ops.Add 32 refl size_32; count = refl; first = refl; second = refl; third = refl; none = refl; result = refl }) t u
+      (bit_term 0 n (omega arith) some)
 
-  pub difference_term : (n : ℕ) (l r : NamedExpression) → 1 ≤ n → Term program func 32 n l → Term program func 32 n r → Term program func 32 (suc n) (difference l r)
+  pub difference_term : (n : ℕ) (l r : NamedExpression) → 1 ≤ n → Term program func 32 n l → Term program func 32 n r
+      → Term program func 32 (suc n) (difference l r)
   difference_term n l r some t u =
-      three_term program func ops.Sub size 32 32 1 32 n l r (bit 1) (record { are = are_one ops.Sub 32 refl size_32; count = refl; first = refl; second = refl; third = refl; none = refl; result = refl }) t u (bit_term 1 n (omega arith) some)
+      three_term program func ops.Sub size 32 32 1 32 n l r (bit 1)
+      (record { are = are_one ops.Sub 32 refl size_32; count = refl; first = refl; second = refl; third = refl; none = refl; result = refl }) t u
+      (bit_term 1 n (omega arith) some)
 
   pub extended_term : (i : Integer) (n : ℕ) (e : NamedExpression) → Term program func (bits_of_type i) n e → Term program func 32 (suc n) (extended i e)
-  extended_term Char n e t = one_term program func ops.SExt (8 ∷ 32 ∷ []) 8 32 n e (record { are = are_two ops.SExt 8 32 refl (omega arith, omega arith) size_32; count = refl; first = refl; none = refl; result = refl }) t
-  extended_term UnsignedChar n e t = one_term program func ops.ZExt (8 ∷ 32 ∷ []) 8 32 n e (record { are = are_two ops.ZExt 8 32 refl (omega arith, omega arith) size_32; count = refl; first = refl; none = refl; result = refl }) t
-  extended_term Short n e t = one_term program func ops.SExt (16 ∷ 32 ∷ []) 16 32 n e (record { are = are_two ops.SExt 16 32 refl (omega arith, omega arith) size_32; count = refl; first = refl; none = refl; result = refl }) t
-  extended_term UnsignedShort n e t = one_term program func ops.ZExt (16 ∷ 32 ∷ []) 16 32 n e (record { are = are_two ops.ZExt 16 32 refl (omega arith, omega arith) size_32; count = refl; first = refl; none = refl; result = refl }) t
+  extended_term Char n e t =
+      one_term program func ops.SExt (8 ∷ 32 ∷ []) 8 32 n e
+      (record { are = are_two ops.SExt 8 32 refl (omega arith, omega arith) size_32; count = refl; first = refl; none = refl; result = refl }) t
+  extended_term UnsignedChar n e t =
+      one_term program func ops.ZExt (8 ∷ 32 ∷ []) 8 32 n e
+      (record { are = are_two ops.ZExt 8 32 refl (omega arith, omega arith) size_32; count = refl; first = refl; none = refl; result = refl }) t
+  extended_term Short n e t =
+      one_term program func ops.SExt (16 ∷ 32 ∷ []) 16 32 n e
+      (record { are = are_two ops.SExt 16 32 refl (omega arith, omega arith) size_32; count = refl; first = refl; none = refl; result = refl }) t
+  extended_term UnsignedShort n e t =
+      one_term program func ops.ZExt (16 ∷ 32 ∷ []) 16 32 n e
+      (record { are = are_two ops.ZExt 16 32 refl (omega arith, omega arith) size_32; count = refl; first = refl; none = refl; result = refl }) t
   extended_term Int n e t = deeper program func 32 n (suc n) e (omega arith) t
   extended_term UnsignedInt n e t = deeper program func 32 n (suc n) e (omega arith) t
 
   pub cut_term : (i : Integer) (n : ℕ) (e : NamedExpression) → Term program func 32 n e → Term program func (bits_of_type i) (suc n) (cut i e)
-  cut_term Char n e t = one_term program func ops.Trunc (32 ∷ 8 ∷ []) 32 8 n e (record { are = are_two ops.Trunc 32 8 refl size_32 (omega arith, omega arith); count = refl; first = refl; none = refl; result = refl }) t
-  cut_term UnsignedChar n e t = one_term program func ops.Trunc (32 ∷ 8 ∷ []) 32 8 n e (record { are = are_two ops.Trunc 32 8 refl size_32 (omega arith, omega arith); count = refl; first = refl; none = refl; result = refl }) t
-  cut_term Short n e t = one_term program func ops.Trunc (32 ∷ 16 ∷ []) 32 16 n e (record { are = are_two ops.Trunc 32 16 refl size_32 (omega arith, omega arith); count = refl; first = refl; none = refl; result = refl }) t
-  cut_term UnsignedShort n e t = one_term program func ops.Trunc (32 ∷ 16 ∷ []) 32 16 n e (record { are = are_two ops.Trunc 32 16 refl size_32 (omega arith, omega arith); count = refl; first = refl; none = refl; result = refl }) t
+  cut_term Char n e t =
+      one_term program func ops.Trunc (32 ∷ 8 ∷ []) 32 8 n e
+      (record { are = are_two ops.Trunc 32 8 refl size_32 (omega arith, omega arith); count = refl; first = refl; none = refl; result = refl }) t
+  cut_term UnsignedChar n e t =
+      one_term program func ops.Trunc (32 ∷ 8 ∷ []) 32 8 n e
+      (record { are = are_two ops.Trunc 32 8 refl size_32 (omega arith, omega arith); count = refl; first = refl; none = refl; result = refl }) t
+  cut_term Short n e t =
+      one_term program func ops.Trunc (32 ∷ 16 ∷ []) 32 16 n e
+      (record { are = are_two ops.Trunc 32 16 refl size_32 (omega arith, omega arith); count = refl; first = refl; none = refl; result = refl }) t
+  cut_term UnsignedShort n e t =
+      one_term program func ops.Trunc (32 ∷ 16 ∷ []) 32 16 n e
+      (record { are = are_two ops.Trunc 32 16 refl size_32 (omega arith, omega arith); count = refl; first = refl; none = refl; result = refl }) t
   cut_term Int n e t = deeper program func 32 n (suc n) e (omega arith) t
   cut_term UnsignedInt n e t = deeper program func 32 n (suc n) e (omega arith) t
 
@@ -122,16 +145,22 @@ module _ (program : WholeProgram) (func : Function) where
   load_size UnsignedInt = record { some = omega arith; small = omega arith; bytes = refl }
 
   pub loaded_term : (t : Scalar) (n : ℕ) (at : NamedExpression) → Term program func 32 n at → Term program func 32 (2 + n) (loaded t at)
-  loaded_term (scalars.Integer i) n at t = deeper program func 32 (suc (suc n)) (2 + n) _ (omega arith) (extended_term i (suc n) (Load (bits_of_type i) at) (load_term program func (bits_of_type i) n at (load_size i) t))
-  loaded_term (scalars.Pointer i) n at t = deeper program func 32 (suc n) (2 + n) (Load 32 at) (omega arith) (load_term program func 32 n at (record { some = omega arith; small = omega arith; bytes = refl }) t)
+  loaded_term (scalars.Integer i) n at t =
+      deeper program func 32 (suc (suc n)) (2 + n) _ (omega arith)
+      (extended_term i (suc n) (Load (bits_of_type i) at) (load_term program func (bits_of_type i) n at (load_size i) t))
+  loaded_term (scalars.Pointer i) n at t =
+      deeper program func 32 (suc n) (2 + n) (Load 32 at) (omega arith)
+      (load_term program func 32 n at (record { some = omega arith; small = omega arith; bytes = refl }) t)
 
-  product_term : (i : Integer) (n : ℕ) (l r : NamedExpression) → Term program func 32 n l → Term program func 32 n r → Term program func 32 (2 + n) (product i l r)
+  product_term : (i : Integer) (n : ℕ) (l r : NamedExpression) → Term program func 32 n l → Term program func 32 n r
+      → Term program func 32 (2 + n) (product i l r)
   product_term i n l r t u =
       deeper program func 32 (suc (suc n)) (2 + n) _ (omega arith)
       (one_term program func ops.Trunc (64 ∷ 32 ∷ []) 64 32 (suc n) (of_two (signed_or ops.SMul ops.UMul i) sizes l r)
       (record { are = are_two ops.Trunc 64 32 refl size_64 size_32; count = refl; first = refl; none = refl; result = refl })
       (two_term program func (signed_or ops.SMul ops.UMul i) sizes 32 32 64 n l r
-      (either_takes 32 32 64 ops.SMul ops.UMul i (record { are = are_two ops.SMul 32 32 refl size_32 size_32; count = refl; first = refl; second = refl; none = refl; result = refl })
+      (either_takes 32 32 64 ops.SMul ops.UMul i
+      (record { are = are_two ops.SMul 32 32 refl size_32 size_32; count = refl; first = refl; second = refl; none = refl; result = refl })
       (record { are = are_two ops.UMul 32 32 refl size_32 size_32; count = refl; first = refl; second = refl; none = refl; result = refl })) t u))
 
   scaled_term : (i : Integer) (of : Scalar) (n : ℕ) (e : NamedExpression) → 1 ≤ n → Term program func 32 n e → Term program func 32 (2 + n) (scaled i of e)
@@ -150,30 +179,44 @@ module _ (program : WholeProgram) (func : Function) where
       (λ more. rw more (two_term program func ops.SDiv sizes 32 32 32 n e (whole (bytes_of_type i)) sdiv_takes t (bytes_term i n some)))
 
   bit_value_term : (n : ℕ) (e : NamedExpression) → Term program func 1 n e → Term program func 32 (suc n) (bit_value e)
-  bit_value_term n e t = one_term program func ops.ZExt (1 ∷ 32 ∷ []) 1 32 n e (record { are = are_two ops.ZExt 1 32 refl size_1 size_32; count = refl; first = refl; none = refl; result = refl }) t
+  bit_value_term n e t =
+      one_term program func ops.ZExt (1 ∷ 32 ∷ []) 1 32 n e
+      (record { are = are_two ops.ZExt 1 32 refl size_1 size_32; count = refl; first = refl; none = refl; result = refl }) t
 
-  compared_term : (op : Op) (n : ℕ) (l r : NamedExpression) → TakesTwo op size 32 32 1 → Term program func 32 n l → Term program func 32 n r → Term program func 1 (suc n) (compared op l r)
+  compared_term : (op : Op) (n : ℕ) (l r : NamedExpression) → TakesTwo op size 32 32 1 → Term program func 32 n l
+      → Term program func 32 n r → Term program func 1 (suc n) (compared op l r)
   compared_term op n l r takes t u = two_term program func op size 32 32 1 n l r takes t u
 
   pub is_true_term : (n : ℕ) (e : NamedExpression) → 1 ≤ n → Term program func 32 n e → Term program func 1 (suc n) (is_true e)
-  is_true_term n e some t = compared_term ops.Neq n e (whole 0) (record { are = are_one ops.Neq 32 refl size_32; count = refl; first = refl; second = refl; none = refl; result = refl }) t (whole_term 0 n (omega arith) some)
+  is_true_term n e some t =
+      compared_term ops.Neq n e (whole 0)
+      (record { are = are_one ops.Neq 32 refl size_32; count = refl; first = refl; second = refl; none = refl; result = refl }) t
+      (whole_term 0 n (omega arith) some)
 
   -- ---- operators of two operands
 
   more : (k m n : ℕ) (e : NamedExpression) → m ≤ n → Term program func 32 m e → Term program func 32 n e
   more k m n e low t = deeper program func 32 m n e low t
 
-  sum_value_term : (a b : Scalar) (n : ℕ) (l r : NamedExpression) → 1 ≤ n → Term program func 32 n l → Term program func 32 n r → Term program func 32 (3 + n) (sum_value a b l r)
+  sum_value_term : (a b : Scalar) (n : ℕ) (l r : NamedExpression) → 1 ≤ n → Term program func 32 n l → Term program func 32 n r
+      → Term program func 32 (3 + n) (sum_value a b l r)
   sum_value_term (scalars.Integer a) (scalars.Integer b) n l r some t u = deeper program func 32 (suc n) (3 + n) _ (omega arith) (sum_term n l r some t u)
   sum_value_term (scalars.Integer a) (scalars.Pointer b) n l r some t u =
-      deeper program func 32 (suc (2 + n)) (3 + n) _ (omega arith) (sum_term (2 + n) (scaled b (scalars.Integer a) l) r (omega (arith, some)) (scaled_term b (scalars.Integer a) n l some t) (deeper program func 32 n (2 + n) r (omega arith) u))
+      deeper program func 32 (suc (2 + n)) (3 + n) _ (omega arith)
+      (sum_term (2 + n) (scaled b (scalars.Integer a) l) r (omega (arith, some)) (scaled_term b (scalars.Integer a) n l some t)
+      (deeper program func 32 n (2 + n) r (omega arith) u))
   sum_value_term (scalars.Pointer a) b n l r some t u =
-      deeper program func 32 (suc (2 + n)) (3 + n) _ (omega arith) (sum_term (2 + n) l (scaled a b r) (omega (arith, some)) (deeper program func 32 n (2 + n) l (omega arith) t) (scaled_term a b n r some u))
+      deeper program func 32 (suc (2 + n)) (3 + n) _ (omega arith)
+      (sum_term (2 + n) l (scaled a b r) (omega (arith, some)) (deeper program func 32 n (2 + n) l (omega arith) t)
+      (scaled_term a b n r some u))
 
-  difference_value_term : (a b : Scalar) (n : ℕ) (l r : NamedExpression) → 1 ≤ n → Term program func 32 n l → Term program func 32 n r → Term program func 32 (3 + n) (difference_value a b l r)
+  difference_value_term : (a b : Scalar) (n : ℕ) (l r : NamedExpression) → 1 ≤ n → Term program func 32 n l → Term program func 32 n r
+      → Term program func 32 (3 + n) (difference_value a b l r)
   difference_value_term (scalars.Integer a) b n l r some t u = deeper program func 32 (suc n) (3 + n) _ (omega arith) (difference_term n l r some t u)
   difference_value_term (scalars.Pointer a) (scalars.Integer b) n l r some t u =
-      deeper program func 32 (suc (2 + n)) (3 + n) _ (omega arith) (difference_term (2 + n) l (scaled a (scalars.Integer b) r) (omega (arith, some)) (deeper program func 32 n (2 + n) l (omega arith) t) (scaled_term a (scalars.Integer b) n r some u))
+      deeper program func 32 (suc (2 + n)) (3 + n) _ (omega arith)
+      (difference_term (2 + n) l (scaled a (scalars.Integer b) r) (omega (arith, some))
+      (deeper program func 32 n (2 + n) l (omega arith) t) (scaled_term a (scalars.Integer b) n r some u))
   difference_value_term (scalars.Pointer a) (scalars.Pointer b) n l r some t u =
       deeper program func 32 (suc (suc n)) (3 + n) _ (omega arith) (counted_term a (suc n) (difference l r) (omega arith) (difference_term n l r some t u))
 
@@ -211,52 +254,89 @@ module _ (program : WholeProgram) (func : Function) where
   neq_takes = record { are = are_one ops.Neq 32 refl size_32; count = refl; first = refl; second = refl; none = refl; result = refl }
 
   -- an operator of two sizes, or of one
-  sized_term : (op : Op) (n : ℕ) (l r : NamedExpression) → TakesTwo op sizes 32 32 32 → Term program func 32 n l → Term program func 32 n r → Term program func 32 (3 + n) (of_two op sizes l r)
+  sized_term : (op : Op) (n : ℕ) (l r : NamedExpression) → TakesTwo op sizes 32 32 32 → Term program func 32 n l
+      → Term program func 32 n r → Term program func 32 (3 + n) (of_two op sizes l r)
   sized_term op n l r takes t u = deeper program func 32 (suc n) (3 + n) _ (omega arith) (two_term program func op sizes 32 32 32 n l r takes t u)
 
-  bits_term : (op : Op) (n : ℕ) (l r : NamedExpression) → TakesTwo op size 32 32 32 → Term program func 32 n l → Term program func 32 n r → Term program func 32 (3 + n) (of_two op size l r)
+  bits_term : (op : Op) (n : ℕ) (l r : NamedExpression) → TakesTwo op size 32 32 32 → Term program func 32 n l
+      → Term program func 32 n r → Term program func 32 (3 + n) (of_two op size l r)
   bits_term op n l r takes t u = deeper program func 32 (suc n) (3 + n) _ (omega arith) (two_term program func op size 32 32 32 n l r takes t u)
 
-  test_value_term : (op : Op) (n : ℕ) (l r : NamedExpression) → TakesTwo op size 32 32 1 → Term program func 32 n l → Term program func 32 n r → Term program func 32 (3 + n) (bit_value (compared op l r))
-  test_value_term op n l r takes t u = deeper program func 32 (suc (suc n)) (3 + n) _ (omega arith) (bit_value_term (suc n) (compared op l r) (compared_term op n l r takes t u))
+  test_value_term : (op : Op) (n : ℕ) (l r : NamedExpression) → TakesTwo op size 32 32 1 → Term program func 32 n l
+      → Term program func 32 n r → Term program func 32 (3 + n) (bit_value (compared op l r))
+  test_value_term op n l r takes t u =
+      deeper program func 32 (suc (suc n)) (3 + n) _ (omega arith)
+      (bit_value_term (suc n) (compared op l r) (compared_term op n l r takes t u))
 
-  pub binary_term : (op : Binary) (a b : Scalar) (n : ℕ) (l r : NamedExpression) → 1 ≤ n → Term program func 32 n l → Term program func 32 n r → Term program func 32 (3 + n) (binary_value op a b l r)
+  pub binary_term : (op : Binary) (a b : Scalar) (n : ℕ) (l r : NamedExpression) → 1 ≤ n → Term program func 32 n l
+      → Term program func 32 n r → Term program func 32 (3 + n) (binary_value op a b l r)
   binary_term binary.Multiply a b n l r some t u = deeper program func 32 (2 + n) (3 + n) _ (omega arith) (product_term (shared a b) n l r t u)
   binary_term binary.Divide a b n l r some t u =
-      sized_term (signed_or ops.SDiv ops.UDiv (shared a b)) n l r (either_takes 32 32 32 ops.SDiv ops.UDiv (shared a b) sdiv_takes (record { are = are_two ops.UDiv 32 32 refl size_32 size_32; count = refl; first = refl; second = refl; none = refl; result = refl })) t u
+      sized_term (signed_or ops.SDiv ops.UDiv (shared a b)) n l r
+      (either_takes 32 32 32 ops.SDiv ops.UDiv (shared a b) sdiv_takes
+      (record { are = are_two ops.UDiv 32 32 refl size_32 size_32; count = refl; first = refl; second = refl; none = refl; result = refl })) t u
   binary_term binary.Remainder a b n l r some t u =
-      sized_term (signed_or ops.SMod ops.UMod (shared a b)) n l r (either_takes 32 32 32 ops.SMod ops.UMod (shared a b) (record { are = are_two ops.SMod 32 32 refl size_32 size_32; count = refl; first = refl; second = refl; none = refl; result = refl })
+      sized_term (signed_or ops.SMod ops.UMod (shared a b)) n l r
+      (either_takes 32 32 32 ops.SMod ops.UMod (shared a b)
+      (record { are = are_two ops.SMod 32 32 refl size_32 size_32; count = refl; first = refl; second = refl; none = refl; result = refl })
       (record { are = are_two ops.UMod 32 32 refl size_32 size_32; count = refl; first = refl; second = refl; none = refl; result = refl })) t u
   binary_term binary.Add a b n l r some t u = sum_value_term a b n l r some t u
   binary_term binary.Subtract a b n l r some t u = difference_value_term a b n l r some t u
-  binary_term binary.ShiftLeft a b n l r some t u = sized_term ops.LShift n l r (record { are = are_two ops.LShift 32 32 refl size_32 size_32; count = refl; first = refl; second = refl; none = refl; result = refl }) t u
+  binary_term binary.ShiftLeft a b n l r some t u =
+      sized_term ops.LShift n l r
+      (record { are = are_two ops.LShift 32 32 refl size_32 size_32; count = refl; first = refl; second = refl; none = refl; result = refl }) t u
   binary_term binary.ShiftRight a b n l r some t u =
-      sized_term (signed_or ops.RShiftA ops.RShift (left_type a)) n l r (either_takes 32 32 32 ops.RShiftA ops.RShift (left_type a) (record { are = are_two ops.RShiftA 32 32 refl size_32 size_32; count = refl; first = refl; second = refl; none = refl; result = refl })
+      sized_term (signed_or ops.RShiftA ops.RShift (left_type a)) n l r
+      (either_takes 32 32 32 ops.RShiftA ops.RShift (left_type a)
+      (record { are = are_two ops.RShiftA 32 32 refl size_32 size_32; count = refl; first = refl; second = refl; none = refl; result = refl })
       (record { are = are_two ops.RShift 32 32 refl size_32 size_32; count = refl; first = refl; second = refl; none = refl; result = refl })) t u
-  binary_term binary.Less a b n l r some t u = test_value_term (signed_or ops.SLt ops.ULt (shared a b)) n l r (either_compares ops.SLt ops.ULt (shared a b) slt_takes ult_takes) t u
-  binary_term binary.Greater a b n l r some t u = test_value_term (signed_or ops.SGt ops.UGt (shared a b)) n l r (either_compares ops.SGt ops.UGt (shared a b) sgt_takes ugt_takes) t u
-  binary_term binary.AtMost a b n l r some t u = test_value_term (signed_or ops.SLe ops.ULe (shared a b)) n l r (either_compares ops.SLe ops.ULe (shared a b) sle_takes ule_takes) t u
-  binary_term binary.AtLeast a b n l r some t u = test_value_term (signed_or ops.SGe ops.UGe (shared a b)) n l r (either_compares ops.SGe ops.UGe (shared a b) sge_takes uge_takes) t u
+  binary_term binary.Less a b n l r some t u =
+      test_value_term (signed_or ops.SLt ops.ULt (shared a b)) n l r
+      (either_compares ops.SLt ops.ULt (shared a b) slt_takes ult_takes) t u
+  binary_term binary.Greater a b n l r some t u =
+      test_value_term (signed_or ops.SGt ops.UGt (shared a b)) n l r
+      (either_compares ops.SGt ops.UGt (shared a b) sgt_takes ugt_takes) t u
+  binary_term binary.AtMost a b n l r some t u =
+      test_value_term (signed_or ops.SLe ops.ULe (shared a b)) n l r
+      (either_compares ops.SLe ops.ULe (shared a b) sle_takes ule_takes) t u
+  binary_term binary.AtLeast a b n l r some t u =
+      test_value_term (signed_or ops.SGe ops.UGe (shared a b)) n l r
+      (either_compares ops.SGe ops.UGe (shared a b) sge_takes uge_takes) t u
   binary_term binary.Equal a b n l r some t u = test_value_term ops.Eq n l r eq_takes t u
   binary_term binary.Unequal a b n l r some t u = test_value_term ops.Neq n l r neq_takes t u
-  binary_term binary.And a b n l r some t u = bits_term ops.And n l r (record { are = are_one ops.And 32 refl size_32; count = refl; first = refl; second = refl; none = refl; result = refl }) t u
-  binary_term binary.Xor a b n l r some t u = bits_term ops.Xor n l r (record { are = are_one ops.Xor 32 refl size_32; count = refl; first = refl; second = refl; none = refl; result = refl }) t u
-  binary_term binary.Or a b n l r some t u = bits_term ops.Or n l r (record { are = are_one ops.Or 32 refl size_32; count = refl; first = refl; second = refl; none = refl; result = refl }) t u
+  binary_term binary.And a b n l r some t u =
+      bits_term ops.And n l r
+      (record { are = are_one ops.And 32 refl size_32; count = refl; first = refl; second = refl; none = refl; result = refl }) t u
+  binary_term binary.Xor a b n l r some t u =
+      bits_term ops.Xor n l r
+      (record { are = are_one ops.Xor 32 refl size_32; count = refl; first = refl; second = refl; none = refl; result = refl }) t u
+  binary_term binary.Or a b n l r some t u =
+      bits_term ops.Or n l r
+      (record { are = are_one ops.Or 32 refl size_32; count = refl; first = refl; second = refl; none = refl; result = refl }) t u
   binary_term binary.Both a b n l r some t u = whole_term 0 (3 + n) (omega arith) (omega arith)
   binary_term binary.Either a b n l r some t u = whole_term 0 (3 + n) (omega arith) (omega arith)
 
   -- a comparison's bit, or whether another operator's value is not 0
-  bit_of_term : (op : Op) (n : ℕ) (l r : NamedExpression) → TakesTwo op size 32 32 1 → Term program func 32 n l → Term program func 32 n r → Term program func 1 (4 + n) (compared op l r)
+  bit_of_term : (op : Op) (n : ℕ) (l r : NamedExpression) → TakesTwo op size 32 32 1 → Term program func 32 n l
+      → Term program func 32 n r → Term program func 1 (4 + n) (compared op l r)
   bit_of_term op n l r takes t u = deeper program func 1 (suc n) (4 + n) _ (omega arith) (compared_term op n l r takes t u)
 
-  value_test_term : (op : Binary) (a b : Scalar) (n : ℕ) (l r : NamedExpression) → 1 ≤ n → Term program func 32 n l → Term program func 32 n r → Term program func 1 (4 + n) (is_true (binary_value op a b l r))
-  value_test_term op a b n l r some t u = deeper program func 1 (suc (3 + n)) (4 + n) _ (omega arith) (is_true_term (3 + n) (binary_value op a b l r) (omega arith) (binary_term op a b n l r some t u))
+  value_test_term : (op : Binary) (a b : Scalar) (n : ℕ) (l r : NamedExpression) → 1 ≤ n → Term program func 32 n l
+      → Term program func 32 n r → Term program func 1 (4 + n) (is_true (binary_value op a b l r))
+  value_test_term op a b n l r some t u =
+      deeper program func 1 (suc (3 + n)) (4 + n) _ (omega arith)
+      (is_true_term (3 + n) (binary_value op a b l r) (omega arith) (binary_term op a b n l r some t u))
 
-  pub test_term : (op : Binary) (a b : Scalar) (n : ℕ) (l r : NamedExpression) → 1 ≤ n → Term program func 32 n l → Term program func 32 n r → Term program func 1 (4 + n) (test_of op a b l r)
-  test_term binary.Less a b n l r some t u = bit_of_term (signed_or ops.SLt ops.ULt (shared a b)) n l r (either_compares ops.SLt ops.ULt (shared a b) slt_takes ult_takes) t u
-  test_term binary.Greater a b n l r some t u = bit_of_term (signed_or ops.SGt ops.UGt (shared a b)) n l r (either_compares ops.SGt ops.UGt (shared a b) sgt_takes ugt_takes) t u
-  test_term binary.AtMost a b n l r some t u = bit_of_term (signed_or ops.SLe ops.ULe (shared a b)) n l r (either_compares ops.SLe ops.ULe (shared a b) sle_takes ule_takes) t u
-  test_term binary.AtLeast a b n l r some t u = bit_of_term (signed_or ops.SGe ops.UGe (shared a b)) n l r (either_compares ops.SGe ops.UGe (shared a b) sge_takes uge_takes) t u
+  pub test_term : (op : Binary) (a b : Scalar) (n : ℕ) (l r : NamedExpression) → 1 ≤ n → Term program func 32 n l
+      → Term program func 32 n r → Term program func 1 (4 + n) (test_of op a b l r)
+  test_term binary.Less a b n l r some t u =
+      bit_of_term (signed_or ops.SLt ops.ULt (shared a b)) n l r (either_compares ops.SLt ops.ULt (shared a b) slt_takes ult_takes) t u
+  test_term binary.Greater a b n l r some t u =
+      bit_of_term (signed_or ops.SGt ops.UGt (shared a b)) n l r (either_compares ops.SGt ops.UGt (shared a b) sgt_takes ugt_takes) t u
+  test_term binary.AtMost a b n l r some t u =
+      bit_of_term (signed_or ops.SLe ops.ULe (shared a b)) n l r (either_compares ops.SLe ops.ULe (shared a b) sle_takes ule_takes) t u
+  test_term binary.AtLeast a b n l r some t u =
+      bit_of_term (signed_or ops.SGe ops.UGe (shared a b)) n l r (either_compares ops.SGe ops.UGe (shared a b) sge_takes uge_takes) t u
   test_term binary.Equal a b n l r some t u = bit_of_term ops.Eq n l r eq_takes t u
   test_term binary.Unequal a b n l r some t u = bit_of_term ops.Neq n l r neq_takes t u
   test_term binary.Multiply a b n l r some t u = value_test_term binary.Multiply a b n l r some t u
@@ -275,17 +355,28 @@ module _ (program : WholeProgram) (func : Function) where
   -- ---- operators of one operand, and elements
 
   pub negation_term : (n : ℕ) (e : NamedExpression) → Term program func 32 n e → Term program func 32 (suc n) (of_one ops.Neg size e)
-  negation_term n e t = one_term program func ops.Neg size 32 32 n e (record { are = are_one ops.Neg 32 refl size_32; count = refl; first = refl; none = refl; result = refl }) t
+  negation_term n e t =
+      one_term program func ops.Neg size 32 32 n e
+      (record { are = are_one ops.Neg 32 refl size_32; count = refl; first = refl; none = refl; result = refl }) t
 
-  pub unary_term : (op : Unary) (of : Scalar) (n : ℕ) (e at : NamedExpression) → 1 ≤ n → Term program func 32 n e → Term program func 32 n at → Term program func 32 (2 + n) (unary_value op of e at)
-  unary_term unary.Not of n e at some t u = deeper program func 32 (suc (suc n)) (2 + n) _ (omega arith) (bit_value_term (suc n) (compared ops.Eq e (whole 0)) (compared_term ops.Eq n e (whole 0) eq_takes t (whole_term 0 n (omega arith) some)))
+  pub unary_term : (op : Unary) (of : Scalar) (n : ℕ) (e at : NamedExpression) → 1 ≤ n → Term program func 32 n e
+      → Term program func 32 n at → Term program func 32 (2 + n) (unary_value op of e at)
+  unary_term unary.Not of n e at some t u =
+      deeper program func 32 (suc (suc n)) (2 + n) _ (omega arith)
+      (bit_value_term (suc n) (compared ops.Eq e (whole 0))
+      (compared_term ops.Eq n e (whole 0) eq_takes t (whole_term 0 n (omega arith) some)))
   unary_term unary.Complement of n e at some t u =
-      deeper program func 32 (suc n) (2 + n) _ (omega arith) (one_term program func ops.Not size 32 32 n e (record { are = are_one ops.Not 32 refl size_32; count = refl; first = refl; none = refl; result = refl }) t)
+      deeper program func 32 (suc n) (2 + n) _ (omega arith)
+      (one_term program func ops.Not size 32 32 n e
+      (record { are = are_one ops.Not 32 refl size_32; count = refl; first = refl; none = refl; result = refl }) t)
   unary_term unary.Minus of n e at some t u = deeper program func 32 (suc n) (2 + n) _ (omega arith) (negation_term n e t)
   unary_term unary.Plus of n e at some t u = deeper program func 32 n (2 + n) e (omega arith) t
   unary_term unary.Load of n e at some t u = loaded_term (scalars.Integer (pointee of)) n e t
   unary_term unary.Address of n e at some t u = deeper program func 32 n (2 + n) at (omega arith) u
 
-  pub element_term : (base of : Scalar) (n : ℕ) (e index : NamedExpression) → 1 ≤ n → Term program func 32 n e → Term program func 32 n index → Term program func 32 (3 + n) (element_address base of e index)
+  pub element_term : (base of : Scalar) (n : ℕ) (e index : NamedExpression) → 1 ≤ n → Term program func 32 n e
+      → Term program func 32 n index → Term program func 32 (3 + n) (element_address base of e index)
   element_term base of n e index some t u =
-      deeper program func 32 (suc (2 + n)) (3 + n) _ (omega arith) (sum_term (2 + n) e (scaled (pointee base) of index) (omega (arith, some)) (deeper program func 32 n (2 + n) e (omega arith) t) (scaled_term (pointee base) of n index some u))
+      deeper program func 32 (suc (2 + n)) (3 + n) _ (omega arith)
+      (sum_term (2 + n) e (scaled (pointee base) of index) (omega (arith, some)) (deeper program func 32 n (2 + n) e (omega arith) t)
+      (scaled_term (pointee base) of n index some u))

@@ -76,15 +76,22 @@ module _ (whole : WholeProgram) (func : Function) where
     sees = (t.sees, tt);
   }
 
-  pub two_term : (op : Op) (sizes : List ℕ) (a b s n : ℕ) (l r : NamedExpression) → TakesTwo op sizes a b s → Term a n l → Term b n r → Term s (suc n) (of_two op sizes l r)
+  pub two_term : (op : Op) (sizes : List ℕ) (a b s n : ℕ) (l r : NamedExpression) → TakesTwo op sizes a b s → Term a n l → Term b n r
+      → Term s (suc n) (of_two op sizes l r)
   two_term op sizes a b s n l r takes t u = record {
     parts = (takes.are, sym takes.count, (t.parts, (u.parts, tt)));
     depth = (let d = t.depth in let e = u.depth in omega (arith, d, e));
-    size = rw (fits_same a (operand_size op sizes 0) (term_size l) takes.first t.size, fits_same b (operand_size op sizes 1) (term_size r) takes.second u.size, takes.none) takes.result;
+    size =
+        rw (
+          fits_same a (operand_size op sizes 0) (term_size l) takes.first t.size,
+          fits_same b (operand_size op sizes 1) (term_size r) takes.second u.size,
+          takes.none,
+        ) takes.result;
     sees = (t.sees, (u.sees, tt));
   }
 
-  pub three_term : (op : Op) (sizes : List ℕ) (a b c s n : ℕ) (l r x : NamedExpression) → TakesThree op sizes a b c s → Term a n l → Term b n r → Term c n x → Term s (suc n) (of_three op sizes l r x)
+  pub three_term : (op : Op) (sizes : List ℕ) (a b c s n : ℕ) (l r x : NamedExpression) → TakesThree op sizes a b c s → Term a n l
+      → Term b n r → Term c n x → Term s (suc n) (of_three op sizes l r x)
   three_term op sizes a b c s n l r x takes t u v = record {
     parts = (takes.are, sym takes.count, (t.parts, (u.parts, (v.parts, tt))));
     depth = (let d = t.depth in let e = u.depth in let f = v.depth in omega (arith, d, e, f));

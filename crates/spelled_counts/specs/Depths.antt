@@ -1,6 +1,7 @@
 -- What rules of expressions spell is no deeper than they allow.
 --   expr_deep, whole_expr_deep, condition_deep, target_deep
-use Rattle.std.proofs.Common.{◌≡◌, ◌≤◌, ◌+◌, ◌-◌, ◌&&◌, ℕ, zero, suc, Bool, true, false, cond, List, Ok, Err, refl, sym, subst, arith, leb, ltb, leb-true, ltb-true}
+use Rattle.std.proofs.Common.{◌≡◌, ◌≤◌, ◌+◌, ◌-◌, ◌&&◌, ℕ, zero, suc, Bool, true, false, cond, List, Ok, Err, refl, sym, subst, arith}
+use Rattle.std.proofs.Common.{leb, ltb, leb-true, ltb-true}
 use Rattle.grammar.specs.Form.{Form, refused}
 use Rattle.grammar.specs.Exact.{ok_no_err}
 use Rattle.grammar_chains.specs.Chain.{InTurn, chain}
@@ -15,16 +16,21 @@ use Rattle.c_grammar.specs.declared.others.Others.TheVariants as others
 use Rattle.c_grammar.specs.declared.symbol.Lead.{Lead}
 use Rattle.c_grammar.specs.declared.symbol.Lead.TheVariants as leads
 use Rattle.c_grammar.specs.Tokens.{Fault, Limit, Seen, Room, Place, most_depth}
-use Rattle.c_grammar.specs.Expressions.{Inner, Operand, bracketed, bracketed_indexed, cast, cast_others, condition, expr, expr_of, expr_within, index, indexed, is_not, joins_conditions, at_index, at_operation, no_inner, no_operand, operand, operand_after, operation, parenthesised, prefixed, rank_of, rest_of, shallow, is_shallow, some_depth, takes_cast, target, whole_expr}
+use Rattle.c_grammar.specs.Expressions.{Inner, Operand, bracketed, bracketed_indexed, cast, cast_others, condition, expr, expr_of}
+use Rattle.c_grammar.specs.Expressions.{expr_within, index, indexed, is_not, joins_conditions, at_index, at_operation, no_inner}
+use Rattle.c_grammar.specs.Expressions.{no_operand, operand, operand_after, operation, parenthesised, prefixed, rank_of, rest_of}
+use Rattle.c_grammar.specs.Expressions.{shallow, is_shallow, some_depth, takes_cast, target, whole_expr}
 use Rattle.spelled_counts.specs.Taking.{Later, later_on, same_place, judged_takes}
 use Rattle.spelled_counts.specs.Measuring.{Quietly, q_takes, q_made, q_then, q_either}
-use Rattle.spelled_counts.specs.ExpressionsTake.{operator_takes, open_bracket_takes, close_bracket_takes, close_paren_takes, cast_type_takes, one_paren_takes, lead_takes}
+use Rattle.spelled_counts.specs.ExpressionsTake.{operator_takes, open_bracket_takes, close_bracket_takes, close_paren_takes}
+use Rattle.spelled_counts.specs.ExpressionsTake.{cast_type_takes, one_paren_takes, lead_takes}
 
 module _ (words : List Word) where
   q_refused : {A : Type 0} {R : A → Type 0} {fault : Place → Fault} → Quietly words (refused {A = A} fault) R
   q_refused = record { each = λ at x rest s. absurd s }
 
-  q_chain : {A : Type 0} {R : A → Type 0} (goes_on : A → Place → Bool) (p : A → Form Seen Room Fault A) → ((x : A) → R x → Quietly words (p x) R) → (x : A) → R x → Quietly words (chain goes_on p x) R
+  q_chain : {A : Type 0} {R : A → Type 0} (goes_on : A → Place → Bool) (p : A → Form Seen Room Fault A)
+      → ((x : A) → R x → Quietly words (p x) R) → (x : A) → R x → Quietly words (chain goes_on p x) R
   q_chain {A = A} {R = R} goes_on p h x r = record { each = λ at y rest s. turns s.0.0 x r at y rest s.0.1 }
     where
       turns : (n : ℕ) (z : A) → R z → (at : Place) (y : A) (rest : Place) → InTurn goes_on p n z at y rest → Later at rest × R y
@@ -63,13 +69,16 @@ module _ (words : List Word) where
     operation_deep : (logical : Bool) (left : Expression) → Quietly words (operation d deeper logical left).form (Within d)
     unfolding operation
     operation_deep logical left =
-        q_then words (q_takes words operator_takes) (λ op _. q_then words (shallow_deep d left) (λ _ low. q_then words (h (rank_of op.0 + 1) (logical && joins_conditions op.0)) (λ right less.
+        q_then words (q_takes words operator_takes) (λ op _. q_then words (shallow_deep d left)
+        (λ _ low. q_then words (h (rank_of op.0 + 1) (logical && joins_conditions op.0)) (λ right less.
         q_made words (WithBinary op.0 op.1 left right) (omega (arith, low, less)))))
 
     index_deep : (base : Expression) → Quietly words (index d deeper base).form (Within d)
     unfolding index
     index_deep base =
-        q_then words (q_takes words open_bracket_takes) (λ n _. q_then words (shallow_deep d base) (λ _ low. q_then words (h 1 false) (λ i less. q_then words (q_takes words (close_bracket_takes (rest_of true i))) (λ _ _.
+        q_then words (q_takes words open_bracket_takes)
+        (λ n _. q_then words (shallow_deep d base) (λ _ low.
+        q_then words (h 1 false) (λ i less. q_then words (q_takes words (close_bracket_takes (rest_of true i))) (λ _ _.
         q_made words (AtIndex base n i) (omega (arith, low, less))))))
 
     indexed_deep : (base : Expression) → depth_of base ≤ d → Quietly words (indexed d deeper base).form (Within d)
@@ -78,28 +87,36 @@ module _ (words : List Word) where
     cast_deep : (n : ℕ) → Quietly words (cast d deeper n).form (Within d)
     unfolding cast some_depth
     cast_deep n =
-        q_then words (q_takes words judged_takes) (λ _ _. q_then words (q_takes words cast_type_takes) (λ t _. q_then words (h 11 false) (λ e less. q_made words (WithCast n t e) less)))
+        q_then words (q_takes words judged_takes) (λ _ _. q_then words (q_takes words cast_type_takes)
+        (λ t _. q_then words (h 11 false) (λ e less. q_made words (WithCast n t e) less)))
 
     prefixed_deep : (logical : Bool) (op : Unary) (n : ℕ) → Quietly words (prefixed d deeper logical op n).form (Within d)
     unfolding prefixed some_depth
-    prefixed_deep logical op n = q_then words (q_takes words judged_takes) (λ _ _. q_then words (h 11 (logical && is_not op)) (λ e less. q_made words (WithUnary op n e) less))
+    prefixed_deep logical op n =
+        q_then words (q_takes words judged_takes) (λ _ _. q_then words (h 11 (logical && is_not op))
+        (λ e less. q_made words (WithUnary op n e) less))
 
     module _ (inner : Inner) (i : (logical : Bool) (o : Others) → Quietly words (inner logical o).form (Within d)) where
       parenthesised_deep : (logical : Bool) (o : Others) (n : ℕ) → Quietly words (parenthesised inner logical o n).form (Within d)
       unfolding parenthesised
-      parenthesised_deep logical o n = q_then words (i logical o) (λ e low. q_then words (q_takes words (close_paren_takes (rest_of true e))) (λ _ _. q_made words _ low))
+      parenthesised_deep logical o n =
+          q_then words (i logical o) (λ e low. q_then words (q_takes words (close_paren_takes (rest_of true e)))
+          (λ _ _. q_made words _ low))
 
       bracketed_deep : (p : ℕ) (logical : Bool) (c : Casts) (n : ℕ) → Quietly words (bracketed p d inner deeper logical c n).form (Within d)
       unfolding bracketed
       bracketed_deep p logical c n =
           q_then words (q_takes words (one_paren_takes p)) (λ _ _. q_then words (q_takes words judged_takes) (λ type _.
-          q_either words (takes_cast c && type) (cast d deeper n) (parenthesised inner logical (cast_others c) n) (cast_deep n) (parenthesised_deep logical (cast_others c) n)))
+          q_either words (takes_cast c && type) (cast d deeper n) (parenthesised inner logical (cast_others c) n) (cast_deep n)
+          (parenthesised_deep logical (cast_others c) n)))
 
       bracketed_indexed_deep : (p : ℕ) (logical : Bool) (c : Casts) (n : ℕ) → Quietly words (bracketed_indexed p d inner deeper logical c n).form (Within d)
       unfolding bracketed_indexed
-      bracketed_indexed_deep p logical c n = q_then words (bracketed_deep p logical c n) (λ e low. q_then words (indexed_deep e low) (λ r less. q_made words r less))
+      bracketed_indexed_deep p logical c n =
+          q_then words (bracketed_deep p logical c n) (λ e low. q_then words (indexed_deep e low) (λ r less. q_made words r less))
 
-      operand_after_deep : (p : ℕ) (logical : Bool) (c : Casts) (lead : Lead) (n : ℕ) → Quietly words (operand_after p d inner deeper logical c lead n).form (Within d)
+      operand_after_deep : (p : ℕ) (logical : Bool) (c : Casts) (lead : Lead) (n : ℕ)
+          → Quietly words (operand_after p d inner deeper logical c lead n).form (Within d)
       unfolding operand_after
       operand_after_deep p logical c leads.Name n = indexed_deep (OfName n) (omega arith)
       operand_after_deep p logical c leads.Constant n = indexed_deep (OfConstant n) (omega arith)
@@ -108,26 +125,36 @@ module _ (words : List Word) where
 
       operand_deep : (p : ℕ) (logical : Bool) (c : Casts) (o : Others) → Quietly words (operand p d inner deeper logical c o).form (Within d)
       unfolding operand
-      operand_deep p logical c o = q_then words (q_takes words (lead_takes o)) (λ l _. q_then words (operand_after_deep p logical c l.0 l.1) (λ e low. q_made words e low))
+      operand_deep p logical c o =
+          q_then words (q_takes words (lead_takes o)) (λ l _. q_then words (operand_after_deep p logical c l.0 l.1)
+          (λ e low. q_made words e low))
 
       expr_of_deep : (p min : ℕ) (logical : Bool) (c : Casts) (o : Others) → Quietly words (expr_of p d inner deeper min logical c o).form (Within d)
       unfolding expr_of
       expr_of_deep p min logical c o =
-          q_then words (operand_deep p logical c o) (λ left low. q_then words (q_chain (at_operation min logical) (λ e. (operation d deeper logical e).form) (λ e _. operation_deep logical e) left low) (λ e less. q_made words e less))
+          q_then words (operand_deep p logical c o) (λ left low.
+          q_then words (q_chain (at_operation min logical) (λ e. (operation d deeper logical e).form) (λ e _. operation_deep logical e)
+          left low) (λ e less. q_made words e less))
 
   one_more : (d : ℕ) (p : Form Seen Room Fault Expression) → Quietly words p (Within d) → Quietly words p (λ e. suc (depth_of e) ≤ suc d)
   one_more d p h = record { each = λ at x rest s. let a = h.each at x rest s in (a.0, let low = a.1 in omega (arith, low)) }
 
-  within_deep : (p : ℕ) (inner : ℕ → Inner) → ((d : ℕ) (logical : Bool) (o : Others) → Quietly words (inner d logical o).form (Within d)) → (d min : ℕ) (logical : Bool) (c : Casts) (o : Others) → Quietly words (expr_within p inner d min logical c o).form (Within d)
+  within_deep : (p : ℕ) (inner : ℕ → Inner) → ((d : ℕ) (logical : Bool) (o : Others)
+      → Quietly words (inner d logical o).form (Within d)) → (d min : ℕ) (logical : Bool) (c : Casts) (o : Others)
+      → Quietly words (expr_within p inner d min logical c o).form (Within d)
   unfolding expr_within
   within_deep p inner i zero min logical c o = expr_of_deep zero no_operand (λ min logical. q_refused) (inner zero) (i zero) p min logical c o
   within_deep p inner i (suc d) min logical c o =
-      expr_of_deep (suc d) (λ min logical. expr_within p inner d min logical casts.Taken others.Steps) (λ min logical. one_more d (expr_within p inner d min logical casts.Taken others.Steps).form (within_deep p inner i d min logical casts.Taken others.Steps)) (inner (suc d)) (i (suc d)) p min logical c o
+      expr_of_deep (suc d) (λ min logical. expr_within p inner d min logical casts.Taken others.Steps)
+      (λ min logical. one_more d (expr_within p inner d min logical casts.Taken others.Steps).form
+      (within_deep p inner i d min logical casts.Taken others.Steps)) (inner (suc d)) (i (suc d)) p min logical c o
 
   pub expr_deep : (p d min : ℕ) (logical : Bool) (c : Casts) (o : Others) → Quietly words (expr p d min logical c o).form (Within d)
   unfolding expr
   expr_deep zero d min logical c o = within_deep zero no_inner (λ d logical o. q_refused) d min logical c o
-  expr_deep (suc p) d min logical c o = within_deep (suc p) (λ d logical o. expr p d 1 logical casts.Taken o) (λ d logical o. expr_deep p d 1 logical casts.Taken o) d min logical c o
+  expr_deep (suc p) d min logical c o =
+      within_deep (suc p) (λ d logical o. expr p d 1 logical casts.Taken o)
+      (λ d logical o. expr_deep p d 1 logical casts.Taken o) d min logical c o
 
   pub whole_expr_deep : (p : ℕ) (o : Others) → Quietly words (whole_expr p o).form (Within 10)
   unfolding whole_expr

@@ -17,14 +17,21 @@ use Rattle.c_grammar.specs.declared.others.Others.{Others}
 use Rattle.c_grammar.specs.declared.others.Others.TheVariants as others
 use Rattle.c_grammar.specs.Tokens.{Fault, Seen, Room, Place, some_frames, gives_value, either, most_parens}
 use Rattle.c_grammar.specs.Types.{at_assign, at_list_comma}
-use Rattle.c_grammar.specs.Expressions.{some_token, fits_any, call_frame, arguments, argument, further_argument, some_arguments, no_arguments, at_comma, call, called_value, plain_value, assigned, rest_of, rest_after_postfix, rest_of_value}
-use Rattle.c_grammar.specs.Statements.{effect_end, call_effect, fits_step_of, step, prefix_step, assigning_mark, assign, update, postfix_step, effect_after, target_effect, other_effect, effect, initial, after_local, local_end, pointer_local, array_local, integer_local, plain_local, local, further_local, semicolon, declaration}
+use Rattle.c_grammar.specs.Expressions.{some_token, fits_any, call_frame, arguments, argument, further_argument, some_arguments}
+use Rattle.c_grammar.specs.Expressions.{no_arguments, at_comma, call, called_value, plain_value, assigned, rest_of, rest_after_postfix}
+use Rattle.c_grammar.specs.Expressions.{rest_of_value}
+use Rattle.c_grammar.specs.Statements.{effect_end, call_effect, fits_step_of, step, prefix_step, assigning_mark, assign, update}
+use Rattle.c_grammar.specs.Statements.{postfix_step, effect_after, target_effect, other_effect, effect, initial, after_local, local_end}
+use Rattle.c_grammar.specs.Statements.{pointer_local, array_local, integer_local, plain_local, local, further_local, semicolon}
+use Rattle.c_grammar.specs.Statements.{declaration}
 use Rattle.spelled_trees.specs.Expressions.{Every, InCall, InValue, IfValue, InEffect, InShape, InLocals, InStatement}
 use Rattle.spelled_trees.specs.Counts.{tokens_of, elements_of, elements_of_all, tokens_in, elements_in}
 use Rattle.spelled_counts.specs.Taking.{Good, Later, later_on, same_place, Takes, judged_takes, made_takes, mark_takes, one_takes, ◌>>>◌}
-use Rattle.spelled_counts.specs.TypesTake.{assign_mark_takes, before_either_takes, before_takes, comma_mark_takes, integer_type_takes, next_number_takes, sees_takes, star_takes}
+use Rattle.spelled_counts.specs.TypesTake.{assign_mark_takes, before_either_takes, before_takes, comma_mark_takes, integer_type_takes}
+use Rattle.spelled_counts.specs.TypesTake.{next_number_takes, sees_takes, star_takes}
 use Rattle.spelled_counts.specs.ExpressionsTake.{open_paren_takes, close_paren_takes, comma_takes, sees_call_takes}
-use Rattle.spelled_counts.specs.Measuring.{one_if, Quietly, Fits, q_takes, q_made, q_then, q_either, fits_quiet, fits_after, fits_last, fits_then, fits_either, fits_maybe, fits_row}
+use Rattle.spelled_counts.specs.Measuring.{one_if, Quietly, Fits, q_takes, q_made, q_then, q_either, fits_quiet, fits_after, fits_last}
+use Rattle.spelled_counts.specs.Measuring.{fits_then, fits_either, fits_maybe, fits_row}
 use Rattle.spelled_counts.specs.Depths.{whole_expr_deep, target_deep}
 use Rattle.spelled_counts.specs.Spending.{Shallow, Spends, frames_spend, token_seen, fits_declared, array_fits}
 
@@ -38,7 +45,8 @@ module _ (words : List Word) where
 
   -- ---- arguments
 
-  pub q_row : {A : Type 0} {R : A → Type 0} (goes_on : Place → Bool) (p : Form Seen Room Fault A) (S : List A → Type 0) → Quietly words p R → S [] → ((x : A) (xs : List A) → R x → S xs → S (x ∷ xs)) → Quietly words (row goes_on p) S
+  pub q_row : {A : Type 0} {R : A → Type 0} (goes_on : Place → Bool) (p : Form Seen Room Fault A) (S : List A → Type 0)
+      → Quietly words p R → S [] → ((x : A) (xs : List A) → R x → S xs → S (x ∷ xs)) → Quietly words (row goes_on p) S
   q_row {A = A} {R = R} goes_on p S h none some = record { each = λ at xs rest s. rows at xs rest s.0 }
     where
       rows : (at : Place) (xs : List A) (rest : Place) → InARow goes_on p at xs rest → Later at rest × S xs
@@ -50,7 +58,10 @@ module _ (words : List Word) where
 
   argument_deep : (p : ℕ) → Quietly words (argument p).form Shallow
   unfolding argument
-  argument_deep p = q_then words (whole_expr_deep words p others.Steps) (λ e low. q_then words (q_takes words (before_either_takes (codes ",") (codes ")") (rest_of false e))) (λ _ _. q_made words e low))
+  argument_deep p =
+      q_then words (whole_expr_deep words p others.Steps)
+      (λ e low. q_then words (q_takes words (before_either_takes (codes ",") (codes ")") (rest_of false e)))
+      (λ _ _. q_made words e low))
 
   further_argument_deep : (p : ℕ) → Quietly words (further_argument p).form Shallow
   unfolding further_argument
@@ -59,7 +70,8 @@ module _ (words : List Word) where
   some_arguments_deep : (p : ℕ) → Quietly words (some_arguments p).form (Every Shallow)
   unfolding some_arguments
   some_arguments_deep p =
-      q_then words (argument_deep p) (λ e low. q_then words (q_row at_comma (further_argument p).form (Every Shallow) (further_argument_deep p) tt (λ x xs h i. (h, i))) (λ es lows.
+      q_then words (argument_deep p) (λ e low. q_then words
+      (q_row at_comma (further_argument p).form (Every Shallow) (further_argument_deep p) tt (λ x xs h i. (h, i))) (λ es lows.
       q_then words (q_takes words (close_paren_takes others.Nothing)) (λ _ _. q_made words (e ∷ es) (low, lows))))
 
   no_arguments_deep : Quietly words no_arguments.form (Every Shallow)
@@ -68,20 +80,30 @@ module _ (words : List Word) where
 
   arguments_deep : (p : ℕ) → Quietly words (arguments p).form (Every Shallow)
   unfolding arguments
-  arguments_deep p = q_then words (q_takes words (sees_takes (codes ")"))) (λ none _. q_either words none no_arguments (some_arguments p) no_arguments_deep (some_arguments_deep p))
+  arguments_deep p =
+      q_then words (q_takes words (sees_takes (codes ")")))
+      (λ none _. q_either words none no_arguments (some_arguments p) no_arguments_deep (some_arguments_deep p))
 
   -- ---- calls
 
-  known_spends : (known : Bool) (at rest : Place) (x : Unit {0}) → (either known (some_frames 1) (value tt)).form.Spells at x rest → Spends at rest (one_if words known) 0 0
+  known_spends : (known : Bool) (at rest : Place) (x : Unit {0}) → (either known (some_frames 1) (value tt)).form.Spells at x rest
+      → Spends at rest (one_if words known) 0 0
   known_spends true at rest x s = frames_spend 1 at rest x s
   known_spends false at rest x s =
       let room = ap (λ (p : Place). p.room) s.1 in
       let f = ap (λ (r : Room). r.frames) room in
       let e = ap (λ (r : Room). r.elements) room in
       let g = ap (λ (r : Room). r.functions) room in
-      record { ahead = ap (λ (p : Place). p.ahead) s.1; frames = omega (arith, f); elements = omega (arith, e); functions = omega (arith, g); names = ap (λ (r : Room). r.names) room }
+      record {
+        ahead = ap (λ (p : Place). p.ahead) s.1;
+        frames = omega (arith, f);
+        elements = omega (arith, e);
+        functions = omega (arith, g);
+        names = ap (λ (r : Room). r.names) room;
+      }
 
-  call_frame_spends : (text : List ℕ) (at rest : Place) (x : Unit {0}) → (call_frame text).form.Spells at x rest → Spends at rest (one_if words (gives_value text at.room.names)) 0 0
+  call_frame_spends : (text : List ℕ) (at rest : Place) (x : Unit {0}) → (call_frame text).form.Spells at x rest
+      → Spends at rest (one_if words (gives_value text at.room.names)) 0 0
   unfolding call_frame
   call_frame_spends text at rest x s =
       let known = ok_is {F = Fault} (gives_value text at.room.names) s.0 s.2.0 in
@@ -153,7 +175,9 @@ module _ (words : List Word) where
 
   pub assigned_fits : (p : ℕ) (o : Others) → Fits words (assigned p o).form IsValue
   unfolding assigned
-  assigned_fits p o = fits_after words (q_takes words sees_call_takes) (λ c _. fits_either words c (called_value (p - 1)) (plain_value p o) (called_fits (p - 1)) (plain_fits p o))
+  assigned_fits p o =
+      fits_after words (q_takes words sees_call_takes)
+      (λ c _. fits_either words c (called_value (p - 1)) (plain_value p o) (called_fits (p - 1)) (plain_fits p o))
 
   -- ---- effects
 
@@ -162,27 +186,36 @@ module _ (words : List Word) where
 
   call_effect_fits : (p : ℕ) (last : Bool) → Fits words (call_effect p last).form IsEffect
   unfolding call_effect
-  call_effect_fits p last = fits_last words (call_fits p) (λ c ds calls el is. q_then words (q_takes words (before_takes (effect_end last) (rest_after_postfix true))) (λ _ _. q_made words (Calls c) is))
+  call_effect_fits p last =
+      fits_last words (call_fits p) (λ c ds calls el is.
+      q_then words (q_takes words (before_takes (effect_end last) (rest_after_postfix true))) (λ _ _. q_made words (Calls c) is))
 
   prefix_step_fits : (p : ℕ) (last : Bool) → Fits words (prefix_step p last).form IsEffect
   unfolding prefix_step step
   prefix_step_fits p last =
-      fits_quiet words (q_then words (q_takes words (one_takes (λ t. fits_step_of t.symbol t))) (λ s _. q_then words (target_deep words p casts.Refused others.Steps) (λ e low.
+      fits_quiet words (q_then words (q_takes words (one_takes (λ t. fits_step_of t.symbol t)))
+      (λ s _. q_then words (target_deep words p casts.Refused others.Steps) (λ e low.
       q_then words (q_takes words (before_takes (effect_end last) (rest_of true e))) (λ _ _. q_made words (Steps e s.0 s.1) (refl, refl, refl, low)))))
 
   assign_fits : (p : ℕ) (last : Bool) (to : Expression) (n : ℕ) → Shallow to → Fits words (assign p last to n).form IsEffect
   unfolding assign
   assign_fits p last to n low =
-      fits_last words (assigned_fits p others.Steps) (λ v ds calls el is. q_then words (q_takes words (before_takes (effect_end last) (rest_of_value true v))) (λ _ _. q_made words (Assigns to n v) (is.0, is.1, is.2, (low, is.3))))
+      fits_last words (assigned_fits p others.Steps)
+      (λ v ds calls el is. q_then words (q_takes words (before_takes (effect_end last) (rest_of_value true v)))
+      (λ _ _. q_made words (Assigns to n v) (is.0, is.1, is.2, (low, is.3))))
 
   update_fits : (p : ℕ) (last : Bool) (to : Expression) (op : Binary) (n : ℕ) → Shallow to → Fits words (update p last to op n).form IsEffect
   unfolding update
   update_fits p last to op n low =
-      fits_quiet words (q_then words (whole_expr_deep words p others.Steps) (λ e less. q_then words (q_takes words (before_takes (effect_end last) (rest_of true e))) (λ _ _. q_made words (Updates to op n e) (refl, refl, refl, (low, less)))))
+      fits_quiet words (q_then words (whole_expr_deep words p others.Steps)
+      (λ e less. q_then words (q_takes words (before_takes (effect_end last) (rest_of true e)))
+      (λ _ _. q_made words (Updates to op n e) (refl, refl, refl, (low, less)))))
 
   postfix_step_fits : (last : Bool) (to : Expression) (up : Bool) (n : ℕ) → Shallow to → Fits words (postfix_step last to up n).form IsEffect
   unfolding postfix_step
-  postfix_step_fits last to up n low = fits_quiet words (q_then words (q_takes words (before_takes (effect_end last) (rest_after_postfix true))) (λ _ _. q_made words (Steps to up n) (refl, refl, refl, low)))
+  postfix_step_fits last to up n low =
+      fits_quiet words (q_then words (q_takes words (before_takes (effect_end last) (rest_after_postfix true)))
+      (λ _ _. q_made words (Steps to up n) (refl, refl, refl, low)))
 
   effect_after_fits : (p : ℕ) (last : Bool) (to : Expression) (a : Assigning) (n : ℕ) → Shallow to → Fits words (effect_after p last to a n).form IsEffect
   unfolding effect_after
@@ -193,17 +226,23 @@ module _ (words : List Word) where
   target_effect_fits : (p : ℕ) (o : Others) (last : Bool) → Fits words (target_effect p o last).form IsEffect
   unfolding target_effect assigning_mark
   target_effect_fits p o last =
-      fits_after words (target_deep words p casts.Outside o) (λ to low. fits_after words (q_takes words (one_takes _)) (λ a _. fits_last words (effect_after_fits p last to a.0 a.1 low) (λ e ds calls el is. q_made words e is)))
+      fits_after words (target_deep words p casts.Outside o)
+      (λ to low. fits_after words (q_takes words (one_takes _))
+      (λ a _. fits_last words (effect_after_fits p last to a.0 a.1 low) (λ e ds calls el is. q_made words e is)))
 
   other_effect_fits : (p : ℕ) (o : Others) (last : Bool) → Fits words (other_effect p o last).form IsEffect
   unfolding other_effect
   other_effect_fits p o last =
-      fits_after words (q_takes words judged_takes) (λ s _. fits_last words (fits_either words s (prefix_step p last) (target_effect p o last) (prefix_step_fits p last) (target_effect_fits p o last)) (λ e ds calls el is. q_made words e is))
+      fits_after words (q_takes words judged_takes)
+      (λ s _. fits_last words (fits_either words s (prefix_step p last) (target_effect p o last) (prefix_step_fits p last)
+      (target_effect_fits p o last)) (λ e ds calls el is. q_made words e is))
 
   pub effect_fits : (p : ℕ) (o : Others) (last : Bool) → Fits words (effect p o last).form IsEffect
   unfolding effect
   effect_fits p o last =
-      fits_after words (q_takes words sees_call_takes) (λ c _. fits_last words (fits_either words c (call_effect (p - 1) last) (other_effect p o last) (call_effect_fits (p - 1) last) (other_effect_fits p o last)) (λ e ds calls el is. q_made words e is))
+      fits_after words (q_takes words sees_call_takes)
+      (λ c _. fits_last words (fits_either words c (call_effect (p - 1) last) (other_effect p o last) (call_effect_fits (p - 1) last)
+      (other_effect_fits p o last)) (λ e ds calls el is. q_made words e is))
 
   -- ---- locals
 
@@ -213,7 +252,9 @@ module _ (words : List Word) where
 
   initial_fits : Fits words initial.form IsValue
   unfolding initial
-  initial_fits = fits_after words (q_takes words assign_mark_takes) (λ _ _. fits_last words (assigned_fits most_parens others.StepsAndBraces) (λ v ds calls el is. q_made words v is))
+  initial_fits =
+      fits_after words (q_takes words assign_mark_takes)
+      (λ _ _. fits_last words (assigned_fits most_parens others.StepsAndBraces) (λ v ds calls el is. q_made words v is))
 
   abbrev pub IsFirst : Option ValueTree → List ℕ → List ℕ → ℕ → Type 0
   IsFirst = Is (λ v. []) calls_if_valued (λ v. 0) (IfValue Shallow)
@@ -222,7 +263,9 @@ module _ (words : List Word) where
   first_fits = fits_maybe words at_assign initial.form IsValue IsFirst initial_fits (refl, refl, refl, tt) (λ v ds calls el is. is)
 
   abbrev pub IsLocal : LocalTree → List ℕ → List ℕ → ℕ → Type 0
-  IsLocal = Is (λ (l : LocalTree). l.name ∷ []) (λ (l : LocalTree). calls_in_shape l.shape) (λ (l : LocalTree). elements_of words l.shape) (λ (l : LocalTree). InShape Shallow l.shape)
+  IsLocal =
+      Is (λ (l : LocalTree). l.name ∷ []) (λ (l : LocalTree). calls_in_shape l.shape) (λ (l : LocalTree). elements_of words l.shape)
+      (λ (l : LocalTree). InShape Shallow l.shape)
 
   -- the name stands before
   abbrev AfterName : ℕ → LocalTree → List ℕ → List ℕ → ℕ → Type 0
@@ -232,7 +275,8 @@ module _ (words : List Word) where
   unfolding pointer_local
   pointer_local_fits =
       fits_after words (q_takes words star_takes) (λ _ _. fits_declared words others.Stars (λ t. fits_last words first_fits (λ v ds calls el is.
-      q_then words (q_takes words (local_end_takes (after_local others.BracketsAndParens v))) (λ _ _. q_made words _ (ap (λ (xs : List ℕ). t.number ∷ xs) is.0, is.1, is.2, is.3)))))
+      q_then words (q_takes words (local_end_takes (after_local others.BracketsAndParens v)))
+      (λ _ _. q_made words _ (ap (λ (xs : List ℕ). t.number ∷ xs) is.0, is.1, is.2, is.3)))))
 
   array_local_fits : (n : ℕ) → Fits words (array_local n).form (AfterName n)
   unfolding array_local
@@ -241,17 +285,22 @@ module _ (words : List Word) where
   integer_local_fits : (n : ℕ) → Fits words (integer_local n).form (AfterName n)
   unfolding integer_local
   integer_local_fits n =
-      fits_last words first_fits (λ v ds calls el is. q_then words (q_takes words (local_end_takes (after_local others.Parens v))) (λ _ _. q_made words _ (ap (λ (xs : List ℕ). n ∷ xs) is.0, is.1, is.2, is.3)))
+      fits_last words first_fits (λ v ds calls el is. q_then words (q_takes words (local_end_takes (after_local others.Parens v)))
+      (λ _ _. q_made words _ (ap (λ (xs : List ℕ). n ∷ xs) is.0, is.1, is.2, is.3)))
 
   plain_local_fits : Fits words plain_local.form IsLocal
   unfolding plain_local
   plain_local_fits =
       fits_declared words others.Nothing (λ t. fits_after words (q_takes words (sees_takes (codes "["))) (λ b _.
-      fits_last words (fits_either words b (weaken (array_local t.number)) (integer_local t.number) (array_local_fits t.number) (integer_local_fits t.number)) (λ l ds calls el is. q_made words l is)))
+      fits_last words (fits_either words b (weaken (array_local t.number)) (integer_local t.number) (array_local_fits t.number)
+      (integer_local_fits t.number)) (λ l ds calls el is. q_made words l is)))
 
   local_fits : Fits words local.form IsLocal
   unfolding local
-  local_fits = fits_after words (q_takes words (sees_takes (codes "*"))) (λ p _. fits_last words (fits_either words p pointer_local plain_local pointer_local_fits plain_local_fits) (λ l ds calls el is. q_made words l is))
+  local_fits =
+      fits_after words (q_takes words (sees_takes (codes "*")))
+      (λ p _. fits_last words (fits_either words p pointer_local plain_local pointer_local_fits plain_local_fits)
+      (λ l ds calls el is. q_made words l is))
 
   further_local_fits : Fits words further_local.form IsLocal
   unfolding further_local
@@ -260,7 +309,8 @@ module _ (words : List Word) where
   abbrev pub AreLocals : List LocalTree → List ℕ → List ℕ → ℕ → Type 0
   AreLocals = Is tokens_of calls_in_locals (elements_of_all words) (InLocals Shallow)
 
-  one_more : (l : LocalTree) (ls : List LocalTree) (ds calls : List ℕ) (el : ℕ) (es more : List ℕ) (fl : ℕ) → IsLocal l ds calls el → AreLocals ls es more fl → AreLocals (l ∷ ls) (ds ++ es) (calls ++ more) (el + fl)
+  one_more : (l : LocalTree) (ls : List LocalTree) (ds calls : List ℕ) (el : ℕ) (es more : List ℕ) (fl : ℕ) → IsLocal l ds calls el
+      → AreLocals ls es more fl → AreLocals (l ∷ ls) (ds ++ es) (calls ++ more) (el + fl)
   one_more l ls ds calls el es more fl is are =
       (ap₂ (λ (xs ys : List ℕ). xs ++ ys) is.0 are.0, ap₂ (λ (xs ys : List ℕ). xs ++ ys) is.1 are.1, ap₂ (λ (x y : ℕ). x + y) is.2 are.2, (is.3, are.3))
 
@@ -270,6 +320,10 @@ module _ (words : List Word) where
   pub declaration_fits : Fits words declaration.form IsStatement
   unfolding declaration
   declaration_fits =
-      fits_after words (q_takes words next_number_takes) (λ n _. fits_after words (q_takes words (integer_type_takes settings.Block)) (λ i _. fits_then words local_fits (λ l ds calls el is.
-      fits_last words (fits_row words at_list_comma further_local.form IsLocal AreLocals further_local_fits (refl, refl, refl, tt) one_more) (λ ls es more fl are.
-      q_then words (q_takes words (semicolon_takes others.Nothing)) (λ _ _. q_made words (Declares n i (l ∷ ls)) (one_more l ls ds calls el es more fl is are))))))
+      fits_after words (q_takes words next_number_takes)
+      (λ n _. fits_after words (q_takes words (integer_type_takes settings.Block))
+      (λ i _. fits_then words local_fits (λ l ds calls el is.
+      fits_last words (fits_row words at_list_comma further_local.form IsLocal AreLocals further_local_fits (refl, refl, refl, tt)
+      one_more) (λ ls es more fl are.
+      q_then words (q_takes words (semicolon_takes others.Nothing))
+      (λ _ _. q_made words (Declares n i (l ∷ ls)) (one_more l ls ds calls el es more fl is are))))))

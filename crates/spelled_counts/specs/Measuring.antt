@@ -4,7 +4,8 @@
 --   Taken n at rest P  from a position on tokens are declared, calls made and elements counted as P says
 --   Quietly p R        p counts nothing, and what it spells keeps R
 --   Fits p post        what p counts
-use Rattle.std.proofs.Common.{◌≡◌, ◌≤◌, ◌+◌, ℕ, suc, Bool, true, false, List, [], ◌∷◌, ◌++◌, length, Option, Some, None, sym, ap, subst, ◌∙◌, arith, length-append, if◌then◌else◌}
+use Rattle.std.proofs.Common.{◌≡◌, ◌≤◌, ◌+◌, ℕ, suc, Bool, true, false, List, [], ◌∷◌, ◌++◌, length, Option, Some, None, sym, ap, subst}
+use Rattle.std.proofs.Common.{◌∙◌, arith, length-append, if◌then◌else◌}
 use Rattle.std.specs.Prelude.{⊤}
 use Rattle.grammar.specs.Form.{Form, bound, made, InARow, row, AtMostOne, at_most_one}
 use Rattle.c_unit.specs.Units.{Word}
@@ -91,7 +92,8 @@ module _ (words : List Word) where
         holds = t.holds;
       }
 
-  before_quiet : (n : ℕ) (at mid rest : Place) (P Q : List ℕ → List ℕ → ℕ → Type 0) → (t : Taken n at mid P) → Later mid rest → Q t.ds t.calls t.el → Taken n at rest Q
+  before_quiet : (n : ℕ) (at mid rest : Place) (P Q : List ℕ → List ℕ → ℕ → Type 0) → (t : Taken n at mid P) → Later mid rest
+      → Q t.ds t.calls t.el → Taken n at rest Q
   before_quiet n at mid rest P Q t later holds =
       let room = later.room in
       record {
@@ -108,10 +110,13 @@ module _ (words : List Word) where
         holds = holds;
       }
 
-  two_taken : (n : ℕ) (at mid rest : Place) (P Q R : List ℕ → List ℕ → ℕ → Type 0) (t : Taken n at mid P) (u : Taken t.m mid rest Q) → R (t.ds ++ u.ds) (t.calls ++ u.calls) (t.el + u.el) → Taken n at rest R
+  two_taken : (n : ℕ) (at mid rest : Place) (P Q R : List ℕ → List ℕ → ℕ → Type 0) (t : Taken n at mid P) (u : Taken t.m mid rest Q)
+      → R (t.ds ++ u.ds) (t.calls ++ u.calls) (t.el + u.el) → Taken n at rest R
   two_taken n at mid rest P Q R t u holds =
       let f = t.frames in
-      let g : mid.room.frames ≡ (length u.ds + given at.room.names u.calls) + rest.room.frames = subst (λ (names : List (List ℕ × Bool)). mid.room.frames ≡ (length u.ds + given names u.calls) + rest.room.frames) t.names u.frames in
+      let g : mid.room.frames ≡ (length u.ds + given at.room.names u.calls) + rest.room.frames =
+      subst (λ (names : List (List ℕ × Bool)). mid.room.frames ≡ (length u.ds + given names u.calls)
+      + rest.room.frames) t.names u.frames in
       let lengths = length-append t.ds u.ds in
       let counts = given_joined at.room.names t.calls u.calls in
       let e = t.elements in
@@ -136,9 +141,16 @@ module _ (words : List Word) where
   q_takes h = record { each = λ at x rest s. (h.each at x rest s, tt) }
 
   pub q_made : {A : Type 0} {R : A → Type 0} (a : A) → R a → Quietly (made a) R
-  q_made {R = R} a r = record { each = λ at x rest s. (record { good = λ words n g. subst (λ (p : Place). Good words n p.ahead) (sym s.1) g; room = ap (λ (p : Place). p.room) s.1 }, subst R (sym s.0) r) }
+  q_made {R = R} a r =
+      record {
+        each = λ at x rest s. (
+          record { good = λ words n g. subst (λ (p : Place). Good words n p.ahead) (sym s.1) g; room = ap (λ (p : Place). p.room) s.1 },
+          subst R (sym s.0) r,
+        );
+      }
 
-  pub q_then : {A B : Type 0} {p : Form Seen Room Fault A} {q : A → Form Seen Room Fault B} {R : A → Type 0} {S : B → Type 0} → Quietly p R → ((x : A) → R x → Quietly (q x) S) → Quietly (bound p q) S
+  pub q_then : {A B : Type 0} {p : Form Seen Room Fault A} {q : A → Form Seen Room Fault B} {R : A → Type 0} {S : B → Type 0}
+      → Quietly p R → ((x : A) → R x → Quietly (q x) S) → Quietly (bound p q) S
   q_then h k = record {
     each = λ at y rest s.
         let a = h.each at s.0 s.1 s.2 in
@@ -146,21 +158,24 @@ module _ (words : List Word) where
         (later_on at s.1 rest a.0 b.0, b.1);
   }
 
-  pub q_either : {some : Bool} {A : Type 0} {R : A → Type 0} (b : Bool) (p q : Rule some A) → Quietly p.form R → Quietly q.form R → Quietly (either b p q).form R
+  pub q_either : {some : Bool} {A : Type 0} {R : A → Type 0} (b : Bool) (p q : Rule some A) → Quietly p.form R → Quietly q.form R
+      → Quietly (either b p q).form R
   q_either true p q h i = h
   q_either false p q h i = i
 
   pub fits_quiet : {A : Type 0} {p : Form Seen Room Fault A} {post : A → List ℕ → List ℕ → ℕ → Type 0} → Quietly p (λ x. post x [] [] 0) → Fits p post
   fits_quiet {post = post} h = record { each = λ at x rest s n good. let a = h.each at x rest s in quiet_taken n at rest (post x) a.0 good a.1 }
 
-  pub fits_after : {A B : Type 0} {p : Form Seen Room Fault A} {q : A → Form Seen Room Fault B} {R : A → Type 0} {post : B → List ℕ → List ℕ → ℕ → Type 0} → Quietly p R → ((x : A) → R x → Fits (q x) post) → Fits (bound p q) post
+  pub fits_after : {A B : Type 0} {p : Form Seen Room Fault A} {q : A → Form Seen Room Fault B} {R : A → Type 0} {post : B → List ℕ → List ℕ → ℕ → Type 0}
+      → Quietly p R → ((x : A) → R x → Fits (q x) post) → Fits (bound p q) post
   fits_after {post = post} h k = record {
     each = λ at y rest s n good.
         let a = h.each at s.0 s.1 s.2 in
         after_quiet n at s.1 rest (post y) a.0 ((k s.0 a.1).each s.1 y rest s.3 n (a.0.good words n good));
   }
 
-  pub fits_last : {A B : Type 0} {p : Form Seen Room Fault A} {q : A → Form Seen Room Fault B} {P : A → List ℕ → List ℕ → ℕ → Type 0} {post : B → List ℕ → List ℕ → ℕ → Type 0} → Fits p P
+  pub fits_last : {A B : Type 0} {p : Form Seen Room Fault A} {q : A → Form Seen Room Fault B} {P : A → List ℕ → List ℕ → ℕ
+      → Type 0} {post : B → List ℕ → List ℕ → ℕ → Type 0} → Fits p P
       → ((x : A) (ds calls : List ℕ) (el : ℕ) → P x ds calls el → Quietly (q x) (λ y. post y ds calls el)) → Fits (bound p q) post
   fits_last {P = P} {post = post} h k = record {
     each = λ at y rest s n good.
@@ -169,8 +184,10 @@ module _ (words : List Word) where
         before_quiet n at s.1 rest (P s.0) (post y) t b.0 b.1;
   }
 
-  pub fits_then : {A B : Type 0} {p : Form Seen Room Fault A} {q : A → Form Seen Room Fault B} {P : A → List ℕ → List ℕ → ℕ → Type 0} {post : B → List ℕ → List ℕ → ℕ → Type 0} → Fits p P
-      → ((x : A) (ds calls : List ℕ) (el : ℕ) → P x ds calls el → Fits (q x) (λ y es more fl. post y (ds ++ es) (calls ++ more) (el + fl))) → Fits (bound p q) post
+  pub fits_then : {A B : Type 0} {p : Form Seen Room Fault A} {q : A → Form Seen Room Fault B} {P : A → List ℕ → List ℕ → ℕ
+      → Type 0} {post : B → List ℕ → List ℕ → ℕ → Type 0} → Fits p P
+      → ((x : A) (ds calls : List ℕ) (el : ℕ) → P x ds calls el
+      → Fits (q x) (λ y es more fl. post y (ds ++ es) (calls ++ more) (el + fl))) → Fits (bound p q) post
   fits_then {P = P} {post = post} h k = record {
     each = λ at y rest s n good.
         let t = h.each at s.0 s.1 s.2 n good in
@@ -178,33 +195,51 @@ module _ (words : List Word) where
         two_taken n at s.1 rest (P s.0) (λ es more fl. post y (t.ds ++ es) (t.calls ++ more) (t.el + fl)) (post y) t u u.holds;
   }
 
-  pub fits_either : {some : Bool} {A : Type 0} {post : A → List ℕ → List ℕ → ℕ → Type 0} (b : Bool) (p q : Rule some A) → Fits p.form post → Fits q.form post → Fits (either b p q).form post
+  pub fits_either : {some : Bool} {A : Type 0} {post : A → List ℕ → List ℕ → ℕ → Type 0} (b : Bool) (p q : Rule some A)
+      → Fits p.form post → Fits q.form post → Fits (either b p q).form post
   fits_either true p q h i = h
   fits_either false p q h i = i
 
-  pub fits_as : {A : Type 0} {p : Form Seen Room Fault A} {P Q : A → List ℕ → List ℕ → ℕ → Type 0} → ((x : A) (ds calls : List ℕ) (el : ℕ) → P x ds calls el → Q x ds calls el) → Fits p P → Fits p Q
+  pub fits_as : {A : Type 0} {p : Form Seen Room Fault A} {P Q : A → List ℕ → List ℕ → ℕ → Type 0}
+      → ((x : A) (ds calls : List ℕ) (el : ℕ) → P x ds calls el → Q x ds calls el) → Fits p P → Fits p Q
   fits_as f h = record {
     each = λ at x rest s n good.
         let t = h.each at x rest s n good in
-        record { ds = t.ds; calls = t.calls; el = t.el; m = t.m; tokens = t.tokens; good = t.good; frames = t.frames; elements = t.elements; functions = t.functions; names = t.names; holds = f x t.ds t.calls t.el t.holds };
+        record {
+          ds = t.ds;
+          calls = t.calls;
+          el = t.el;
+          m = t.m;
+          tokens = t.tokens;
+          good = t.good;
+          frames = t.frames;
+          elements = t.elements;
+          functions = t.functions;
+          names = t.names;
+          holds = f x t.ds t.calls t.el t.holds;
+        };
   }
 
   module _ {A : Type 0} (goes_on : Place → Bool) (p : Form Seen Room Fault A) (P : A → List ℕ → List ℕ → ℕ → Type 0) where
-    pub fits_maybe : (post : Option A → List ℕ → List ℕ → ℕ → Type 0) → Fits p P → post None [] [] 0 → ((x : A) (ds calls : List ℕ) (el : ℕ) → P x ds calls el → post (Some x) ds calls el) → Fits (at_most_one goes_on p) post
+    pub fits_maybe : (post : Option A → List ℕ → List ℕ → ℕ → Type 0) → Fits p P → post None [] [] 0
+        → ((x : A) (ds calls : List ℕ) (el : ℕ) → P x ds calls el → post (Some x) ds calls el) → Fits (at_most_one goes_on p) post
     fits_maybe post h none some = record { each = maybe_each }
       where
         maybe_each : (at : Place) (x : Option A) (rest : Place) → AtMostOne goes_on p at x rest → (n : ℕ) → Good words n at.ahead → Taken n at rest (post x)
         maybe_each at None rest s n good =
-            quiet_taken n at rest (post None) (record { good = λ words n g. subst (λ (p : Place). Good words n p.ahead) (sym s.1) g; room = ap (λ (p : Place). p.room) s.1 }) good none
+            quiet_taken n at rest (post None)
+            (record { good = λ words n g. subst (λ (p : Place). Good words n p.ahead) (sym s.1) g; room = ap (λ (p : Place). p.room) s.1 }) good none
         maybe_each at (Some x) rest s n good = ((fits_as {P = P} {Q = λ y. post (Some y)} (λ y. some y) h).each at x rest s.1 n good)
 
     pub fits_row : (post : List A → List ℕ → List ℕ → ℕ → Type 0) → Fits p P → post [] [] [] 0
-        → ((x : A) (xs : List A) (ds calls : List ℕ) (el : ℕ) (es more : List ℕ) (fl : ℕ) → P x ds calls el → post xs es more fl → post (x ∷ xs) (ds ++ es) (calls ++ more) (el + fl)) → Fits (row goes_on p) post
+        → ((x : A) (xs : List A) (ds calls : List ℕ) (el : ℕ) (es more : List ℕ) (fl : ℕ) → P x ds calls el → post xs es more fl
+        → post (x ∷ xs) (ds ++ es) (calls ++ more) (el + fl)) → Fits (row goes_on p) post
     fits_row post h none some = record { each = λ at xs rest s n good. row_each at xs rest s.0 n good }
       where
         row_each : (at : Place) (xs : List A) (rest : Place) → InARow goes_on p at xs rest → (n : ℕ) → Good words n at.ahead → Taken n at rest (post xs)
         row_each at [] rest s n good =
-            quiet_taken n at rest (post []) (record { good = λ words n g. subst (λ (p : Place). Good words n p.ahead) (sym s) g; room = ap (λ (p : Place). p.room) s }) good none
+            quiet_taken n at rest (post [])
+            (record { good = λ words n g. subst (λ (p : Place). Good words n p.ahead) (sym s) g; room = ap (λ (p : Place). p.room) s }) good none
         row_each at (x ∷ xs) rest s n good =
             let t = h.each at x s.1.0 s.1.1 n good in
             let u = row_each s.1.0 xs rest s.1.2 t.m t.good in

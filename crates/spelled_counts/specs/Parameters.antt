@@ -14,10 +14,13 @@ use Rattle.c_grammar.specs.declared.others.Others.{Others}
 use Rattle.c_grammar.specs.declared.others.Others.TheVariants as others
 use Rattle.c_grammar.specs.declared.specifiers.Setting.TheVariants as settings
 use Rattle.c_grammar.specs.Tokens.{Fault, Seen, Room, Place, Rule, name, either}
-use Rattle.c_grammar.specs.Types.{at_name, number_of_name, after_pointer, pointer_parameter, after_plain, plain_parameter, parameter_tail, further_parameter, parameters_from, void_parameters, parameters_after, some_parameters, no_parameters, parameters, at_list_comma}
+use Rattle.c_grammar.specs.Types.{at_name, number_of_name, after_pointer, pointer_parameter, after_plain, plain_parameter}
+use Rattle.c_grammar.specs.Types.{parameter_tail, further_parameter, parameters_from, void_parameters, parameters_after}
+use Rattle.c_grammar.specs.Types.{some_parameters, no_parameters, parameters, at_list_comma}
 use Rattle.spelled_trees.specs.Units.{token_if, tokens_of_parameters}
 use Rattle.spelled_counts.specs.Taking.{Good, Later, later_on, same_place, Takes}
-use Rattle.spelled_counts.specs.TypesTake.{star_takes, sees_takes, bracketed_type_takes, parameter_end_takes, comma_mark_takes, next_number_takes, integer_type_takes, right_paren_takes, type_of_takes}
+use Rattle.spelled_counts.specs.TypesTake.{star_takes, sees_takes, bracketed_type_takes, parameter_end_takes, comma_mark_takes}
+use Rattle.spelled_counts.specs.TypesTake.{next_number_takes, integer_type_takes, right_paren_takes, type_of_takes}
 use Rattle.spelled_counts.specs.Measuring.{Tokens, tokens_joined, Quietly, q_takes, q_made, q_then}
 use Rattle.spelled_counts.specs.Spending.{name_seen}
 
@@ -39,7 +42,8 @@ module _ (words : List Word) where
     each = λ at x rest s n good. let a = h.each at x rest s in subst (λ (ds : List ℕ). Marked n at rest ds) (sym a.1) (quiet_marked n at rest a.0 good);
   }
 
-  m_after : {A B : Type 0} {p : Form Seen Room Fault A} {q : A → Form Seen Room Fault B} {D : B → List ℕ} → Takes p → ((x : A) → Marks (q x) D) → Marks (bound p q) D
+  m_after : {A B : Type 0} {p : Form Seen Room Fault A} {q : A → Form Seen Room Fault B} {D : B → List ℕ} → Takes p
+      → ((x : A) → Marks (q x) D) → Marks (bound p q) D
   m_after h k = record {
     each = λ at y rest s n good.
         let a = h.each at s.0 s.1 s.2 in
@@ -47,12 +51,18 @@ module _ (words : List Word) where
         record { m = t.m; tokens = t.tokens; good = t.good; room = t.room ∙ a.room };
   }
 
-  m_last : {A B : Type 0} {p : Form Seen Room Fault A} {q : A → Form Seen Room Fault B} {C : A → List ℕ} {D : B → List ℕ} → Marks p C → ((x : A) → Quietly words (q x) (λ y. D y ≡ C x)) → Marks (bound p q) D
+  m_last : {A B : Type 0} {p : Form Seen Room Fault A} {q : A → Form Seen Room Fault B} {C : A → List ℕ} {D : B → List ℕ} → Marks p C
+      → ((x : A) → Quietly words (q x) (λ y. D y ≡ C x)) → Marks (bound p q) D
   m_last h k = record {
     each = λ at y rest s n good.
         let t = h.each at s.0 s.1 s.2 n good in
         let b = (k s.0).each s.1 y rest s.3 in
-        record { m = t.m; tokens = subst (λ (ds : List ℕ). Tokens words n t.m ds) (sym b.1) t.tokens; good = b.0.good words t.m t.good; room = b.0.room ∙ t.room };
+        record {
+          m = t.m;
+          tokens = subst (λ (ds : List ℕ). Tokens words n t.m ds) (sym b.1) t.tokens;
+          good = b.0.good words t.m t.good;
+          room = b.0.room ∙ t.room;
+        };
   }
 
   m_either : {some : Bool} {A : Type 0} {D : A → List ℕ} (b : Bool) (p q : Rule some A) → Marks p.form D → Marks q.form D → Marks (either b p q).form D
@@ -63,13 +73,19 @@ module _ (words : List Word) where
   name_marks o = record {
     each = λ at x rest s n good.
         let seen = name_seen words o n at x rest s good in
-        record { m = suc x.number; tokens = (seen.low, seen.is, (let same : suc x.number ≤ suc x.number = omega arith in same)); good = seen.good; room = seen.room };
+        record {
+          m = suc x.number;
+          tokens = (seen.low, seen.is, (let same : suc x.number ≤ suc x.number = omega arith in same));
+          good = seen.good;
+          room = seen.room;
+        };
   }
 
   name_if : (o : Others) → Marks (at_most_one at_name (name o).form) (λ (t : Option Seen). token_if (number_of_name t))
   name_if o = record { each = maybe_each }
     where
-      maybe_each : (at : Place) (x : Option Seen) (rest : Place) → AtMostOne at_name (name o).form at x rest → (n : ℕ) → Good words n at.ahead → Marked n at rest (token_if (number_of_name x))
+      maybe_each : (at : Place) (x : Option Seen) (rest : Place) → AtMostOne at_name (name o).form at x rest → (n : ℕ)
+          → Good words n at.ahead → Marked n at rest (token_if (number_of_name x))
       maybe_each at None rest s n good = quiet_marked n at rest (same_place at rest s.1) good
       maybe_each at (Some t) rest s n good = (name_marks o).each at t rest s.1 n good
 
@@ -78,22 +94,32 @@ module _ (words : List Word) where
 
   pointer_marks : (n : ℕ) (i : Integer) → Marks (pointer_parameter n i).form Named
   unfolding pointer_parameter
-  pointer_marks n i = m_after star_takes (λ _. m_last (name_if others.Nothing) (λ t. q_then words (q_takes words (parameter_end_takes (after_pointer t))) (λ _ _. q_made words _ refl)))
+  pointer_marks n i =
+      m_after star_takes (λ _. m_last (name_if others.Nothing)
+      (λ t. q_then words (q_takes words (parameter_end_takes (after_pointer t))) (λ _ _. q_made words _ refl)))
 
   plain_marks : (n : ℕ) (i : Integer) → Marks (plain_parameter n i).form Named
   unfolding plain_parameter
   plain_marks n i =
-      m_last (name_if others.Nothing) (λ t. q_then words (q_takes words (sees_takes (codes "["))) (λ b _. q_then words (q_takes words (bracketed_type_takes b i)) (λ k _. q_then words (q_takes words (parameter_end_takes (after_plain b t))) (λ _ _. q_made words _ refl))))
+      m_last (name_if others.Nothing) (λ t. q_then words
+      (q_takes words (sees_takes (codes "["))) (λ b _. q_then words (q_takes words (bracketed_type_takes b i))
+      (λ k _. q_then words (q_takes words (parameter_end_takes (after_plain b t))) (λ _ _. q_made words _ refl))))
 
   tail_marks : (n : ℕ) (i : Integer) → Marks (parameter_tail n i).form Named
   unfolding parameter_tail
-  tail_marks n i = m_after (sees_takes (codes "*")) (λ p. m_last (m_either p (weaken (pointer_parameter n i)) (plain_parameter n i) (pointer_marks n i) (plain_marks n i)) (λ r. q_made words r refl))
+  tail_marks n i =
+      m_after (sees_takes (codes "*")) (λ p. m_last
+      (m_either p (weaken (pointer_parameter n i)) (plain_parameter n i) (pointer_marks n i) (plain_marks n i))
+      (λ r. q_made words r refl))
 
   further_marks : Marks further_parameter.form Named
   unfolding further_parameter
-  further_marks = m_after comma_mark_takes (λ _. m_after next_number_takes (λ n. m_after (integer_type_takes settings.Parameter) (λ i. m_last (tail_marks n i) (λ p. q_made words p refl))))
+  further_marks =
+      m_after comma_mark_takes (λ _. m_after next_number_takes
+      (λ n. m_after (integer_type_takes settings.Parameter) (λ i. m_last (tail_marks n i) (λ p. q_made words p refl))))
 
-  row_marks : (at : Place) (ps : List Parameter) (rest : Place) → InARow at_list_comma further_parameter.form at ps rest → (n : ℕ) → Good words n at.ahead → Marked n at rest (tokens_of_parameters ps)
+  row_marks : (at : Place) (ps : List Parameter) (rest : Place) → InARow at_list_comma further_parameter.form at ps rest → (n : ℕ)
+      → Good words n at.ahead → Marked n at rest (tokens_of_parameters ps)
   row_marks at [] rest s n good = quiet_marked n at rest (same_place at rest s) good
   row_marks at (p ∷ ps) rest s n good =
       let t = further_marks.each at p s.1.0 s.1.1 n good in
@@ -111,7 +137,9 @@ module _ (words : List Word) where
         let later = later_on s.3.1 s.3.3.1 rest end last in
         record {
           m = u.m;
-          tokens = subst (λ (ps : List Parameter). Tokens words n u.m (tokens_of_parameters ps)) (sym s.3.3.3.0) (tokens_joined words n t.m u.m (Named s.0) (tokens_of_parameters s.3.0) t.tokens u.tokens);
+          tokens =
+              subst (λ (ps : List Parameter). Tokens words n u.m (tokens_of_parameters ps)) (sym s.3.3.3.0)
+              (tokens_joined words n t.m u.m (Named s.0) (tokens_of_parameters s.3.0) t.tokens u.tokens);
           good = later.good words u.m u.good;
           room = later.room ∙ u.room ∙ t.room;
         };
@@ -135,4 +163,6 @@ module _ (words : List Word) where
 
   pub parameters_mark : Marks parameters.form tokens_of_parameters
   unfolding parameters
-  parameters_mark = m_after (sees_takes (codes ")")) (λ none. m_last (m_either none no_parameters some_parameters none_marks some_marks) (λ ps. q_made words ps refl))
+  parameters_mark =
+      m_after (sees_takes (codes ")")) (λ none. m_last (m_either none no_parameters some_parameters none_marks some_marks)
+      (λ ps. q_made words ps refl))

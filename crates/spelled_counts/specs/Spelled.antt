@@ -30,15 +30,26 @@ row_of_unit : (at : Place) (xs : List ExternalTree) (rest : Place) → unit.form
 unfolding unit
 row_of_unit at xs rest s = s.0
 
-counted : (words : List Word) (bytes : List ℕ) (xs : List ExternalTree) (rest : Place) → words_of bytes ≡ words → All IsOfKind (tokens_of bytes) → InARow is_left external.form (start bytes) xs rest → AreExternals words 0 (start bytes) rest xs
+counted : (words : List Word) (bytes : List ℕ) (xs : List ExternalTree) (rest : Place) → words_of bytes ≡ words
+    → All IsOfKind (tokens_of bytes) → InARow is_left external.form (start bytes) xs rest → AreExternals words 0 (start bytes) rest xs
 counted words bytes xs rest same of s =
-    externals_filed words 0 (start bytes) xs rest s (subst (λ (ws : List Word). Good ws 0 (start bytes).ahead) same (good_start bytes (tokens_of bytes) (each_of IsOfKind (tokens_of bytes) of)))
+    externals_filed words 0 (start bytes) xs rest s
+    (subst (λ (ws : List Word). Good ws 0 (start bytes).ahead) same
+    (good_start bytes (tokens_of bytes) (each_of IsOfKind (tokens_of bytes) of)))
 
 pub spelled_is_counted : ((bytes : List ℕ) → All IsOfKind (tokens_of bytes)) → (whole : UnitTree) → IsSpelled whole → IsCounted IsIdentifier whole
 spelled_is_counted of whole spelled =
     let trees = spelled.1.trees in
-    let are = counted whole.words spelled.0 whole.externals trees.0 (sym spelled.1.words) (of spelled.0) (row_of_unit (start spelled.0) whole.externals trees.0 trees.1) in
+    let are = counted whole.words spelled.0 whole.externals trees.0 (sym spelled.1.words) (of spelled.0)
+    (row_of_unit (start spelled.0) whole.externals trees.0 trees.1) in
     let f : 256 ≡ all_frames_of whole.words [] whole.externals + trees.0.room.frames = are.frames in
     let e : 8192 ≡ all_elements_of whole.words whole.externals + trees.0.room.elements = are.elements in
     let g : 256 ≡ length (definitions whole.externals) + trees.0.room.functions = are.functions in
-    record { frames = omega (arith, f); elements = omega (arith, e); functions = omega (arith, g); last = are.m; tokens = ascends whole.words 0 are.m (all_tokens_of whole.externals) are.tokens; stand = are.stand }
+    record {
+      frames = omega (arith, f);
+      elements = omega (arith, e);
+      functions = omega (arith, g);
+      last = are.m;
+      tokens = ascends whole.words 0 are.m (all_tokens_of whole.externals) are.tokens;
+      stand = are.stand;
+    }

@@ -13,7 +13,8 @@ use Rattle.c_grammar.specs.declared.symbol.Symbol.{Symbol}
 use Rattle.c_grammar.specs.declared.symbol.Symbol.TheVariants as symbols
 use Rattle.c_grammar.specs.declared.others.Others.{Others}
 use Rattle.c_grammar.specs.declared.others.Others.TheVariants as others
-use Rattle.c_grammar.specs.Tokens.{Fault, Syntax, Seen, Room, Place, misfit, one, fits_name_of, name, fits_constant_of, constant, some_frames, some_elements, one_function}
+use Rattle.c_grammar.specs.Tokens.{Fault, Syntax, Seen, Room, Place, misfit, one, fits_name_of, name, fits_constant_of, constant}
+use Rattle.c_grammar.specs.Tokens.{some_frames, some_elements, one_function}
 use Rattle.c_grammar.specs.Types.{after_array, after_constant, array, array_size, at_assign}
 use Rattle.lowered_names.specs.Texts.{IsIdentifier}
 use Rattle.spelled_counts.specs.Taking.{Faithful, Good, good_from, maybe_takes}
@@ -40,7 +41,13 @@ frames_spend count at rest x s =
     let f = ap (λ (r : Room). r.frames) room in
     let e = ap (λ (r : Room). r.elements) room in
     let g = ap (λ (r : Room). r.functions) room in
-    record { ahead = ap (λ (p : Place). p.ahead) s.1; frames = omega (arith, low, f); elements = omega (arith, e); functions = omega (arith, g); names = ap (λ (r : Room). r.names) room }
+    record {
+      ahead = ap (λ (p : Place). p.ahead) s.1;
+      frames = omega (arith, low, f);
+      elements = omega (arith, e);
+      functions = omega (arith, g);
+      names = ap (λ (r : Room). r.names) room;
+    }
 
 pub elements_spend : (count : ℕ) (at rest : Place) (x : Unit {0}) → (some_elements count).form.Spells at x rest → Spends at rest 0 count 0
 unfolding some_elements
@@ -50,7 +57,13 @@ elements_spend count at rest x s =
     let f = ap (λ (r : Room). r.frames) room in
     let e = ap (λ (r : Room). r.elements) room in
     let g = ap (λ (r : Room). r.functions) room in
-    record { ahead = ap (λ (p : Place). p.ahead) s.1; frames = omega (arith, f); elements = omega (arith, low, e); functions = omega (arith, g); names = ap (λ (r : Room). r.names) room }
+    record {
+      ahead = ap (λ (p : Place). p.ahead) s.1;
+      frames = omega (arith, f);
+      elements = omega (arith, low, e);
+      functions = omega (arith, g);
+      names = ap (λ (r : Room). r.names) room;
+    }
 
 pub function_spends : (at rest : Place) (x : Unit {0}) → one_function.form.Spells at x rest → Spends at rest 0 0 1
 unfolding one_function
@@ -60,7 +73,13 @@ function_spends at rest x s =
     let f = ap (λ (r : Room). r.frames) room in
     let e = ap (λ (r : Room). r.elements) room in
     let g = ap (λ (r : Room). r.functions) room in
-    record { ahead = ap (λ (p : Place). p.ahead) s.1; frames = omega (arith, f); elements = omega (arith, e); functions = omega (arith, low, g); names = ap (λ (r : Room). r.names) room }
+    record {
+      ahead = ap (λ (p : Place). p.ahead) s.1;
+      frames = omega (arith, f);
+      elements = omega (arith, e);
+      functions = omega (arith, low, g);
+      names = ap (λ (r : Room). r.names) room;
+    }
 
 module _ (words : List Word) where
   -- ---- one token
@@ -73,12 +92,23 @@ module _ (words : List Word) where
     pub good : Good words (suc t.number) rest.ahead
     pub room : rest.room ≡ at.room
 
-  first_seen : {A : Type 0} (fit : Seen → Result A Fault) (n : ℕ) (ts : List Seen) (at : Place) (x : A) (rest : Place) → fit_first (λ (at : Place). Syntax None) (λ (t : Seen) (at : Place). fit t) (first_of ts) at ≡ Ok x → rest.ahead ≡ others_of ts → rest.room ≡ at.room
+  first_seen : {A : Type 0} (fit : Seen → Result A Fault) (n : ℕ) (ts : List Seen) (at : Place) (x : A) (rest : Place)
+      → fit_first (λ (at : Place). Syntax None) (λ (t : Seen) (at : Place). fit t) (first_of ts) at ≡ Ok x → rest.ahead ≡ others_of ts
+      → rest.room ≡ at.room
       → Good words n ts → IsSeen fit n at x rest
   first_seen fit n [] at x rest e ahead room good = ok_no_err x (Syntax None) e
-  first_seen fit n (t ∷ ts) at x rest e ahead room good = record { t = t; fits = e; low = good.0; faithful = good.1; good = subst (λ (us : List Seen). Good words (suc t.number) us) (sym ahead) good.2; room = room }
+  first_seen fit n (t ∷ ts) at x rest e ahead room good =
+      record {
+        t = t;
+        fits = e;
+        low = good.0;
+        faithful = good.1;
+        good = subst (λ (us : List Seen). Good words (suc t.number) us) (sym ahead) good.2;
+        room = room;
+      }
 
-  pub token_seen : {A : Type 0} (fit : Seen → Result A Fault) (n : ℕ) (at : Place) (x : A) (rest : Place) → (one fit).form.Spells at x rest → Good words n at.ahead → IsSeen fit n at x rest
+  pub token_seen : {A : Type 0} (fit : Seen → Result A Fault) (n : ℕ) (at : Place) (x : A) (rest : Place)
+      → (one fit).form.Spells at x rest → Good words n at.ahead → IsSeen fit n at x rest
   token_seen fit n at x rest s good = first_seen fit n at.ahead at x rest s.0 (ap (λ (p : Place). p.ahead) s.1) (ap (λ (p : Place). p.room) s.1) good
 
   -- ---- names
@@ -109,7 +139,8 @@ module _ (words : List Word) where
       }
 
   -- a name with its frame, and then what the others count
-  pub fits_declared : {B : Type 0} {q : Seen → Form Seen Room Fault B} {post : B → List ℕ → List ℕ → ℕ → Type 0} (o : Others) → ((t : Seen) → Fits words (q t) (λ y ds calls el. post y (t.number ∷ ds) calls el))
+  pub fits_declared : {B : Type 0} {q : Seen → Form Seen Room Fault B} {post : B → List ℕ → List ℕ → ℕ → Type 0} (o : Others)
+      → ((t : Seen) → Fits words (q t) (λ y ds calls el. post y (t.number ∷ ds) calls el))
       → Fits words (bound (name o).form (λ t. bound (some_frames 1).form (λ _. q t))) post
   fits_declared {post = post} o h = record {
     each = λ at y rest s n good.
@@ -125,7 +156,9 @@ module _ (words : List Word) where
         let f = spent.frames in
         let e = spent.elements in
         let g = spent.functions in
-        let uf : s.3.1.room.frames ≡ (length u.ds + given words at.room.names u.calls) + rest.room.frames = subst (λ (x : List (List ℕ × Bool)). s.3.1.room.frames ≡ (length u.ds + given words x u.calls) + rest.room.frames) names u.frames in
+        let uf : s.3.1.room.frames ≡ (length u.ds + given words at.room.names u.calls) + rest.room.frames =
+        subst (λ (x : List (List ℕ × Bool)). s.3.1.room.frames ≡ (length u.ds + given words x u.calls)
+        + rest.room.frames) names u.frames in
         let ue = u.elements in
         let ug = u.functions in
         record {
@@ -172,7 +205,8 @@ module _ (words : List Word) where
   Counted D C E ds calls el = (ds ≡ D) × (calls ≡ C) × (el ≡ E)
 
   -- a constant whose number is spent
-  spent_size : {B : Type 0} {q : ℕ × ℕ → Form Seen Room Fault B} {post : B → List ℕ → List ℕ → ℕ → Type 0} (o : Others) → ((s : ℕ × ℕ) → Quietly words (q s) (λ y. post y [] [] (number_of (worth_at words s.0))))
+  spent_size : {B : Type 0} {q : ℕ × ℕ → Form Seen Room Fault B} {post : B → List ℕ → List ℕ → ℕ → Type 0} (o : Others)
+      → ((s : ℕ × ℕ) → Quietly words (q s) (λ y. post y [] [] (number_of (worth_at words s.0))))
       → Fits words (bound (constant o).form (λ s. bound (some_elements s.1).form (λ _. q s))) post
   spent_size {post = post} o h = record {
     each = λ at y rest s n good.
@@ -210,9 +244,13 @@ module _ (words : List Word) where
   size_fits : Fits words array_size.form (λ s. Counted [] [] (number_of (worth_at words s)))
   unfolding array_size
   size_fits =
-      fits_after words (q_takes words left_bracket_takes) (λ _ _. spent_size others.Sizes (λ s. q_then words (q_takes words (right_bracket_takes after_constant)) (λ _ _. q_made words s.0 (refl, refl, refl))))
+      fits_after words (q_takes words left_bracket_takes)
+      (λ _ _. spent_size others.Sizes (λ s. q_then words (q_takes words (right_bracket_takes after_constant))
+      (λ _ _. q_made words s.0 (refl, refl, refl))))
 
   pub array_fits : Fits words array.form (λ a. Counted [] [] (number_of (worth_at words a.0)))
   unfolding array
   array_fits =
-      fits_last words size_fits (λ s ds calls el is. q_then words (q_takes words (maybe_takes at_assign _ element_list_takes)) (λ cs _. q_then words (q_takes words (before_either_takes (codes ",") (codes ";") (after_array cs))) (λ _ _. q_made words (s, cs) is)))
+      fits_last words size_fits (λ s ds calls el is. q_then words (q_takes words (maybe_takes at_assign _ element_list_takes))
+      (λ cs _. q_then words (q_takes words (before_either_takes (codes ",") (codes ";") (after_array cs)))
+      (λ _ _. q_made words (s, cs) is)))

@@ -2,7 +2,9 @@
 --   named_is_identifier   a token that is a name to the grammar is an identifier
 --   constant_is_worth     a token that is a constant to the grammar is worth its number
 --   good_start            the tokens of a text are those of its words, in order
-use Rattle.std.proofs.Common.{◌≡◌, ◌≤◌, ◌+◌, ◌==◌, ◌&&◌, ◌||◌, ℕ, suc, Bool, true, false, List, [], ◌∷◌, map, length, slice_get, Option, Some, None, option_map, refl, sym, ap, subst, ◌∙◌, arith, bytes_eq, eqb-true, ltb, ltb-false, codes, if◌then◌else◌}
+use Rattle.std.proofs.Common.{◌≡◌, ◌≤◌, ◌+◌, ◌==◌, ◌&&◌, ◌||◌, ℕ, suc, Bool, true, false, List, [], ◌∷◌, map, length, slice_get, Option}
+use Rattle.std.proofs.Common.{Some, None, option_map, refl, sym, ap, subst, ◌∙◌, arith, bytes_eq, eqb-true, ltb, ltb-false, codes}
+use Rattle.std.proofs.Common.{if◌then◌else◌}
 use Rattle.std.specs.List.{list_all}
 use Rattle.std.specs.Option.{option_map_or}
 use Rattle.std.specs.Char.{is_ascii_digit}
@@ -26,7 +28,9 @@ use Rattle.c_checks.specs.Names.{text_at, worth_of_text, number_of}
 use Rattle.c_grammar.specs.declared.symbol.TypeWord.{TypeWord}
 use Rattle.c_grammar.specs.declared.symbol.Symbol.{Symbol}
 use Rattle.c_grammar.specs.declared.symbol.Symbol.TheVariants as symbols
-use Rattle.c_grammar.specs.Symbols.{type_word, is_label_word, is_statement_word, other_word, word_among, word_symbol, operator_byte, bracket_byte, operator_or, repeated_symbol, updated_symbol, with_equals, mark_symbol, constant_symbol, symbol_of}
+use Rattle.c_grammar.specs.Symbols.{type_word, is_label_word, is_statement_word, other_word, word_among, word_symbol, operator_byte}
+use Rattle.c_grammar.specs.Symbols.{bracket_byte, operator_or, repeated_symbol, updated_symbol, with_equals, mark_symbol}
+use Rattle.c_grammar.specs.Symbols.{constant_symbol, symbol_of}
 use Rattle.c_grammar.specs.Tokens.{Seen}
 use Rattle.c_reader.specs.Reading.{numbered}
 use Rattle.lowered_names.specs.Lists.{EachOf}
@@ -57,8 +61,11 @@ Mark s = is_mark s ≡ true
 
 bracket_mark : (b : ℕ) → Mark (bracket_byte b)
 bracket_mark b =
-    choose Mark (b == 40) _ _ refl (choose Mark (b == 41) _ _ refl (choose Mark (b == 91) _ _ refl (choose Mark (b == 93) _ _ refl (choose Mark (b == 123) _ _ refl (choose Mark (b == 125) _ _ refl
-    (choose Mark (b == 44) _ _ refl (choose Mark (b == 59) _ _ refl (choose Mark (b == 58) _ _ refl (choose Mark (b == 61) _ _ refl (choose Mark (b == 33) _ _ refl (choose Mark (b == 126) _ _ refl refl)))))))))))
+    choose Mark (b == 40) _ _ refl (choose Mark (b == 41) _ _ refl
+    (choose Mark (b == 91) _ _ refl (choose Mark (b == 93) _ _ refl (choose Mark (b == 123) _ _ refl (choose Mark (b == 125) _ _ refl
+    (choose Mark (b == 44) _ _ refl (choose Mark (b == 59) _ _ refl
+    (choose Mark (b == 58) _ _ refl (choose Mark (b == 61) _ _ refl
+    (choose Mark (b == 33) _ _ refl (choose Mark (b == 126) _ _ refl refl)))))))))))
 
 operator_mark : (o : Option Binary) (s : Symbol) → Mark s → Mark (operator_or o s)
 operator_mark (Some op) s h = refl
@@ -70,7 +77,9 @@ updated_mark None = refl
 
 repeated_mark : (b : ℕ) → Mark (repeated_symbol b)
 repeated_mark b =
-    choose Mark (b == 43) _ _ refl (choose Mark (b == 45) _ _ refl (choose Mark (b == 60) _ _ refl (choose Mark (b == 62) _ _ refl (choose Mark (b == 61) _ _ refl (choose Mark (b == 38) _ _ refl (choose Mark (b == 124) _ _ refl refl))))))
+    choose Mark (b == 43) _ _ refl (choose Mark (b == 45) _ _ refl
+    (choose Mark (b == 60) _ _ refl (choose Mark (b == 62) _ _ refl
+    (choose Mark (b == 61) _ _ refl (choose Mark (b == 38) _ _ refl (choose Mark (b == 124) _ _ refl refl))))))
 
 equals_mark : (b : ℕ) → Mark (with_equals b)
 equals_mark b = choose Mark (b == 60) _ _ refl (choose Mark (b == 62) _ _ refl (choose Mark (b == 33) _ _ refl (updated_mark (operator_byte b))))
@@ -130,7 +139,9 @@ Plain s = is_number s ≡ false
 other_plain : (text : List ℕ) → Plain (other_word text)
 unfolding other_word
 other_plain text =
-    choose Plain (is_statement_word text) _ _ refl (choose Plain (is_label_word text) _ _ refl (choose Plain (bytes_eq text (codes "else")) _ _ refl (choose Plain (bytes_eq text (codes "const")) _ _ refl
+    choose Plain (is_statement_word text) _ _ refl
+    (choose Plain (is_label_word text) _ _ refl (choose Plain (bytes_eq text (codes "else")) _ _ refl
+    (choose Plain (bytes_eq text (codes "const")) _ _ refl
     (choose Plain (bytes_eq text (codes "static")) _ _ refl (choose Plain (is_keyword text || ltb 28 (length text)) _ _ refl refl)))))
 
 among_plain : (w : Option TypeWord) (text : List ℕ) → Plain (word_among w text)
@@ -151,7 +162,8 @@ abbrev is_some_identifier : Option Kind → Bool
 is_some_identifier None = false
 is_some_identifier (Some k) = is_identifier k
 
-pass : {A : Type 0} (b : Bool) (x y : Option Kind) → is_some_identifier x ≡ false → is_some_identifier (if b then x else y) ≡ true → (is_some_identifier y ≡ true → A) → A
+pass : {A : Type 0} (b : Bool) (x y : Option Kind) → is_some_identifier x ≡ false → is_some_identifier (if b then x else y) ≡ true
+    → (is_some_identifier y ≡ true → A) → A
 pass true x y h e f = absurd (let bad : false ≡ true = sym h ∙ e in cc)
 pass false x y h e f = f e
 
@@ -181,13 +193,20 @@ more_words : (b c : ℕ) (cs : List ℕ) → is_some_identifier (kind_of_more b 
 more_words b c cs e =
     pass (is_blank b) None _ refl e (λ e1. pass (opens_comment b c) (comment_kind (comment_end cs) cs) _ (comment_other (comment_end cs) cs) e1
     (λ e2. pass (opens_line_comment b c) (only (list_all in_line cs) kinds.White) _ (only_other (list_all in_line cs) kinds.White refl) e2
-    (λ e3. pass (is_wide b c) (only (is_end (literal_end c cs) cs) (literal_kind c)) _ (only_other (is_end (literal_end c cs) cs) (literal_kind c) (literal_other c)) e3
+    (λ e3. pass (is_wide b c) (only (is_end (literal_end c cs) cs) (literal_kind c)) _
+    (only_other (is_end (literal_end c cs) cs) (literal_kind c) (literal_other c)) e3
     (λ e4. by_test (is_letter b)
-    (λ letter. letter_then b (c ∷ cs) letter (only_true (list_all is_word_byte (c ∷ cs)) kinds.Identifier (sym (ap (λ (x : Bool). is_some_identifier (if x then only (list_all is_word_byte (c ∷ cs)) kinds.Identifier else after_letter)) letter) ∙ e4)))
-    (λ none. absurd (let bad : false ≡ true = sym after_other ∙ (sym (ap (λ (x : Bool). is_some_identifier (if x then only (list_all is_word_byte (c ∷ cs)) kinds.Identifier else after_letter)) none) ∙ e4) in cc))))))
+    (λ letter. letter_then b (c ∷ cs) letter (only_true (list_all is_word_byte (c ∷ cs)) kinds.Identifier
+    (sym (ap (λ (x : Bool). is_some_identifier (if x then only (list_all is_word_byte (c ∷ cs))
+    kinds.Identifier else after_letter)) letter) ∙ e4)))
+    (λ none. absurd (let bad : false ≡ true = sym after_other
+    ∙ (sym (ap (λ (x : Bool). is_some_identifier (if x then only (list_all is_word_byte (c ∷ cs)) kinds.Identifier else after_letter))
+    none) ∙ e4) in cc))))))
   where
     after_letter : Option Kind
-    after_letter = if starts_number b c then only (is_number_rest false (c ∷ cs)) kinds.Number else if is_quote b then quoted_kind b (literal_end b (c ∷ cs)) (c ∷ cs) else only (is_punctuator (b ∷ c ∷ cs)) kinds.Punctuator
+    after_letter =
+        if starts_number b c then only (is_number_rest false (c ∷ cs)) kinds.Number else if is_quote b then quoted_kind b
+        (literal_end b (c ∷ cs)) (c ∷ cs) else only (is_punctuator (b ∷ c ∷ cs)) kinds.Punctuator
 
     choose_kind : (x : Bool) (k l : Option Kind) → is_some_identifier k ≡ false → is_some_identifier l ≡ false → is_some_identifier (if x then k else l) ≡ false
     choose_kind true k l h i = h
@@ -205,7 +224,8 @@ choose_one false k l h i = i
 one_word : (b : ℕ) → is_identifier (kind_of_one b) ≡ true → is_letter b ≡ true
 one_word b e =
     by_test (is_letter b) (λ t. t)
-    (λ f. absurd (let bad : false ≡ true = sym (choose_one (is_blank b) kinds.White others refl (choose_one (is_ascii_digit b) _ _ refl (choose_one (is_quote b) _ _ refl (choose_one (is_single b) _ _ refl refl))))
+    (λ f. absurd (let bad : false ≡ true = sym (choose_one (is_blank b) kinds.White others refl
+    (choose_one (is_ascii_digit b) _ _ refl (choose_one (is_quote b) _ _ refl (choose_one (is_single b) _ _ refl refl))))
     ∙ (sym (ap (λ (x : Bool). is_identifier (if is_blank b then kinds.White else if x then kinds.Identifier else others)) f) ∙ e) in cc))
   where
     others : Kind
@@ -294,7 +314,8 @@ constant_is_worth kinds.OpenComment text n e = no_constant symbols.NoSymbol n re
 abbrev pub IsOfKind : Lexeme → Type 0
 IsOfKind t = kind_of t.text ≡ Some t.kind
 
-good_from_text : (words : List Word) (n : ℕ) (ts : List Lexeme) → ((i : ℕ) (t : Lexeme) → slice_get ts i ≡ Some t → text_at words (n + i) ≡ t.text) → EachOf IsOfKind ts → Good words n (numbered n ts)
+good_from_text : (words : List Word) (n : ℕ) (ts : List Lexeme)
+    → ((i : ℕ) (t : Lexeme) → slice_get ts i ≡ Some t → text_at words (n + i) ≡ t.text) → EachOf IsOfKind ts → Good words n (numbered n ts)
 good_from_text words n [] at of = tt
 good_from_text words n (t ∷ ts) at of =
     let text : text_at words n ≡ t.text = ap (text_at words) (let same : n ≡ n + 0 = omega arith in same) ∙ at 0 t refl in
@@ -306,7 +327,8 @@ good_from_text words n (t ∷ ts) at of =
         constant = λ k e. ap (λ (x : List ℕ). number_of (worth_of_text x)) text ∙ constant_is_worth t.kind t.text k e;
       },
       subst (λ (us : List Seen). Good words (suc n) us) (sym more)
-          (good_from_text words (suc n) ts (λ i u there. ap (text_at words) (let same : suc n + i ≡ n + suc i = omega arith in same) ∙ at (suc i) u there) of.1),
+          (good_from_text words (suc n) ts (λ i u there. ap (text_at words) (let same : suc n + i ≡ n + suc i = omega arith in same)
+          ∙ at (suc i) u there) of.1),
     )
 
 -- the tokens of a text are those of its words

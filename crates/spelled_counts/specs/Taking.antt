@@ -47,7 +47,8 @@ good_after words n [] g = tt
 good_after words n (t ∷ ts) g = good_from words n (suc t.number) ts (let low = g.0 in omega (arith, low)) g.2
 
 pub after_place : (at rest : Place) → rest ≡ after at → Later at rest
-after_place at rest e = record { good = λ words n g. subst (λ (p : Place). Good words n p.ahead) (sym e) (good_after words n at.ahead g); room = ap (λ (p : Place). p.room) e }
+after_place at rest e =
+    record { good = λ words n g. subst (λ (p : Place). Good words n p.ahead) (sym e) (good_after words n at.ahead g); room = ap (λ (p : Place). p.room) e }
 
 pub one_takes : {A : Type 0} (fit : Seen → Result A Fault) → Takes (one fit).form
 one_takes fit = record { each = λ at x rest s. after_place at rest s.1 }

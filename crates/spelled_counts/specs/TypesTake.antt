@@ -1,6 +1,12 @@
 -- The rules of single tokens, of types and of parameters count nothing.
 use Rattle.c_grammar.specs.Tokens.{before, before_either, constant, fits_constant_of, fits_name_of, name, next_number, sees}
-use Rattle.c_grammar.specs.Types.{after_constant, after_plain, after_pointer, assign_mark, at_const, at_further, at_list_comma, at_name, at_specifier, bracketed_type, close_brace, comma_mark, const_word, element, element_list, elements, empty_brackets, fits_word_of, further_element, further_parameter, integer_told, integer_type, left_bracket, minus_constant, minus_sign, no_parameters, no_words, parameter_end, parameter_tail, parameters, parameters_after, parameters_from, plain_constant, plain_parameter, pointer_parameter, pointer_stars, pointer_to, right_bracket, right_paren, signed_constant, some_parameters, specifier, star, type_of, type_told, void_parameters}
+use Rattle.c_grammar.specs.Types.{after_constant, after_plain, after_pointer, assign_mark, at_const, at_further, at_list_comma, at_name}
+use Rattle.c_grammar.specs.Types.{at_specifier, bracketed_type, close_brace, comma_mark, const_word, element, element_list, elements}
+use Rattle.c_grammar.specs.Types.{empty_brackets, fits_word_of, further_element, further_parameter, integer_told, integer_type}
+use Rattle.c_grammar.specs.Types.{left_bracket, minus_constant, minus_sign, no_parameters, no_words, parameter_end, parameter_tail}
+use Rattle.c_grammar.specs.Types.{parameters, parameters_after, parameters_from, plain_constant, plain_parameter, pointer_parameter}
+use Rattle.c_grammar.specs.Types.{pointer_stars, pointer_to, right_bracket, right_paren, signed_constant, some_parameters, specifier}
+use Rattle.c_grammar.specs.Types.{star, type_of, type_told, void_parameters}
 use Rattle.c_grammar.specs.Words.{with_word}
 use Rattle.c_grammar.specs.declared.others.Others.{Others}
 use Rattle.c_grammar.specs.declared.specifiers.Setting.{Setting}
@@ -50,7 +56,9 @@ type_told_takes w = judged_takes
 
 pub type_of_takes : (setting : Setting) → Takes (type_of setting).form
 unfolding type_of
-type_of_takes setting = specifier_takes setting no_words >>> λ w. chain_takes at_specifier _ (specifier_takes setting) w >>> λ ws. type_told_takes ws >>> λ o. made_takes
+type_of_takes setting =
+    specifier_takes setting no_words >>> λ w. chain_takes at_specifier _ (specifier_takes setting) w >>> λ ws.
+    type_told_takes ws >>> λ o. made_takes
 
 pub integer_told_takes : (o : Others) (t : Outcome) → Takes (integer_told o t).form
 unfolding integer_told
@@ -90,7 +98,9 @@ plain_constant_takes o = constant_takes o >>> λ c. made_takes
 
 pub signed_constant_takes : (o : Others) → Takes (signed_constant o).form
 unfolding signed_constant
-signed_constant_takes o = sees_takes (codes "-") >>> λ m. either_takes m minus_constant (plain_constant o) minus_constant_takes (plain_constant_takes o) >>> λ c. made_takes
+signed_constant_takes o =
+    sees_takes (codes "-") >>> λ m. either_takes m minus_constant (plain_constant o) minus_constant_takes
+    (plain_constant_takes o) >>> λ c. made_takes
 
 pub assign_mark_takes : Takes assign_mark.form
 unfolding assign_mark
@@ -114,7 +124,9 @@ close_brace_takes = mark_takes (codes "}") others.Nothing >>> λ _. made_takes
 
 pub elements_takes : Takes elements.form
 unfolding elements
-elements_takes = element_takes >>> λ c. row_takes at_further _ further_element_takes >>> λ cs. maybe_takes at_list_comma _ comma_mark_takes >>> λ last. close_brace_takes >>> λ _. made_takes
+elements_takes =
+    element_takes >>> λ c. row_takes at_further _ further_element_takes >>> λ cs.
+    maybe_takes at_list_comma _ comma_mark_takes >>> λ last. close_brace_takes >>> λ _. made_takes
 
 pub element_list_takes : Takes element_list.form
 unfolding element_list
@@ -134,7 +146,9 @@ parameter_end_takes o = before_either_takes (codes ",") (codes ")") o
 
 pub pointer_parameter_takes : (n : ℕ) (i : Integer) → Takes (pointer_parameter n i).form
 unfolding pointer_parameter
-pointer_parameter_takes n i = star_takes >>> λ _. maybe_takes at_name _ (name_takes others.Nothing) >>> λ t. parameter_end_takes (after_pointer t) >>> λ _. made_takes
+pointer_parameter_takes n i =
+    star_takes >>> λ _. maybe_takes at_name _ (name_takes others.Nothing) >>> λ t.
+    parameter_end_takes (after_pointer t) >>> λ _. made_takes
 
 pub empty_brackets_takes : (i : Integer) → Takes (empty_brackets i).form
 unfolding empty_brackets
@@ -146,15 +160,21 @@ bracketed_type_takes b i = either_takes b (weaken (empty_brackets i)) (value (sc
 
 pub plain_parameter_takes : (n : ℕ) (i : Integer) → Takes (plain_parameter n i).form
 unfolding plain_parameter
-plain_parameter_takes n i = maybe_takes at_name _ (name_takes others.Nothing) >>> λ t. sees_takes (codes "[") >>> λ b. bracketed_type_takes b i >>> λ k. parameter_end_takes (after_plain b t) >>> λ _. made_takes
+plain_parameter_takes n i =
+    maybe_takes at_name _ (name_takes others.Nothing) >>> λ t.
+    sees_takes (codes "[") >>> λ b. bracketed_type_takes b i >>> λ k. parameter_end_takes (after_plain b t) >>> λ _. made_takes
 
 pub parameter_tail_takes : (n : ℕ) (i : Integer) → Takes (parameter_tail n i).form
 unfolding parameter_tail
-parameter_tail_takes n i = sees_takes (codes "*") >>> λ p. either_takes p (weaken (pointer_parameter n i)) (plain_parameter n i) (pointer_parameter_takes n i) (plain_parameter_takes n i) >>> λ r. made_takes
+parameter_tail_takes n i =
+    sees_takes (codes "*") >>> λ p. either_takes p (weaken (pointer_parameter n i)) (plain_parameter n i) (pointer_parameter_takes n i)
+    (plain_parameter_takes n i) >>> λ r. made_takes
 
 pub further_parameter_takes : Takes further_parameter.form
 unfolding further_parameter
-further_parameter_takes = comma_mark_takes >>> λ _. next_number_takes >>> λ n. integer_type_takes settings.Parameter >>> λ i. parameter_tail_takes n i >>> λ p. made_takes
+further_parameter_takes =
+    comma_mark_takes >>> λ _. next_number_takes >>> λ n. integer_type_takes settings.Parameter >>> λ i.
+    parameter_tail_takes n i >>> λ p. made_takes
 
 pub right_paren_takes : (o : Others) → Takes (right_paren o).form
 unfolding right_paren
@@ -162,7 +182,9 @@ right_paren_takes o = mark_takes (codes ")") o >>> λ _. made_takes
 
 pub parameters_from_takes : (n : ℕ) (i : Integer) → Takes (parameters_from n i).form
 unfolding parameters_from
-parameters_from_takes n i = parameter_tail_takes n i >>> λ p. row_takes at_list_comma _ further_parameter_takes >>> λ ps. right_paren_takes others.Nothing >>> λ _. made_takes
+parameters_from_takes n i =
+    parameter_tail_takes n i >>> λ p. row_takes at_list_comma _ further_parameter_takes >>> λ ps.
+    right_paren_takes others.Nothing >>> λ _. made_takes
 
 pub void_parameters_takes : Takes void_parameters.form
 unfolding void_parameters
@@ -182,4 +204,6 @@ no_parameters_takes = right_paren_takes others.Nothing >>> λ _. made_takes
 
 pub parameters_takes : Takes parameters.form
 unfolding parameters
-parameters_takes = sees_takes (codes ")") >>> λ none. either_takes none no_parameters some_parameters no_parameters_takes some_parameters_takes >>> λ ps. made_takes
+parameters_takes =
+    sees_takes (codes ")") >>> λ none.
+    either_takes none no_parameters some_parameters no_parameters_takes some_parameters_takes >>> λ ps. made_takes

@@ -117,19 +117,21 @@ module _ (words : List Word) where
   unfolding call some_token
   call_fits p = record {
     each = λ at y rest s n good.
-        let t = s.0 in
-        let seen = token_seen words fits_any n at t s.1 s.2 good in
+        let (t, named, name_spelled, after_name) = s in
+        let (mark, opened, mark_spelled, after_mark) = after_name in
+        let (frame, framed, frame_taken, after_frame) = after_mark in
+        let (list, listed, list_spelled, end) = after_frame in
+        let seen = token_seen words fits_any n at t named name_spelled good in
         let same = ok_is {F = Fault} seen.t t seen.fits in
-        let paren = open_paren_takes.each s.1 s.3.0 s.3.1 s.3.2 in
-        let spent = call_frame_spends t.text s.3.1 s.3.3.1 s.3.3.0 s.3.3.2 in
-        let args = (arguments_deep p).each s.3.3.1 s.3.3.3.0 s.3.3.3.1 s.3.3.3.2 in
-        let end = s.3.3.3.3 in
-        let last = same_place s.3.3.3.1 rest end.1 in
-        let room1 : s.3.1.room ≡ at.room = paren.room ∙ seen.room in
-        let room2 : rest.room ≡ s.3.3.1.room = last.room ∙ args.0.room in
+        let paren = open_paren_takes.each named mark opened mark_spelled in
+        let spent = call_frame_spends t.text opened framed frame frame_taken in
+        let args = (arguments_deep p).each framed list listed list_spelled in
+        let last = same_place listed rest end.1 in
+        let room1 : opened.room ≡ at.room = paren.room ∙ seen.room in
+        let room2 : rest.room ≡ framed.room = last.room ∙ args.0.room in
         let text : text_at words t.number ≡ t.text = subst (λ (x : Seen). text_at words x.number ≡ x.text) same seen.faithful.text in
         let low : n ≤ t.number = subst (λ (x : Seen). n ≤ x.number) same seen.low in
-        let gave : one_if words (gives_value (text_at words t.number) at.room.names) ≡ one_if words (gives_value t.text s.3.1.room.names) =
+        let gave : one_if words (gives_value (text_at words t.number) at.room.names) ≡ one_if words (gives_value t.text opened.room.names) =
         ap₂ (λ (x : List ℕ) (names : List (List ℕ × Bool)). one_if words (gives_value x names)) text (sym (ap (λ (r : Room). r.names) room1))
         in
         let a = ap (λ (r : Room). r.frames) room1 in
@@ -141,9 +143,9 @@ module _ (words : List Word) where
         let f = spent.frames in
         let e = spent.elements in
         let g = spent.functions in
-        let good1 : Good words (suc t.number) s.1.ahead = subst (λ (x : Seen). Good words (suc x.number) s.1.ahead) same seen.good in
+        let good1 : Good words (suc t.number) named.ahead = subst (λ (x : Seen). Good words (suc x.number) named.ahead) same seen.good in
         let good2 = paren.good words (suc t.number) good1 in
-        let good3 : Good words (suc t.number) s.3.3.1.ahead = subst (λ (us : List Seen). Good words (suc t.number) us) (sym spent.ahead) good2 in
+        let good3 : Good words (suc t.number) framed.ahead = subst (λ (us : List Seen). Good words (suc t.number) us) (sym spent.ahead) good2 in
         let good4 = last.good words (suc t.number) (args.0.good words (suc t.number) good3) in
         record {
           ds = [];

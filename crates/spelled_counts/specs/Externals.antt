@@ -196,23 +196,26 @@ module _ (words : List Word) where
       × Filed n at rest [] 1 (elements_of_shape words d.shape) 0 []
   unfolding object
   object_filed o k n at rest d s good =
-      let told = of_later n at s.1 ((integer_told_takes others.Object o).each at s.0 s.1 s.2) good in
-      let spent = of_spends told.m s.1 s.3.1 1 0 0 (frames_spend 1 s.1 s.3.1 s.3.0 s.3.2) told.good in
-      let seen = of_later spent.m s.3.1 s.3.3.1 ((sees_takes (codes "[")).each s.3.1 s.3.3.0 s.3.3.1 s.3.3.2) spent.good in
-      let shape = (fits_either words s.3.3.0 (weaken global_array)
-      global_integer global_array_fits integer_fits).each s.3.3.1 s.3.3.3.0 s.3.3.3.1 s.3.3.3.2 seen.m seen.good in
+      let (type, typed, type_spelled, after_type) = s in
+      let (frame, framed, frame_taken, after_frame) = after_type in
+      let (array, looked, bracket_seen, after_look) = after_frame in
+      let (tree, shaped, shape_spelled, end) = after_look in
+      let told = of_later n at typed ((integer_told_takes others.Object o).each at type typed type_spelled) good in
+      let spent = of_spends told.m typed framed 1 0 0 (frames_spend 1 typed framed frame frame_taken) told.good in
+      let seen = of_later spent.m framed looked ((sees_takes (codes "[")).each framed array looked bracket_seen) spent.good in
+      let shape = (fits_either words array (weaken global_array)
+      global_integer global_array_fits integer_fits).each looked tree shaped shape_spelled seen.m seen.good in
       let is = shape.holds in
-      let end = s.3.3.3.3 in
-      let counted = of_taken seen.m s.3.3.1 s.3.3.3.1 _ shape in
-      let last = of_later counted.m s.3.3.3.1 rest (same_place s.3.3.3.1 rest end.1) counted.good in
-      let all = two_filed n at s.1 rest [] _ 0 _ 0 _ 0 _ [] _ told
-      (two_filed told.m s.1 s.3.1 rest [] _ 1 _ 0 _ 0 _ [] _ spent
-      (two_filed spent.m s.3.1 s.3.3.1 rest [] _ 0 _ 0 _ 0 _ [] _ seen
-      (two_filed seen.m s.3.3.1 s.3.3.3.1 rest shape.ds [] _ 0 _ 0 _ 0 [] [] counted last))) in
-      let none : given words s.3.3.1.room.names shape.calls ≡ 0 = ap (λ cs. given words s.3.3.1.room.names cs) is.1 in
+      let counted = of_taken seen.m looked shaped _ shape in
+      let last = of_later counted.m shaped rest (same_place shaped rest end.1) counted.good in
+      let all = two_filed n at typed rest [] _ 0 _ 0 _ 0 _ [] _ told
+      (two_filed told.m typed framed rest [] _ 1 _ 0 _ 0 _ [] _ spent
+      (two_filed spent.m framed looked rest [] _ 0 _ 0 _ 0 _ [] _ seen
+      (two_filed seen.m looked shaped rest shape.ds [] _ 0 _ 0 _ 0 [] [] counted last))) in
+      let none : given words looked.room.names shape.calls ≡ 0 = ap (λ cs. given words looked.room.names cs) is.1 in
       let empty : length shape.ds ≡ 0 = ap length is.0 in
-      let fine : Filed n at rest [] 1 (elements_of_shape words s.3.3.3.0) 0 [] =
-      filed_as n at rest _ [] _ 1 _ (elements_of_shape words s.3.3.3.0) _ 0 _ [] (append-nil shape.ds ∙ is.0)
+      let fine : Filed n at rest [] 1 (elements_of_shape words tree) 0 [] =
+      filed_as n at rest _ [] _ 1 _ (elements_of_shape words tree) _ 0 _ [] (append-nil shape.ds ∙ is.0)
       (omega (arith, none, empty)) (let e = is.2 in omega (arith, e)) (omega arith) refl all in
       subst (λ (x : DeclaratorTree). (x.name ≡ k) × (tokens_of_shape 0 x.shape ≡ 0 ∷ [])
       × (names_of_shape words outcomes.Nothing 0 x.shape ≡ []) × Filed n at rest [] 1 (elements_of_shape words x.shape) 0 [])
@@ -266,17 +269,19 @@ module _ (words : List Word) where
       → Good words n at.ahead → IsPrototype o t n at rest d
   unfolding prototype
   prototype_filed o t n at rest d s good =
-      let paren = of_later n at s.1 (open_paren_takes.each at s.0 s.1 s.2) good in
-      let params = of_marked paren.m s.1 s.3.1 _ ((parameters_mark words).each s.1 s.3.0 s.3.1 s.3.2 paren.m paren.good) in
-      let known = declares_filed t.text (grammar.gives o) params.m s.3.1 s.3.3.1 s.3.3.0 s.3.3.2 params.good in
-      let end = s.3.3.3 in
-      let last = of_later known.m s.3.3.1 rest (same_place s.3.3.1 rest end.1) known.good in
-      let ds = tokens_of_parameters s.3.0 in
-      let all = two_filed n at s.1 rest [] (ds ++ ([] ++ [])) 0 _ 0 _ 0 _ [] _ paren
-      (two_filed paren.m s.1 s.3.1 rest ds ([] ++ []) 0 _ 0 _ 0 _ [] _ params
-      (two_filed params.m s.3.1 s.3.3.1 rest [] [] 0 _ 0 _ 0 _ _ [] known last)) in
+      let (mark, opened, mark_spelled, after_mark) = s in
+      let (list, listed, list_spelled, after_list) = after_mark in
+      let (function, named, function_told, end) = after_list in
+      let paren = of_later n at opened (open_paren_takes.each at mark opened mark_spelled) good in
+      let params = of_marked paren.m opened listed _ ((parameters_mark words).each opened list listed list_spelled paren.m paren.good) in
+      let known = declares_filed t.text (grammar.gives o) params.m listed named function function_told params.good in
+      let last = of_later known.m named rest (same_place named rest end.1) known.good in
+      let ds = tokens_of_parameters list in
+      let all = two_filed n at opened rest [] (ds ++ ([] ++ [])) 0 _ 0 _ 0 _ [] _ paren
+      (two_filed paren.m opened listed rest ds ([] ++ []) 0 _ 0 _ 0 _ [] _ params
+      (two_filed params.m listed named rest [] [] 0 _ 0 _ 0 _ _ [] known last)) in
       record {
-        params = s.3.0;
+        params = list;
         is = end.0;
         filed =
             filed_as n at rest _ ds _ 0 _ 0 _ 0 _ ((t.text, gives o) ∷ []) (append-nil ds) (omega arith) (omega arith) (omega arith)
@@ -326,40 +331,41 @@ module _ (words : List Word) where
       → Good words n at.ahead → IsDeclarator o n at rest d
   unfolding declarator
   declarator_filed o n at rest d s good =
-      let t = s.0 in
-      let seen = name_seen words others.Stars n at t s.1 s.2 good in
-      let marked : Marked words n at s.1 (t.number ∷ []) =
+      let (t, named, name_spelled, after_name) = s in
+      let (paren, looked, paren_seen, after_look) = after_name in
+      let (tree, placed, tree_spelled, end) = after_look in
+      let seen = name_seen words others.Stars n at t named name_spelled good in
+      let marked : Marked words n at named (t.number ∷ []) =
       record {
         m = suc t.number;
         tokens = (seen.low, seen.is, (let same : suc t.number ≤ suc t.number = omega arith in same));
         good = seen.good;
         room = seen.room;
       } in
-      let first = of_marked n at s.1 (t.number ∷ []) marked in
-      let sees = of_later first.m s.1 s.3.1 ((sees_takes (codes "(")).each s.1 s.3.0 s.3.1 s.3.2) first.good in
-      let before : Filed n at s.3.1 (t.number ∷ []) 0 0 0 [] = filed_as n at s.3.1 _ (t.number ∷ []) _ 0 _ 0 _ 0 _ [] refl
-      (omega arith) (omega arith) (omega arith) refl (two_filed n at s.1 s.3.1 (t.number ∷ []) [] 0 0 0 0 0 0 [] [] first sees) in
-      let end = s.3.3.3 in
-      let there = choice s.3.0 o t n at s.3.1 s.3.3.1 s.3.3.0 before seen.is seen.text s.3.3.2 in
-      subst (λ (p : Place). IsDeclarator o n at p d) (sym end.1) (subst (λ (x : DeclaratorTree). IsDeclarator o n at s.3.3.1 x) (sym end.0) there)
+      let first = of_marked n at named (t.number ∷ []) marked in
+      let sees = of_later first.m named looked ((sees_takes (codes "(")).each named paren looked paren_seen) first.good in
+      let before : Filed n at looked (t.number ∷ []) 0 0 0 [] = filed_as n at looked _ (t.number ∷ []) _ 0 _ 0 _ 0 _ [] refl
+      (omega arith) (omega arith) (omega arith) refl (two_filed n at named looked (t.number ∷ []) [] 0 0 0 0 0 0 [] [] first sees) in
+      let there = choice paren o t n at looked placed tree before seen.is seen.text tree_spelled in
+      subst (λ (p : Place). IsDeclarator o n at p d) (sym end.1) (subst (λ (x : DeclaratorTree). IsDeclarator o n at placed x) (sym end.0) there)
 
   further_filed : (o : Outcome) (n : ℕ) (at rest : Place) (d : DeclaratorTree) → (further_declarator o).form.Spells at d rest
       → Good words n at.ahead → IsDeclarator o n at rest d
   unfolding further_declarator
   further_filed o n at rest d s good =
-      let comma = of_later n at s.1 (comma_mark_takes.each at s.0 s.1 s.2) good in
-      let there = declarator_filed o comma.m s.1 s.3.1 s.3.0 s.3.2 comma.good in
-      let end = s.3.3 in
-      let dd = s.3.0 in
-      let fine : IsDeclarator o n at s.3.1 dd = record {
+      let (mark, passed, mark_spelled, after_mark) = s in
+      let (dd, placed, tree_spelled, end) = after_mark in
+      let comma = of_later n at passed (comma_mark_takes.each at mark passed mark_spelled) good in
+      let there = declarator_filed o comma.m passed placed dd tree_spelled comma.good in
+      let fine : IsDeclarator o n at placed dd = record {
         named = there.named;
         filed =
-            filed_as n at s.3.1 _ (all_tokens dd) _ (length (tokens_of_shape dd.name dd.shape)) _ (elements_of_shape words dd.shape)
+            filed_as n at placed _ (all_tokens dd) _ (length (tokens_of_shape dd.name dd.shape)) _ (elements_of_shape words dd.shape)
             _ 0 _ (names_of_shape words o dd.name dd.shape) refl (omega arith) (omega arith) (omega arith) refl
-            (two_filed n at s.1 s.3.1 [] (all_tokens dd) 0 (length (tokens_of_shape dd.name dd.shape)) 0
+            (two_filed n at passed placed [] (all_tokens dd) 0 (length (tokens_of_shape dd.name dd.shape)) 0
             (elements_of_shape words dd.shape) 0 0 [] (names_of_shape words o dd.name dd.shape) comma there.filed);
       } in
-      subst (λ (p : Place). IsDeclarator o n at p d) (sym end.1) (subst (λ (x : DeclaratorTree). IsDeclarator o n at s.3.1 x) (sym end.0) fine)
+      subst (λ (p : Place). IsDeclarator o n at p d) (sym end.1) (subst (λ (x : DeclaratorTree). IsDeclarator o n at placed x) (sym end.0) fine)
 
   -- a declarator that stands in a declaration declares no parameters
   declared : (o : Outcome) (n : ℕ) (at rest : Place) (d : DeclaratorTree) → IsDeclarator o n at rest d
@@ -405,14 +411,17 @@ module _ (words : List Word) where
       → Filed n at rest [] count 0 1 []
   unfolding open_body
   open_body_filed count n at rest x s good =
-      let brace = of_later n at s.1 ((mark_takes (codes "{") others.Nothing).each at s.0 s.1 s.2) good in
-      let one = of_spends brace.m s.1 s.3.1 0 0 1 (function_spends s.1 s.3.1 s.3.0 s.3.2) brace.good in
-      let frames = of_spends one.m s.3.1 s.3.3.1 count 0 0 (frames_spend count s.3.1 s.3.3.1 s.3.3.0 s.3.3.2) one.good in
-      let last = of_later frames.m s.3.3.1 rest (same_place s.3.3.1 rest s.3.3.3.1) frames.good in
+      let (mark, opened, mark_spelled, after_mark) = s in
+      let (function, numbered, function_taken, after_function) = after_mark in
+      let (frame, framed, frames_taken, end) = after_function in
+      let brace = of_later n at opened ((mark_takes (codes "{") others.Nothing).each at mark opened mark_spelled) good in
+      let one = of_spends brace.m opened numbered 0 0 1 (function_spends opened numbered function function_taken) brace.good in
+      let frames = of_spends one.m numbered framed count 0 0 (frames_spend count numbered framed frame frames_taken) one.good in
+      let last = of_later frames.m framed rest (same_place framed rest end.1) frames.good in
       filed_as n at rest _ [] _ count _ 0 _ 1 _ [] refl (omega arith) (omega arith) (omega arith) refl
-      (two_filed n at s.1 rest [] [] 0 (0 + (count + 0)) 0 (0 + (0 + 0)) 0 (1 + (0 + 0)) [] [] brace
-      (two_filed brace.m s.1 s.3.1 rest [] [] 0 (count + 0) 0 (0 + 0) 1 (0 + 0) [] [] one
-      (two_filed one.m s.3.1 s.3.3.1 rest [] [] count 0 0 0 0 0 [] [] frames last)))
+      (two_filed n at opened rest [] [] 0 (0 + (count + 0)) 0 (0 + (0 + 0)) 0 (1 + (0 + 0)) [] [] brace
+      (two_filed brace.m opened numbered rest [] [] 0 (count + 0) 0 (0 + 0) 1 (0 + 0) [] [] one
+      (two_filed one.m numbered framed rest [] [] count 0 0 0 0 0 [] [] frames last)))
 
   body_fits : Fits words body.form (AreStatements words)
   unfolding body
@@ -441,23 +450,23 @@ module _ (words : List Word) where
       → (definition_after k o (record { name = dn; shape = FunctionOf ps })).form.Spells mid x rest → IsExternal n at rest x
   unfolding definition_after
   definition_filed k o dn ps n at mid rest x named is f s =
-      let opened = open_body_filed (length ps) f.m mid s.1 s.0 s.2 f.good in
-      let ss = s.3.0 in
-      let inside = body_fits.each s.1 s.3.0 s.3.1 s.3.2 opened.m opened.good in
+      let (body_opened, entered, opening, after_opening) = s in
+      let (ss, closed, body_spelled, end) = after_opening in
+      let opened = open_body_filed (length ps) f.m mid entered body_opened opening f.good in
+      let inside = body_fits.each entered ss closed body_spelled opened.m opened.good in
       let are = inside.holds in
-      let counted = of_taken opened.m s.1 s.3.1 _ inside in
-      let end = s.3.3 in
-      let last = of_later counted.m s.3.1 rest (same_place s.3.1 rest end.1) counted.good in
+      let counted = of_taken opened.m entered closed _ inside in
+      let last = of_later counted.m closed rest (same_place closed rest end.1) counted.good in
       let new : Names = (text_at words dn, gives o) ∷ [] in
-      let names : s.1.room.names ≡ at.room.names ++ new = opened.names ∙ append-nil mid.room.names ∙ f.names in
-      let calls : given words s.1.room.names inside.calls ≡ units.given words (at.room.names ++ new) (called_in (statements_of ss)) =
-      same_given s.1.room.names inside.calls ∙ ap₂ (λ (x : Names) (cs : List ℕ). units.given words x cs) names are.1
+      let names : entered.room.names ≡ at.room.names ++ new = opened.names ∙ append-nil mid.room.names ∙ f.names in
+      let calls : given words entered.room.names inside.calls ≡ units.given words (at.room.names ++ new) (called_in (statements_of ss)) =
+      same_given entered.room.names inside.calls ∙ ap₂ (λ (x : Names) (cs : List ℕ). units.given words x cs) names are.1
       in
       let lengths : length inside.ds ≡ length (all_tokens_in (statements_of ss)) = ap length are.0 in
       let el = are.2 in
       let all = two_filed n at mid rest (tokens_of_parameters ps) ([] ++ (inside.ds ++ [])) 0 _ 0 _ 0 _ new _ f
-      (two_filed f.m mid s.1 rest [] (inside.ds ++ []) (length ps) _ 0 _ 1 _ [] _ opened
-      (two_filed opened.m s.1 s.3.1 rest inside.ds [] _ 0 _ 0 0 0 [] [] counted last)) in
+      (two_filed f.m mid entered rest [] (inside.ds ++ []) (length ps) _ 0 _ 1 _ [] _ opened
+      (two_filed opened.m entered closed rest inside.ds [] _ 0 _ 0 0 0 [] [] counted last)) in
       let tokens : tokens_of_parameters ps ++ (inside.ds ++ []) ≡ tokens_of_parameters ps ++ all_tokens_in (statements_of ss) =
       ap (λ ts. tokens_of_parameters ps ++ ts) (append-nil inside.ds ∙ are.0) in
       let d : ExternalTree = Definition k o dn ps ss in
@@ -475,17 +484,17 @@ module _ (words : List Word) where
       → (declaration_after k o d).form.Spells mid x rest → IsExternal n at rest x
   unfolding declaration_after
   declaration_filed k o d n at mid rest x f s =
-      let ds = s.0 in
-      let others_filed = declarators_filed o f.m mid ds s.1 s.2.0 f.good in
-      let semi = of_later others_filed.m s.1 s.3.1 ((semicolon_takes words (after_sole d ds)).each s.1 s.3.0 s.3.1 s.3.2) others_filed.good in
-      let end = s.3.3 in
-      let last = of_later semi.m s.3.1 rest (same_place s.3.1 rest end.1) semi.good in
+      let (ds, listed, list_spelled, after_list) = s in
+      let (mark, passed, mark_spelled, end) = after_list in
+      let others_filed = declarators_filed o f.m mid ds listed list_spelled.0 f.good in
+      let semi = of_later others_filed.m listed passed ((semicolon_takes words (after_sole d ds)).each listed mark passed mark_spelled) others_filed.good in
+      let last = of_later semi.m passed rest (same_place passed rest end.1) semi.good in
       let ts = tokens_of_declarators ds in
       let lengths = length-append (tokens_of_shape d.name d.shape) ts in
       let all = two_filed n at mid rest (tokens_of_shape d.name d.shape) (ts ++ []) _ _ _ _ 0 _ (names_of_shape words o d.name d.shape)
       (names_of_declarators words o ds ++ []) f
-      (two_filed f.m mid s.1 rest ts [] _ 0 _ 0 0 0 (names_of_declarators words o ds) [] others_filed
-      (two_filed others_filed.m s.1 s.3.1 rest [] [] 0 0 0 0 0 0 [] [] semi last)) in
+      (two_filed f.m mid listed rest ts [] _ 0 _ 0 0 0 (names_of_declarators words o ds) [] others_filed
+      (two_filed others_filed.m listed passed rest [] [] 0 0 0 0 0 0 [] [] semi last)) in
       let y : ExternalTree = Declaration k o (d ∷ ds) in
       let fine : IsExternal n at rest y = record {
         filed =
@@ -515,32 +524,35 @@ module _ (words : List Word) where
       → (external_after k o d).form.Spells mid x rest → IsExternal n at rest x
   unfolding external_after sees_body
   after_filed k o d n at mid rest x is s =
-      let test = ok_is {F = Fault} (may_be_defined d.shape && at_text (codes "{") mid) s.0 s.2.0 in
-      let may : s.0 ≡ true → may_be_defined d.shape ≡ true = λ t. first_holds (may_be_defined d.shape) (at_text (codes "{") mid) (test ∙ t) in
-      let end = s.3.3 in
-      let here : IsDeclarator o n at s.1 d = subst (λ (p : Place). IsDeclarator o n at p d) (sym s.2.1) is in
-      let there = by_body s.0 k o d.name d.shape n at s.1 s.3.1 s.3.0 may here s.3.2 in
-      subst (λ (p : Place). IsExternal n at p x) (sym end.1) (subst (λ (y : ExternalTree). IsExternal n at s.3.1 y) (sym end.0) there)
+      let (has_body, looked, body_seen, after_look) = s in
+      let (y, placed, tree_spelled, end) = after_look in
+      let test = ok_is {F = Fault} (may_be_defined d.shape && at_text (codes "{") mid) has_body body_seen.0 in
+      let may : has_body ≡ true → may_be_defined d.shape ≡ true = λ t. first_holds (may_be_defined d.shape) (at_text (codes "{") mid) (test ∙ t) in
+      let here : IsDeclarator o n at looked d = subst (λ (p : Place). IsDeclarator o n at p d) (sym body_seen.1) is in
+      let there = by_body has_body k o d.name d.shape n at looked placed y may here tree_spelled in
+      subst (λ (p : Place). IsExternal n at p x) (sym end.1) (subst (λ (y : ExternalTree). IsExternal n at placed y) (sym end.0) there)
 
   pub external_filed : (n : ℕ) (at rest : Place) (x : ExternalTree) → external.form.Spells at x rest → Good words n at.ahead → IsExternal n at rest x
   unfolding external
   external_filed n at rest x s good =
-      let number = next_number_takes.each at s.0 s.1 s.2 in
-      let type = (type_of_takes settings.File).each s.1 s.3.0 s.3.1 s.3.2 in
-      let before = of_later n at s.3.1 (later_on at s.1 s.3.1 number type) good in
-      let d = s.3.3.0 in
-      let there = declarator_filed s.3.0 before.m s.3.1 s.3.3.1 d s.3.3.2 before.good in
-      let is : IsDeclarator s.3.0 n at s.3.3.1 d = record {
+      let (first, numbered, first_spelled, after_first) = s in
+      let (o, typed, type_spelled, after_type) = after_first in
+      let (d, declared_at, tree_spelled, after_tree) = after_type in
+      let (y, placed, after_spelled, end) = after_tree in
+      let number = next_number_takes.each at first numbered first_spelled in
+      let type = (type_of_takes settings.File).each numbered o typed type_spelled in
+      let before = of_later n at typed (later_on at numbered typed number type) good in
+      let there = declarator_filed o before.m typed declared_at d tree_spelled before.good in
+      let is : IsDeclarator o n at declared_at d = record {
         named = there.named;
         filed =
-            filed_as n at s.3.3.1 _ (all_tokens d) _ (length (tokens_of_shape d.name d.shape)) _ (elements_of_shape words d.shape)
-            _ 0 _ (names_of_shape words s.3.0 d.name d.shape) refl (omega arith) (omega arith) (omega arith) refl
-            (two_filed n at s.3.1 s.3.3.1 [] (all_tokens d) 0 (length (tokens_of_shape d.name d.shape)) 0
-            (elements_of_shape words d.shape) 0 0 [] (names_of_shape words s.3.0 d.name d.shape) before there.filed);
+            filed_as n at declared_at _ (all_tokens d) _ (length (tokens_of_shape d.name d.shape)) _ (elements_of_shape words d.shape)
+            _ 0 _ (names_of_shape words o d.name d.shape) refl (omega arith) (omega arith) (omega arith) refl
+            (two_filed n at typed declared_at [] (all_tokens d) 0 (length (tokens_of_shape d.name d.shape)) 0
+            (elements_of_shape words d.shape) 0 0 [] (names_of_shape words o d.name d.shape) before there.filed);
       } in
-      let end = s.3.3.3.3 in
-      let after = after_filed s.0 s.3.0 d n at s.3.3.1 s.3.3.3.1 s.3.3.3.0 is s.3.3.3.2 in
-      subst (λ (p : Place). IsExternal n at p x) (sym end.1) (subst (λ (y : ExternalTree). IsExternal n at s.3.3.3.1 y) (sym end.0) after)
+      let after = after_filed first o d n at declared_at placed y is after_spelled in
+      subst (λ (p : Place). IsExternal n at p x) (sym end.1) (subst (λ (y : ExternalTree). IsExternal n at placed y) (sym end.0) after)
 
   -- ---- whole units
 

@@ -130,16 +130,19 @@ module _ (words : List Word) where
   unfolding parameters_from
   from_marks k i = record {
     each = λ at y rest s n good.
-        let t = (tail_marks k i).each at s.0 s.1 s.2 n good in
-        let u = row_marks s.1 s.3.0 s.3.1 s.3.2.0 t.m t.good in
-        let end = (right_paren_takes others.Nothing).each s.3.1 s.3.3.0 s.3.3.1 s.3.3.2 in
-        let last = same_place s.3.3.1 rest s.3.3.3.1 in
-        let later = later_on s.3.1 s.3.3.1 rest end last in
+        let (first, placed, first_spelled, after_first) = s in
+        let (list, listed, list_spelled, after_list) = after_first in
+        let (mark, closed, mark_spelled, end) = after_list in
+        let t = (tail_marks k i).each at first placed first_spelled n good in
+        let u = row_marks placed list listed list_spelled.0 t.m t.good in
+        let paren = (right_paren_takes others.Nothing).each listed mark closed mark_spelled in
+        let last = same_place closed rest end.1 in
+        let later = later_on listed closed rest paren last in
         record {
           m = u.m;
           tokens =
-              subst (λ (ps : List Parameter). Tokens words n u.m (tokens_of_parameters ps)) (sym s.3.3.3.0)
-              (tokens_joined words n t.m u.m (Named s.0) (tokens_of_parameters s.3.0) t.tokens u.tokens);
+              subst (λ (ps : List Parameter). Tokens words n u.m (tokens_of_parameters ps)) (sym end.0)
+              (tokens_joined words n t.m u.m (Named first) (tokens_of_parameters list) t.tokens u.tokens);
           good = later.good words u.m u.good;
           room = later.room ∙ u.room ∙ t.room;
         };

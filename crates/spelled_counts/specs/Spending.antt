@@ -144,20 +144,22 @@ module _ (words : List Word) where
       → Fits words (bound (name o).form (λ t. bound (some_frames 1).form (λ _. q t))) post
   fits_declared {post = post} o h = record {
     each = λ at y rest s n good.
-        let t = s.0 in
-        let named = name_seen o n at t s.1 s.2 good in
-        let spent = frames_spend 1 s.1 s.3.1 s.3.0 s.3.2 in
-        let u = (h t).each s.3.1 y rest s.3.3 (suc t.number) (subst (λ (us : List Seen). Good words (suc t.number) us) (sym spent.ahead) named.good) in
+        let (t, named_at, name_spelled, after_name) = s in
+        let (frame, framed, frame_taken, others_spelled) = after_name in
+        let named = name_seen o n at t named_at name_spelled good in
+        let spent = frames_spend 1 named_at framed frame frame_taken in
+        let u = (h t).each framed y rest others_spelled (suc t.number)
+        (subst (λ (us : List Seen). Good words (suc t.number) us) (sym spent.ahead) named.good) in
         let room = named.room in
         let first = ap (λ (r : Room). r.frames) room in
         let elements = ap (λ (r : Room). r.elements) room in
         let functions = ap (λ (r : Room). r.functions) room in
-        let names : s.3.1.room.names ≡ at.room.names = spent.names ∙ ap (λ (r : Room). r.names) room in
+        let names : framed.room.names ≡ at.room.names = spent.names ∙ ap (λ (r : Room). r.names) room in
         let f = spent.frames in
         let e = spent.elements in
         let g = spent.functions in
-        let uf : s.3.1.room.frames ≡ (length u.ds + given words at.room.names u.calls) + rest.room.frames =
-        subst (λ (x : List (List ℕ × Bool)). s.3.1.room.frames ≡ (length u.ds + given words x u.calls)
+        let uf : framed.room.frames ≡ (length u.ds + given words at.room.names u.calls) + rest.room.frames =
+        subst (λ (x : List (List ℕ × Bool)). framed.room.frames ≡ (length u.ds + given words x u.calls)
         + rest.room.frames) names u.frames in
         let ue = u.elements in
         let ug = u.functions in
@@ -210,10 +212,11 @@ module _ (words : List Word) where
       → Fits words (bound (constant o).form (λ s. bound (some_elements s.1).form (λ _. q s))) post
   spent_size {post = post} o h = record {
     each = λ at y rest s n good.
-        let x = s.0 in
-        let seen = constant_seen o n at x s.1 s.2 good in
-        let spent = elements_spend x.1 s.1 s.3.1 s.3.0 s.3.2 in
-        let u = (h x).each s.3.1 y rest s.3.3 in
+        let (x, named_at, constant_spelled, after_constant) = s in
+        let (element, counted_at, elements_taken, others_spelled) = after_constant in
+        let seen = constant_seen o n at x named_at constant_spelled good in
+        let spent = elements_spend x.1 named_at counted_at element elements_taken in
+        let u = (h x).each counted_at y rest others_spelled in
         let room = seen.room in
         let later = u.0.room in
         let worth = seen.worth in

@@ -6,7 +6,9 @@ use Rattle.alf_faults.specs.Fault.{Fault, Unknown, Duplicate, Size, earliest}
 use Rattle.alf_faults.specs.Faults.{faults_in}
 use Rattle.alf_check.specs.declared.fault.CheckFault.{CheckFault}
 use Rattle.alf_check.specs.declared.fault.CheckFault.TheVariants as told
+use Rattle.alf_names.specs.Places.{function_place}
 use Rattle.alf_check.specs.Checking.{Passes, IsTold}
+use Rattle.c_lower.proofs.Roots.{nowhere}
 
 -- a program without faults has no first one
 no_first : (faults : List Fault) (fault : Fault) → faults ≡ [] → earliest faults ≡ Some fault → ⊥
@@ -17,6 +19,5 @@ only_memory whole root (told.UnknownName name) passes tells = absurd (no_first (
 only_memory whole root (told.DuplicateName name) passes tells = absurd (no_first (faults_in whole) (Duplicate name) passes.sound tells)
 only_memory whole root (told.Size name number) passes tells = absurd (no_first (faults_in whole) (Size name number) passes.sound tells)
 only_memory whole root (told.Recursion names) passes tells = absurd (passes.falls tells.first.first tells.first.on_cycle)
-only_memory whole root (told.Root name) passes tells =
-    let some : IsSome {T = ℕ} None = subst (λ (place : Option ℕ). IsSome place) tells.none passes.starts in absurd some
+only_memory whole root (told.Root name) passes tells = absurd (nowhere (function_place whole.funcs root) tells.none passes.starts)
 only_memory whole root told.Memory passes tells = refl

@@ -1,6 +1,8 @@
 -- The name of the function that a program starts with is ASCII.
+--   nowhere      what stands nowhere is not found
 --   ascii_root   so it is of each program that can be written and passes the checks
-use Rattle.std.proofs.Common.{◌≡◌, ◌<◌, ◌≤◌, ◌+◌, ℕ, Bool, if◌then◌else◌, List, [], ◌∷◌, Option, Some, None, All, AllByRecursion, IsSome, subst, arith}
+use Rattle.std.proofs.Common.{◌≡◌, ◌<◌, ◌≤◌, ◌+◌, ℕ, Bool, if◌then◌else◌, List, [], ◌∷◌, Option, Some, None, IsSome, refl, subst, arith}
+use Rattle.std.specs.List.{AllByRecursion}
 use Rattle.std.specs.Option.{option_map}
 use Rattle.std.specs.Str.{bytes_eq, IsAscii}
 use Rattle.std.proofs.lemmas.List.Elements.{recursion_from_All}
@@ -21,11 +23,15 @@ ascii_name name is = ascii_bytes name (recursion_from_All IsNameByte name is.byt
 
 some_before : (place : Option ℕ) → IsSome (option_map (λ n. n + 1) place) → IsSome place
 some_before None found = found
-some_before (Some n) found = tt
+some_before (Some n) found = refl
+
+-- what stands nowhere is not found
+pub nowhere : (place : Option ℕ) → place ≡ None → IsSome place → ⊥
+nowhere place none found = let some : IsSome {T = ℕ} None = subst (λ (p : Option ℕ). IsSome p) none found in cc
 
 -- a name that a function has is one that can be written
 found_name : (funcs : List Function) (root : List ℕ) → AllByRecursion FunctionIsWritable funcs → IsSome (function_place funcs root) → IsName root
-found_name [] root writable found = absurd found
+found_name [] root writable found = absurd (nowhere None refl found)
 found_name (func ∷ funcs) root writable found =
     by_test (bytes_eq func.name root)
     (λ here. subst IsName ((bytes_eq-Decides func.name root).0 here) writable.0.name)

@@ -53,7 +53,9 @@ fn checked(alloc: Global, text: Program, root: &str) -> Result<Checked, AllocErr
 {
     match check(alloc, text, root) {
         Ok(checked) => Ok(checked),
-        Err(CheckFault::Memory) => Err(AllocError),
-        Err(_) => unreachable!(),
+        Err(fault) => match fault {
+            CheckFault::Memory => Err(AllocError),
+            _ => unreachable!(),
+        },
     }
 }

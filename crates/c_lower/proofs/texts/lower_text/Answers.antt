@@ -1,0 +1,29 @@
+-- What is left to show of `lower_text`.
+use Rattle.std.proofs.Common.{◌≡◌, ◌≤◌, ℕ, length, ap, sym, ◌∙◌, subst, arith}
+use Rattle.alf_program.specs.Tree.{program_of}
+use Rattle.alf_program.specs.Writable.{IsWritable}
+use Rattle.c_unit.specs.declared.unit.CUnit.{CUnit}
+use Rattle.c_unit.specs.Units.{UnitTree, unit_of}
+use Rattle.c_lowered.specs.Programs.{lowered}
+use Rattle.spelled_texts.specs.Passing.{TextHasFewTokens}
+use Rattle.c_lower.proofs.Made.{few_tokens}
+use Rattle.c_lower.proofs.texts.lower_text.Goals as goal
+
+pub returns : goal.returns
+returns c =
+    let unit : UnitTree = unit_of c.args.program.now.unit in
+    let same : c.unit-unit.result.now ≡ c.args.program.now.unit = c.unit-unit.ensures in
+    let low : length c.unit-unit.result.now.tokens.items ≤ 4294967296 = omega (arith, c.len.ensures, c.if-len-gt-MOST_TOKENS.false) in
+    let few : TextHasFewTokens unit = subst (λ (u : CUnit). TextHasFewTokens (unit_of u)) same (few_tokens c.unit-unit.result.now low) in
+    let whole : program_of c.in_ok-text.text ≡ lowered unit = c.in_ok-text.ensures.lowered ∙ ap (λ (u : CUnit). lowered (unit_of u)) same in
+    let root = c.args.program.now.root in
+    let ranks = c.args.program.now.ranks in
+    let passes = c.keeps.ensures.passes in
+    let spelled = c.keeps.ensures.spelled in
+    record {
+      lowered = whole;
+      writable = subst IsWritable (sym whole) (c.spelled_programs_pass.ensures.written unit root ranks passes spelled few);
+      passes = c.spelled_programs_pass.ensures.passes unit root ranks passes spelled few;
+      outcomes = λ program is rows moment keep begins.
+          c.spelled_programs_have_the_outcome_of_their_unit.ensures.starts unit root ranks program rows moment spelled few passes is keep begins;
+    }

@@ -118,7 +118,8 @@ fn load_lone(
     let Some(value) = known_in(frames, cell, size) else {
         return load_any(alloc, frames, cell, size);
     };
-    Ok((Some(value.copy(alloc)?), FaultSet::none()))
+    let copy = value.copy(alloc)?;
+    Ok((Some(copy), FaultSet::none()))
 }
 
 /// What a load through the address gives.

@@ -7,8 +7,8 @@ use Rattle.held_memories.specs.HeldFrames.{frame_of}
 use Rattle.frame_stores.specs.Places.{Becomes, at_place}
 use Rattle.frame_stores.proofs.strong.store_at.Goals as goal
 
-pub returns-then-place-eq-start : goal.returns-then-place-eq-start
-returns-then-place-eq-start c =
+pub returns-then-place-start-2 : goal.returns-then-place-start-2
+returns-then-place-start-2 c =
     subst (λ (p : ℕ). OnOk c.store_first.result (Becomes c.args.slots.now c.store_first.new.slots
-        (at_place p (strong abstract_sets (frame_of c.args.slots.now) c.args.offset c.args.size c.args.value.now) (frame_of c.args.slots.now))))
+    (at_place p (strong abstract_sets (frame_of c.args.slots.now) c.args.offset c.args.size c.args.value.now) (frame_of c.args.slots.now))))
     (sym c.if-place-start-2.true) c.store_first.ensures

@@ -1,10 +1,9 @@
 -- Lists of arms.
 --   one_arm       an arm that is there is one of the same program
---   arms_skipped, arms_end, arms_more   the arms of the first target and of others
 --   arms_are, all_arms_are   arms by what the expression tells are those of the rules, as goals
 use Rattle.std.specs.Prelude.{IfSome, IfOk}
 use Rattle.std.specs.declared.alloc.Global.{Global}
-use Rattle.std.proofs.Common.{◌≡◌, ℕ, List, [], ◌∷◌, ◌++◌, map, Option, Some, None, Result, Ok, Err, Vec, refl, ap, sym, subst, ◌∙◌}
+use Rattle.std.proofs.Common.{◌≡◌, ℕ, List, [], ◌∷◌, ◌++◌, map, Option, Some, None, Result, Ok, Err, Vec, refl, ap, subst, ◌∙◌}
 use Rattle.alf_ops.specs.declared.history.FrameShape.{FrameShape}
 use Rattle.alf_program.specs.Tree.{NumberedExpression}
 use Rattle.flow_graph.specs.Nodes.{block_node}
@@ -25,51 +24,6 @@ one_arm memory to o own is checked kept = record {
   checked = subst (λ (x : Option MemoryParts). IfSome x (λ m. m.checked ≡ memory.checked)) is checked;
   kept = subst (λ (x : Option MemoryParts). IfSome x IsMemory) is kept;
 }
-
--- ---- arms of the first target and of others
-
-append_none : {A : Type 0} (xs : List A) → xs ++ [] ≡ xs
-append_none [] = refl
-append_none (x ∷ xs) = ap (λ rest. x ∷ rest) (append_none xs)
-
-append_more : {A : Type 0} (xs ys zs : List A) → (xs ++ ys) ++ zs ≡ xs ++ (ys ++ zs)
-append_more [] ys zs = refl
-append_more (x ∷ xs) ys zs = ap (λ rest. x ∷ rest) (append_more xs ys zs)
-
-module _ (r : Refinement) (m : Mem abstract_sets) (words : Stride) (target : ℕ × ℕ) (others targets : List (ℕ × ℕ)) (are : targets ≡ target ∷ others)
-    (own : Option Stride) (is : own ≡ only words target.0) where
-  abbrev first : List (ℕ × Mem abstract_sets)
-  first = arm_by r m target.1 own
-
-  abbrev later : List (ℕ × Mem abstract_sets)
-  later = target_arms_by r m words others
-
-  by_parts : target_arms_by r m words targets ≡ first ++ later
-  by_parts = ap (target_arms_by r m words) are ∙ ap (λ (o : Option Stride). arm_by r m target.1 o ++ later) (sym is)
-
-  module _ (before new rest : List (ℕ × Mem abstract_sets)) where
-    -- the first has no words
-    pub arms_skipped : own ≡ None → new ≡ before ++ (later ++ rest) → new ≡ before ++ (target_arms_by r m words targets ++ rest)
-    arms_skipped none pushed =
-        pushed ∙ ap (λ (arms : List (ℕ × Mem abstract_sets)). before ++ (arms ++ rest))
-        (sym (by_parts ∙ ap (λ (o : Option Stride). arm_by r m target.1 o ++ later) none))
-
-    -- the first is the last
-    pub arms_end : others ≡ [] → rest ≡ [] → new ≡ before ++ first → new ≡ before ++ (target_arms_by r m words targets ++ rest)
-    arms_end no_others no_rest pushed =
-        pushed ∙ ap (λ (arms : List (ℕ × Mem abstract_sets)). before ++ arms)
-        (sym (ap (λ (arms : List (ℕ × Mem abstract_sets)). target_arms_by r m words targets ++ arms) no_rest
-        ∙ (append_none (target_arms_by r m words targets)
-        ∙ (by_parts ∙ (ap (λ (ts : List (ℕ × ℕ)). first ++ target_arms_by r m words ts) no_others ∙ append_none first)))))
-
-    -- the first, and then others
-    pub arms_more : (between : List (ℕ × Mem abstract_sets)) → between ≡ before ++ first → new ≡ between ++ (later ++ rest)
-        → new ≡ before ++ (target_arms_by r m words targets ++ rest)
-    arms_more between one more =
-        more ∙ (ap (λ (arms : List (ℕ × Mem abstract_sets)). arms ++ (later ++ rest)) one
-        ∙ (append_more before first (later ++ rest)
-        ∙ ap (λ (arms : List (ℕ × Mem abstract_sets)). before ++ arms)
-        (sym (ap (λ (arms : List (ℕ × Mem abstract_sets)). arms ++ rest) by_parts ∙ append_more first later rest))))
 
 -- ---- arms as goals
 

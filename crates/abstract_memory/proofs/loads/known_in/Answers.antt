@@ -1,6 +1,5 @@
 -- What is left to show of `known_in`: facts of the proof files, applied.
-use Rattle.std.specs.Prelude.{[], ◌∷◌, Ok}
-use Rattle.std.proofs.Common.{◌≡◌, ◌∙◌, ap, sym, Bool, List}
+use Rattle.std.proofs.Common.{◌∙◌, ap, sym}
 use Rattle.std.proofs.lemmas.Option.{IfSome_then}
 use Rattle.memory_rules.specs.AbstractSets.{abstract_sets}
 use Rattle.memory_rules.specs.Frames.{FrameMem, load_results}

@@ -1,10 +1,11 @@
 -- The one cell that an address means.
 --   lone_fits        it lies in its frame
 --   lone_loads       what a load gives
+--   known_loads      and of a cell that is known to hold a value
 --   lone_changes     what a store changes
 --   lone_goes_on, lone_faults   a run goes on, and no fault is told
 use Rattle.std.specs.Prelude.{◌≢◌, ◌↔◌, ◌++◌}
-use Rattle.std.proofs.Common.{Bool, ◌≡◌, ◌∙◌, refl, ap, subst, sym, ℕ, true, List, [], ◌∷◌, map, None, IfSome, IsTrue}
+use Rattle.std.proofs.Common.{Bool, ◌≡◌, ◌∙◌, refl, ap, subst, sym, ℕ, true, List, [], ◌∷◌, map, Some, None, Ok, IfSome, IsTrue}
 use Rattle.std.proofs.lemmas.Bool.{false≢true}
 use Rattle.alf_ops.specs.declared.history.RunFault.{RunFault}
 use Rattle.alf_ops.specs.declared.history.FrameShape.{FrameShape}
@@ -61,6 +62,14 @@ module _ (rows : List FrameShape) (at : AbstractValue) (size : ℕ) (cell : ℕ 
         faults = load_faults rows running frames at size told (cell ∷ []) loaded (sym only.cells) all
             (λ fault. (λ has. absurd (none_told told fault none has), λ is. absurd (only.faults fault is)));
       }
+
+  -- and of a cell that is known to hold a value
+  pub known_loads : (running : List Bool) (frames : List (List HeldSlot)) (told : FaultSet) (value : AbstractValue) → told ≡ no_faults → IsOnlyCell rows (runs_in running) at size cell
+      → ((r : List Bool) → load_results abstract_sets ((memory_of r frames).frames cell.0) cell.1 size ≡ Ok value ∷ []) → IsValue size value
+      → Loads rows (memory_of running frames) at size (Some value, told)
+  known_loads running frames told value none only gives sized =
+      let before : Loaded = record { value = None; faults = told } in
+      lone_loads running frames told (record { value = Some value; faults = told }) none only (λ r. ap (onto before) (sym (gives r))) sized
 
   -- what a store changes
   pub lone_changes : (runs : ℕ → Bool) (old new : List (List HeldSlot)) (value : AbstractValue) → Changes old new (λ m. strong_at abstract_sets m cell size value)

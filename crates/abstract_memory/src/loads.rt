@@ -1,6 +1,6 @@
 //! Loads of cells of frames.
 
-ghost use Rattle.std.specs.Prelude.{◌≡◌, ◌↔◌, ℕ, Bool, true, List, None, length, map, IfOk, IfSome};
+ghost use Rattle.std.specs.Prelude.{◌≡◌, ◌↔◌, ◌∷◌, [], ℕ, Bool, true, List, Ok, None, length, map, IfOk, IfSome};
 ghost use Rattle.alf_check.specs.Shapes.{shapes_of};
 ghost use Rattle.alf_ops.specs.declared.history.RunFault.{RunFault};
 ghost use Rattle.alf_ops.specs.declared.history.FrameShape.{FrameShape};
@@ -21,8 +21,8 @@ ghost use Rattle.abstract_memory.specs.Cells.{AllFit, AreSized, Fits, Loads};
 
 use address_cells::{address_faults, cells, has_cell, lone_cell};
 use alf_check::FrameRow;
-use domain_core::FaultSet;
-use frame_loads::{Loaded, load_onto};
+use domain_core::{FaultSet, Lattice};
+use frame_loads::{Loaded, known_value, load_onto};
 use interval_congruence::Strided;
 use memory_pages::FrameSlots;
 use pointer_domain::AVal;
@@ -71,8 +71,20 @@ pub(crate) fn load_cells(
     Ok(loaded)
 }
 
-/// What a load of the cell gives through each address that means it alone.
-fn load_lone(
+/// The value of the cell, where it is known to hold it: it is all that a load of the cell gives.
+fn known_in(frames: &[FrameSlots], cell: (u32, u32), size: u32) -> Option<&AVal>
+    requires size { IsCellSize size }
+    requires fits { Fits (map length frames.now) size cell }
+    requires sized { AreSized frames.now }
+    ensures value { IfSome result (λ value. (running : List Bool) → load_results abstract_sets ((memory_of running frames.now).frames cell.0) cell.1 size ≡ Ok value.now ∷ []) }
+    ensures sized { IfSome result (λ value. IsValue size value.now) }
+{
+    let (frame, offset) = cell;
+    known_value(&frames[frame as usize], offset, size)
+}
+
+/// What a load of the cell gives through each address that means it alone, however the cell is held.
+fn load_any(
     alloc: Global,
     frames: &[FrameSlots],
     cell: (u32, u32),
@@ -89,6 +101,25 @@ fn load_lone(
     };
     let loaded = load_in(alloc, frames, cell, size, before)?;
     Ok((loaded.value, loaded.faults))
+}
+
+/// What a load of the cell gives through each address that means it alone.
+fn load_lone(
+    alloc: Global,
+    frames: &[FrameSlots],
+    cell: (u32, u32),
+    size: u32,
+) -> Result<(Option<AVal>, FaultSet), AllocError>
+    requires size { IsCellSize size }
+    requires fits { Fits (map length frames.now) size cell }
+    requires sized { AreSized frames.now }
+    ensures { IfOk result (λ loaded. (rows : List FrameShape) (running : List Bool) (at : AbstractValue) → IsOnlyCell rows (runs_in running) at size cell → Loads rows (memory_of running frames.now) at size loaded) }
+{
+    let Some(value) = known_in(frames, cell, size) else {
+        return load_any(alloc, frames, cell, size);
+    };
+    let copy = value.copy(alloc)?;
+    Ok((Some(copy), FaultSet::none()))
 }
 
 /// What a load through the address gives.

@@ -73,7 +73,7 @@ pub(crate) fn switch<'a>(
     let Some(words) = value.int() else {
         return Ok(nowhere(alloc, here, faults));
     };
-    let mut next = switch_arms(alloc, &memory, term, &value, words, targets, others)?;
+    let mut next = switch_arms(alloc, memory, term, &value, words, targets, others)?;
     number(here, &mut next);
     Ok(Stepped { next, faults })
 }

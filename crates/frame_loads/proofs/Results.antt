@@ -2,9 +2,10 @@
 --   told_sized                       what is loaded before the bytes are read has the size of the cell
 --   kept_stands, bytes_stand         a cell as it stands
 --   kept_sized                       the value of a kept cell has its size
+--   known_is, known_sized            a cell that is known to hold a value
 --   load_is, faults_are, sized_are   the results of the cell as it stands, the faults and the size of what was loaded
 use Rattle.std.specs.Prelude.{IfOk, IfSome, Contains, ◌↔◌}
-use Rattle.std.proofs.Common.{◌≡◌, ◌⊎◌, sym, subst, ◌∙◌, ap, ℕ, Bool, true, false, List, Option, Some, None, Result, Ok, Err, arith, ◌/◌, ◌%◌, ◌<◌}
+use Rattle.std.proofs.Common.{◌≡◌, ◌⊎◌, sym, subst, ◌∙◌, ap, ℕ, Bool, true, false, List, [], ◌∷◌, Option, Some, None, Result, Ok, Err, arith, ◌/◌, ◌%◌, ◌<◌}
 use Rattle.std.proofs.lemmas.Bool.{and_parts, eqb-true, ltb-true, leb-true}
 use Rattle.alf_ops.specs.declared.history.RunFault.{RunFault}
 use Rattle.alf_ops.specs.declared.history.RunFault.TheVariants.{Uninit}
@@ -60,6 +61,15 @@ module _ (m : FrameMem abstract_sets) (offset size : ℕ) where
 
   pub kept_sized : (cell : Cell AbstractValue) → FrameSized abstract_sets m → Some cell ≡ m.cells offset size → IfSome cell.value (IsValue size)
   kept_sized cell sized kept = sized.kept offset size cell (sym kept)
+
+  -- a cell that is known to hold a value gives it alone
+  pub known_is : (cell : Cell AbstractValue) (value : AbstractValue) → Some cell ≡ m.cells offset size → cell ≡ record { value = Some value; u = false; x = false }
+      → load_results abstract_sets m offset size ≡ Ok value ∷ []
+  known_is cell value kept is = ap (λ (c : Cell AbstractValue). results abstract_sets (taken abstract_sets m offset size) c) (sym (kept_stands cell kept) ∙ is)
+
+  pub known_sized : (cell : Cell AbstractValue) (value : AbstractValue) → FrameSized abstract_sets m → Some cell ≡ m.cells offset size
+      → cell ≡ record { value = Some value; u = false; x = false } → IsValue size value
+  known_sized cell value sized kept is = subst (λ (c : Cell AbstractValue). IfSome c.value (IsValue size)) is (kept_sized cell sized kept)
 
   -- the results of the cell as it stands are those of a load
   pub load_is : {E : Type 0} (before : Loaded) (cell : Cell AbstractValue) (result : Result Loaded E) → cell ≡ stands abstract_sets m offset size

@@ -13,5 +13,5 @@ mod loaded;
 mod load;
 mod word;
 
-pub use load::load_onto;
+pub use load::{known_value, load_onto};
 pub use loaded::Loaded;

@@ -1,6 +1,6 @@
 //! Loads.
 
-ghost use Rattle.std.specs.Prelude.{◌≡◌, ◌↔◌, ◌⊎◌, true, false, None, Some, IfOk, IfSome, Contains};
+ghost use Rattle.std.specs.Prelude.{◌≡◌, ◌↔◌, ◌⊎◌, ◌∷◌, [], true, false, Ok, Some, IfOk, IfSome, Contains};
 ghost use Rattle.alf_ops.specs.declared.history.RunFault.{RunFault};
 ghost use Rattle.domain_core.specs.FaultSets.{has_fault};
 ghost use Rattle.pointer_rules.specs.Covering.{IsValue};
@@ -15,7 +15,6 @@ ghost use Rattle.frame_loads.specs.LoadedResults.{onto};
 use crate::loaded::{Loaded, fault_onto, value_onto, word_onto};
 use crate::word::{some_pointer, word_of_bytes};
 use alf_ops::RunFault;
-use domain_core::Lattice;
 use frame_cells::{cell_of_bytes, kept_cell};
 use memory_pages::{FrameSlots, Held};
 use pointer_domain::AVal;
@@ -41,14 +40,27 @@ fn bytes_onto(
     Ok(fault_onto(own, of_pointer, RunFault::Mixed))
 }
 
-/// The value of a cell that is known to hold it, where nothing was loaded before.
-fn first_known<'c>(cell: &'c Held, before: &Loaded) -> Option<&'c AVal>
-    ensures first { IfSome result (λ value. before.now.value ≡ None) }
-    ensures known { IfSome result (λ value. seen cell.now ≡ record { value = Some value.now; u = false; x = false }) }
+/// The value of a cell that is known to hold it.
+fn known_in(cell: &Held) -> Option<&AVal>
+    ensures { IfSome result (λ value. seen cell.now ≡ record { value = Some value.now; u = false; x = false }) }
 {
-    match (&before.value, &cell.value) {
-        (None, Some(value)) => { if cell.u || cell.x { None } else { Some(value) } }
-        _ => None,
+    match &cell.value {
+        None => None,
+        Some(value) => { if cell.u || cell.x { None } else { Some(value) } }
+    }
+}
+
+/// The value of the cell of this size in bits at an offset, where the cell is known to hold it: it is all that a load of
+/// the cell gives. Takes no memory.
+pub fn known_value(slots: &FrameSlots, offset: u32, size: u32) -> Option<&AVal>
+    requires size { is_cell_size size ≡ true }
+    requires frame_sized { FrameSized abstract_sets (frame_of slots.now) }
+    ensures value { IfSome result (λ value. load_results abstract_sets (frame_of slots.now) offset size ≡ Ok value.now ∷ []) }
+    ensures sized { IfSome result (λ value. IsValue size value.now) }
+{
+    match kept_cell(slots, offset, size) {
+        None => None,
+        Some(cell) => known_in(cell),
     }
 }
 
@@ -67,12 +79,6 @@ fn cell_onto(
     requires before_sized { IfSome before.value (IsValue size) }
     ensures { IfOk result (λ now. now ≡ onto before (results abstract_sets (taken abstract_sets (frame_of slots.now) offset size) (seen cell.now))) }
 {
-    if let Some(value) = first_known(cell, &before) {
-        return Ok(Loaded {
-            value: Some(value.copy(alloc)?),
-            faults: before.faults,
-        });
-    }
     let own = value_onto(alloc, before, &cell.value)?;
     let told = fault_onto(own, cell.u, RunFault::Uninit);
     if cell.x {
@@ -82,8 +88,7 @@ fn cell_onto(
     }
 }
 
-/// What a load of the cell of this size in bits at an offset gives, joined onto what was loaded before. Takes no
-/// memory where nothing was loaded before and the cell has no pointer.
+/// What a load of the cell of this size in bits at an offset gives, joined onto what was loaded before.
 pub fn load_onto(
     alloc: Global,
     slots: &FrameSlots,

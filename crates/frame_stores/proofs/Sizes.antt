@@ -1,9 +1,9 @@
 -- The sizes of what is joined.
---   room_in_words   a byte of the value is a byte of its words
+--   room_in_words, first_room   a byte of the value is a byte of its words
 --   byte_size       a byte of a frame has 8 bits
 --   stands_alike    the cell as it stands may be joined with a value of its size
 use Rattle.std.specs.Prelude.{IfSome}
-use Rattle.std.proofs.Common.{◌≡◌, sym, subst, ℕ, Option, Some, None, arith, ◌+◌, ◌*◌, ◌≤◌}
+use Rattle.std.proofs.Common.{◌≡◌, sym, subst, ℕ, true, Option, Some, None, arith, ◌+◌, ◌*◌, ◌≤◌}
 use Rattle.strided_rules.specs.Strides.{Stride}
 use Rattle.pointer_rules.specs.AbstractValues.{AbstractValue, AreAlike}
 use Rattle.pointer_rules.specs.Covering.{IsValue}
@@ -12,6 +12,8 @@ use Rattle.memory_rules.specs.AbstractSets.{abstract_sets}
 use Rattle.memory_rules.specs.AbstractSetLaws.{abstract_is_sets}
 use Rattle.memory_rules.specs.Covers.{FrameSized}
 use Rattle.memory_rules.specs.Updates.{stands_sized}
+use Rattle.held_memories.specs.HeldFrames.{is_cell_size}
+use Rattle.frame_stores.proofs.SlotFrames.{cell_bounds}
 
 -- a byte of the value is a byte of its words
 pub room_in_words : (value : AbstractValue) (size at : ℕ) → IsValue size value → 8 * at + 8 ≤ size → IfSome value.words (λ words. 8 * at + 8 ≤ words.size)
@@ -20,6 +22,12 @@ room_in_words value size at is room = go value.words is.sized.words
     go : (part : Option Stride) → IfSome part (λ words. words.size ≡ size) → IfSome part (λ words. 8 * at + 8 ≤ words.size)
     go None sized = tt
     go (Some words) sized = omega (arith, sized, room)
+
+-- and so is the first, of a cell
+pub first_room : (value : AbstractValue) (size : ℕ) → IsValue size value → is_cell_size size ≡ true → IfSome value.words (λ words. 8 * 0 + 8 ≤ words.size)
+first_room value size is sized =
+    let bounds = cell_bounds size sized in
+    room_in_words value size 0 is (omega (arith, bounds.0, bounds.1))
 
 -- a byte of a frame has 8 bits
 pub byte_size : (m : FrameMem abstract_sets) → FrameSized abstract_sets m → (byte : ℕ) → IfSome (m.bytes byte).value (λ word. word.size ≡ 8)

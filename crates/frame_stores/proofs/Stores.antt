@@ -3,12 +3,14 @@
 --   begins, goes, ends            a store from place to place
 --   untouched                     the byte that is next is as it was
 --   strong_before, strong_inside  a place of a strong store
+--   strong_later                  a place after the first
+--   strong_first, strong_kept     the first place of its cell, where the slot is put, or is there
 --   weak_before, weak_inside      a place of a weak store
 --   pins                          a pin
 --   pinned_before                 a pin to what is there
 use Rattle.std.specs.Prelude.{slice_get, slice_set, ◌==◌, if◌then◌else◌}
-use Rattle.std.proofs.Common.{◌≡◌, sym, subst, ◌∙◌, ap, ℕ, suc, zero, true, false, List, Some, None, refl, arith, ◌+◌, ◌-◌, ◌*◌, ◌/◌, ◌<◌, ◌≤◌, length}
-use Rattle.std.proofs.lemmas.Bool.{and_parts, eqb-true, eq-eqb, lt-ltb, le-ltb, false≢true}
+use Rattle.std.proofs.Common.{Bool, ◌≡◌, sym, subst, ◌∙◌, ap, ℕ, suc, zero, true, false, List, Some, None, refl, arith, ◌+◌, ◌-◌, ◌*◌, ◌/◌, ◌<◌, ◌≤◌, length}
+use Rattle.std.proofs.lemmas.Bool.{and_parts, eqb-true, eq-eqb, ne_eqb, lt-ltb, le-ltb, false≢true}
 use Rattle.lists.specs.Tests.{by_test}
 use Rattle.pointer_rules.specs.AbstractValues.{AbstractValue}
 use Rattle.memory_pages.specs.declared.byte.Byte.{Byte}
@@ -18,8 +20,8 @@ use Rattle.memory_rules.specs.Frames.{Cell, FrameMem, is_same, new_byte, weak_by
 use Rattle.memory_rules.specs.AbstractSets.{abstract_sets}
 use Rattle.held_memories.specs.HeldFrames.{is_cell_size, byte_held, byte_seen, cell_seen, cell_in, frame_of}
 use Rattle.held_memories.specs.SlotStores.{CellChange, ByteChange, stored_frame}
-use Rattle.frame_stores.specs.Places.{CellsBySize, at_place, below, with_place, wider, canonical, known, known_seen, lone_slot, mixed, mixed_slot, weakly, IsMixedAt, Becomes}
-use Rattle.frame_stores.proofs.SlotFrames.{cell_bounds, put_becomes, bare_cells, with_cell_cells, marked_cells, byte_found, cells_found}
+use Rattle.frame_stores.specs.Places.{CellsBySize, at_place, below, with_place, wider, canonical, known, known_seen, lone_slot, mixed, mixed_slot, weakly, IsMixedAt, IsStored, Becomes}
+use Rattle.frame_stores.proofs.SlotFrames.{cell_bounds, put_becomes, same_becomes, bare_cells, with_cell_cells, marked_cells, byte_found, cells_found}
 use Rattle.frame_stores.proofs.Steps.{before_is, inside_is, begun, gone_on, ended, frames_keep_cells}
 
 -- a cell that lies in the frame begins in it
@@ -154,6 +156,58 @@ module _ (old new : List HeldSlot) (offset size place : ℕ) (value : AbstractVa
       (inside_is offset size (known_seen value) (λ cell. None) (λ b was. new_byte abstract_sets value (b - offset)) sized refl (frame_of old) (frames_keep_cells old) place low high
       _ _ (ap byte_seen (lone_byte offset size place value sized low)) (lone_cells offset size place value sized low))
       (put_becomes old place (lone_slot (place - offset) size value) there (lone_canonical offset size place value sized low)))
+
+  -- and in it, after the first place
+  pub strong_later : offset < place → place < offset + size / 8 → place < length old → new ≡ slice_set old place (bare (byte_held (new_byte abstract_sets value (place - offset))))
+      → Becomes old new (at_place place (strongly (frame_of old)) (frame_of old))
+  strong_later after high there put =
+      let far : (place - offset == 0) ≡ false = ne_eqb (place - offset) 0 (λ e. absurd (omega (arith, e, after))) in
+      let bare_there : bare (byte_held (new_byte abstract_sets value (place - offset))) ≡ lone_slot (place - offset) size value = rw far refl in
+      strong_inside (omega (arith, after)) high there (put ∙ ap (λ (s : HeldSlot). slice_set old place s) bare_there)
+
+-- a strong store at the first place of its cell
+module _ (old : List HeldSlot) (offset size : ℕ) (value : AbstractValue) (sized : is_cell_size size ≡ true) (fits : offset + size / 8 ≤ length old) where
+  none_past : offset - offset ≡ 0
+  none_past = omega arith
+
+  first_inside : offset < offset + size / 8
+  first_inside = let bounds = cell_bounds size sized in omega (arith, bounds.0, bounds.1)
+
+  -- where the slot is put
+  pub strong_first : (new : List HeldSlot) → new ≡ slice_set old offset (lone_slot 0 size value)
+      → Becomes old new (at_place offset (strong abstract_sets (frame_of old) offset size value) (frame_of old))
+  strong_first new put =
+      strong_inside old new offset size offset value sized (omega arith) first_inside (begins_in offset size (length old) sized fits)
+      (put ∙ ap (λ (n : ℕ). slice_set old offset (lone_slot n size value)) (sym none_past))
+
+  -- where it is there
+  pub strong_kept : IsStored old offset size value (byte_held (new_byte abstract_sets value 0))
+      → Becomes old old (at_place offset (strong abstract_sets (frame_of old) offset size value) (frame_of old))
+  strong_kept is = subst (λ m. Becomes old old m)
+      (inside_is offset size (known_seen value) (λ cell. None) (λ b was. new_byte abstract_sets value (b - offset)) sized refl (frame_of old) (frames_keep_cells old) offset
+      (omega arith) first_inside _ _ same_byte same_cells)
+      (same_becomes old offset ((frame_of old).bytes offset) ((frame_of old).cells offset) refl (λ width. refl))
+    where
+      same_byte : (frame_of old).bytes offset ≡ new_byte abstract_sets value (offset - offset)
+      same_byte = byte_found old offset is.slot is.there
+          ∙ (ap byte_seen is.lone.same_byte ∙ ap (λ (n : ℕ). new_byte abstract_sets value n) (sym none_past))
+
+      kept : cell_in (Some is.slot) size ≡ Some (known_seen value)
+      kept = rw sized (ap cell_seen is.lone.cell)
+
+      no_other : (width : ℕ) → (width == size) ≡ false → cell_in (Some is.slot) width ≡ None
+      no_other width differ = by_test (is_cell_size width)
+          (λ of_size. rw of_size (ap cell_seen (is.lone.others width of_size (λ e. false≢true (sym differ ∙ eq-eqb width size e)))))
+          (λ other. rw other refl)
+
+      by_width : (width : ℕ) → cell_in (Some is.slot) width ≡ (if width == size then Some (known_seen value) else None)
+      by_width width = by_test (width == size)
+          (λ same. rw same (subst (λ (w : ℕ). cell_in (Some is.slot) w ≡ Some (known_seen value)) (sym (eqb-true width size same)) kept))
+          (λ differ. rw differ (no_other width differ))
+
+      same_cells : (width : ℕ) → (frame_of old).cells offset width ≡ (if is_same offset size offset width then Some (known_seen value) else None)
+      same_cells width = ap (λ (cells : CellsBySize). cells width) (cells_found old offset is.slot is.there)
+          ∙ (by_width width ∙ ap (λ (same : Bool). if same then Some (known_seen value) else None) (sym (same_place offset size offset width (eq-eqb offset offset refl))))
 
 module _ (old new : List HeldSlot) (offset size place : ℕ) (cell : Held) (value : AbstractValue) (sized : is_cell_size size ≡ true) where
   abbrev stored_cell : Cell AbstractValue

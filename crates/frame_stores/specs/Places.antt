@@ -8,16 +8,19 @@
 --   weakly m offset size cell value   the frame m after a weak store where the cell becomes this one
 --   IsMixedAt old slots place at size cell value   the slot at the place was mixed so
 --   wider others than cells       cells by size, where others is done to those of more bits
+--   HasLone slot size value byte  the slot has this byte, and the one cell that begins there is known to hold the value
+--   IsStored slots place size value byte   so does the slot at the place
 --   AreCanonical slots            each slot keeps its cells by their size, and no more
 --   Becomes old slots m           the slots are as many, keep cells as before, and stand for the frame m
-use Rattle.std.specs.Prelude.{◌≡◌, ℕ, false, List, length, map, Option, Some, ◌==◌, nat_lt, ◌-◌, if◌then◌else◌, slice_get, slice_set}
+use Rattle.std.specs.Prelude.{◌≡◌, ◌≢◌, ℕ, true, false, None, List, length, map, Option, Some, ◌==◌, nat_lt, ◌-◌, if◌then◌else◌, slice_get, slice_set}
 use Rattle.strided_rules.specs.Strides.{Stride}
 use Rattle.pointer_rules.specs.AbstractValues.{AbstractValue}
+use Rattle.memory_pages.specs.declared.byte.Byte.{Byte}
 use Rattle.memory_pages.specs.declared.held.Held.{Held}
 use Rattle.memory_pages.specs.Slots.{HeldSlot, table, cell_of, bare, with_byte, with_cell, with_wider_marked}
 use Rattle.memory_rules.specs.Frames.{AbstractByte, Cell, FrameMem, new_byte, weak_byte, with_x}
 use Rattle.memory_rules.specs.AbstractSets.{abstract_sets}
-use Rattle.held_memories.specs.HeldFrames.{byte_held, byte_seen, frame_of}
+use Rattle.held_memories.specs.HeldFrames.{is_cell_size, byte_held, byte_seen, frame_of}
 use Rattle.held_memories.specs.SlotStores.{CellChange, stored_frame}
 
 -- the cell of this value, where every byte has its store
@@ -73,6 +76,18 @@ canonical slot = record { byte = slot.byte; cells = table (cell_of slot) }
 -- each slot keeps its cells so
 abbrev pub AreCanonical : List HeldSlot → Type 0
 AreCanonical slots = map canonical slots ≡ slots
+
+-- the slot has this byte, and the one cell that begins there is known to hold the value
+pub record HasLone (slot : HeldSlot) (size : ℕ) (value : AbstractValue) (byte : Byte) : Type 0 where
+  pub same_byte : slot.byte ≡ byte
+  pub cell : cell_of slot size ≡ Some (known value)
+  pub others : (width : ℕ) → is_cell_size width ≡ true → width ≢ size → cell_of slot width ≡ None
+
+-- so does the slot at the place
+pub record IsStored (slots : List HeldSlot) (place size : ℕ) (value : AbstractValue) (byte : Byte) : Type 0 where
+  pub slot : HeldSlot
+  pub there : slice_get slots place ≡ Some slot
+  pub lone : HasLone slot size value byte
 
 -- the slots stand for the frame m
 pub record Becomes (old slots : List HeldSlot) (m : FrameMem abstract_sets) : Type 0 where

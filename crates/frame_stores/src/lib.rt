@@ -9,6 +9,7 @@
 // The places where something may change, and how a slot is put.
 mod near;
 mod slots;
+mod stored;
 
 // What a store leaves in a byte and in its cell.
 mod byte;

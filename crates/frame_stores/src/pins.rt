@@ -26,7 +26,7 @@ fn pinned_slot(alloc: Global, slot: &Slot, size: u32, value: &AVal) -> Result<Sl
 }
 
 /// The cell is known to hold the value.
-fn is_known(cell: &Held, value: &AVal) -> bool
+pub(crate) fn is_known(cell: &Held, value: &AVal) -> bool
     ensures { IsTrue result → cell.now ≡ known value.now }
 {
     match &cell.value {

@@ -3,30 +3,69 @@
 ghost use Rattle.std.specs.Prelude.{◌≡◌, ◌≤◌, ◌<◌, ◌+◌, ◌-◌, ◌*◌, ◌/◌, true, IfOk, OnOk, IfSome, length};
 ghost use Rattle.pointer_rules.specs.Covering.{IsValue};
 ghost use Rattle.memory_rules.specs.AbstractSets.{abstract_sets};
-ghost use Rattle.memory_rules.specs.Frames.{strong};
-ghost use Rattle.held_memories.specs.HeldFrames.{frame_of, is_cell_size};
+ghost use Rattle.memory_rules.specs.Frames.{new_byte as new_byte_of, strong};
+ghost use Rattle.held_memories.specs.HeldFrames.{byte_held, frame_of, is_cell_size};
 ghost use Rattle.frame_stores.specs.Places.{AreCanonical, Becomes, at_place, lone_slot};
 
 use crate::byte::new_byte;
 use crate::cell::known_cell;
 use crate::dropped::drop_wider;
 use crate::near::first_near;
-use crate::slots::put;
-use memory_pages::{FrameSlots, Slot};
+use crate::slots::put_bare;
+use crate::stored::is_stored;
+use memory_pages::{Byte, FrameSlots, Slot};
 use pointer_domain::AVal;
 use std::alloc::{AllocError, Global};
 
-/// The slot at this place of the cell: a byte of the value, and at the first place the cell.
-fn stored_slot(alloc: Global, place: u32, size: u32, value: &AVal) -> Result<Slot, AllocError>
-    requires { IfSome value.now.words (λ words. 8 * place + 8 ≤ words.size) }
-    ensures { IfOk result (λ slot. slot ≡ lone_slot place size value.now) }
+/// The slot at the first place of the cell: the lowest byte of the value, and the cell.
+fn first_slot(alloc: Global, size: u32, value: &AVal, byte: &Byte) -> Result<Slot, AllocError>
+    requires { byte.now ≡ byte_held (new_byte_of abstract_sets value.now 0) }
+    ensures { IfOk result (λ slot. slot ≡ lone_slot 0 size value.now) }
 {
-    let byte = new_byte(value, place);
-    let mut slot = Slot::bare(alloc, &byte);
-    if place == 0 {
-        slot.keep(size, known_cell(alloc, value)?)?;
-    }
+    let mut slot = Slot::bare(alloc, byte);
+    slot.keep(size, known_cell(alloc, value)?)?;
     Ok(slot)
+}
+
+/// Changes what begins at the first place of the cell.
+fn store_first(
+    alloc: Global,
+    slots: &mut FrameSlots,
+    offset: u32,
+    size: u32,
+    value: &AVal,
+) -> Result<(), AllocError>
+    requires size { is_cell_size size ≡ true }
+    requires fits { offset + size / 8 ≤ length slots.old }
+    requires value { IsValue size value.now }
+    ensures { OnOk result (Becomes slots.old slots.new (at_place offset (strong abstract_sets (frame_of slots.old) offset size value.now) (frame_of slots.old))) }
+{
+    let byte = new_byte(value, 0);
+    if is_stored(slots, offset, size, value, byte) {
+        return Ok(());
+    }
+    let slot = first_slot(alloc, size, value, &byte)?;
+    slots.put(offset as usize, slot)
+}
+
+/// Changes what begins at a place of the cell after the first.
+fn store_byte(
+    alloc: Global,
+    slots: &mut FrameSlots,
+    offset: u32,
+    size: u32,
+    value: &AVal,
+    place: usize,
+) -> Result<(), AllocError>
+    requires size { is_cell_size size ≡ true }
+    requires after { offset < place }
+    requires inside { place < offset + size / 8 }
+    requires fits { offset + size / 8 ≤ length slots.old }
+    requires value { IsValue size value.now }
+    ensures { OnOk result (Becomes slots.old slots.new (at_place place (strong abstract_sets (frame_of slots.old) offset size value.now) (frame_of slots.old))) }
+{
+    let byte = new_byte(value, (place - offset as usize) as u32);
+    put_bare(alloc, slots, place, &byte)
 }
 
 /// Changes what begins at the place.
@@ -49,8 +88,10 @@ fn store_at(
     if place < start {
         return drop_wider(alloc, slots, place, 8 * (start - place) as u32);
     }
-    let slot = stored_slot(alloc, (place - start) as u32, size, value)?;
-    put(slots, place, slot)
+    if place == start {
+        return store_first(alloc, slots, offset, size, value);
+    }
+    store_byte(alloc, slots, offset, size, value, place)
 }
 
 /// Stores a value in the one possible cell.

@@ -12,7 +12,7 @@ use crate::places::pin_to;
 use crate::refinements::{Place, Refinement, Side, Told};
 use crate::relations::{rel_at, swapped};
 use abstract_memory::AMem;
-use domain_core::{Domain, Lattice, Rel};
+use domain_core::{Domain, Rel};
 use interval_congruence::Strided;
 use std::alloc::{AllocError, Global};
 
@@ -111,20 +111,20 @@ fn refine(
     }
 }
 
-/// The memory of an arm with these words, if the arm is there.
+/// The memory, refined to an arm with these words, if the arm is there.
 pub(crate) fn refined<'a>(
     alloc: Global,
-    memory: &AMem<'a>,
+    memory: AMem<'a>,
     told: &Told,
     arm: Strided,
 ) -> Result<Option<AMem<'a>>, AllocError>
-    requires kept { IsMemory memory.now }
-    requires fits { Refines (rows_of memory.now.checked) arm.size told.now }
-    ensures checked { IfOk result (λ own. IfSome own (λ m. m.checked ≡ memory.now.checked)) }
+    requires kept { IsMemory memory }
+    requires fits { Refines (rows_of memory.checked) arm.size told.now }
+    ensures checked { IfOk result (λ own. IfSome own (λ m. m.checked ≡ memory.entry.checked)) }
     ensures kept { IfOk result (λ own. IfSome own IsMemory) }
-    ensures refined { IfOk result (λ own. option_map memory_in own ≡ refined_by told.now (memory_in memory.now) arm) }
+    ensures refined { IfOk result (λ own. option_map memory_in own ≡ refined_by told.now (memory_in memory.entry) arm) }
 {
-    let mut own = memory.copy(alloc)?;
+    let mut own = memory;
     let on = refine(alloc, &mut own, told.refinement(), arm)?;
     if on { Ok(Some(own)) } else { Ok(None) }
 }

@@ -3,7 +3,7 @@
 ghost use Rattle.std.specs.Prelude.{◌≡◌, IfOk, IfSome, IsSome, map};
 ghost use Rattle.std.specs.List.{AllByRecursion};
 ghost use Rattle.alf_ops.specs.Table.{result_size, operand_sizes};
-ghost use Rattle.alf_program.specs.Tree.{Address, Number, expressions_of};
+ghost use Rattle.alf_program.specs.Tree.{Address, Load, Number, expressions_of};
 ghost use Rattle.alf_check.specs.CheckedPrograms.{term_of};
 ghost use Rattle.memory_rules.specs.Covers.{IsCellSize};
 ghost use Rattle.pointer_rules.specs.Covering.{IsValue};
@@ -103,15 +103,28 @@ pub fn evaluate(
     match term {
         Term::Num(num) => Ok(word(alloc, *num)),
         Term::Addr(frame, offset) => pointer(alloc, *frame, *offset),
-        Term::Load(size, at) => {
-            if let Some((frame, offset)) = address_of(at) {
-                return load_cell(alloc, memory, frame, offset, *size);
-            }
-            let place = evaluate(alloc, memory, at)?;
-            load(alloc, memory, place, *size)
-        }
+        Term::Load(size, at) => evaluate_load(alloc, memory, *size, at),
         Term::Apply(op, sizes, operands) => operate(alloc, memory, *op, sizes, operands),
     }
+}
+
+/// What a load gives, whose address is evaluated first where it is no address as it stands.
+#[cycle(evaluation)]
+fn evaluate_load(
+    alloc: Global,
+    memory: &AMem<'_>,
+    size: u32,
+    at: &Term,
+) -> Result<(Option<AVal>, FaultSet), AllocError>
+    requires typed { IsTyped (Load size (term_of at.now)) }
+    requires kept { IsMemory memory.now }
+    ensures { IfOk result (λ answer. found answer ≡ value_at (rows_of memory.now.checked) (memory_in memory.now) (Load size (term_of at.now))) }
+{
+    if let Some((frame, offset)) = address_of(at) {
+        return load_cell(alloc, memory, frame, offset, size);
+    }
+    let place = evaluate(alloc, memory, at)?;
+    load(alloc, memory, place, size)
 }
 
 /// What an operator gives at its operands, which are evaluated from left to right.

@@ -1,14 +1,14 @@
--- What is left to show of `store_at`: the frame has what the slot that was put holds.
-use Rattle.std.specs.Prelude.{slice_set, length}
-use Rattle.std.proofs.Common.{◌∙◌, ap, ◌<◌, arith}
-use Rattle.std.proofs.lemmas.Result.{on_ok_weaker}
-use Rattle.frame_stores.proofs.Stores.{strong_inside}
+-- What is left to show of `store_at`: the first place of the cell is the place.
+use Rattle.std.proofs.Common.{ℕ, subst, sym}
+use Rattle.std.specs.Prelude.{OnOk}
+use Rattle.memory_rules.specs.AbstractSets.{abstract_sets}
+use Rattle.memory_rules.specs.Frames.{strong}
+use Rattle.held_memories.specs.HeldFrames.{frame_of}
+use Rattle.frame_stores.specs.Places.{Becomes, at_place}
 use Rattle.frame_stores.proofs.strong.store_at.Goals as goal
 
-pub returns : goal.returns
-returns c =
-    let there : c.args.place < length c.args.slots.now = omega arith in
-    on_ok_weaker c.put.result (λ put.
-    strong_inside c.args.slots.now c.put.new.slots c.args.offset c.args.size c.args.place c.args.value.now c.requires.size c.if-place-start.false c.requires.inside there
-    (put ∙ ap (λ s. slice_set c.args.slots.now c.args.place s) c.in_ok-slot.ensures))
-    c.put.ensures
+pub returns-then-place-start-2 : goal.returns-then-place-start-2
+returns-then-place-start-2 c =
+    subst (λ (p : ℕ). OnOk c.store_first.result (Becomes c.args.slots.now c.store_first.new.slots
+    (at_place p (strong abstract_sets (frame_of c.args.slots.now) c.args.offset c.args.size c.args.value.now) (frame_of c.args.slots.now))))
+    (sym c.if-place-start-2.true) c.store_first.ensures

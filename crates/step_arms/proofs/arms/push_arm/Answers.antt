@@ -7,8 +7,8 @@ use Rattle.step_arms.proofs.arms.push_arm.Goals as goal
 
 pub returns-clause-arms : goal.returns-clause-arms
 returns-clause-arms c =
-    let memory = c.args.memory.now in
-    let last : ℕ × MemoryParts = (c.args.to, c.in-Some-own.own) in
-    let one = one_arm memory c.args.to c.in_ok-own.own c.in-Some-own.own c.in-Some-own.is c.in_ok-own.ensures.checked c.in_ok-own.ensures.kept in
+    let memory = c.args.memory in
+    let last : ℕ × MemoryParts = (c.args.to, c.in-Some.own) in
+    let one = one_arm memory c.args.to c.in_ok-own.own c.in-Some.own c.in-Some.is c.in_ok-own.ensures.checked c.in_ok-own.ensures.kept in
     All-same (IsArmOf memory) c.push.new.self.items (c.args.arms.now.items ++ last ∷ []) c.in_ok-push.ensures.items
     (All-push (IsArmOf memory) c.args.arms.now.items last c.requires.arms one)

@@ -1,4 +1,4 @@
-use Rattle.std.proofs.Common.{◌≡◌, List, map, sym, ap, subst, ◌∙◌, arith, rules}
+use Rattle.std.proofs.Common.{◌≡◌, refl, List, map, sym, ap, subst, ◌∙◌, arith, rules}
 use Rattle.std.specs.Prelude.{IfOk}
 use Rattle.alf_ops.specs.Table.{operand_sizes}
 use Rattle.alf_program.specs.Tree.{NumberedExpression, Load, Empty, With, expressions_of}
@@ -11,16 +11,21 @@ use Rattle.std.specs.List.{AllZip}
 use Rattle.pointer_rules.specs.AbstractValues.{AbstractValue, HasSize}
 use Rattle.step_rules.specs.Remains.{Remains, goes_on}
 use Rattle.step_rules.specs.Evaluating.{operated}
-use Rattle.step_statements.specs.Typed.{AreTyped}
+use Rattle.step_statements.specs.Typed.{AreTyped, IsTyped}
 use Rattle.step_statements.specs.Found.{found, one_operand, two_operands, three_operands}
 use Rattle.step_statements.proofs.TypedLaws.{first_typed, second_typed, third_typed, few_terms, one_member, two_members, three_members, load_sized, operands_typed, operands_sized, one_sized, two_sized, three_sized, one_found, two_found, three_found}
 use Rattle.step_statements.proofs.evaluating.+evaluation.Goals as goal
 
-pub evaluate-load-requires-clause-place : goal.evaluate-load-requires-clause-place
-evaluate-load-requires-clause-place t c =
+pub evaluate-evaluate_load-requires : goal.evaluate-evaluate_load-requires
+evaluate-evaluate_load-requires t c =
     let same : term_of c.args.term.now ≡ Load c.in-Load.size (term_of c.in-Load.at.value) =
     ap term_of c.in-Load.is ∙ (ap term_of (sym (terms.rolls-Load c.in-Load.size c.in-Load.at)) ∙ fold-roll-Term NumberedExpression term_step _) in
-    load_sized c.args.memory.now (term_of c.args.term.now) (term_of c.in-Load.at.value) c.in-Load.size c.in_ok-place-in-Load.place c.requires.kept c.requires.typed same (search rules)
+    let at : c.deref.result.now ≡ c.in-Load.at.value = search rules in
+    (search (rules, the_lemmas), (subst (λ (e : Term). IsTyped (Load c.in-Load.size (term_of e))) (sym at) (subst IsTyped same c.requires.typed), c.requires.kept))
+
+pub evaluate_load-load-requires-clause-place : goal.evaluate_load-load-requires-clause-place
+evaluate_load-load-requires-clause-place t c =
+    load_sized c.args.memory.now (Load c.args.size (term_of c.args.at.now)) (term_of c.args.at.now) c.args.size c.in_ok-place.place c.requires.kept c.requires.typed refl (search rules)
 
 pub evaluate-operate-requires : goal.evaluate-operate-requires
 evaluate-operate-requires t c = (

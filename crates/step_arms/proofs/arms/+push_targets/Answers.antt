@@ -1,7 +1,0 @@
-use Rattle.seen_memories.specs.Parts.{rows_of}
-use Rattle.step_arms.proofs.Tellings.{sized_fit}
-use Rattle.step_arms.proofs.arms.+push_targets.Goals as goal
-
-pub push_arm-requires-clause-fits : goal.push_arm-requires-clause-fits
-push_arm-requires-clause-fits t c =
-    sized_fit (rows_of c.args.memory.now.checked) c.args.words.size c.args.told.now c.only.result c.requires.fits c.only.ensures.sized

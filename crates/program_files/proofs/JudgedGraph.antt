@@ -11,8 +11,9 @@ use Rattle.work.specs.Outcome.{Outcome, Source, AreAlikeResults, refused}
 use Rattle.work.specs.Work.{IsOnly, alike}
 use Rattle.program_files.specs.FaultLines.{limit_line}
 use Rattle.program_files.specs.CheckLines.{graph_line}
-use Rattle.program_files.specs.Programs.{GraphMeans, unranked}
-use Rattle.program_files.proofs.Ranks as ranks
+use Rattle.unranked_runs.specs.Ranking.{unranked}
+use Rattle.unranked_runs.specs.RankedGraphs as ranks
+use Rattle.program_files.specs.Expanding.{GraphMeans}
 use Rattle.program_files.proofs.Judged.{outcome_is}
 
 some_is : {A : Type 0} (x y : A) → Some x ≡ Some y → x ≡ y

@@ -30,16 +30,16 @@ name_line words name = words ++ (quoted name ++ 10 ∷ [])
 abbrev pub size_line : List ℕ → Option ℕ → List ℕ
 size_line name number = codes "fault 22 size " ++ (quoted name ++ (32 ∷ (number_or_dash number ++ 10 ∷ [])))
 
--- the names on one of the cycles that begin with the first function on one
-abbrev pub recursion_line : List (List ℕ) → List ℕ
-recursion_line names = codes "fault 23 recursion" ++ (names_text names ++ 10 ∷ [])
+-- the names of the functions on a cycle of calls
+abbrev pub names_line : List ℕ → List (List ℕ) → List ℕ
+names_line words names = words ++ (names_text names ++ 10 ∷ [])
 
 -- the line of a program that does not pass; want of memory has none
 abbrev pub check_line : CheckFault → Option (List ℕ)
 check_line (checks.UnknownName name) = Some (name_line (codes "fault 20 unknown ") name)
 check_line (checks.DuplicateName name) = Some (name_line (codes "fault 21 duplicate ") name)
 check_line (checks.Size name number) = Some (size_line name number)
-check_line (checks.Recursion names) = Some (recursion_line names.items)
+check_line (checks.Recursion names) = Some (names_line (codes "fault 23 recursion") names.items)
 check_line (checks.Root name) = Some (name_line (codes "fault 24 root ") name)
 check_line checks.Memory = None
 

@@ -10,7 +10,7 @@ use Rattle.c_lowered.specs.Programs.{lowered}
 use Rattle.flow_graph.specs.Numbering.{GraphParts, IsGraph, HasMoreNodes, HasMoreEdges, most_nodes, most_edges}
 use Rattle.flow_graph.specs.Faults.{FaultTells}
 use Rattle.flow_graph.specs.declared.fault.GraphFault.{GraphFault}
-use Rattle.sweet_words.specs.Commands.{ProgramFile, Alf, C}
+use Rattle.sweet_words.specs.Files.{ProgramFile, Alf, C}
 use Rattle.work.specs.Outcome.{Outcome, Source}
 use Rattle.work.specs.Work.{Work, judged, done, ◌>>=◌}
 use Rattle.program_files.specs.CheckLines.{graph_line}

@@ -1,20 +1,18 @@
-//! The program that a command reads, checked and expanded.
+//! Programs of ALF in files, checked.
 
-ghost use Rattle.std.specs.Prelude.{IfOk};
+ghost use Rattle.std.specs.Prelude.{IfOk, IfSome};
 ghost use Rattle.alf_program.specs.Tree.{program_of};
 ghost use Rattle.alf_program.specs.Writable.{IsWritable};
-ghost use Rattle.alf_check.specs.CheckedPrograms.{seen};
-ghost use Rattle.flow_graph.specs.Numbering.{IsGraph};
 ghost use Rattle.work.specs.Works.{Works, Judges};
-ghost use Rattle.program_files.specs.Programs.{ProgramMeans, program_in, CheckMeans, GraphMeans, checked_in, expanded_in, unranked};
-ghost use Rattle.program_files.specs.Seen.{expanded_of};
+ghost use Rattle.program_files.specs.Programs.{ProgramMeans, program_in, CheckMeans, numbered_in};
+ghost use Rattle.program_files.specs.Seen.{program_of_checked};
+ghost use Rattle.program_files.specs.Told.{IsProgramOfText};
 
-use crate::lines::{check_line, check_why, fault_line, graph_line};
+use crate::lines::{check_line, check_why, fault_line};
 use alf_check::{Checked, check};
 use alf_program::Program;
 use alf_text::{one_meaning, read};
 use flow_base::Shelf;
-use flow_graph::{Graph, a_program_has_one_graph, limits_exclude_each_other};
 use std::alloc::Global;
 use work::{Role, Stop, Why, read_file};
 
@@ -23,13 +21,6 @@ pub const MOST_BYTES: u64 = 1_048_576;
 
 /// The line of a file that has more.
 pub const TOO_LONG: &str = "fault 13 limit bytes 1048577\n";
-
-/// A checked program and its graph.
-#[derive(Drop)]
-pub struct Expanded {
-    pub checked: Checked,
-    pub graph: Graph,
-}
 
 /// The program that the file spells.
 #[tactic(auto, unfolding(crate::specs::Programs::program_in))]
@@ -56,15 +47,16 @@ fn spelled(alloc: Global, bytes: &[u8]) -> Result<Program, Stop>
     }
 }
 
-// The program in the file, where it passes the checks.
-#[tactic(auto, unfolding(crate::specs::Programs::checked_in))]
-fn checked_in<F: Shelf>(
+/// The program in the file, where it passes the checks.
+#[tactic(auto, unfolding(crate::specs::Programs::numbered_in))]
+pub fn numbered_in<F: Shelf>(
     alloc: Global,
     file: &str,
     root: &str,
     shelf: &mut F,
 ) -> Result<Checked, Stop>
-    ensures { Works (checked_in file.now root.now) (λ checked. unranked (seen checked)) (F.state shelf.old) result (F.state shelf.new) }
+    ensures work { Works (numbered_in file.now root.now) program_of_checked (F.state shelf.old) result (F.state shelf.new) }
+    ensures told { IfOk result (λ checked. IfSome (F.state shelf.old).files (λ files. IsProgramOfText file.now root.now files (program_of_checked checked))) }
 {
     let program = program_in(alloc, file, shelf)?;
     checked(alloc, program, root)
@@ -73,7 +65,7 @@ fn checked_in<F: Shelf>(
 // The program, where it passes the checks.
 fn checked(alloc: Global, program: Program, root: &str) -> Result<Checked, Stop>
     requires { IsWritable (program_of program) }
-    ensures { Judges (CheckMeans (program_of program) root.now) (λ checked. unranked (seen checked)) result }
+    ensures { Judges (CheckMeans (program_of program) root.now) program_of_checked result }
 {
     match check(alloc, program, root) {
         Ok(checked) => Ok(checked),
@@ -82,36 +74,4 @@ fn checked(alloc: Global, program: Program, root: &str) -> Result<Checked, Stop>
             Err(_) => Err(Stop::Memory),
         },
     }
-}
-
-// The graph of the program.
-fn graph_of(alloc: Global, checked: &Checked) -> Result<Graph, Stop>
-    ensures means { Judges (GraphMeans (unranked (seen checked.now))) (λ graph. graph) result }
-    ensures graph { IfOk result (λ graph. IsGraph (seen checked.now) graph) }
-{
-    a_program_has_one_graph();
-    limits_exclude_each_other();
-    match Graph::expand(alloc, checked) {
-        Ok(graph) => Ok(graph),
-        Err(fault) => match graph_line(alloc, &fault) {
-            Ok(line) => Err(Stop::Told(Why::Source, line)),
-            Err(_) => Err(Stop::Memory),
-        },
-    }
-}
-
-/// The program in the file, checked and expanded.
-#[tactic(auto, unfolding(crate::specs::Programs::expanded_in))]
-pub fn expanded_in<F: Shelf>(
-    alloc: Global,
-    file: &str,
-    root: &str,
-    shelf: &mut F,
-) -> Result<Expanded, Stop>
-    ensures work { Works (expanded_in file.now root.now) expanded_of (F.state shelf.old) result (F.state shelf.new) }
-    ensures graph { IfOk result (λ expanded. IsGraph (seen expanded.checked) expanded.graph) }
-{
-    let checked = checked_in(alloc, file, root, shelf)?;
-    let graph = graph_of(alloc, &checked)?;
-    Ok(Expanded { checked, graph })
 }

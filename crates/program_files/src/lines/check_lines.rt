@@ -3,7 +3,7 @@
 ghost use Rattle.std.specs.Prelude.{◌≡◌, ◌++◌, ◌∷◌, [], map, string_bytes, IfOk, OnOk, Some};
 ghost use Rattle.flow_graph.specs.Names.{quoted};
 ghost use Rattle.work.specs.Outcome.{cause_of};
-ghost use Rattle.program_files.specs.CheckLines.{number_or_dash, names_text, name_line, size_line, recursion_line, check_line, check_cause, graph_line};
+ghost use Rattle.program_files.specs.CheckLines.{number_or_dash, names_text, name_line, size_line, names_line, check_line, check_cause, graph_line};
 
 use crate::lines::fault_lines::limit_line;
 use alf_check::CheckFault;
@@ -20,7 +20,7 @@ pub fn check_line(alloc: Global, fault: &CheckFault) -> Result<Vec<u8>, AllocErr
         CheckFault::UnknownName(name) => name_line(alloc, "fault 20 unknown ", name),
         CheckFault::DuplicateName(name) => name_line(alloc, "fault 21 duplicate ", name),
         CheckFault::Size(name, number) => size_line(alloc, name, *number),
-        CheckFault::Recursion(names) => recursion_line(alloc, names),
+        CheckFault::Recursion(names) => names_line(alloc, "fault 23 recursion", names),
         CheckFault::Root(name) => name_line(alloc, "fault 24 root ", name),
         CheckFault::Memory => Err(AllocError),
     }
@@ -50,7 +50,8 @@ pub fn graph_line(alloc: Global, fault: &GraphFault) -> Result<Vec<u8>, AllocErr
     }
 }
 
-fn name_line(alloc: Global, words: &str, name: &Name) -> Result<Vec<u8>, AllocError>
+/// The line of a name, after these words.
+pub fn name_line(alloc: Global, words: &str, name: &Name) -> Result<Vec<u8>, AllocError>
     ensures { IfOk result (λ line. line.items ≡ name_line words.now name.now) }
 {
     let mut line = Vec::from_slice(alloc, words.as_bytes())?;
@@ -71,10 +72,11 @@ fn size_line(alloc: Global, name: &Name, number: Option<u32>) -> Result<Vec<u8>,
     Ok(line)
 }
 
-fn recursion_line(alloc: Global, names: &[Name]) -> Result<Vec<u8>, AllocError>
-    ensures { IfOk result (λ line. line.items ≡ recursion_line names.now) }
+/// The line of the names on a cycle of calls, after these words.
+pub fn names_line(alloc: Global, words: &str, names: &[Name]) -> Result<Vec<u8>, AllocError>
+    ensures { IfOk result (λ line. line.items ≡ names_line words.now names.now) }
 {
-    let mut line = Vec::from_slice(alloc, b"fault 23 recursion")?;
+    let mut line = Vec::from_slice(alloc, words.as_bytes())?;
     for name in names {
         line.push(b' ')?;
         push_quoted(&mut line, name.bytes())?;

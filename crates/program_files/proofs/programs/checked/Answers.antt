@@ -3,9 +3,9 @@ use Rattle.std.proofs.Common.{ap}
 use Rattle.alf_program.specs.Tree.{program_of}
 use Rattle.alf_check.specs.CheckedPrograms.{seen}
 use Rattle.work.specs.Outcome.{cause_of}
-use Rattle.program_files.specs.Programs.{unranked}
+use Rattle.unranked_runs.specs.Ranking.{unranked}
 use Rattle.program_files.proofs.Judged.{passes_only, told_only, check_read}
-use Rattle.program_files.proofs.commands.programs.checked.Goals as goal
+use Rattle.program_files.proofs.programs.checked.Goals as goal
 
 pub returns-in-Ok : goal.returns-in-Ok
 returns-in-Ok c =

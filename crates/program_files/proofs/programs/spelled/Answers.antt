@@ -3,7 +3,7 @@ use Rattle.std.proofs.Common.{refl}
 use Rattle.alf_program.specs.Tree.{program_of}
 use Rattle.alf_text.specs.Language.{departure_of}
 use Rattle.program_files.proofs.Judged.{spelled_only, departed_only}
-use Rattle.program_files.proofs.commands.programs.spelled.Goals as goal
+use Rattle.program_files.proofs.programs.spelled.Goals as goal
 
 pub returns-in-Ok-clause-means : goal.returns-in-Ok-clause-means
 returns-in-Ok-clause-means c = spelled_only c.args.bytes.now (c.one_meaning.ensures c.args.bytes.now) (program_of c.in-Ok.program) c.in-Ok.ensures.spelled

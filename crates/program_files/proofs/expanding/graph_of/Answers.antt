@@ -1,10 +1,10 @@
 -- The graph, or the line of a limit, is the only meaning.
 use Rattle.std.proofs.Common.{[], refl}
 use Rattle.alf_check.specs.CheckedPrograms.{seen}
-use Rattle.program_files.specs.Programs.{unranked}
-use Rattle.program_files.proofs.Ranks.{graph}
+use Rattle.unranked_runs.specs.Ranking.{unranked}
+use Rattle.unranked_runs.specs.RankedGraphs.{graph}
 use Rattle.program_files.proofs.JudgedGraph.{graph_only, limit_only, tells_unranked}
-use Rattle.program_files.proofs.commands.programs.graph_of.Goals as goal
+use Rattle.program_files.proofs.expanding.graph_of.Goals as goal
 
 pub returns-in-Ok-clause-means : goal.returns-in-Ok-clause-means
 returns-in-Ok-clause-means c =

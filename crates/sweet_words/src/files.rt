@@ -32,7 +32,7 @@ fn is_c(name: &str) -> bool
 
 // The name of the file, where it is one of C.
 pub fn c_file<'a>(program: ProgramFile<'a>) -> Option<&'a str>
-    ensures { option_map (λ s. s.now) result ≡ c_file (file_meant program) }
+    ensures { option_map (λ s. s.now) result ≡ c_file (file_meant program.entry) }
 {
     match program {
         ProgramFile::Alf(_) => None,

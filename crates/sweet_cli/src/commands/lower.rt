@@ -15,11 +15,7 @@ use work::Stop;
 
 /// The canonical text.
 #[tactic(auto, unfolding(crate::specs::Lower::lowering))]
-pub fn lower<F: Shelf>(
-    alloc: Global,
-    given: LowerWords<'_>,
-    shelf: &mut F,
-) -> Result<Vec<u8>, Stop>
+pub fn lower<F: Shelf>(alloc: Global, given: LowerWords<'_>, shelf: &mut F) -> Result<Vec<u8>, Stop>
     ensures work { Works (lowering (lower_meant given.entry)) (λ text. text.items) (F.state shelf.old) result (F.state shelf.new) }
     ensures promise { IfOk result (λ text. IfSome (F.state shelf.old).files (λ files. IsLoweredText (lower_meant given.entry) files text.items)) }
 {

@@ -12,4 +12,3 @@ returns-in-Print-clause-promise g c = rw c.in-Print.is c.print_text.ensures.prom
 
 pub returns-in-Run-clause-promise : goal.returns-in-Run-clause-promise
 returns-in-Run-clause-promise g c = rw c.in-Run.is c.run.ensures.promise
-

@@ -1,9 +1,9 @@
 -- What told files say of the program that is read.
-use Rattle.std.proofs.Common.{◌≡◌, ℕ, List, [], Result, Ok, Option, None, Some, IfSome, inl, inr, ◌⊎◌, All, refl, sym, ap, subst, ◌∙◌}
+use Rattle.std.proofs.Common.{◌≡◌, ℕ, List, [], Result, Ok, Err, Option, None, Some, IfOk, IfSome, inl, inr, ◌⊎◌, All, refl, sym, ap, subst, ◌∙◌}
 use Rattle.std.proofs.lemmas.List.Elements.{All-contains}
 use Rattle.lists.specs.Members.{all_members}
 use Rattle.flow_base.specs.Outside.{Files}
-use Rattle.flow_base.specs.Shelves.{ShelfState}
+use Rattle.alf_program.specs.Tree.{WholeProgram}
 use Rattle.alf_check.specs.declared.rows.InputRow.{InputRow}
 use Rattle.alf_check.specs.CheckedPrograms.{CheckedParts, NumberedProgram, seen}
 use Rattle.alf_check.specs.Numbered.{numbered}
@@ -19,37 +19,49 @@ use Rattle.c_meaning.specs.Programs.{ProgramOutcome}
 use Rattle.lowered_runs.specs.Outcomes.{IsSameOutcome}
 use Rattle.lowered_programs.specs.Lowering.{HasOutcomeOfCells}
 use Rattle.c_lower.specs.Outcomes.{HasUnitsOutcomes}
-use Rattle.work.specs.Log.{Log, log_of}
-use Rattle.work.specs.Works.{Works}
+use Rattle.work.specs.Log.{Log}
+use Rattle.work.specs.declared.stop.Stop.{Stop}
+use Rattle.work.specs.Works.{Judges}
 use Rattle.unranked_runs.specs.Ranking.{unranked}
 use Rattle.unranked_runs.specs.RankedRuns.{after_same}
-use Rattle.program_files.specs.Programs.{program_in, numbered_in, meant}
-use Rattle.program_files.specs.Units.{unit_in, checked_unit_in, PassesChecks}
-use Rattle.program_files.specs.Expanding.{lowered_in}
+use Rattle.program_files.specs.Programs.{program_in, CheckMeans, meant}
+use Rattle.program_files.specs.Units.{unit_in, PassesChecks, UnitCheckMeans}
 use Rattle.program_files.specs.Seen.{program_of_checked}
 use Rattle.program_files.specs.Told.{IsProgramOfText, IsToldUnit, IsProgramOfUnit}
 
 -- ---- what was read
 
 -- a program of ALF
-pub told_text : (file root : List ℕ) (told : Option Files) (before : Log) (program : NumberedProgram) (after : Log) → (numbered_in file root).steps.Gives told before program after
-    → IfSome told (λ files. IsProgramOfText file root files program)
-unfolding numbered_in program_in
-told_text file root None before program after g = tt
-told_text file root (Some files) before program after (whole, mid, (bytes, log, read, (spelled, still)), (checked, same)) =
-    record { bytes = bytes; whole = whole; told = read.2; spelled = spelled.means; passes = checked.means.0; program_is = checked.means.1 }
+told_text : (file root : List ℕ) (told : Option Files) (before : Log) (whole : WholeProgram) (program : NumberedProgram) (after : Log) → (program_in file).steps.Gives told before whole after
+    → CheckMeans whole root (Ok program) → IfSome told (λ files. IsProgramOfText file root files program)
+unfolding program_in
+told_text file root None before whole program after g checks = tt
+told_text file root (Some files) before whole program after (bytes, log, read, (spelled, still)) checks =
+    record { bytes = bytes; whole = whole; told = read.2; spelled = spelled.means; passes = checks.0; program_is = checks.1 }
+
+pub told_numbered : (file root : List ℕ) (told : Option Files) (before : Log) (whole : WholeProgram) (after : Log) (result : Result CheckedParts Stop)
+    → (program_in file).steps.Gives told before whole after → Judges (CheckMeans whole root) program_of_checked result
+    → IfOk result (λ checked. IfSome told (λ files. IsProgramOfText file root files (program_of_checked checked)))
+told_numbered file root told before whole after (Ok checked) g judged = told_text file root told before whole (program_of_checked checked) after g judged.means
+told_numbered file root told before whole after (Err stop) g judged = tt
 
 -- a unit of C
-pub told_unit : (file root : List ℕ) (told : Option Files) (before : Log) (unit : UnitTree) (after : Log) → (checked_unit_in file root).steps.Gives told before unit after
-    → IfSome told (λ files. IsToldUnit file root files unit)
-unfolding checked_unit_in unit_in
-told_unit file root None before unit after g = tt
-told_unit file root (Some files) before unit after (read_unit, mid, (bytes, log, read, (spelled, still)), (checked, same)) = record {
+told_unit : (file root : List ℕ) (told : Option Files) (before : Log) (read unit : UnitTree) (after : Log) → (unit_in file).steps.Gives told before read after
+    → UnitCheckMeans read root (Ok unit) → IfSome told (λ files. IsToldUnit file root files unit)
+unfolding unit_in
+told_unit file root None before read unit after g checks = tt
+told_unit file root (Some files) before read unit after (bytes, log, got, (spelled, still)) checks = record {
   bytes = bytes;
-  told = read.2;
-  spelled = subst (SpellsUnit bytes) (sym checked.means.1) spelled.means;
-  passes = subst (λ (u : UnitTree). PassesChecks u root) (sym checked.means.1) checked.means.0;
+  told = got.2;
+  spelled = subst (SpellsUnit bytes) (sym checks.1) spelled.means;
+  passes = subst (λ (u : UnitTree). PassesChecks u root) (sym checks.1) checks.0;
 }
+
+pub told_checked : (file root : List ℕ) (told : Option Files) (before : Log) (unit : UnitTree) (after : Log) (result : Result ProgramParts Stop)
+    → (unit_in file).steps.Gives told before unit after → Judges (UnitCheckMeans unit root) (λ (p : ProgramParts). unit_of p.unit) result
+    → IfOk result (λ program. IfSome told (λ files. IsToldUnit file root files (unit_of program.unit)))
+told_checked file root told before unit after (Ok program) g judged = told_unit file root told before unit (unit_of program.unit) after g judged.means
+told_checked file root told before unit after (Err stop) g judged = tt
 
 -- ---- ranks have no part
 
@@ -100,16 +112,7 @@ module _ (p : NumberedProgram) where
 
 -- ---- lowering
 
--- a unit that was read and lowered gives the program without ranks
-pub lowers : (file root name : List ℕ) (before after : ShelfState) (program : ProgramParts) (checked : CheckedParts)
-    → Works (checked_unit_in file root) (λ (p : ProgramParts). unit_of p.unit) before (Ok program) after
-    → name ≡ root → seen checked ≡ numbered (lowered (unit_of program.unit)) name (seen checked).ranks → Works (lowered_in file root) program_of_checked before (Ok checked) after
-unfolding lowered_in
-lowers file root name before after program checked h named is =
-    let same : program_of_checked checked ≡ meant (lowered (unit_of program.unit)) root = ap unranked is ∙ ap (meant (lowered (unit_of program.unit))) named in
-    record { ends = ((unit_of program.unit, log_of after, h.ends.0, (same, refl)), h.ends.1); same = h.same; later = h.later }
-
--- and told files say so
+-- told files say what a unit was lowered to
 pub told_lowered : (file root name : List ℕ) (told : Option Files) (unit : UnitTree) (checked : CheckedParts) → IfSome told (λ files. IsToldUnit file root files unit)
     → name ≡ root → seen checked ≡ numbered (lowered unit) name (seen checked).ranks → HasUnitsOutcomes unit name (seen checked)
     → IfSome told (λ files. IsProgramOfUnit file root files (program_of_checked checked))

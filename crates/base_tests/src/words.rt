@@ -2,7 +2,7 @@
 use crate::values::part;
 use std::alloc::{AllocError, Global};
 use std::test::Fail;
-use sweet_words::{Command, Merging, WordsFault, read};
+use sweet_words::{AnalyseWords, Command, Merging, ProgramFile, RunWords, WordsFault, read};
 
 /// The words of a line, with a comma between two of them.
 fn words_of(alloc: Global, line: &str) -> Result<Vec<String>, AllocError> {
@@ -22,32 +22,63 @@ fn merging_word(merging: Merging) -> &'static str {
     }
 }
 
-/// What the words are, where they are a command: its name, and what it was given. A file that is
-/// left out is a dash.
+/// The language of the program's file.
+fn language(program: ProgramFile<'_>) -> &'static str {
+    match program {
+        ProgramFile::Alf(_) => "",
+        ProgramFile::C(_) => " of C",
+    }
+}
+
+/// The name of the program's file.
+fn name<'a>(program: ProgramFile<'a>) -> &'a str {
+    match program {
+        ProgramFile::Alf(name) => name,
+        ProgramFile::C(name) => name,
+    }
+}
+
+/// What `analyse` was given. A file that is left out is a dash.
+fn analyse_told(alloc: Global, given: AnalyseWords<'_>) -> Result<String, AllocError> {
+    let language = language(given.program);
+    let file = name(given.program);
+    let root = given.root;
+    let inputs = given.inputs.unwrap_or("-");
+    let costs = given.costs.unwrap_or("-");
+    let turns = given.turns;
+    let merging = merging_word(given.merging);
+    let pivots = given.pivots;
+    Ok(format!(in alloc;
+        "analyse{language} {file} {root} {inputs} {costs} {turns} {merging} {pivots}"
+    )?)
+}
+
+/// What `run` was given. A file that is left out is a dash.
+fn run_told(alloc: Global, given: RunWords<'_>) -> Result<String, AllocError> {
+    let language = language(given.program);
+    let file = name(given.program);
+    let root = given.root;
+    let inputs = given.inputs.unwrap_or("-");
+    let costs = given.costs.unwrap_or("-");
+    let turns = given.turns;
+    Ok(format!(in alloc; "run{language} {file} {root} {inputs} {costs} {turns}")?)
+}
+
+/// What the words are, where they are a command: its name, and what it was given.
 fn told(alloc: Global, words: &[String]) -> Result<String, AllocError> {
     match read(alloc, words) {
-        Ok(Command::Analyse(given)) => {
+        Ok(Command::Analyse(given)) => analyse_told(alloc, given),
+        Ok(Command::Lower(given)) => {
             let file = given.file;
             let root = given.root;
-            let inputs = given.inputs.unwrap_or("-");
-            let costs = given.costs.unwrap_or("-");
-            let turns = given.turns;
-            let merging = merging_word(given.merging);
-            let pivots = given.pivots;
-            Ok(format!(in alloc;
-                "analyse {file} {root} {inputs} {costs} {turns} {merging} {pivots}"
-            )?)
+            Ok(format!(in alloc; "lower {file} {root}")?)
         }
-        Ok(Command::Print(file)) => Ok(format!(in alloc; "print {file}")?),
-        Ok(Command::PrintC(file)) => Ok(format!(in alloc; "print of C {file}")?),
-        Ok(Command::Run(given)) => {
-            let file = given.file;
-            let root = given.root;
-            let inputs = given.inputs.unwrap_or("-");
-            let costs = given.costs.unwrap_or("-");
-            let turns = given.turns;
-            Ok(format!(in alloc; "run {file} {root} {inputs} {costs} {turns}")?)
+        Ok(Command::Print(program)) => {
+            let language = language(program);
+            let file = name(program);
+            Ok(format!(in alloc; "print{language} {file}")?)
         }
+        Ok(Command::Run(given)) => run_told(alloc, given),
         Err(_) => String::from_str(alloc, "no command"),
     }
 }
@@ -80,6 +111,13 @@ analyse,- = analyse - main - - 100000 joins 1000
 analyse, = analyse  main - - 100000 joins 1000
 analyse,analyse = analyse analyse main - - 100000 joins 1000
 analyse,a.C = analyse a.C main - - 100000 joins 1000
+analyse,a.c = analyse of C a.c main - - 100000 joins 1000
+analyse,.c = analyse of C .c main - - 100000 joins 1000
+analyse,c = analyse c main - - 100000 joins 1000
+analyse,a.c.alf = analyse a.c.alf main - - 100000 joins 1000
+analyse,a.cc = analyse a.cc main - - 100000 joins 1000
+analyse,--,-a.c = analyse of C -a.c main - - 100000 joins 1000
+analyse,a.c,--inputs,i.toml,--root=f,--merge,none = analyse of C a.c f i.toml - 100000 none 1000
 analyse,a.alf,--root,f = analyse a.alf f - - 100000 joins 1000
 analyse,a.alf,--root= = analyse a.alf  - - 100000 joins 1000
 analyse,a.alf,--root=-f = analyse a.alf -f - - 100000 joins 1000
@@ -101,6 +139,18 @@ run,a.alf,--inputs=a.c = run a.alf main a.c - 100000
 run,--turns,3,--costs,c,--root,f,--inputs,i,a.alf = run a.alf f i c 3
 run,a.alf,--inputs=i,--root=f,--costs=c,--turns=3 = run a.alf f i c 3
 run,--inputs,a.alf,a.alf = run a.alf main a.alf - 100000
+run,a.c = run of C a.c main - - 100000
+run,a.c,--root,f = run of C a.c f - - 100000
+run,a.C = run a.C main - - 100000
+run,c,--inputs,a.c = run c main a.c - 100000
+lower,a.c = lower a.c main
+lower,a.c,--root,f = lower a.c f
+lower,--root=f,a.c = lower a.c f
+lower,a.c,--root= = lower a.c\x20
+lower,.c = lower .c main
+lower,a.alf.c = lower a.alf.c main
+lower,--,-a.c = lower -a.c main
+lower,--root,a.alf,a.c = lower a.c a.alf
 print,a.alf = print a.alf
 print,--,a.alf = print a.alf
 print,--,-a.alf = print -a.alf
@@ -161,9 +211,8 @@ analyse,a.alf,--=5
 analyse,a.alf,--file,b.alf
 analyse,a.alf,a.alf
 analyse,-a.alf
-analyse,a.c
-analyse,.c
-analyse,--,a.c
+analyse,-a.c
+analyse,a.c,a.c
 analyse,a.alf,--root
 analyse,a.alf,--root,-f
 analyse,a.alf,--root,f,--root,f
@@ -173,7 +222,6 @@ analyse,a.alf,--inputs,i,--inputs,i
 analyse,a.alf,--costs
 analyse,a.alf,--costs,c.toml,--costs,c.toml
 run
-run,a.c
 run,-a.alf
 run,a.alf,b.alf
 run,a.alf,--turns,0
@@ -216,8 +264,29 @@ print,a.alf,b.alf
 print,a.alf,--turns,5
 check,a.alf,r.txt
 replay,a.alf,r.txt
+lower
+lower,
 lower,a.alf
-lower,a.c
+lower,a.C
+lower,c
+lower,a.c.alf
+lower,a.cc
+lower,-
+lower,--,c
+lower,-a.c
+lower,a.c,b.c
+lower,a.alf,--root,f
+lower,a.alf,--root,a.c
+lower,a.c,--root
+lower,a.c,--root,-f
+lower,a.c,--root,f,--root,f
+lower,a.c,--turns,5
+lower,a.c,--inputs,i
+lower,a.c,--costs,c
+lower,a.c,--merge,none
+lower,a.c,--pivots,5
+Lower,a.c
+low,a.c
 generate,5
 cache,a.alf
 worst,a.alf
@@ -226,7 +295,7 @@ tasks,t.toml";
 
 #[test]
 fn words_are_commands_in_any_order(rt: HostRuntime) -> Result<(), Fail> {
-    assert_eq!(rt; COMMANDS.split('\n').count(), 50);
+    assert_eq!(rt; COMMANDS.split('\n').count(), 69);
     for row in COMMANDS.split('\n') {
         let words = words_of(rt.alloc(), part(row, " = ", 0))?;
         let found = told(rt.alloc(), &words)?;
@@ -237,7 +306,7 @@ fn words_are_commands_in_any_order(rt: HostRuntime) -> Result<(), Fail> {
 
 #[test]
 fn other_words_are_no_command(rt: HostRuntime) -> Result<(), Fail> {
-    assert_eq!(rt; NO_COMMANDS.split('\n').count(), 108);
+    assert_eq!(rt; NO_COMMANDS.split('\n').count(), 127);
     for row in NO_COMMANDS.split('\n') {
         let words = words_of(rt.alloc(), row)?;
         assert!(rt; are_usage(rt.alloc(), &words), "{row}");

@@ -11,7 +11,7 @@ use Rattle.run_counts.specs.declared.tally.Counted.{Counted}
 use Rattle.run_counts.specs.declared.tally.Counted.TheVariants as told
 use Rattle.cost_table.specs.CostTables.{CostTable}
 use Rattle.program_machines.specs.NodeCosts.{node_cost}
-use Rattle.sweet_cli.specs.Programs.{unranked}
+use Rattle.unranked_runs.specs.Ranking.{unranked}
 use Rattle.sweet_cli.specs.Counting.{CountedAs}
 use Rattle.sweet_cli.proofs.Numbers.{last_low, costs_same}
 use Rattle.sweet_cli.proofs.RanksRuns.{runs, past}

@@ -30,6 +30,7 @@ use Rattle.sweet_cli.specs.LeftLines.{left_line}
 use Rattle.sweet_cli.specs.Run.{IsLeft, low_start}
 use Rattle.sweet_cli.specs.Analyse.{IsLeftAt}
 use Rattle.sweet_cli.specs.Exact.{TellsOneRun, OneInputIsToldExactly}
+use Rattle.unranked_runs.specs.RankedRuns as ranked_runs
 use Rattle.sweet_cli.proofs.RanksRuns as ranks_runs
 use Rattle.sweet_cli.proofs.SoundReports.{costs_same}
 
@@ -39,7 +40,7 @@ module _ (program : NumberedProgram) (checked : CheckedParts) (is : IsProgramOf 
   ends_same : (rows : List InputRow) (run : List Node) (outcome : RunOutcome) → Ends (seen checked) (low_start (seen checked) rows) run outcome → Ends program (low_start program rows) run outcome
   ends_same rows run outcome h =
       subst (λ (p : NumberedProgram). Ends p (low_start p rows) run outcome) is
-      (ranks_runs.ends (seen checked) (seen checked).ranks program.ranks (low_start (seen checked) rows) run outcome h)
+      (ranked_runs.ends (seen checked) (seen checked).ranks program.ranks (low_start (seen checked) rows) run outcome h)
 
   past_same : (nodes : List Node) (rows : List InputRow) (turns n : ℕ) → IsPast (seen checked) nodes (low_start (seen checked) rows) turns n → IsPast program nodes (low_start program rows) turns n
   past_same nodes rows turns n h =

@@ -19,7 +19,7 @@ use Rattle.unranked_analyses.specs.Analyses.{IsAnalysis}
 use Rattle.bounded_analyses.specs.Analyses.{IsFoundWith, IsBoundedAnalysis, HasOneBoundedAnalysis}
 use Rattle.work.specs.Outcome.{Outcome, Unbounded, AreAlikeResults}
 use Rattle.work.specs.Work.{IsOnly, alike}
-use Rattle.sweet_cli.specs.Programs.{unranked}
+use Rattle.unranked_runs.specs.Ranking.{unranked}
 use Rattle.sweet_cli.specs.Scopes.{ScopedProgram}
 use Rattle.sweet_cli.specs.Seen.{IsOutlined}
 use Rattle.sweet_cli.specs.LeftLines.{left_line}

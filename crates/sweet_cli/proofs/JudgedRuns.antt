@@ -12,7 +12,7 @@ use Rattle.cost_table.specs.CostTables.{CostTable}
 use Rattle.program_machines.specs.NodeCosts.{node_cost}
 use Rattle.work.specs.Outcome.{Outcome, Unbounded, AreAlike, AreAlikeResults}
 use Rattle.work.specs.Work.{IsOnly, alike}
-use Rattle.sweet_cli.specs.Programs.{Expanded}
+use Rattle.program_files.specs.Expanding.{Expanded}
 use Rattle.sweet_cli.specs.RunText.{run_text}
 use Rattle.sweet_cli.specs.Scopes.{ScopedProgram}
 use Rattle.sweet_cli.specs.LeftLines.{unbounded_line}

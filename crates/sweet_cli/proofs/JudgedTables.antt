@@ -11,7 +11,6 @@ use Rattle.cost_table.specs.Laws.{IsOne, AnswersInputs, AnswersCosts}
 use Rattle.work.specs.Outcome.{Outcome, Source, AreAlikeResults, refused}
 use Rattle.work.specs.Work.{IsOnly, alike}
 use Rattle.sweet_cli.specs.Tables.{table_line, InputsMean, CostsMean}
-use Rattle.sweet_cli.proofs.Judged.{outcome_is}
 
 -- a fault with a line is no want of memory
 pub not_memory : (role : List ℕ) (fault : TableFault) (text : List ℕ) → table_line role fault ≡ Some text → fault ≢ faults.Memory
@@ -23,7 +22,7 @@ lines_one : (role : List ℕ) (fault other : TableFault) (text : List ℕ) (o : 
 lines_one role fault other text o same line told cause =
     let both : Some text ≡ Some o.text = sym line ∙ ap (table_line role) same ∙ told in
     let is : o.text ≡ text = cc in
-    sym (outcome_is o Source text cause is)
+    λ i. record { cause = sym cause i; text = sym is i }
 
 module _ (bytes : List ℕ) (program : NumberedProgram) (one : IsOne (AnswersInputs bytes program)) where
   rows_one : (a b : List InputRow) → MeansInputs bytes program a → MeansInputs bytes program b → a ≡ b

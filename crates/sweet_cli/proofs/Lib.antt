@@ -1,13 +1,9 @@
 -- Shared lemmas.
 pub mod Signed
 pub mod Lows
-pub mod Ranks
 pub mod RanksRuns
 pub mod RanksTables
-pub mod Judged
-pub mod JudgedGraph
 pub mod JudgedTables
-pub mod JudgedUnit
 pub mod JudgedScopes
 pub mod JudgedReports
 pub mod SoundReports

@@ -10,7 +10,11 @@ use Rattle.alf_check.specs.Checking.{Passes}
 use Rattle.alf_check.specs.declared.rows.InputRow.{InputRow}
 use Rattle.flow_graph.specs.Numbering.{IsGraph}
 use Rattle.cost_table.specs.CostTables.{CostTable}
+use Rattle.alf_text.specs.Canonical.{canonical_text}
 use Rattle.alf_text.specs.CanonicalLaws.{CanonicalTextsSpell}
+use Rattle.c_unit.specs.Units.{UnitTree}
+use Rattle.c_lowered.specs.Programs.{lowered}
+use Rattle.c_lower.specs.Outcomes.{HaveUnitsOutcomes}
 use Rattle.work.specs.declared.status.Status.{Status}
 use Rattle.work.specs.declared.status.Status.TheVariants as statuses
 use Rattle.work.specs.Outcome.{Cause, Usage, Source, Example, Unbounded, No, Unread, Ending, Finished, Stopped, status_of, ending_status, ending_text, ending_unread}
@@ -18,9 +22,12 @@ use Rattle.work.specs.Log.{Log, log_of}
 use Rattle.work.specs.Work.{Work, IsOnly, EndsSo}
 use Rattle.work.specs.Works.{Tells, Works}
 use Rattle.work.specs.Run.{Wrote, IsAnswerOf}
+use Rattle.program_files.specs.Programs.{program_in}
+use Rattle.program_files.specs.Units.{unit_in}
+use Rattle.program_files.specs.Expanding.{Expanded, expanded_in}
+use Rattle.program_files.specs.Told.{IsToldUnit, IsToldProgram}
 use Rattle.sweet_cli.specs.Task.{Task, KeepsPromise, Promised}
-use Rattle.sweet_cli.specs.Words.{AnalyseWords, RunWords}
-use Rattle.sweet_cli.specs.Programs.{program_in, checked_in, expanded_in, Expanded, meant}
+use Rattle.sweet_cli.specs.Words.{ProgramFile, AnalyseWords, LowerWords, RunWords}
 use Rattle.sweet_cli.specs.Tables.{inputs_in, inputs_told, costs_in, costs_told, Tables, tables_in, AreInputs, AreCosts}
 use Rattle.sweet_cli.specs.Scopes.{ScopedProgram, scoped_in}
 use Rattle.sweet_cli.specs.Analyse.{policy_of, ReportMeans, analysing, IsSoundOf, IsSoundReport}
@@ -29,41 +36,18 @@ use Rattle.fact_printer.specs.Canonical.{report_text}
 use Rattle.fact_text.specs.Language.{SpellsReport}
 use Rattle.c_text.specs.Laws.{PrintedUnitsAreReadBack}
 use Rattle.sweet_cli.specs.Print.{printing, IsSameProgram}
-use Rattle.sweet_cli.specs.Units.{unit_in}
 use Rattle.sweet_cli.specs.PrintC.{printing_c, IsSameUnit}
-use Rattle.sweet_cli.specs.Run.{running, IsRunText, TellsRun}
+use Rattle.sweet_cli.specs.Lower.{IsLoweredText}
+use Rattle.sweet_cli.specs.Run.{IsRunText, TellsRun}
 
 -- ---- told files
 
--- a program that was read is told
-pub record ToldProgram (file root : List ℕ) (files : Files) (expanded : Expanded) : Type 0 where
-  pub bytes : List ℕ
-  pub whole : WholeProgram
-  pub told : files file ≡ Some bytes
-  pub spelled : SpellsProgram bytes whole
-  pub passes : Passes whole root
-  pub program_is : expanded.program ≡ meant whole root
-  pub graph_is : IsGraph expanded.program expanded.graph
-
-told_program : (file root : List ℕ) (files : Files) (before : Log) (expanded : Expanded) (after : Log) → (expanded_in file root).steps.Gives (Some files) before expanded after
-    → ToldProgram file root files expanded
-unfolding expanded_in checked_in program_in
-told_program file root files before expanded after (program, mid, (whole, log, (bytes, first, read, (spelled, still)), (checked, same)), (graph, end, (drawn, stays), (is, over))) = record {
-  bytes = bytes;
-  whole = whole;
-  told = read.2;
-  spelled = spelled.means;
-  passes = checked.means.0;
-  program_is = ap (λ (e : Expanded). e.program) is ∙ checked.means.1;
-  graph_is = subst (λ (e : Expanded). IsGraph e.program e.graph) (sym is) drawn.means;
-}
-
--- and so it is with its scopes
-told_scoped : (file root : List ℕ) (files : Files) (before : Log) (program : ScopedProgram) (after : Log) → (scoped_in file root).steps.Gives (Some files) before program after
-    → ToldProgram file root files program.expanded
-unfolding scoped_in
-told_scoped file root files before program after (expanded, mid, first, (scoped, end, (means, stays), (is, over))) =
-    subst (λ (p : ScopedProgram). ToldProgram file root files p.expanded) (sym is) (told_program file root files before expanded mid first)
+-- the graph that was drawn is that of the program
+told_graph : (given : ProgramFile) (root : List ℕ) (told : Option Files) (before : Log) (program : ScopedProgram) (after : Log) → (scoped_in given root).steps.Gives told before program after
+    → IsGraph program.expanded.program program.expanded.graph
+unfolding scoped_in expanded_in
+told_graph given root told before program after (expanded, log, (numbered, mid, first, (graph, end, (drawn, stays), (is, over))), (scoped, last, (means, still), (same, done))) =
+    subst (λ (p : ScopedProgram). IsGraph p.expanded.program p.expanded.graph) (sym same) (subst (λ (e : Expanded). IsGraph e.program e.graph) (sym is) drawn.means)
 
 told_costs : (program : NumberedProgram) (file : Option (List ℕ)) (files : Files) (before : Log) (costs : CostTable) (after : Log)
     → (costs_in program file).steps.Gives (Some files) before costs after → AreCosts file files program costs
@@ -89,7 +73,7 @@ told_tables program inputs costs files before tables after (rows, a, first, (spe
 
 -- a text that was printed is that of the order of work
 pub analysed : (given : AnalyseWords) (before mid end : ShelfState) (program : ScopedProgram) (tables : Tables) (report : Reported) (text : Vec ℕ Global)
-    → (scoped_in given.file given.root).steps.Gives before.files (log_of before) program (log_of mid) × (mid.failed ≡ before.failed) → mid.files ≡ before.files → before.faults ≤ mid.faults
+    → (scoped_in given.program given.root).steps.Gives before.files (log_of before) program (log_of mid) × (mid.failed ≡ before.failed) → mid.files ≡ before.files → before.faults ≤ mid.faults
     → (tables_in program.expanded.program given.inputs given.costs).steps.Gives mid.files (log_of mid) tables (log_of end) × (end.failed ≡ mid.failed) → end.files ≡ mid.files → mid.faults ≤ end.faults
     → IsOnly (ReportMeans program tables.rows tables.costs (policy_of given.merging) given.turns given.pivots) (Ok report) → text.items ≡ report_text report
     → Works (analysing given) (λ (t : Vec ℕ Global). t.items) before (Ok text) end
@@ -104,53 +88,60 @@ analysed given before mid end program tables report text first same later second
 
 -- a report that was printed is sound
 pub prints_sound : (given : AnalyseWords) (told : Option Files) (before mid later : Log) (program : ScopedProgram) (tables : Tables) (report : Reported) (text : List ℕ)
-    → (scoped_in given.file given.root).steps.Gives told before program mid → (tables_in program.expanded.program given.inputs given.costs).steps.Gives told mid tables later
+    → (scoped_in given.program given.root).steps.Gives told before program mid → (tables_in program.expanded.program given.inputs given.costs).steps.Gives told mid tables later
+    → IfSome told (λ files. IsToldProgram given.program given.root files program.expanded.program)
     → IsSoundOf program.expanded.program program.expanded.graph tables.rows tables.costs report → SpellsReport text report → IfSome told (λ files. IsSoundReport given files text)
-prints_sound given None before mid later program tables report text scopes read sound spelled = tt
-prints_sound given (Some files) before mid later program tables report text scopes read sound spelled =
-    let told = told_scoped given.file given.root files before program mid scopes in
+prints_sound given None before mid later program tables report text scopes read of sound spelled = tt
+prints_sound given (Some files) before mid later program tables report text scopes read of sound spelled =
     let expanded = program.expanded in
     let both = told_tables expanded.program given.inputs given.costs files mid tables later read in
     record {
-      bytes = told.bytes;
-      whole = told.whole;
+      program = expanded.program;
       graph = expanded.graph;
       rows = tables.rows;
       costs = tables.costs;
       report = report;
-      told = told.told;
-      spelled = told.spelled;
-      passes = told.passes;
-      graph_is = subst (λ (p : NumberedProgram). IsGraph p expanded.graph) told.program_is told.graph_is;
-      rows_told = subst (λ (p : NumberedProgram). AreInputs given.inputs files p tables.rows) told.program_is both.0;
-      costs_told = subst (λ (p : NumberedProgram). AreCosts given.costs files p tables.costs) told.program_is both.1;
+      program_told = of;
+      graph_is = told_graph given.program given.root (Some files) before program mid scopes;
+      rows_told = both.0;
+      costs_told = both.1;
       shown = spelled;
-      sound = subst (λ (p : NumberedProgram). IsSoundOf p expanded.graph tables.rows tables.costs report) told.program_is sound;
+      sound = sound;
     }
 
 -- a run that was told is that of the program
-pub tells_run : (given : RunWords) (told : Option Files) (before : Log) (text : List ℕ) (after : Log) → (running given).steps.Gives told before text after
-    → IfSome told (λ files. TellsRun given files text)
-unfolding running
-tells_run given None before text after g = tt
-tells_run given (Some files) before text after (scopes, a, first, (tables, b, second, (told, c, (run, still), (is, over)))) =
-    let program = told_scoped given.file given.root files before scopes a first in
-    let expanded = scopes.expanded in
-    let both = told_tables expanded.program given.inputs given.costs files a tables b second in
+pub tells_run : (given : RunWords) (told : Option Files) (before mid later : Log) (program : ScopedProgram) (tables : Tables) (text : List ℕ)
+    → (scoped_in given.program given.root).steps.Gives told before program mid → (tables_in program.expanded.program given.inputs given.costs).steps.Gives told mid tables later
+    → IfSome told (λ files. IsToldProgram given.program given.root files program.expanded.program)
+    → IsRunText program.expanded tables.rows tables.costs given.turns text → IfSome told (λ files. TellsRun given files text)
+tells_run given None before mid later program tables text scopes read of shown = tt
+tells_run given (Some files) before mid later program tables text scopes read of shown =
+    let expanded = program.expanded in
+    let both = told_tables expanded.program given.inputs given.costs files mid tables later read in
     record {
-      bytes = program.bytes;
-      whole = program.whole;
+      program = expanded.program;
       graph = expanded.graph;
       rows = tables.rows;
       costs = tables.costs;
-      told = program.told;
-      spelled = program.spelled;
-      passes = program.passes;
-      graph_is = subst (λ (p : NumberedProgram). IsGraph p expanded.graph) program.program_is program.graph_is;
-      rows_told = subst (λ (p : NumberedProgram). AreInputs given.inputs files p tables.rows) program.program_is both.0;
-      costs_told = subst (λ (p : NumberedProgram). AreCosts given.costs files p tables.costs) program.program_is both.1;
-      shown = subst (λ (p : NumberedProgram). IsRunText (record { program = p; graph = expanded.graph }) tables.rows tables.costs given.turns text) program.program_is (subst (λ (l : List ℕ). IsRunText expanded tables.rows tables.costs given.turns l) (sym is) run.means);
+      program_told = of;
+      graph_is = told_graph given.program given.root (Some files) before program mid scopes;
+      rows_told = both.0;
+      costs_told = both.1;
+      shown = shown;
     }
+
+-- a text that a unit was lowered to does what the unit does
+pub lowers_text : (given : LowerWords) (told : Option Files) (unit : UnitTree) (name : List ℕ) (whole : WholeProgram) (text : List ℕ)
+    → IfSome told (λ files. IsToldUnit given.file given.root files unit) → name ≡ given.root → whole ≡ lowered unit → SpellsProgram (canonical_text whole) whole → text ≡ canonical_text whole
+    → Passes (lowered unit) name → HaveUnitsOutcomes unit name → IfSome told (λ files. IsLoweredText given files text)
+lowers_text given None unit name whole text of named is spelled shown passes outcomes = tt
+lowers_text given (Some files) unit name whole text of named is spelled shown passes outcomes = record {
+  unit = unit;
+  unit_told = of;
+  again = subst (λ (w : WholeProgram). SpellsProgram text w) is (subst (λ (l : List ℕ). SpellsProgram l whole) (sym shown) spelled);
+  passes = subst (Passes (lowered unit)) named passes;
+  outcomes = subst (HaveUnitsOutcomes unit) named outcomes;
+}
 
 -- a text that was printed spells the same program
 pub prints_same : CanonicalTextsSpell → (file : List ℕ) (told : Option Files) (before : Log) (text : List ℕ) (after : Log)

@@ -11,7 +11,7 @@ use Rattle.cost_table.specs.Files.{Refuses, NoDocument, WrongTop, WrongEntry}
 use Rattle.cost_table.specs.Inputs.{input_entry, input_entries, IsInRange, rows_in, HasCells, input_judging, MeansInputs, RefusesInputs}
 use Rattle.cost_table.specs.CostTables.{CostTable}
 use Rattle.cost_table.specs.Costs.{cost_entry, cost_entries, cost_of, HasBlock, cost_by, last_cost, IsCostTable, cost_judging, MeansCosts, RefusesCosts}
-use Rattle.unranked_analyses.specs.Ranking.{with_ranks}
+use Rattle.unranked_runs.specs.Ranking.{with_ranks}
 
 -- ---- entries that are judged by a weaker and a stronger rule
 

@@ -14,12 +14,12 @@ use Rattle.flow_facts.specs.Reports.{Reported}
 use Rattle.pool_events.specs.declared.policy.Policy.{Policy}
 use Rattle.program_machines.specs.NodeCosts.{place_cost, node_cost}
 use Rattle.bounded_reports.specs.Bounded.{HasPathBound}
-use Rattle.unranked_analyses.specs.Ranking.{with_ranks, function_same}
+use Rattle.unranked_runs.specs.Ranking.{with_ranks, function_same}
 use Rattle.unranked_analyses.specs.UnrankedMachines.{IsProgramOf}
 use Rattle.bounded_analyses.specs.Analyses.{IsBoundedReport}
 use Rattle.bounded_analyses.specs.Sound.{IsSoundFor, IsSound, FoundReportsAreRight}
 use Rattle.sweet_cli.specs.Analyse.{IsSoundOf}
-use Rattle.sweet_cli.proofs.RanksRuns as ranks_runs
+use Rattle.unranked_runs.specs.RankedRuns as ranks_runs
 
 -- ---- ranks have no part
 

@@ -4,15 +4,12 @@
 --   ReportMeans program rows costs policy turns pivots meaning   the report of the exploration with its path bound, or that places are left
 --   analysing given              the order of work
 --   IsSoundOf program graph rows costs report   the report is sound for the program, with the scopes of its graph, and its path bound is what its word says
---   IsSoundReport given files text   the promise: the text spells a report that is sound for the program that the file spells
+--   IsSoundReport given files text   the promise: the text spells a report that is sound for the program that the file gives
 --   analyse given                the task
-use Rattle.std.specs.Prelude.{◌≡◌, ℕ, List, Some, Result, Ok, Err}
+use Rattle.std.specs.Prelude.{◌≡◌, ℕ, List, Result, Ok, Err}
 use Rattle.flow_base.specs.Outside.{Files}
-use Rattle.alf_program.specs.Tree.{WholeProgram}
-use Rattle.alf_text.specs.Language.{SpellsProgram}
 use Rattle.alf_check.specs.declared.rows.InputRow.{InputRow}
 use Rattle.alf_check.specs.CheckedPrograms.{NumberedProgram}
-use Rattle.alf_check.specs.Checking.{Passes}
 use Rattle.flow_graph.specs.Numbering.{GraphParts, IsGraph}
 use Rattle.cost_table.specs.CostTables.{CostTable}
 use Rattle.domain_core.specs.Outlines.{Outlined, shape_of}
@@ -31,8 +28,8 @@ use Rattle.bounded_analyses.specs.Analyses.{IsBoundedReport}
 use Rattle.bounded_analyses.specs.Sound.{IsSound}
 use Rattle.work.specs.Outcome.{Outcome, Unbounded}
 use Rattle.work.specs.Work.{Work, judged, done, ◌>>=◌}
+use Rattle.program_files.specs.Told.{IsToldProgram}
 use Rattle.sweet_cli.specs.Words.{AnalyseWords, Merging, Never, Exits, Joins}
-use Rattle.sweet_cli.specs.Programs.{meant}
 use Rattle.sweet_cli.specs.Scopes.{ScopedProgram, scoped_in}
 use Rattle.sweet_cli.specs.Tables.{tables_in, AreInputs, AreCosts}
 use Rattle.sweet_cli.specs.LeftLines.{left_line}
@@ -57,7 +54,7 @@ ReportMeans program rows costs policy turns pivots (Err outcome) = IsLeftAt prog
 
 unfoldable pub analysing : AnalyseWords → Work (List ℕ)
 analysing given = do
-  program ← scoped_in given.file given.root
+  program ← scoped_in given.program given.root
   tables ← tables_in program.expanded.program given.inputs given.costs
   report ← judged (ReportMeans program tables.rows tables.costs (policy_of given.merging) given.turns given.pivots)
   done (report_text report)
@@ -72,23 +69,21 @@ pub record IsSoundOf (program : NumberedProgram) (graph : GraphParts) (rows : Li
   pub within : IsWithinCount report
   pub least : IsLeastOf outline report
 
--- the text spells a report that is sound for the program that the file spells, with inputs and costs as the told files say:
--- every run from inputs inside the ranges ends, meets each fact, has an alarm for its fault, and costs no more than each bound
+-- the text spells a report that is sound for the program that the file gives, with inputs and costs as the told files say:
+-- every run from inputs inside the ranges ends, meets each fact, has an alarm for its fault, and costs no more than each bound;
+-- where the file is one of C, each run's outcome is that of the unit (`IsToldProgram`)
 pub record IsSoundReport (given : AnalyseWords) (files : Files) (text : List ℕ) : Type 0 where
-  pub bytes : List ℕ
-  pub whole : WholeProgram
+  pub program : NumberedProgram
   pub graph : GraphParts
   pub rows : List InputRow
   pub costs : CostTable
   pub report : Reported
-  pub told : files given.file ≡ Some bytes
-  pub spelled : SpellsProgram bytes whole
-  pub passes : Passes whole given.root
-  pub graph_is : IsGraph (meant whole given.root) graph
-  pub rows_told : AreInputs given.inputs files (meant whole given.root) rows
-  pub costs_told : AreCosts given.costs files (meant whole given.root) costs
+  pub program_told : IsToldProgram given.program given.root files program
+  pub graph_is : IsGraph program graph
+  pub rows_told : AreInputs given.inputs files program rows
+  pub costs_told : AreCosts given.costs files program costs
   pub shown : SpellsReport text report
-  pub sound : IsSoundOf (meant whole given.root) graph rows costs report
+  pub sound : IsSoundOf program graph rows costs report
 
 abbrev pub analyse : AnalyseWords → Task
 analyse given = record { work = analysing given; Promise = IsSoundReport given }

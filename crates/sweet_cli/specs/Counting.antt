@@ -12,8 +12,8 @@ use Rattle.run_counts.specs.declared.tally.Tally.{Tally}
 use Rattle.run_counts.specs.declared.tally.Counted.{Counted}
 use Rattle.run_counts.specs.declared.tally.Counted.TheVariants as told
 use Rattle.cost_table.specs.CostTables.{CostTable}
-use Rattle.sweet_cli.specs.Programs.{Expanded}
 use Rattle.program_machines.specs.NodeCosts.{node_cost}
+use Rattle.program_files.specs.Expanding.{Expanded}
 
 -- the tally is that of the run from the start, which has no more nodes than the turns
 pub record CountsRun (expanded : Expanded) (costs : CostTable) (start : Moment) (turns : ℕ) (tally : Tally) : Type 0 where

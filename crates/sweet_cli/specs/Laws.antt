@@ -16,7 +16,7 @@ HaveOneAnswer = (words : List (List ℕ)) (files : Files) → HasOneEnding (task
 -- the words with another number of turns
 abbrev pub with_turns : AnalyseWords → ℕ → AnalyseWords
 with_turns given turns = record {
-  file = given.file;
+  program = given.program;
   root = given.root;
   inputs = given.inputs;
   costs = given.costs;

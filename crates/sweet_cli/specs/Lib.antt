@@ -3,16 +3,11 @@
 -- words
 pub mod Words
 -- lines
-pub mod FaultLines
-pub mod UnitLines
-pub mod CheckLines
 pub mod FaultWords
 -- what is told of a run
 pub mod RunText
 -- commands, a file each, and their table
 pub mod Task
-pub mod Programs
-pub mod Units
 pub mod Seen
 pub mod Scopes
 pub mod LeftLines
@@ -21,6 +16,7 @@ pub mod Tables
 pub mod Analyse
 pub mod Print
 pub mod PrintC
+pub mod Lower
 pub mod Run
 pub mod Exact
 pub mod Table

@@ -8,7 +8,7 @@ use Rattle.alf_program.specs.Tree.{WholeProgram}
 use Rattle.alf_text.specs.Language.{SpellsProgram}
 use Rattle.alf_text.specs.Canonical.{canonical_text}
 use Rattle.work.specs.Work.{Work, done, ◌>>=◌}
-use Rattle.sweet_cli.specs.Programs.{program_in}
+use Rattle.program_files.specs.Programs.{program_in}
 use Rattle.sweet_cli.specs.Task.{Task}
 
 unfoldable pub printing : List ℕ → Work (List ℕ)

@@ -10,7 +10,7 @@ use Rattle.c_printer.specs.Texts.{texts_of}
 use Rattle.c_text.specs.Language.{SpellsUnit}
 use Rattle.c_text.specs.Laws.{IsReadBack}
 use Rattle.work.specs.Work.{Work, done, ◌>>=◌}
-use Rattle.sweet_cli.specs.Units.{unit_in}
+use Rattle.program_files.specs.Units.{unit_in}
 use Rattle.sweet_cli.specs.Task.{Task}
 
 -- the tokens as they were spelled, with one space between two of them and a line feed at the end

@@ -4,15 +4,12 @@
 --   IsRunText expanded rows costs turns text   the text tells the run from there, which has no more nodes than the turns
 --   RunMeans program rows costs turns meaning     this text, or that the run has more nodes than the turns
 --   running given                the order of work
---   TellsRun given files text    the promise: the text tells this run of the program that the file spells
+--   TellsRun given files text    the promise: the text tells this run of the program that the file gives
 --   run given                    the task
-use Rattle.std.specs.Prelude.{◌≡◌, ◌≤◌, ℕ, List, length, map, Some, Result, Ok, Err}
+use Rattle.std.specs.Prelude.{◌≡◌, ◌≤◌, ℕ, List, length, map, Result, Ok, Err}
 use Rattle.flow_base.specs.Outside.{Files}
-use Rattle.alf_program.specs.Tree.{WholeProgram}
-use Rattle.alf_text.specs.Language.{SpellsProgram}
 use Rattle.alf_check.specs.declared.rows.InputRow.{InputRow}
 use Rattle.alf_check.specs.CheckedPrograms.{NumberedProgram}
-use Rattle.alf_check.specs.Checking.{Passes}
 use Rattle.flow_graph.specs.Numbering.{GraphParts, IsGraph}
 use Rattle.alf_runs.specs.Outcomes.{Outcome as RunOutcome}
 use Rattle.alf_runs.specs.Steps.{Moment}
@@ -23,8 +20,9 @@ use Rattle.cost_table.specs.CostTables.{CostTable}
 use Rattle.program_machines.specs.NodeCosts.{node_cost}
 use Rattle.work.specs.Outcome.{Outcome, Unbounded}
 use Rattle.work.specs.Work.{Work, judged, done, ◌>>=◌}
+use Rattle.program_files.specs.Expanding.{Expanded}
+use Rattle.program_files.specs.Told.{IsToldProgram}
 use Rattle.sweet_cli.specs.Words.{RunWords}
-use Rattle.sweet_cli.specs.Programs.{Expanded, meant}
 use Rattle.sweet_cli.specs.Scopes.{ScopedProgram, scoped_in}
 use Rattle.sweet_cli.specs.Tables.{tables_in, AreInputs, AreCosts}
 use Rattle.sweet_cli.specs.RunText.{run_text}
@@ -60,25 +58,23 @@ RunMeans program rows costs turns (Err outcome) = IsLeft program (low_start prog
 
 unfoldable pub running : RunWords → Work (List ℕ)
 running given = do
-  program ← scoped_in given.file given.root
+  program ← scoped_in given.program given.root
   tables ← tables_in program.expanded.program given.inputs given.costs
   text ← judged (RunMeans program tables.rows tables.costs given.turns)
   done text
 
--- the text tells this run of the program that the file spells, by the files that the words name
+-- the text tells this run of the program that the file gives, by the files that the words name; where the file is one of C, its
+-- outcome is that of the unit (`IsToldProgram`)
 pub record TellsRun (given : RunWords) (files : Files) (text : List ℕ) : Type 0 where
-  pub bytes : List ℕ
-  pub whole : WholeProgram
+  pub program : NumberedProgram
   pub graph : GraphParts
   pub rows : List InputRow
   pub costs : CostTable
-  pub told : files given.file ≡ Some bytes
-  pub spelled : SpellsProgram bytes whole
-  pub passes : Passes whole given.root
-  pub graph_is : IsGraph (meant whole given.root) graph
-  pub rows_told : AreInputs given.inputs files (meant whole given.root) rows
-  pub costs_told : AreCosts given.costs files (meant whole given.root) costs
-  pub shown : IsRunText (record { program = meant whole given.root; graph = graph }) rows costs given.turns text
+  pub program_told : IsToldProgram given.program given.root files program
+  pub graph_is : IsGraph program graph
+  pub rows_told : AreInputs given.inputs files program rows
+  pub costs_told : AreCosts given.costs files program costs
+  pub shown : IsRunText (record { program = program; graph = graph }) rows costs given.turns text
 
 abbrev pub run : RunWords → Task
 run given = record { work = running given; Promise = TellsRun given }

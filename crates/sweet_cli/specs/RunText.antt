@@ -15,8 +15,8 @@ use Rattle.alf_check.specs.CheckedPrograms.{NumberedProgram}
 use Rattle.flow_graph.specs.Names.{quoted}
 use Rattle.flow_graph.specs.Numbering.{GraphParts}
 use Rattle.alf_runs.specs.Outcomes.{Outcome, Ended, Faulted, Lost}
+use Rattle.program_files.specs.Expanding.{Expanded}
 use Rattle.sweet_cli.specs.FaultWords.{fault_word}
-use Rattle.sweet_cli.specs.Programs.{Expanded}
 
 -- ---- values
 

@@ -4,7 +4,7 @@
 --   irreducible_line graph ..   the line of three walks that show that a loop can be entered past its header
 --   ScopesMean graph meaning    the scopes of the graph, or such a line
 --   ScopedProgram               a program with its graph and its scopes
---   scoped_in file root         a file is read, and its program checked, expanded and given scopes
+--   scoped_in given root        a file is read, and its program checked, expanded and given scopes
 use Rattle.std.specs.Prelude.{◌≡◌, ℕ, List, [], ◌∷◌, ◌++◌, Result, Ok, Err, codes}
 use Rattle.std.specs.List.{flat_map}
 use Rattle.domain_core.specs.declared.outline.ScopeRow.{ScopeRow}
@@ -14,7 +14,8 @@ use Rattle.flow_graph.specs.Numbering.{GraphParts}
 use Rattle.scope_graph.specs.Placing.{plan_of}
 use Rattle.work.specs.Outcome.{Outcome, Example}
 use Rattle.work.specs.Work.{Work, judged, done, ◌>>=◌}
-use Rattle.sweet_cli.specs.Programs.{Expanded, expanded_in}
+use Rattle.program_files.specs.Expanding.{Expanded, expanded_in}
+use Rattle.sweet_cli.specs.Words.{ProgramFile}
 use Rattle.sweet_cli.specs.RunText.{name_of}
 
 -- the number of each node's scope, and the scopes
@@ -55,8 +56,8 @@ pub record ScopedProgram : Type 0 where
   pub expanded : Expanded
   pub scoped : Scoped
 
-unfoldable pub scoped_in : List ℕ → List ℕ → Work ScopedProgram
-scoped_in file root = do
-  expanded ← expanded_in file root
+unfoldable pub scoped_in : ProgramFile → List ℕ → Work ScopedProgram
+scoped_in given root = do
+  expanded ← expanded_in given root
   scoped ← judged (ScopesMean expanded.graph)
   done (record { expanded = expanded; scoped = scoped })

@@ -1,24 +1,17 @@
 -- What the code's values stand for.
---   expanded_of value     the program, without its ranks, and its graph
 --   scoped_of value       a program with its scopes
 --   IsOutlined graph outline   the outline is that of the graph, with the names of its nodes
 --   tables_of value       rows and costs
 use Rattle.std.specs.Prelude.{◌≡◌, map}
-use Rattle.alf_check.specs.CheckedPrograms.{seen}
 use Rattle.domain_core.specs.Outlines.{Outlined, shape_of}
 use Rattle.domain_core.specs.OutlineOf.{IsOutlineOf}
 use Rattle.flow_graph.specs.Numbering.{GraphParts}
 use Rattle.scope_graph.specs.Placing.{plan_of}
-use Rattle.sweet_cli.specs.declared.commands.programs.Expanded.{Expanded as Value}
+use Rattle.program_files.specs.Seen.{expanded_of}
 use Rattle.sweet_cli.specs.declared.commands.tables.Tables.{Tables as TablesValue}
 use Rattle.sweet_cli.specs.declared.commands.scopes.ScopedProgram.{ScopedProgram as ScopedValue}
-use Rattle.sweet_cli.specs.Programs.{Expanded, unranked}
 use Rattle.sweet_cli.specs.Scopes.{Scoped, ScopedProgram}
 use Rattle.sweet_cli.specs.Tables.{Tables}
-
--- the program, without its ranks, and its graph
-abbrev pub expanded_of : Value → Expanded
-expanded_of value = record { program = unranked (seen value.checked); graph = value.graph }
 
 -- rows and costs
 abbrev pub tables_of : TablesValue → Tables

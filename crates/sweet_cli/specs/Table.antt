@@ -2,17 +2,23 @@
 --   task_for command    the task of a command
 --   task_of words       the task of the words of a command line
 use Rattle.std.specs.Prelude.{ℕ, List, Option, None, Some}
-use Rattle.sweet_cli.specs.Words.{Command, Analyse, Print, PrintC, Run, command_of}
+use Rattle.sweet_cli.specs.Words.{Command, Analyse, Lower, Print, Run, ProgramFile, Alf, C, command_of}
 use Rattle.sweet_cli.specs.Task.{Task, no_command}
 use Rattle.sweet_cli.specs.Analyse.{analyse}
+use Rattle.sweet_cli.specs.Lower.{lower}
 use Rattle.sweet_cli.specs.Print.{print}
 use Rattle.sweet_cli.specs.PrintC.{print_c}
 use Rattle.sweet_cli.specs.Run.{run}
 
+-- by the language of the file
+abbrev pub print_task : ProgramFile → Task
+print_task (Alf file) = print file
+print_task (C file) = print_c file
+
 abbrev pub task_for : Command → Task
 task_for (Analyse given) = analyse given
-task_for (Print file) = print file
-task_for (PrintC file) = print_c file
+task_for (Lower given) = lower given
+task_for (Print program) = print_task program
 task_for (Run given) = run given
 
 abbrev pub task_for_some : Option Command → Task

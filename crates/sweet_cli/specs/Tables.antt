@@ -18,8 +18,8 @@ use Rattle.cost_table.specs.Inputs.{MeansInputs, RefusesInputs}
 use Rattle.work.specs.declared.reading.Role.TheVariants.{Inputs, Costs}
 use Rattle.work.specs.Outcome.{Outcome, Source}
 use Rattle.work.specs.Work.{Work, reads, judged, done, ◌>>=◌}
-use Rattle.sweet_cli.specs.Programs.{most_bytes, too_long}
-use Rattle.sweet_cli.specs.CheckLines.{number_or_dash}
+use Rattle.program_files.specs.Programs.{most_bytes, too_long}
+use Rattle.program_files.specs.CheckLines.{number_or_dash}
 
 -- ---- lines
 

@@ -1,3 +1,5 @@
 //! What the words of a command line mean: the commands of `sweet_words`, under its names.
 
-pub use sweet_words::{AnalyseWords, Command, Merging, RunWords, WordsFault, read};
+pub use sweet_words::{
+    AnalyseWords, Command, LowerWords, Merging, ProgramFile, RunWords, WordsFault, read,
+};

@@ -31,7 +31,7 @@ forms_are : IsTable forms
 forms_are = (
   (refl, refl, refl),
   (refl, (refl, (refl, (refl, (refl, (refl, tt)))))),
-  ((refl, refl, refl), tt, ((refl, refl, refl), (refl, (refl, (refl, (refl, tt)))), tt)),
+  ((refl, refl, refl), (refl, tt), ((refl, refl, refl), tt, ((refl, refl, refl), (refl, (refl, (refl, (refl, tt)))), tt))),
 )
 
 pub record IsForm (form : Form) : Type 0 where

@@ -4,7 +4,7 @@ use Rattle.std.specs.Str.{chars}
 use Rattle.std.proofs.Common.{refl}
 use Rattle.clap.specs.Walk.{rows_after}
 use Rattle.clap.specs.Faults.{fault_of, is_simple_and_free}
-use Rattle.sweet_words.specs.Forms.{Text, Form, form_named, print_form}
+use Rattle.sweet_words.specs.Forms.{Text, Form, form_named, lower_form, print_form, run_form}
 use Rattle.sweet_words.specs.Given.{given, uses_of, value_in, Uses}
 use Rattle.sweet_words.specs.Numbers.{number_or}
 use Rattle.sweet_words.specs.Merges.{merging_or_joins}
@@ -31,12 +31,6 @@ check = record { name = codes "check"; positionals = codes "file" ∷ codes "rep
 abbrev replay : Form
 replay = record { name = codes "replay"; positionals = codes "file" ∷ codes "report" ∷ []; values = codes "at" ∷ files; flags = [] }
 
-abbrev lower : Form
-lower = record { name = codes "lower"; positionals = codes "file" ∷ []; values = codes "root" ∷ []; flags = [] }
-
-abbrev run : Form
-run = record { name = codes "run"; positionals = codes "file" ∷ []; values = codes "root" ∷ codes "inputs" ∷ codes "costs" ∷ codes "turns" ∷ []; flags = [] }
-
 abbrev generate : Form
 generate = record { name = codes "generate"; positionals = codes "count" ∷ []; values = []; flags = [] }
 
@@ -58,7 +52,7 @@ abbrev tasks : Form
 tasks = record { name = codes "tasks"; positionals = codes "file" ∷ []; values = []; flags = [] }
 
 abbrev later : List Form
-later = analyse ∷ check ∷ replay ∷ lower ∷ print_form ∷ run ∷ generate ∷ cache ∷ worst ∷ migrate ∷ tasks ∷ []
+later = analyse ∷ check ∷ replay ∷ lower_form ∷ print_form ∷ run_form ∷ generate ∷ cache ∷ worst ∷ migrate ∷ tasks ∷ []
 
 later_are : IsTable later
 later_are = (

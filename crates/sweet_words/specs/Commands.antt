@@ -1,21 +1,22 @@
 -- What the words of a command line mean.
---   AnalyseWords, RunWords   what `analyse` and `run` are given
+--   AnalyseWords, LowerWords, RunWords   what `analyse`, `lower` and `run` are given
 --   Command      a command, with what it was given
---   file_of      the file that a command names
+--   file_of      the name of the file that a command names
 --   HasFewTurns  the turns that a command was given, if it takes some, are at most 1,000,000
 --   command_of   the command of the words, where they are one
 use Rattle.std.specs.Prelude.{◌≤◌, ℕ, List, [], ◌∷◌, Option, None, if◌then◌else◌, codes, option_map, option_and_then, unwrap_or}
 use Rattle.std.specs.Str.{bytes_eq}
 use Rattle.sweet_words.specs.Forms.{Text, Form, forms, form_named}
 use Rattle.sweet_words.specs.Given.{uses_of, value_in}
-use Rattle.sweet_words.specs.Numbers.{number_or, is_c, program_file}
+use Rattle.sweet_words.specs.Numbers.{number_or}
+use Rattle.sweet_words.specs.Files.{ProgramFile, program_file, file_name, c_file}
 use Rattle.sweet_words.specs.Merges.{merging_or_joins}
 use Rattle.sweet_words.specs.declared.merging.Merging.{Merging}
 
 -- what `analyse` is given: the file of the program, the function that it starts with, the files of inputs and of costs,
 -- the most turns, where states are merged, and the most pivots of the path bound
 pub record AnalyseWords : Type 0 where
-  pub file : Text
+  pub program : ProgramFile
   pub root : Text
   pub inputs : Option Text
   pub costs : Option Text
@@ -23,9 +24,14 @@ pub record AnalyseWords : Type 0 where
   pub merging : Merging
   pub pivots : ℕ
 
--- what `run` is given: the same, but that nothing is merged and no pivot is made
-pub record RunWords : Type 0 where
+-- what `lower` is given: the name of the file of C, and the function that the program starts with
+pub record LowerWords : Type 0 where
   pub file : Text
+  pub root : Text
+
+-- what `run` is given: the same as `analyse`, but that nothing is merged and no pivot is made
+pub record RunWords : Type 0 where
+  pub program : ProgramFile
   pub root : Text
   pub inputs : Option Text
   pub costs : Option Text
@@ -34,24 +40,23 @@ pub record RunWords : Type 0 where
 -- a command
 pub data Command : Type 0 where
   Analyse : AnalyseWords → Command
+  Lower : LowerWords → Command
   -- the file of the program
-  Print : Text → Command
-  -- the file of a unit of C
-  PrintC : Text → Command
+  Print : ProgramFile → Command
   Run : RunWords → Command
 
--- the file that a command names
+-- the name of the file that a command names
 abbrev pub file_of : Command → Text
-file_of (Analyse given) = given.file
-file_of (Print file) = file
-file_of (PrintC file) = file
-file_of (Run given) = given.file
+file_of (Analyse given) = file_name given.program
+file_of (Lower given) = given.file
+file_of (Print program) = file_name program
+file_of (Run given) = file_name given.program
 
 -- the turns that a command was given are at most 1,000,000
 abbrev pub HasFewTurns : Command → Type 0
 HasFewTurns (Analyse given) = given.turns ≤ 1000000
-HasFewTurns (Print file) = Unit {0}
-HasFewTurns (PrintC file) = Unit {0}
+HasFewTurns (Lower given) = Unit {0}
+HasFewTurns (Print program) = Unit {0}
 HasFewTurns (Run given) = given.turns ≤ 1000000
 
 -- the name of the root function, which is `main` where it is left out
@@ -71,9 +76,9 @@ abbrev pub pivots_in : (Text → Option Text) → Option ℕ
 pivots_in value = number_or 1000 1 4000 (value (codes "pivots"))
 
 -- `analyse FILE --root NAME --inputs FILE --costs FILE --turns N --merge none|exits|joins --pivots N`
-abbrev pub analyse_words : (Text → Option Text) → Text → ℕ → Merging → ℕ → AnalyseWords
-analyse_words value file turns merging pivots = record {
-  file = file;
+abbrev pub analyse_words : (Text → Option Text) → ProgramFile → ℕ → Merging → ℕ → AnalyseWords
+analyse_words value program turns merging pivots = record {
+  program = program;
   root = root_in value;
   inputs = value (codes "inputs");
   costs = value (codes "costs");
@@ -83,35 +88,44 @@ analyse_words value file turns merging pivots = record {
 }
 
 -- with such turns, and merging there
-abbrev pub analyse_merging : (Text → Option Text) → Text → ℕ → Merging → Option Command
-analyse_merging value file turns merging = option_map (λ pivots. Analyse (analyse_words value file turns merging pivots)) (pivots_in value)
+abbrev pub analyse_merging : (Text → Option Text) → ProgramFile → ℕ → Merging → Option Command
+analyse_merging value program turns merging = option_map (λ pivots. Analyse (analyse_words value program turns merging pivots)) (pivots_in value)
 
 -- with such turns
-abbrev pub analyse_with : (Text → Option Text) → Text → ℕ → Option Command
-analyse_with value file turns = option_and_then (analyse_merging value file turns) (merging_in value)
+abbrev pub analyse_with : (Text → Option Text) → ProgramFile → ℕ → Option Command
+analyse_with value program turns = option_and_then (analyse_merging value program turns) (merging_in value)
+
+-- the file of the program
+abbrev pub file_in : (Text → Option Text) → Option ProgramFile
+file_in value = option_map program_file (value (codes "file"))
 
 abbrev pub analyse_of : (Text → Option Text) → Option Command
-analyse_of value = option_and_then (λ file. option_and_then (analyse_with value file) (turns_in value)) (program_file (value (codes "file")))
+analyse_of value = option_and_then (λ program. option_and_then (analyse_with value program) (turns_in value)) (file_in value)
 
--- `print FILE`: a file whose name ends in `.c` is one of C
-abbrev pub print_words : Text → Command
-print_words file = if is_c file then PrintC file else Print file
+-- `lower FILE --root NAME`: the file is one of C
+abbrev pub lower_words : (Text → Option Text) → Text → LowerWords
+lower_words value file = record { file = file; root = root_in value }
 
+abbrev pub lower_of : (Text → Option Text) → Option Command
+lower_of value = option_map (λ file. Lower (lower_words value file)) (option_and_then c_file (file_in value))
+
+-- `print FILE`
 abbrev pub print_of : (Text → Option Text) → Option Command
-print_of value = option_map print_words (value (codes "file"))
+print_of value = option_map (λ program. Print program) (file_in value)
 
 -- `run FILE --root NAME --inputs FILE --costs FILE --turns N`
-abbrev pub run_words : (Text → Option Text) → Text → ℕ → RunWords
-run_words value file turns =
-    record { file = file; root = root_in value; inputs = value (codes "inputs"); costs = value (codes "costs"); turns = turns }
+abbrev pub run_words : (Text → Option Text) → ProgramFile → ℕ → RunWords
+run_words value program turns =
+    record { program = program; root = root_in value; inputs = value (codes "inputs"); costs = value (codes "costs"); turns = turns }
 
 abbrev pub run_of : (Text → Option Text) → Option Command
-run_of value = option_and_then (λ file. option_map (λ turns. Run (run_words value file turns)) (turns_in value)) (program_file (value (codes "file")))
+run_of value = option_and_then (λ program. option_map (λ turns. Run (run_words value program turns)) (turns_in value)) (file_in value)
 
 -- the command of this name, by the value of each name
 abbrev pub command_named : Text → (Text → Option Text) → Option Command
 command_named name value =
     if bytes_eq name (codes "analyse") then analyse_of value
+    else if bytes_eq name (codes "lower") then lower_of value
     else if bytes_eq name (codes "print") then print_of value
     else if bytes_eq name (codes "run") then run_of value
     else None

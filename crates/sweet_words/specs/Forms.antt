@@ -29,6 +29,9 @@ analyse_form = record {
   flags = [];
 }
 
+abbrev pub lower_form : Form
+lower_form = record { name = codes "lower"; positionals = codes "file" ∷ []; values = codes "root" ∷ []; flags = [] }
+
 abbrev pub print_form : Form
 print_form = record { name = codes "print"; positionals = codes "file" ∷ []; values = []; flags = [] }
 
@@ -42,7 +45,7 @@ run_form = record {
 
 -- the commands that are built
 abbrev pub forms : List Form
-forms = analyse_form ∷ print_form ∷ run_form ∷ []
+forms = analyse_form ∷ lower_form ∷ print_form ∷ run_form ∷ []
 
 -- the form of the command that the word names
 abbrev pub form_named : Text → List Form → Option Form

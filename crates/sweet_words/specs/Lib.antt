@@ -3,6 +3,7 @@ pub mod Given
 pub mod Shapes
 pub mod Views
 pub mod Numbers
+pub mod Files
 pub mod Merges
 pub mod Commands
 pub mod Meant

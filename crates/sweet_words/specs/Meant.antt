@@ -1,16 +1,25 @@
 -- What values of the code stand for.
---   analyse_meant, run_meant   what `analyse` and `run` are given
---   command_meant              a command
+--   file_meant                               the file of a program
+--   analyse_meant, lower_meant, run_meant    what `analyse`, `lower` and `run` are given
+--   command_meant                            a command
 use Rattle.std.specs.Prelude.{option_map}
+use Rattle.sweet_words.specs.declared.files.ProgramFile.{ProgramFile as FileValue}
+use Rattle.sweet_words.specs.declared.files.ProgramFile.TheVariants as file
 use Rattle.sweet_words.specs.declared.command.AnalyseWords.{AnalyseWords as AnalyseValue}
+use Rattle.sweet_words.specs.declared.command.LowerWords.{LowerWords as LowerValue}
 use Rattle.sweet_words.specs.declared.command.RunWords.{RunWords as RunValue}
 use Rattle.sweet_words.specs.declared.command.Command.{Command as Value}
 use Rattle.sweet_words.specs.declared.command.Command.TheVariants as value
-use Rattle.sweet_words.specs.Commands.{AnalyseWords, RunWords, Command, Analyse, Print, PrintC, Run}
+use Rattle.sweet_words.specs.Files.{ProgramFile, Alf, C}
+use Rattle.sweet_words.specs.Commands.{AnalyseWords, LowerWords, RunWords, Command, Analyse, Lower, Print, Run}
+
+abbrev pub file_meant : FileValue → ProgramFile
+file_meant (file.Alf name) = Alf name.now
+file_meant (file.C name) = C name.now
 
 abbrev pub analyse_meant : AnalyseValue → AnalyseWords
 analyse_meant given = record {
-  file = given.file.now;
+  program = file_meant given.program;
   root = given.root.now;
   inputs = option_map (λ name. name.now) given.inputs;
   costs = option_map (λ name. name.now) given.costs;
@@ -19,9 +28,12 @@ analyse_meant given = record {
   pivots = given.pivots;
 }
 
+abbrev pub lower_meant : LowerValue → LowerWords
+lower_meant given = record { file = given.file.now; root = given.root.now }
+
 abbrev pub run_meant : RunValue → RunWords
 run_meant given = record {
-  file = given.file.now;
+  program = file_meant given.program;
   root = given.root.now;
   inputs = option_map (λ name. name.now) given.inputs;
   costs = option_map (λ name. name.now) given.costs;
@@ -30,6 +42,6 @@ run_meant given = record {
 
 abbrev pub command_meant : Value → Command
 command_meant (value.Analyse given) = Analyse (analyse_meant given)
-command_meant (value.Print file) = Print file.now
-command_meant (value.PrintC file) = PrintC file.now
+command_meant (value.Lower given) = Lower (lower_meant given)
+command_meant (value.Print program) = Print (file_meant program)
 command_meant (value.Run given) = Run (run_meant given)

@@ -1,12 +1,10 @@
--- The values of options and positionals.
+-- The numbers of options.
 --   is_number        one to twenty digits, and nothing else
 --   number_in        the number of the text, where it is in a range
 --   number_or        the same of an option, with the number that stands where it is left out
---   is_c             the name ends in `.c`
---   program_file     the file of a program, which is none of C
-use Rattle.std.specs.Prelude.{ℕ, Bool, ◌&&◌, nat_le, nat_eq, length, Option, None, Some, if◌then◌else◌, codes}
+use Rattle.std.specs.Prelude.{ℕ, Bool, ◌&&◌, nat_le, length, Option, None, Some, if◌then◌else◌}
 use Rattle.std.specs.Char.{is_ascii_digit}
-use Rattle.std.specs.List.{list_all, ends_with}
+use Rattle.std.specs.List.{list_all}
 use Rattle.std.specs.Str.Parse.{digits_value}
 use Rattle.sweet_words.specs.Forms.{Text}
 
@@ -26,12 +24,3 @@ number_in least most text = if is_number text && (nat_le least (number_of text) 
 abbrev pub number_or : ℕ → ℕ → ℕ → Option Text → Option ℕ
 number_or other least most None = Some other
 number_or other least most (Some text) = number_in least most text
-
--- a file of C, by its name
-abbrev pub is_c : Text → Bool
-is_c file = ends_with nat_eq file (codes ".c")
-
--- a file that is told as a program: one whose name ends in `.c` is none
-abbrev pub program_file : Option Text → Option Text
-program_file None = None
-program_file (Some file) = if is_c file then None else Some file

@@ -1,21 +1,22 @@
 //! The commands, each with what it was given.
 ghost use Rattle.std.specs.Prelude.{◌≡◌, ◌≤◌, option_map, IfSome};
 ghost use Rattle.clap.specs.Words.{first_value, found_of};
-ghost use Rattle.sweet_words.specs.Commands.{HasFewTurns, analyse_of, command_named, merging_in, pivots_in, print_of, print_words, root_in, run_of, turns_in};
-ghost use Rattle.sweet_words.specs.Meant.{command_meant};
+ghost use Rattle.sweet_words.specs.Commands.{HasFewTurns, analyse_of, command_named, file_in, lower_of, merging_in, pivots_in, print_of, root_in, run_of, turns_in};
+ghost use Rattle.sweet_words.specs.Meant.{command_meant, file_meant};
 
+use crate::files::{ProgramFile, c_file, program_file};
 use crate::merging::{Merging, merging_or_joins};
-use crate::values::{is_c, number, program_file};
+use crate::values::number;
 use clap::ArgMatches;
 
-/// What `analyse` is given: the name of the program's file, that of the function that it starts with,
-/// which is `main` where the words do not say, the names of the inputs file and of the costs file, the
+/// What `analyse` is given: the program's file, the name of the function that it starts with, which
+/// is `main` where the words do not say, the names of the inputs file and of the costs file, the
 /// most turns of the exploration, 1 to 1,000,000, and 100,000 where the words do not say, where
 /// states are merged, and the most pivots of the path bound, 1 to 4,000, and 1,000 where the words do
 /// not say.
 #[derive(Clone, Copy)]
 pub struct AnalyseWords<'a> {
-    pub file: &'a str,
+    pub program: ProgramFile<'a>,
     pub root: &'a str,
     pub inputs: Option<&'a str>,
     pub costs: Option<&'a str>,
@@ -24,11 +25,19 @@ pub struct AnalyseWords<'a> {
     pub pivots: u32,
 }
 
-/// What `run` is given: the same, where the turns are the most nodes that the run may have, nothing
+/// What `lower` is given: the name of a file of C, and that of the function that its program starts
+/// with.
+#[derive(Clone, Copy)]
+pub struct LowerWords<'a> {
+    pub file: &'a str,
+    pub root: &'a str,
+}
+
+/// What `run` is given: the same as `analyse`, where the turns are the most nodes that the run may have, nothing
 /// is merged, and no pivot is made.
 #[derive(Clone, Copy)]
 pub struct RunWords<'a> {
-    pub file: &'a str,
+    pub program: ProgramFile<'a>,
     pub root: &'a str,
     pub inputs: Option<&'a str>,
     pub costs: Option<&'a str>,
@@ -39,10 +48,9 @@ pub struct RunWords<'a> {
 #[derive(Clone, Copy)]
 pub enum Command<'a> {
     Analyse(AnalyseWords<'a>),
-    /// The name of the program's file.
-    Print(&'a str),
-    /// The name of a file of C.
-    PrintC(&'a str),
+    Lower(LowerWords<'a>),
+    /// The program's file.
+    Print(ProgramFile<'a>),
     Run(RunWords<'a>),
 }
 
@@ -53,10 +61,19 @@ pub fn named<'a>(name: &str, given: &ArgMatches<'a>) -> Option<Command<'a>>
 {
     match name {
         "analyse" => analyse(given),
+        "lower" => lower(given),
         "print" => print(given),
         "run" => run(given),
         _ => None,
     }
+}
+
+// The file of the program.
+fn file<'a>(given: &ArgMatches<'a>) -> Option<ProgramFile<'a>>
+    ensures { option_map file_meant result ≡ file_in (first_value (found_of given.now)) }
+{
+    let name = given.get_str("file")?;
+    Some(program_file(name))
 }
 
 // The name of the root function.
@@ -95,12 +112,12 @@ fn analyse<'a>(given: &ArgMatches<'a>) -> Option<Command<'a>>
     ensures command { option_map command_meant result ≡ analyse_of (first_value (found_of given.now)) }
     ensures turns { IfSome result (λ command. HasFewTurns (command_meant command)) }
 {
-    let file = program_file(given.get_str("file"))?;
+    let program = file(given)?;
     let turns = turns(given)?;
     let merging = merging(given)?;
     let pivots = pivots(given)?;
     Some(Command::Analyse(AnalyseWords {
-        file,
+        program,
         root: root(given),
         inputs: given.get_str("inputs"),
         costs: given.get_str("costs"),
@@ -110,34 +127,34 @@ fn analyse<'a>(given: &ArgMatches<'a>) -> Option<Command<'a>>
     }))
 }
 
+fn lower<'a>(given: &ArgMatches<'a>) -> Option<Command<'a>>
+    ensures command { option_map command_meant result ≡ lower_of (first_value (found_of given.now)) }
+    ensures turns { IfSome result (λ command. HasFewTurns (command_meant command)) }
+{
+    let program = file(given)?;
+    let file = c_file(program)?;
+    Some(Command::Lower(LowerWords {
+        file,
+        root: root(given),
+    }))
+}
+
 fn print<'a>(given: &ArgMatches<'a>) -> Option<Command<'a>>
     ensures command { option_map command_meant result ≡ print_of (first_value (found_of given.now)) }
     ensures turns { IfSome result (λ command. HasFewTurns (command_meant command)) }
 {
-    let file = given.get_str("file")?;
-    Some(printed(file))
-}
-
-// What `print` prints, by the name of the file.
-fn printed<'a>(file: &'a str) -> Command<'a>
-    ensures command { command_meant result ≡ print_words file.entry.now }
-    ensures turns { HasFewTurns (command_meant result) }
-{
-    if is_c(file) {
-        Command::PrintC(file)
-    } else {
-        Command::Print(file)
-    }
+    let program = file(given)?;
+    Some(Command::Print(program))
 }
 
 fn run<'a>(given: &ArgMatches<'a>) -> Option<Command<'a>>
     ensures command { option_map command_meant result ≡ run_of (first_value (found_of given.now)) }
     ensures turns { IfSome result (λ command. HasFewTurns (command_meant command)) }
 {
-    let file = program_file(given.get_str("file"))?;
+    let program = file(given)?;
     let turns = turns(given)?;
     Some(Command::Run(RunWords {
-        file,
+        program,
         root: root(given),
         inputs: given.get_str("inputs"),
         costs: given.get_str("costs"),

@@ -10,11 +10,17 @@ pub struct Form {
 }
 
 /// The commands that are built: a further command is a further row.
-pub static FORMS: [Form; 3] = [
+pub static FORMS: [Form; 4] = [
     Form {
         name: "analyse",
         positionals: &["file"],
         values: &["root", "inputs", "costs", "turns", "merge", "pivots"],
+        flags: &[],
+    },
+    Form {
+        name: "lower",
+        positionals: &["file"],
+        values: &["root"],
         flags: &[],
     },
     Form {

@@ -11,6 +11,7 @@ mod program;
 
 // What the words give.
 mod command;
+mod files;
 mod merging;
 mod reading;
 mod values;
@@ -18,7 +19,8 @@ mod values;
 // Laws of words.
 mod laws;
 
-pub use command::{AnalyseWords, Command, RunWords};
+pub use command::{AnalyseWords, Command, LowerWords, RunWords};
+pub use files::ProgramFile;
 pub use laws::options_stand_freely;
 pub use merging::Merging;
 pub use reading::{WordsFault, read};

@@ -1,28 +1,10 @@
-//! The values of positionals and options.
+//! The numbers of options.
 ghost use Rattle.std.specs.Prelude.{◌≡◌, ◌≤◌, option_map, IfSome};
 ghost use Rattle.std.specs.Char.{is_ascii_digit};
 ghost use Rattle.std.specs.List.{list_all};
-ghost use Rattle.sweet_words.specs.Numbers.{is_c, is_number, number_in, number_or, program_file as file_told};
+ghost use Rattle.sweet_words.specs.Numbers.{is_number, number_in, number_or};
 
 const MOST_DIGITS: usize = 20;
-
-// The file of a program that is run: none where its name ends in `.c`, since only `print` takes C.
-pub fn program_file<'a>(text: Option<&'a str>) -> Option<&'a str>
-    ensures { option_map (λ s. s.now) result ≡ file_told (option_map (λ s. s.now) text.entry) }
-{
-    let file = text?;
-    if is_c(file) {
-        return None;
-    }
-    Some(file)
-}
-
-// Whether a file of this name is one of C.
-pub fn is_c(file: &str) -> bool
-    ensures { result ≡ is_c file.now }
-{
-    file.as_bytes().ends_with(b".c")
-}
 
 // The number of the option, or `other` where it is left out.
 pub fn number(text: Option<&str>, other: u32, least: u32, most: u32) -> Option<u32>

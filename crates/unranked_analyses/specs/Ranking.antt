@@ -1,12 +1,12 @@
 -- Ranks have no part in the steps of a program's machine.
---   with_ranks program ranks      the program with these ranks
---   function_same                 the function of a call path is the same with other ranks
---   step_same, first_same         so are what a step makes of a memory, and the memory at the start
+--   step_same     what a step makes of a memory is the same with other ranks
+--   first_same    so is the memory at the start
 use Rattle.std.proofs.Common.{◌≡◌, ℕ, List, [], ◌∷◌, Option, None, Some, slice_get, refl, ap, ◌∙◌}
 use Rattle.alf_check.specs.declared.rows.InputRow.{InputRow}
 use Rattle.alf_check.specs.CheckedPrograms.{NumberedProgram, NumberedBlock, BlockEnding, Fall, Jump, Switch, Call, Return, blocks_at}
 use Rattle.flow_graph.specs.Nodes.{ending_at, callee_of, function_at}
 use Rattle.alf_runs.specs.Steps.{frames_of}
+use Rattle.unranked_runs.specs.Ranking.{with_ranks, function_same}
 use Rattle.pointer_rules.specs.AbstractValues.{AbstractValue}
 use Rattle.memory_rules.specs.Memories.{Mem, left}
 use Rattle.memory_rules.specs.AbstractSets.{abstract_sets}
@@ -16,19 +16,11 @@ use Rattle.step_rules.specs.Doing.{after_statements}
 use Rattle.step_rules.specs.Filling.{first_memory}
 use Rattle.step_rules.specs.Stepping.{back_to, leave_to, end_at, block_at, step_at}
 
--- the program with these ranks
-abbrev pub with_ranks : NumberedProgram → List ℕ → NumberedProgram
-with_ranks p ranks = record { frames = p.frames; funcs = p.funcs; inits = p.inits; exports = p.exports; root = p.root; ranks = ranks }
-
 module _ (p : NumberedProgram) (r s : List ℕ) where
-  pub function_same : (path : List ℕ) → function_at (with_ranks p s) path ≡ function_at (with_ranks p r) path
-  function_same [] = refl
-  function_same (b ∷ path) = ap (λ (f : ℕ). callee_of (ending_at p f b)) (function_same path)
-
   leave_same : (path : List ℕ) (v : Option AbstractValue) (m : Mem abstract_sets) → leave_to (with_ranks p s) path v m ≡ leave_to (with_ranks p r) path v m
   leave_same [] v m = refl
   leave_same (b ∷ path) v m =
-      ap (λ (f : ℕ). back_to (frames_of p) path (ending_at p f b) v (left abstract_sets m (callee_of (ending_at p f b)))) (function_same path)
+      ap (λ (f : ℕ). back_to (frames_of p) path (ending_at p f b) v (left abstract_sets m (callee_of (ending_at p f b)))) (function_same p r s path)
 
   end_same : (path : List ℕ) (b : ℕ) (ending : BlockEnding) (m : Mem abstract_sets) → end_at (with_ranks p s) path b ending m ≡ end_at (with_ranks p r) path b ending m
   end_same path b (Fall next) m = refl
@@ -46,7 +38,7 @@ module _ (p : NumberedProgram) (r s : List ℕ) where
   pub step_same : (path : List ℕ) (block : Option ℕ) (m : Mem abstract_sets) → step_at (with_ranks p s) path block m ≡ step_at (with_ranks p r) path block m
   step_same path None m = refl
   step_same path (Some b) m =
-      ap (λ (f : ℕ). block_at (with_ranks p s) path b (slice_get (blocks_at p f) b) m) (function_same path)
+      ap (λ (f : ℕ). block_at (with_ranks p s) path b (slice_get (blocks_at p f) b) m) (function_same p r s path)
       ∙ block_same path b (slice_get (blocks_at p (function_at (with_ranks p r) path)) b) m
 
   -- the memory at the start

@@ -23,7 +23,8 @@ use Rattle.seen_memories.specs.Made.{made, frames_from}
 use Rattle.seen_memories.specs.SeenOrders.{parts_order, joined}
 use Rattle.seen_machines.specs.MadeMachines.{made_at}
 use Rattle.seen_machines.specs.PartMachines.{part_machine}
-use Rattle.unranked_analyses.specs.Ranking.{with_ranks, step_same}
+use Rattle.unranked_runs.specs.Ranking.{with_ranks}
+use Rattle.unranked_analyses.specs.Ranking.{step_same}
 use Rattle.unranked_analyses.specs.TwinRuns.{AreTwins, GoesWith}
 
 -- the parts are those of the program, but for ranks

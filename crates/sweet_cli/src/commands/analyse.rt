@@ -38,7 +38,7 @@ pub fn analyse<F: Shelf>(
     ensures promise { IfOk result (λ text. IfSome (F.state shelf.old).files (λ files. IsSoundReport (analyse_meant given.entry) files text.items)) }
 {
     found_reports_are_right();
-    let program = scoped_in(alloc, given.file, given.root, shelf)?;
+    let program = scoped_in(alloc, given.program, given.root, shelf)?;
     let tables = tables_in(
         alloc,
         &program.expanded.checked,

@@ -5,13 +5,13 @@ ghost use Rattle.alf_check.specs.CheckedPrograms.{seen};
 ghost use Rattle.alf_check.specs.Inputs.{KeepInputs};
 ghost use Rattle.alf_runs.specs.Places.{AreWords};
 ghost use Rattle.flow_graph.specs.Numbering.{IsGraph};
-ghost use Rattle.sweet_cli.specs.Seen.{expanded_of};
+ghost use Rattle.program_files.specs.Seen.{expanded_of};
 ghost use Rattle.sweet_cli.specs.Counting.{CountedAs};
 
-use crate::commands::programs::Expanded;
 use crate::node_costs::node_costs;
 use alf_check::InputRow;
 use cost_table::Costs;
+use program_files::Expanded;
 use run_counts::{Counted, count};
 use std::alloc::{AllocError, Global};
 

@@ -3,24 +3,23 @@
 ghost use Rattle.std.specs.Prelude.{◌≡◌, map, string_bytes, IfOk, IfSome};
 ghost use Rattle.work.specs.Run.{Answers, ending_of};
 ghost use Rattle.work.specs.Works.{Works};
-ghost use Rattle.sweet_cli.specs.Words.{HasFewTurns, command_meant};
-ghost use Rattle.sweet_cli.specs.Table.{task_for, task_of};
+ghost use Rattle.sweet_cli.specs.Words.{HasFewTurns, command_meant, file_meant};
+ghost use Rattle.sweet_cli.specs.Table.{print_task, task_for, task_of};
 ghost use Rattle.sweet_cli.specs.Task.{KeepsPromise};
 
 // What commands have in common.
 mod counting;
-mod programs;
 pub mod scopes;
 mod tables;
-mod units;
 
 // The commands.
 mod analyse;
+mod lower;
 mod print;
 mod print_c;
 mod run;
 
-use crate::words::{Command, WordsFault, read};
+use crate::words::{Command, ProgramFile, WordsFault, read};
 use flow_base::Shelf;
 use std::alloc::Global;
 use work::{Answer, Stop, Why, stopped};
@@ -62,8 +61,23 @@ fn command_text<F: Shelf>(
 {
     match command {
         Command::Analyse(given) => analyse::analyse(alloc, given, shelf),
-        Command::Print(file) => print::print(alloc, file, shelf),
-        Command::PrintC(file) => print_c::print_c(alloc, file, shelf),
+        Command::Lower(given) => lower::lower(alloc, given, shelf),
+        Command::Print(program) => print_text(alloc, program, shelf),
         Command::Run(given) => run::run(alloc, given, shelf),
+    }
+}
+
+// The canonical text of a file, by its language.
+fn print_text<F: Shelf>(
+    alloc: Global,
+    program: ProgramFile<'_>,
+    shelf: &mut F,
+) -> Result<Vec<u8>, Stop>
+    ensures work { Works (print_task (file_meant program.entry)).work (λ text. text.items) (F.state shelf.old) result (F.state shelf.new) }
+    ensures promise { IfOk result (λ text. IfSome (F.state shelf.old).files (λ files. (print_task (file_meant program.entry)).Promise files text.items)) }
+{
+    match program {
+        ProgramFile::Alf(file) => print::print(alloc, file, shelf),
+        ProgramFile::C(file) => print_c::print_c(alloc, file, shelf),
     }
 }

@@ -4,9 +4,9 @@ ghost use Rattle.std.specs.Prelude.{IfOk, IfSome};
 ghost use Rattle.work.specs.Works.{Works};
 ghost use Rattle.sweet_cli.specs.Print.{printing, IsSameProgram};
 
-use crate::commands::programs::program_in;
 use alf_text::{canonical_texts_are_read_back, print as print_program};
 use flow_base::Shelf;
+use program_files::program_in;
 use std::alloc::Global;
 use work::Stop;
 

@@ -4,9 +4,9 @@ ghost use Rattle.std.specs.Prelude.{IfOk, IfSome};
 ghost use Rattle.work.specs.Works.{Works};
 ghost use Rattle.sweet_cli.specs.PrintC.{printing_c, IsSameUnit};
 
-use crate::commands::units::unit_in;
 use c_text::{print as print_unit, spelled_units_are_read_back};
 use flow_base::Shelf;
+use program_files::unit_in;
 use std::alloc::Global;
 use work::Stop;
 

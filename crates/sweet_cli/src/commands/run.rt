@@ -26,20 +26,12 @@ use whole_numbers::Whole;
 use work::{Stop, Why};
 
 /// The text that tells the run.
+#[tactic(auto, unfolding(crate::specs::Run::running))]
 pub fn run<F: Shelf>(alloc: Global, given: RunWords<'_>, shelf: &mut F) -> Result<Vec<u8>, Stop>
     ensures work { Works (running (run_meant given.entry)) (λ text. text.items) (F.state shelf.old) result (F.state shelf.new) }
     ensures promise { IfOk result (λ text. IfSome (F.state shelf.old).files (λ files. TellsRun (run_meant given.entry) files text.items)) }
 {
-    let text = running(alloc, given, shelf)?;
-    Ok(text)
-}
-
-// The order of work.
-#[tactic(auto, unfolding(crate::specs::Run::running))]
-fn running<F: Shelf>(alloc: Global, given: RunWords<'_>, shelf: &mut F) -> Result<Vec<u8>, Stop>
-    ensures { Works (running (run_meant given.entry)) (λ text. text.items) (F.state shelf.old) result (F.state shelf.new) }
-{
-    let program = scoped_in(alloc, given.file, given.root, shelf)?;
+    let program = scoped_in(alloc, given.program, given.root, shelf)?;
     let tables = tables_in(
         alloc,
         &program.expanded.checked,

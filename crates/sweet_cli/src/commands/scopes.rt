@@ -1,17 +1,20 @@
 //! The program that a command reads, with the scopes of its graph.
 
-ghost use Rattle.std.specs.Prelude.{IfOk};
+ghost use Rattle.std.specs.Prelude.{IfOk, IfSome};
 ghost use Rattle.alf_check.specs.CheckedPrograms.{seen};
 ghost use Rattle.flow_graph.specs.Numbering.{IsGraph};
 ghost use Rattle.work.specs.Works.{Works, Judges};
+ghost use Rattle.program_files.specs.Told.{IsToldProgram};
+ghost use Rattle.sweet_cli.specs.Words.{file_meant};
 ghost use Rattle.sweet_cli.specs.Scopes.{ScopesMean, scoped_in};
 ghost use Rattle.sweet_cli.specs.Seen.{IsOutlined, scopes_seen, scoped_of};
 
-use crate::commands::programs::{Expanded, expanded_in};
 use crate::lines::irreducible_line;
+use crate::words::ProgramFile;
 use domain_core::{Outline, crossing_is_irreducible};
 use flow_base::Shelf;
 use flow_graph::Graph;
+use program_files::{Expanded, expanded_in};
 use scope_graph::{OutlineFault, a_graph_has_one_outline, outline};
 use std::alloc::Global;
 use work::{Stop, Why};
@@ -27,15 +30,16 @@ pub struct ScopedProgram {
 #[tactic(auto, unfolding(crate::specs::Scopes::scoped_in))]
 pub fn scoped_in<F: Shelf>(
     alloc: Global,
-    file: &str,
+    program: ProgramFile<'_>,
     root: &str,
     shelf: &mut F,
 ) -> Result<ScopedProgram, Stop>
-    ensures work { Works (scoped_in file.now root.now) scoped_of (F.state shelf.old) result (F.state shelf.new) }
+    ensures work { Works (scoped_in (file_meant program.entry) root.now) scoped_of (F.state shelf.old) result (F.state shelf.new) }
     ensures graph { IfOk result (λ program. IsGraph (seen program.expanded.checked) program.expanded.graph) }
     ensures outline { IfOk result (λ program. IsOutlined program.expanded.graph program.outline) }
+    ensures told { IfOk result (λ scoped. IfSome (F.state shelf.old).files (λ files. IsToldProgram (file_meant program.entry) root.now files (scoped_of scoped).expanded.program)) }
 {
-    let expanded = expanded_in(alloc, file, root, shelf)?;
+    let expanded = expanded_in(alloc, program, root, shelf)?;
     let outline = scopes_of(alloc, &expanded.graph)?;
     Ok(ScopedProgram { expanded, outline })
 }

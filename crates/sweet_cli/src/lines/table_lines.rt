@@ -3,8 +3,8 @@
 ghost use Rattle.std.specs.Prelude.{◌≡◌, string_bytes, IfOk, Some};
 ghost use Rattle.sweet_cli.specs.Tables.{table_line};
 
-use crate::lines::check_lines::number_or_dash;
 use cost_table::TableFault;
+use program_files::number_or_dash;
 use std::alloc::{AllocError, Global};
 
 /// The line of a file that is refused; the role is its word. Want of memory has none.

@@ -7,10 +7,10 @@ use Rattle.flow_facts.specs.Reports.{reported}
 use Rattle.program_analysis.specs.Answers.{Told, Unbounded as LeftIn}
 use Rattle.work.specs.Outcome.{Outcome, Unbounded}
 use Rattle.work.specs.Work.{IsOnly}
-use Rattle.sweet_cli.specs.Programs.{unranked}
+use Rattle.unranked_runs.specs.Ranking.{unranked}
 use Rattle.sweet_cli.specs.Seen.{scoped_of}
 use Rattle.sweet_cli.specs.Analyse.{ReportMeans}
-use Rattle.sweet_cli.proofs.Ranks as ranks
+use Rattle.unranked_runs.specs.RankedGraphs as ranks
 use Rattle.sweet_cli.proofs.JudgedReports.{report_only, left_only, found_of}
 use Rattle.sweet_cli.proofs.commands.analyse.explored.Goals as goal
 

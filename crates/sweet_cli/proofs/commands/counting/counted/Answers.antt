@@ -3,8 +3,8 @@ use Rattle.std.proofs.Common.{[], length, ap, ◌∙◌}
 use Rattle.std.proofs.lemmas.List.{length-map}
 use Rattle.alf_check.specs.CheckedPrograms.{seen}
 use Rattle.program_machines.specs.NodeCosts.{node_cost}
-use Rattle.sweet_cli.specs.Programs.{unranked}
-use Rattle.sweet_cli.proofs.Ranks.{graph}
+use Rattle.unranked_runs.specs.Ranking.{unranked}
+use Rattle.unranked_runs.specs.RankedGraphs.{graph}
 use Rattle.sweet_cli.proofs.Counted.{all_counted}
 use Rattle.sweet_cli.proofs.commands.counting.counted.Goals as goal
 

@@ -1,10 +1,22 @@
 -- A text that was made tells the run.
+use Rattle.std.proofs.Common.{Option, subst}
+use Rattle.flow_base.specs.Outside.{Files}
 use Rattle.work.specs.Log.{log_of}
 use Rattle.sweet_cli.specs.Words.{run_meant}
+use Rattle.sweet_cli.specs.Seen.{scoped_of, tables_of}
+use Rattle.sweet_cli.specs.Tables.{tables_in}
 use Rattle.sweet_cli.proofs.Promises.{tells_run}
 use Rattle.sweet_cli.proofs.commands.run.run.Goals as goal
 
 pub returns-clause-promise : goal.returns-clause-promise
 returns-clause-promise g c =
-    tells_run (run_meant c.args.given) (g.F.Shelf.state c.args.shelf.now).files (log_of (g.F.Shelf.state c.args.shelf.now))
-    c.in_ok-text.text.items (log_of (g.F.Shelf.state c.running.new.shelf)) c.in_ok-text.ensures.ends.0
+    let given = run_meant c.args.given in
+    let start = g.F.Shelf.state c.args.shelf.now in
+    let mid = g.F.Shelf.state c.scoped_in.new.shelf in
+    let end = g.F.Shelf.state c.tables_in.new.shelf in
+    let program = scoped_of c.in_ok-program.program in
+    let tables = tables_of c.in_ok-tables.tables in
+    let first = c.in_ok-program.ensures.work in
+    let read = subst (λ (told : Option Files). (tables_in program.expanded.program given.inputs given.costs).steps.Gives told (log_of mid) tables (log_of end)) first.same
+    c.in_ok-tables.ensures.work.ends.0 in
+    tells_run given start.files (log_of start) (log_of mid) (log_of end) program tables c.in_ok-text.text.items first.ends.0 read c.in_ok-program.ensures.told c.in_ok-text.ensures.means

@@ -1,7 +1,7 @@
 -- The costs, or the line of the file's fault, are the only meaning.
 use Rattle.std.proofs.Common.{[], codes, refl}
 use Rattle.alf_check.specs.CheckedPrograms.{seen}
-use Rattle.sweet_cli.specs.Programs.{unranked}
+use Rattle.unranked_runs.specs.Ranking.{unranked}
 use Rattle.sweet_cli.proofs.RanksTables.{means_costs, refuses_costs}
 use Rattle.sweet_cli.proofs.JudgedTables.{costs_only, costs_refused_only, not_memory}
 use Rattle.sweet_cli.proofs.commands.tables.costs_meant.Goals as goal

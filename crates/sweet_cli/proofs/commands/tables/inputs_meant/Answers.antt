@@ -1,7 +1,7 @@
 -- The rows, or the line of the file's fault, are the only meaning.
 use Rattle.std.proofs.Common.{[], codes, refl}
 use Rattle.alf_check.specs.CheckedPrograms.{seen}
-use Rattle.sweet_cli.specs.Programs.{unranked}
+use Rattle.unranked_runs.specs.Ranking.{unranked}
 use Rattle.sweet_cli.proofs.RanksTables.{means_inputs, refuses_inputs}
 use Rattle.sweet_cli.proofs.JudgedTables.{rows_only, inputs_refused_only, not_memory}
 use Rattle.sweet_cli.proofs.commands.tables.inputs_meant.Goals as goal

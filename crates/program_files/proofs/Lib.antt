@@ -1,0 +1,5 @@
+-- Shared lemmas.
+pub mod Judged
+pub mod JudgedUnit
+pub mod JudgedGraph
+pub mod Told

@@ -1,0 +1,93 @@
+//! The program that a command reads, with its graph.
+
+ghost use Rattle.std.specs.Prelude.{IfOk, IfSome};
+ghost use Rattle.alf_check.specs.CheckedPrograms.{seen};
+ghost use Rattle.flow_graph.specs.Numbering.{IsGraph};
+ghost use Rattle.sweet_words.specs.Meant.{file_meant};
+ghost use Rattle.work.specs.Works.{Works, Judges};
+ghost use Rattle.program_files.specs.Expanding.{lowered_in, checked_in, GraphMeans, expanded_in};
+ghost use Rattle.program_files.specs.Seen.{program_of_checked, expanded_of};
+ghost use Rattle.program_files.specs.Told.{IsProgramOfUnit, IsToldProgram};
+
+use crate::lines::graph_line;
+use crate::programs::numbered_in;
+use crate::units::checked_unit_in;
+use alf_check::Checked;
+use c_lower::lower;
+use flow_base::Shelf;
+use flow_graph::{Graph, a_program_has_one_graph, limits_exclude_each_other};
+use std::alloc::Global;
+use sweet_words::ProgramFile;
+use work::{Stop, Why};
+
+/// A checked program and its graph.
+#[derive(Drop)]
+pub struct Expanded {
+    pub checked: Checked,
+    pub graph: Graph,
+}
+
+// The program that the unit in the file is lowered to.
+#[tactic(auto, unfolding(crate::specs::Expanding::lowered_in))]
+fn lowered_in<F: Shelf>(
+    alloc: Global,
+    file: &str,
+    root: &str,
+    shelf: &mut F,
+) -> Result<Checked, Stop>
+    ensures work { Works (lowered_in file.now root.now) program_of_checked (F.state shelf.old) result (F.state shelf.new) }
+    ensures told { IfOk result (λ checked. IfSome (F.state shelf.old).files (λ files. IsProgramOfUnit file.now root.now files (program_of_checked checked))) }
+{
+    let program = checked_unit_in(alloc, file, root, shelf)?;
+    let checked = lower(alloc, &program)?;
+    Ok(checked)
+}
+
+// The program in the file, where it passes the checks.
+fn checked_in<F: Shelf>(
+    alloc: Global,
+    program: ProgramFile<'_>,
+    root: &str,
+    shelf: &mut F,
+) -> Result<Checked, Stop>
+    ensures work { Works (checked_in (file_meant program.entry) root.now) program_of_checked (F.state shelf.old) result (F.state shelf.new) }
+    ensures told { IfOk result (λ checked. IfSome (F.state shelf.old).files (λ files. IsToldProgram (file_meant program.entry) root.now files (program_of_checked checked))) }
+{
+    match program {
+        ProgramFile::Alf(file) => numbered_in(alloc, file, root, shelf),
+        ProgramFile::C(file) => lowered_in(alloc, file, root, shelf),
+    }
+}
+
+// The graph of the program.
+fn graph_of(alloc: Global, checked: &Checked) -> Result<Graph, Stop>
+    ensures means { Judges (GraphMeans (program_of_checked checked.now)) (λ graph. graph) result }
+    ensures graph { IfOk result (λ graph. IsGraph (seen checked.now) graph) }
+{
+    a_program_has_one_graph();
+    limits_exclude_each_other();
+    match Graph::expand(alloc, checked) {
+        Ok(graph) => Ok(graph),
+        Err(fault) => match graph_line(alloc, &fault) {
+            Ok(line) => Err(Stop::Told(Why::Source, line)),
+            Err(_) => Err(Stop::Memory),
+        },
+    }
+}
+
+/// The program in the file, checked and expanded.
+#[tactic(auto, unfolding(crate::specs::Expanding::expanded_in))]
+pub fn expanded_in<F: Shelf>(
+    alloc: Global,
+    program: ProgramFile<'_>,
+    root: &str,
+    shelf: &mut F,
+) -> Result<Expanded, Stop>
+    ensures work { Works (expanded_in (file_meant program.entry) root.now) expanded_of (F.state shelf.old) result (F.state shelf.new) }
+    ensures graph { IfOk result (λ expanded. IsGraph (seen expanded.checked) expanded.graph) }
+    ensures told { IfOk result (λ expanded. IfSome (F.state shelf.old).files (λ files. IsToldProgram (file_meant program.entry) root.now files (program_of_checked expanded.checked))) }
+{
+    let checked = checked_in(alloc, program, root, shelf)?;
+    let graph = graph_of(alloc, &checked)?;
+    Ok(Expanded { checked, graph })
+}

@@ -1,0 +1,77 @@
+//! Programs of ALF in files, checked.
+
+ghost use Rattle.std.specs.Prelude.{IfOk, IfSome};
+ghost use Rattle.alf_program.specs.Tree.{program_of};
+ghost use Rattle.alf_program.specs.Writable.{IsWritable};
+ghost use Rattle.work.specs.Works.{Works, Judges};
+ghost use Rattle.program_files.specs.Programs.{ProgramMeans, program_in, CheckMeans, numbered_in};
+ghost use Rattle.program_files.specs.Seen.{program_of_checked};
+ghost use Rattle.program_files.specs.Told.{IsProgramOfText};
+
+use crate::lines::{check_line, check_why, fault_line};
+use alf_check::{Checked, check};
+use alf_program::Program;
+use alf_text::{one_meaning, read};
+use flow_base::Shelf;
+use std::alloc::Global;
+use work::{Role, Stop, Why, read_file};
+
+/// The most bytes of a file.
+pub const MOST_BYTES: u64 = 1_048_576;
+
+/// The line of a file that has more.
+pub const TOO_LONG: &str = "fault 13 limit bytes 1048577\n";
+
+/// The program that the file spells.
+#[tactic(auto, unfolding(crate::specs::Programs::program_in))]
+pub fn program_in<F: Shelf>(alloc: Global, file: &str, shelf: &mut F) -> Result<Program, Stop>
+    ensures work { Works (program_in file.now) (λ program. program_of program) (F.state shelf.old) result (F.state shelf.new) }
+    ensures written { IfOk result (λ program. IsWritable (program_of program)) }
+{
+    let bytes = read_file(alloc, shelf, Role::Program, file, MOST_BYTES, TOO_LONG)?;
+    spelled(alloc, &bytes)
+}
+
+// The program that the bytes spell.
+fn spelled(alloc: Global, bytes: &[u8]) -> Result<Program, Stop>
+    ensures means { Judges (ProgramMeans bytes.now) (λ program. program_of program) result }
+    ensures written { IfOk result (λ program. IsWritable (program_of program)) }
+{
+    one_meaning();
+    match read(alloc, bytes) {
+        Ok(program) => Ok(program),
+        Err(fault) => match fault_line(alloc, &fault) {
+            Ok(line) => Err(Stop::Told(Why::Source, line)),
+            Err(_) => Err(Stop::Memory),
+        },
+    }
+}
+
+/// The program in the file, where it passes the checks.
+#[tactic(auto, unfolding(crate::specs::Programs::numbered_in))]
+pub fn numbered_in<F: Shelf>(
+    alloc: Global,
+    file: &str,
+    root: &str,
+    shelf: &mut F,
+) -> Result<Checked, Stop>
+    ensures work { Works (numbered_in file.now root.now) program_of_checked (F.state shelf.old) result (F.state shelf.new) }
+    ensures told { IfOk result (λ checked. IfSome (F.state shelf.old).files (λ files. IsProgramOfText file.now root.now files (program_of_checked checked))) }
+{
+    let program = program_in(alloc, file, shelf)?;
+    checked(alloc, program, root)
+}
+
+// The program, where it passes the checks.
+fn checked(alloc: Global, program: Program, root: &str) -> Result<Checked, Stop>
+    requires { IsWritable (program_of program) }
+    ensures { Judges (CheckMeans (program_of program) root.now) program_of_checked result }
+{
+    match check(alloc, program, root) {
+        Ok(checked) => Ok(checked),
+        Err(fault) => match check_line(alloc, &fault) {
+            Ok(line) => Err(Stop::Told(check_why(&fault), line)),
+            Err(_) => Err(Stop::Memory),
+        },
+    }
+}

@@ -1,0 +1,28 @@
+//! `lower FILE`: the canonical text of the program of ALF that a file of C is lowered to.
+
+ghost use Rattle.std.specs.Prelude.{IfOk, IfSome};
+ghost use Rattle.work.specs.Works.{Works};
+ghost use Rattle.sweet_cli.specs.Words.{lower_meant};
+ghost use Rattle.sweet_cli.specs.Lower.{lowering, IsLoweredText};
+
+use crate::words::LowerWords;
+use alf_text::{print, writable_programs_are_spelled};
+use c_lower::lower_text;
+use flow_base::Shelf;
+use program_files::checked_unit_in;
+use std::alloc::Global;
+use work::Stop;
+
+/// The canonical text.
+#[tactic(auto, unfolding(crate::specs::Lower::lowering))]
+pub fn lower<F: Shelf>(alloc: Global, given: LowerWords<'_>, shelf: &mut F) -> Result<Vec<u8>, Stop>
+    ensures work { Works (lowering (lower_meant given.entry)) (λ text. text.items) (F.state shelf.old) result (F.state shelf.new) }
+    ensures promise { IfOk result (λ text. IfSome (F.state shelf.old).files (λ files. IsLoweredText (lower_meant given.entry) files text.items)) }
+{
+    // What canonical texts spell, as the promise needs it.
+    writable_programs_are_spelled();
+    let program = checked_unit_in(alloc, given.file, given.root, shelf)?;
+    let lowered = lower_text(alloc, &program)?;
+    let text = print(alloc, &lowered)?;
+    Ok(text)
+}

@@ -1,0 +1,4 @@
+-- Programs with other ranks, their graphs and their runs.
+pub mod Ranking
+pub mod RankedGraphs
+pub mod RankedRuns

@@ -1,0 +1,5 @@
+short table[9000];
+
+int main(void) {
+    return table[0];
+}

@@ -1,0 +1,6 @@
+int table[4];
+
+int main(void) {
+    int *p = table;
+    return p * 2;
+}

@@ -102,7 +102,7 @@ fn push_init(text: &mut String, init: &str) -> Result<(), AllocError> {
             " } } ",
         ],
     )?;
-    push_word(text, number)?;
+    push_constant(text, number)?;
     text.push_str(" }")
 }
 
@@ -144,6 +144,11 @@ fn push_word(text: &mut String, word: &str) -> Result<(), AllocError> {
     if let Some(place) = word.strip_prefix('*') {
         return push_load(text, place);
     }
+    push_constant(text, word)
+}
+
+// A number, and anything else as it stands.
+fn push_constant(text: &mut String, word: &str) -> Result<(), AllocError> {
     if let Some(number) = word.strip_prefix('#') {
         return push_number(text, number);
     }
@@ -163,7 +168,7 @@ fn push_branch(text: &mut String, number: &str, label: &str) -> Result<(), Alloc
         text.push_str("{ default ")?;
     } else {
         text.push_str("{ target ")?;
-        push_word(text, number)?;
+        push_constant(text, number)?;
         text.push(' ')?;
     }
     push_label(text, label)?;

@@ -505,3 +505,25 @@ fn a_lowered_text_is_canonical_and_runs_as_its_unit(rt: HostRuntime) -> Result<(
     }
     Ok(())
 }
+
+#[test]
+fn without_inputs_both_bounds_are_the_cost_of_the_run(rt: HostRuntime) -> Result<(), Fail> {
+    let alloc = rt.alloc();
+    for row in PROGRAMS.split("\n\n") {
+        let (unit, _) = row.split_once("\n=> ").unwrap_or(("", ""));
+        let run = told(alloc, "run a.c", file_of(alloc, "a.c", unit.as_bytes())?)?;
+        let cost = run.as_str().split("cost ").last().unwrap_or("");
+        let cost = cost.strip_suffix(';').unwrap_or("");
+        let wanted = format!(in alloc; "count-bound {cost};path-bound {cost} least;end;")?;
+        let report = told(
+            alloc,
+            "analyse a.c",
+            file_of(alloc, "a.c", unit.as_bytes())?,
+        )?;
+        assert!(rt;
+            report.as_str().ends_with(wanted.as_str()),
+            "{report} {unit}"
+        );
+    }
+    Ok(())
+}

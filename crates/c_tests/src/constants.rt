@@ -1,92 +1,95 @@
 //! Constants and their worth, from the ranges of `int` and `unsigned int`.
 
+use crate::answers::field;
 use c_constants::{Worth, worth_of};
 use c_tokens::Cursor;
+use std::alloc::{AllocError, Global};
 use std::test::Fail;
 
-/// A text of one token, and what it is worth: `i` and `u` for the types, `l` for too large a number,
-/// `n` for no constant.
-type Row = (&'static str, u8, u32);
+/// Texts of one token, and what each is worth.
+const ROWS: &str = r#"0 @ int 0
+00 @ int 0
+7 @ int 7
+10 @ int 10
+2147483647 @ int 2147483647
+2147483648 @ too large
+4294967295 @ too large
+99999999999999999999999999999999999999999 @ too large
+2147483648u @ unsigned 2147483648
+4294967295U @ unsigned 4294967295
+4294967296u @ too large
+0u @ unsigned 0
+1U @ unsigned 1
+017 @ int 15
+017777777777 @ int 2147483647
+020000000000 @ unsigned 2147483648
+037777777777 @ unsigned 4294967295
+040000000000 @ too large
+0777777777777777777777777777777 @ too large
+000000000000000000000000000000001 @ int 1
+017u @ unsigned 15
+0x0 @ int 0
+0x1f @ int 31
+0XAbC @ int 2748
+0x7fffffff @ int 2147483647
+0x80000000 @ unsigned 2147483648
+0xFFFFFFFF @ unsigned 4294967295
+0x100000000 @ too large
+0x00000000000000000000000000001 @ int 1
+0x1u @ unsigned 1
+0xffffffffffffffffffffffffU @ too large
+08 @ none
+09 @ none
+018 @ none
+0x @ none
+0xu @ none
+0xg @ none
+12ab @ none
+1uu @ none
+1u1 @ none
+10L @ none
+10UL @ none
+1_ @ none
+1.5 @ none
+1. @ none
+.5 @ none
+1e5 @ none
+0xe+1 @ none
+99999999999999999999999999999999999999999x @ none
+'a' @ int 97
+' ' @ int 32
+'~' @ int 126
+'"' @ int 34
+'\n' @ int 10
+'\t' @ int 9
+'\0' @ int 0
+'\\' @ int 92
+'\'' @ int 39
+'ab' @ none
+'\r' @ none
+L'a' @ none
+x @ none"#;
 
-static ROWS: [Row; 62] = [
-    ("0", b'i', 0),
-    ("00", b'i', 0),
-    ("7", b'i', 7),
-    ("10", b'i', 10),
-    ("2147483647", b'i', 2_147_483_647),
-    ("2147483648", b'l', 0),
-    ("4294967295", b'l', 0),
-    ("99999999999999999999999999999999999999999", b'l', 0),
-    ("2147483648u", b'u', 2_147_483_648),
-    ("4294967295U", b'u', 4_294_967_295),
-    ("4294967296u", b'l', 0),
-    ("0u", b'u', 0),
-    ("1U", b'u', 1),
-    ("017", b'i', 15),
-    ("017777777777", b'i', 2_147_483_647),
-    ("020000000000", b'u', 2_147_483_648),
-    ("037777777777", b'u', 4_294_967_295),
-    ("040000000000", b'l', 0),
-    ("0777777777777777777777777777777", b'l', 0),
-    ("000000000000000000000000000000001", b'i', 1),
-    ("017u", b'u', 15),
-    ("0x0", b'i', 0),
-    ("0x1f", b'i', 31),
-    ("0XAbC", b'i', 2748),
-    ("0x7fffffff", b'i', 2_147_483_647),
-    ("0x80000000", b'u', 2_147_483_648),
-    ("0xFFFFFFFF", b'u', 4_294_967_295),
-    ("0x100000000", b'l', 0),
-    ("0x00000000000000000000000000001", b'i', 1),
-    ("0x1u", b'u', 1),
-    ("0xffffffffffffffffffffffffU", b'l', 0),
-    ("08", b'n', 0),
-    ("09", b'n', 0),
-    ("018", b'n', 0),
-    ("0x", b'n', 0),
-    ("0xu", b'n', 0),
-    ("0xg", b'n', 0),
-    ("12ab", b'n', 0),
-    ("1uu", b'n', 0),
-    ("1u1", b'n', 0),
-    ("10L", b'n', 0),
-    ("10UL", b'n', 0),
-    ("1_", b'n', 0),
-    ("1.5", b'n', 0),
-    ("1.", b'n', 0),
-    (".5", b'n', 0),
-    ("1e5", b'n', 0),
-    ("0xe+1", b'n', 0),
-    ("99999999999999999999999999999999999999999x", b'n', 0),
-    ("'a'", b'i', 97),
-    ("' '", b'i', 32),
-    ("'~'", b'i', 126),
-    ("'\"'", b'i', 34),
-    ("'\\n'", b'i', 10),
-    ("'\\t'", b'i', 9),
-    ("'\\0'", b'i', 0),
-    ("'\\\\'", b'i', 92),
-    ("'\\''", b'i', 39),
-    ("'ab'", b'n', 0),
-    ("'\\r'", b'n', 0),
-    ("L'a'", b'n', 0),
-    ("x", b'n', 0),
-];
+fn shown(alloc: Global, worth: Worth) -> Result<String, AllocError> {
+    match worth {
+        Worth::Int(value) => format!(in alloc; "int {value}"),
+        Worth::UnsignedInt(value) => format!(in alloc; "unsigned {value}"),
+        Worth::TooLarge => String::from_str(alloc, "too large"),
+        Worth::NoConstant => String::from_str(alloc, "none"),
+    }
+}
 
 #[test]
 fn each_constant_has_its_worth(rt: HostRuntime) -> Result<(), Fail> {
-    for (text, letter, value) in &ROWS {
+    assert_eq!(rt; ROWS.lines().count(), 62);
+    for row in ROWS.lines() {
+        let text = field(row, 0);
         let Some(token) = Cursor::new(text.as_bytes()).next() else {
             panic!(rt; "{text} is no token");
         };
         assert_eq!(rt; token.text, text.as_bytes(), "{text}");
-        let due = match *letter {
-            b'i' => Worth::Int(*value),
-            b'u' => Worth::UnsignedInt(*value),
-            b'l' => Worth::TooLarge,
-            _ => Worth::NoConstant,
-        };
-        assert_eq!(rt; worth_of(token.kind, token.text), due, "{text}");
+        let worth = shown(rt.alloc(), worth_of(token.kind, token.text))?;
+        assert_eq!(rt; worth.as_str(), field(row, 1), "{text}");
     }
     Ok(())
 }

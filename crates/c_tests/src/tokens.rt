@@ -1,10 +1,11 @@
 //! Texts and their tokens, worked out by hand from the rules of C99.
 
+use crate::answers::field;
 use c_tokens::{
     Cursor, Kind, Token, is_keyword, place_of, printed_texts_are_cut, texts_are_their_pieces,
     tokens_are_known_by_their_texts,
 };
-use std::alloc::Global;
+use std::alloc::{AllocError, Global};
 use std::test::Fail;
 
 /// A letter for what a token is: `k` for a keyword, `q` and `u` for a literal and a comment that are
@@ -44,141 +45,142 @@ fn shown(alloc: Global, text: &[u8]) -> Result<Vec<u8>, Fail> {
     Ok(out)
 }
 
-/// A text and its tokens.
-type Row = (&'static str, &'static str);
+/// The text, where each control picture stands for its control character, and `∅` for nothing.
+fn with_controls(alloc: Global, text: &str) -> Result<String, AllocError> {
+    let mut plain = String::new(alloc);
+    for letter in text.chars() {
+        if letter == '∅' {
+            continue;
+        }
+        plain.push(match letter {
+            '␀' => '\0',
+            '␉' => '\t',
+            '␊' => '\n',
+            '␋' => '\u{b}',
+            '␌' => '\u{c}',
+            '␍' => '\r',
+            other => other,
+        })?;
+    }
+    Ok(plain)
+}
 
-static NAMES_AND_NUMBERS: [Row; 22] = [
-    ("", ""),
-    ("int x", "k:int i:x"),
-    ("ints Int _int int_", "i:ints i:Int i:_int i:int_"),
-    ("a1_B2 _ __", "i:a1_B2 i:_ i:__"),
-    ("0 12 0x1F 10u", "n:0 n:12 n:0x1F n:10u"),
-    ("12ab 08 0x 10L", "n:12ab n:08 n:0x n:10L"),
-    ("1.5 1. .5 1..2", "n:1.5 n:1. n:.5 n:1..2"),
-    (". 5 a.5 a.b", "p:. n:5 i:a n:.5 i:a p:. i:b"),
-    ("1+2", "n:1 p:+ n:2"),
-    ("1e+2 1E-2 1e2+3", "n:1e+2 n:1E-2 n:1e2 p:+ n:3"),
-    ("0xe+1 0xE-x", "n:0xe+1 n:0xE-x"),
-    ("0x1p+3 1P-2", "n:0x1p+3 n:1P-2"),
-    ("1e++2", "n:1e+ p:+ n:2"),
-    ("1ee+2 1e_+2", "n:1ee+2 n:1e_ p:+ n:2"),
-    ("0xf+1 1_-1", "n:0xf p:+ n:1 n:1_ p:- n:1"),
-    ("1'a'", "n:1 c:'a'"),
-    ("a\"b\"", "i:a s:\"b\""),
-    (".e+1", "p:. i:e p:+ n:1"),
-    ("...5", "p:... n:5"),
-    ("..5", "p:. n:.5"),
-    ("a$b", "i:a o:$ i:b"),
-    ("@`\\", "o:@ o:` o:\\"),
-];
+/// Texts and their tokens, with control pictures for control characters.
+const NAMES_AND_NUMBERS: &str = r#"∅ @ ∅
+int x @ k:int i:x
+ints Int _int int_ @ i:ints i:Int i:_int i:int_
+a1_B2 _ __ @ i:a1_B2 i:_ i:__
+0 12 0x1F 10u @ n:0 n:12 n:0x1F n:10u
+12ab 08 0x 10L @ n:12ab n:08 n:0x n:10L
+1.5 1. .5 1..2 @ n:1.5 n:1. n:.5 n:1..2
+. 5 a.5 a.b @ p:. n:5 i:a n:.5 i:a p:. i:b
+1+2 @ n:1 p:+ n:2
+1e+2 1E-2 1e2+3 @ n:1e+2 n:1E-2 n:1e2 p:+ n:3
+0xe+1 0xE-x @ n:0xe+1 n:0xE-x
+0x1p+3 1P-2 @ n:0x1p+3 n:1P-2
+1e++2 @ n:1e+ p:+ n:2
+1ee+2 1e_+2 @ n:1ee+2 n:1e_ p:+ n:2
+0xf+1 1_-1 @ n:0xf p:+ n:1 n:1_ p:- n:1
+1'a' @ n:1 c:'a'
+a"b" @ i:a s:"b"
+.e+1 @ p:. i:e p:+ n:1
+...5 @ p:... n:5
+..5 @ p:. n:.5
+a$b @ i:a o:$ i:b
+@`\ @ o:@ o:` o:\"#;
 
-static LITERALS: [Row; 31] = [
-    ("'a' ' ' '\"'", "c:'a' c:' ' c:'\"'"),
-    (
-        "'\\n' '\\0' '\\\\' '\\''",
-        "c:'\\n' c:'\\0' c:'\\\\' c:'\\''",
-    ),
-    ("'ab' '\\012'", "c:'ab' c:'\\012'"),
-    ("'\\x4' '\\x4g'", "c:'\\x4' c:'\\x4g'"),
-    ("'\\u00e4' '\\U000000e4'", "c:'\\u00e4' c:'\\U000000e4'"),
-    ("''", "q:''"),
-    ("'a", "q:'a"),
-    ("'a\n'", "q:'a q:'"),
-    ("'\\", "q:'\\"),
-    ("'\\q'", "q:'\\q'"),
-    ("'\\8'", "q:'\\8'"),
-    ("'\\x'", "q:'\\x'"),
-    ("'\\u00e'", "q:'\\u00e'"),
-    ("'\\U000000e'", "q:'\\U000000e'"),
-    ("'\\\n'", "q:'\\ q:'"),
-    ("\"\" \"a b\"", "s:\"\" s:\"a b\""),
-    ("\"'\" \"\\\"\"", "s:\"'\" s:\"\\\"\""),
-    ("\"a", "q:\"a"),
-    ("\"a\n\"", "q:\"a q:\""),
-    ("\"a\\\"", "q:\"a\\\""),
-    ("\"/*\" */", "s:\"/*\" p:* p:/"),
-    ("'//' x", "c:'//' i:x"),
-    ("L'a' L\"a\" L\"\"", "c:L'a' s:L\"a\" s:L\"\""),
-    ("L 'a'", "i:L c:'a'"),
-    ("L''", "i:L q:''"),
-    ("L'a", "i:L q:'a"),
-    ("l'a' LL'a'", "i:l c:'a' i:LL c:'a'"),
-    ("L/**/'a'", "i:L c:'a'"),
-    ("'a''b'", "c:'a' c:'b'"),
-    ("'\\q b' /*c*/ d", "q:'\\q b' /*c*/ d"),
-    ("'a'b 'a'1", "c:'a' i:b c:'a' n:1"),
-];
+const LITERALS: &str = r#"'a' ' ' '"' @ c:'a' c:' ' c:'"'
+'\n' '\0' '\\' '\'' @ c:'\n' c:'\0' c:'\\' c:'\''
+'ab' '\012' @ c:'ab' c:'\012'
+'\x4' '\x4g' @ c:'\x4' c:'\x4g'
+'\u00e4' '\U000000e4' @ c:'\u00e4' c:'\U000000e4'
+'' @ q:''
+'a @ q:'a
+'a␊' @ q:'a q:'
+'\ @ q:'\
+'\q' @ q:'\q'
+'\8' @ q:'\8'
+'\x' @ q:'\x'
+'\u00e' @ q:'\u00e'
+'\U000000e' @ q:'\U000000e'
+'\␊' @ q:'\ q:'
+"" "a b" @ s:"" s:"a b"
+"'" "\"" @ s:"'" s:"\""
+"a @ q:"a
+"a␊" @ q:"a q:"
+"a\" @ q:"a\"
+"/*" */ @ s:"/*" p:* p:/
+'//' x @ c:'//' i:x
+L'a' L"a" L"" @ c:L'a' s:L"a" s:L""
+L 'a' @ i:L c:'a'
+L'' @ i:L q:''
+L'a @ i:L q:'a
+l'a' LL'a' @ i:l c:'a' i:LL c:'a'
+L/**/'a' @ i:L c:'a'
+'a''b' @ c:'a' c:'b'
+'\q b' /*c*/ d @ q:'\q b' /*c*/ d
+'a'b 'a'1 @ c:'a' i:b c:'a' n:1"#;
 
-static MARKS: [Row; 22] = [
-    (
-        "[](){}.&*~?:;,#",
-        "p:[ p:] p:( p:) p:{ p:} p:. p:& p:* p:~ p:? p:: p:; p:, p:#",
-    ),
-    (
-        "+ - ! / % < > ^ | =",
-        "p:+ p:- p:! p:/ p:% p:< p:> p:^ p:| p:=",
-    ),
-    ("-> ++ -- << >> <=", "p:-> p:++ p:-- p:<< p:>> p:<="),
-    (">= == != && || ##", "p:>= p:== p:!= p:&& p:|| p:##"),
-    ("*= /= %= += -= &=", "p:*= p:/= p:%= p:+= p:-= p:&="),
-    ("^= |= <: :> <% %>", "p:^= p:|= p:<: p::> p:<% p:%>"),
-    ("%: ... <<= >>= %:%:", "p:%: p:... p:<<= p:>>= p:%:%:"),
-    ("a+++b a---b", "i:a p:++ p:+ i:b i:a p:-- p:- i:b"),
-    ("a+ ++b", "i:a p:+ p:++ i:b"),
-    ("<<<= >>>= <<==", "p:<< p:<= p:>> p:>= p:<<= p:="),
-    ("=== !== =!", "p:== p:= p:!= p:= p:= p:!"),
-    ("&&& |||", "p:&& p:& p:|| p:|"),
-    ("&&= ^^ ~= ~~", "p:&& p:= p:^ p:^ p:~ p:= p:~ p:~"),
-    ("->> --> ->*", "p:-> p:> p:-- p:> p:-> p:*"),
-    (".. .... .....", "p:. p:. p:... p:. p:... p:. p:."),
-    ("%:% %:%% %:%::", "p:%: p:% p:%: p:% p:% p:%:%: p::"),
-    ("<::> <%%> <:=", "p:<: p::> p:<% p:%> p:<: p:="),
-    ("%:= %>= :: ::>", "p:%: p:= p:%> p:= p:: p:: p:: p::>"),
-    ("### #% %#", "p:## p:# p:# p:% p:% p:#"),
-    ("x=-1 x=&y", "i:x p:= p:- n:1 i:x p:= p:& i:y"),
-    ("a[i]++;", "i:a p:[ i:i p:] p:++ p:;"),
-    ("if(a<b)", "k:if p:( i:a p:< i:b p:)"),
-];
+const MARKS: &str = r#"[](){}.&*~?:;,# @ p:[ p:] p:( p:) p:{ p:} p:. p:& p:* p:~ p:? p:: p:; p:, p:#
++ - ! / % < > ^ | = @ p:+ p:- p:! p:/ p:% p:< p:> p:^ p:| p:=
+-> ++ -- << >> <= @ p:-> p:++ p:-- p:<< p:>> p:<=
+>= == != && || ## @ p:>= p:== p:!= p:&& p:|| p:##
+*= /= %= += -= &= @ p:*= p:/= p:%= p:+= p:-= p:&=
+^= |= <: :> <% %> @ p:^= p:|= p:<: p::> p:<% p:%>
+%: ... <<= >>= %:%: @ p:%: p:... p:<<= p:>>= p:%:%:
+a+++b a---b @ i:a p:++ p:+ i:b i:a p:-- p:- i:b
+a+ ++b @ i:a p:+ p:++ i:b
+<<<= >>>= <<== @ p:<< p:<= p:>> p:>= p:<<= p:=
+=== !== =! @ p:== p:= p:!= p:= p:= p:!
+&&& ||| @ p:&& p:& p:|| p:|
+&&= ^^ ~= ~~ @ p:&& p:= p:^ p:^ p:~ p:= p:~ p:~
+->> --> ->* @ p:-> p:> p:-- p:> p:-> p:*
+.. .... ..... @ p:. p:. p:... p:. p:... p:. p:.
+%:% %:%% %:%:: @ p:%: p:% p:%: p:% p:% p:%:%: p::
+<::> <%%> <:= @ p:<: p::> p:<% p:%> p:<: p:=
+%:= %>= :: ::> @ p:%: p:= p:%> p:= p:: p:: p:: p::>
+### #% %# @ p:## p:# p:# p:% p:% p:#
+x=-1 x=&y @ i:x p:= p:- n:1 i:x p:= p:& i:y
+a[i]++; @ i:a p:[ i:i p:] p:++ p:;
+if(a<b) @ k:if p:( i:a p:< i:b p:)"#;
 
-static SPACES: [Row; 22] = [
-    (" \t\r\n", ""),
-    ("a/**/b", "i:a i:b"),
-    ("/**/", ""),
-    ("/***/ /****/ a", "i:a"),
-    ("/* * / ** // */a", "i:a"),
-    ("/* /* */ a */", "i:a p:* p:/"),
-    ("a/*b\nc*/d", "i:a i:d"),
-    ("a//b\nc", "i:a i:c"),
-    ("a//b", "i:a"),
-    ("//", ""),
-    ("//\\\na", "i:a"),
-    ("// /*\na // */\nb", "i:a i:b"),
-    ("a//b\rc\nd", "i:a i:d"),
-    ("a /=/**/b", "i:a p:/= i:b"),
-    ("a/ *b", "i:a p:/ p:* i:b"),
-    ("a/ /b", "i:a p:/ p:/ i:b"),
-    ("/*", "u:/*"),
-    ("a /*/ b", "i:a u:/*/ b"),
-    ("a /* b * / 'c", "i:a u:/* b * / 'c"),
-    ("1/**/2 +/**/+", "n:1 n:2 p:+ p:+"),
-    ("/*'*/ a /*\"*/", "i:a"),
-    ("\u{b}\u{c}\0", "o:\u{b} o:\u{c} o:\0"),
-];
+const SPACES: &str = r#" ␉␍␊ @ ∅
+a/**/b @ i:a i:b
+/**/ @ ∅
+/***/ /****/ a @ i:a
+/* * / ** // */a @ i:a
+/* /* */ a */ @ i:a p:* p:/
+a/*b␊c*/d @ i:a i:d
+a//b␊c @ i:a i:c
+a//b @ i:a
+// @ ∅
+//\␊a @ i:a
+// /*␊a // */␊b @ i:a i:b
+a//b␍c␊d @ i:a i:d
+a /=/**/b @ i:a p:/= i:b
+a/ *b @ i:a p:/ p:* i:b
+a/ /b @ i:a p:/ p:/ i:b
+/* @ u:/*
+a /*/ b @ i:a u:/*/ b
+a /* b * / 'c @ i:a u:/* b * / 'c
+1/**/2 +/**/+ @ n:1 n:2 p:+ p:+
+/*'*/ a /*"*/ @ i:a
+␋␌␀ @ o:␋ o:␌ o:␀"#;
 
 #[test]
 fn each_token_is_the_longest_at_its_place(rt: HostRuntime) -> Result<(), Fail> {
     let alloc = rt.alloc();
-    for rows in [
-        NAMES_AND_NUMBERS.as_slice(),
-        LITERALS.as_slice(),
-        MARKS.as_slice(),
-        SPACES.as_slice(),
-    ] {
-        for (text, tokens) in rows {
+    let mut count = 0u32;
+    for rows in [NAMES_AND_NUMBERS, LITERALS, MARKS, SPACES] {
+        for row in rows.lines() {
+            let text = with_controls(alloc, field(row, 0))?;
+            let tokens = with_controls(alloc, field(row, 1))?;
             let told = shown(alloc, text.as_bytes())?;
-            assert_eq!(rt; told.as_slice(), tokens.as_bytes(), "{text}");
+            assert_eq!(rt; told.as_slice(), tokens.as_bytes(), "{row}");
+            count = count.saturating_add(1);
         }
     }
+    assert_eq!(rt; count, 97);
     Ok(())
 }
 

@@ -1,18 +1,33 @@
 //! Cycles and ranks, worked out by hand.
 
+use crate::values::part;
 use call_cycles::{CallFault, call_ranks, ranked_calls_have_no_cycle};
 use std::alloc::{AllocError, Global};
 use std::process::Abort;
 use std::test::Fail;
 use walks::is_closed;
 
-/// The rows as lists of their own.
-pub fn lists(alloc: Global, rows: &[&[u32]]) -> Result<Vec<Vec<u32>>, AllocError> {
-    let mut calls = Vec::new(alloc);
-    for row in rows {
-        calls.push(row.to_vec(alloc)?)?;
+/// The numbers of the words. A dash is none.
+pub fn numbers(alloc: Global, words: &str) -> Result<Vec<u32>, AllocError> {
+    let mut numbers = Vec::new(alloc);
+    for word in words.split_whitespace() {
+        if let Ok(number) = word.parse::<u32>() {
+            numbers.push(number)?;
+        }
     }
-    Ok(calls)
+    Ok(numbers)
+}
+
+/// The rows, with a semicolon between two. `none` has none.
+pub fn lists(alloc: Global, rows: &str) -> Result<Vec<Vec<u32>>, AllocError> {
+    let mut lists = Vec::new(alloc);
+    if rows == "none" {
+        return Ok(lists);
+    }
+    for row in rows.split(';') {
+        lists.push(numbers(alloc, row)?)?;
+    }
+    Ok(lists)
 }
 
 /// Ranks, a cycle, or want of memory.
@@ -39,62 +54,47 @@ fn answer_of(rt: &impl Abort, alloc: Global, calls: &[Vec<u32>]) -> Answer {
     }
 }
 
-/// What is told of calls, the calls, and the ranks or the cycle.
-type Row = (&'static str, &'static [&'static [u32]], &'static [u32]);
-
-static RANKED: [Row; 6] = [
-    ("no functions", &[], &[]),
-    ("no calls", &[&[], &[]], &[0, 0]),
-    ("a chain", &[&[1], &[2], &[]], &[2, 1, 0]),
-    (
-        "a chain against the numbers",
-        &[&[], &[0], &[1]],
-        &[0, 1, 2],
-    ),
-    ("a diamond", &[&[1, 2], &[3], &[3], &[]], &[3, 1, 1, 0]),
-    ("repeated calls", &[&[1, 1, 1], &[]], &[1, 0]),
-];
+/// The functions that each function calls, the ranks, and what is told of them.
+static RANKED: &str = "\
+none => - | no functions
+-; - => 0 0 | no calls
+1; 2; - => 2 1 0 | a chain
+-; 0; 1 => 0 1 2 | a chain against the numbers
+1 2; 3; 3; - => 3 1 1 0 | a diamond
+1 1 1; - => 1 0 | repeated calls
+";
 
 #[test]
 fn calls_with_no_cycle_are_ranked(rt: HostRuntime) -> Result<(), Fail> {
     ranked_calls_have_no_cycle();
     let alloc = rt.alloc();
-    for (name, rows, ranks) in &RANKED {
-        let told = answer_of(&rt, alloc, &lists(alloc, rows)?);
-        assert_eq!(rt; told, Answer::Ranks(ranks.to_vec(alloc)?), "{name}");
+    for row in RANKED.lines() {
+        let told = answer_of(&rt, alloc, &lists(alloc, part(row, " => ", 0))?);
+        let ranks = numbers(alloc, part(part(row, " => ", 1), " | ", 0))?;
+        assert_eq!(rt; told, Answer::Ranks(ranks), "{row}");
     }
     Ok(())
 }
 
-static CYCLES: [Row; 8] = [
-    ("a self call", &[&[0]], &[0, 0]),
-    (
-        "a self call on a cycle of three",
-        &[&[1], &[2], &[0, 2]],
-        &[0, 1, 2, 0],
-    ),
-    (
-        "a function that only reaches a cycle",
-        &[&[1], &[2], &[1]],
-        &[1, 2, 1],
-    ),
-    (
-        "a cycle of three that is entered at its second",
-        &[&[2], &[2], &[3], &[1]],
-        &[1, 2, 3, 1],
-    ),
-    ("two cycles", &[&[3], &[2], &[1], &[4], &[3]], &[1, 2, 1]),
-    ("two cycles that meet", &[&[1], &[0, 2], &[1]], &[0, 1, 0]),
-    ("repeated calls", &[&[1, 1], &[0, 0]], &[0, 1, 0]),
-    ("a self call of the last", &[&[1], &[2], &[2]], &[2, 2]),
-];
+/// The functions that each function calls, the cycle, and what is told of them.
+static CYCLES: &str = "\
+0 => 0 0 | a self call
+1; 2; 0 2 => 0 1 2 0 | a self call on a cycle of three
+1; 2; 1 => 1 2 1 | a function that only reaches a cycle
+2; 2; 3; 1 => 1 2 3 1 | a cycle of three that is entered at its second
+3; 2; 1; 4; 3 => 1 2 1 | two cycles
+1; 0 2; 1 => 0 1 0 | two cycles that meet
+1 1; 0 0 => 0 1 0 | repeated calls
+1; 2; 2 => 2 2 | a self call of the last
+";
 
 #[test]
 fn the_first_cycle_is_told(rt: HostRuntime) -> Result<(), Fail> {
     let alloc = rt.alloc();
-    for (name, rows, path) in &CYCLES {
-        let told = answer_of(&rt, alloc, &lists(alloc, rows)?);
-        assert_eq!(rt; told, Answer::Cycle(path.to_vec(alloc)?), "{name}");
+    for row in CYCLES.lines() {
+        let told = answer_of(&rt, alloc, &lists(alloc, part(row, " => ", 0))?);
+        let path = numbers(alloc, part(part(row, " => ", 1), " | ", 0))?;
+        assert_eq!(rt; told, Answer::Cycle(path), "{row}");
     }
     Ok(())
 }

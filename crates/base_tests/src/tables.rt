@@ -1,74 +1,47 @@
 //! Walks over tables, and what is reached, worked out by hand.
 
-use crate::cycles::lists;
+use crate::cycles::{lists, numbers};
+use crate::values::part;
 use std::alloc::{AllocError, Global};
 use std::process::Abort;
 use std::test::Fail;
 use walks::{find_walk, is_closed, mark_reached};
 
-/// What is told of a table, its rows, which nodes are marked, and the ends of the walk.
-type Row = (
-    &'static str,
-    &'static [&'static [u32]],
-    &'static [bool],
-    (u32, u32),
-    Option<&'static [u32]>,
-);
+/// The rows of a table, which nodes are marked, the ends of the walk, the walk, and what is told of them. In each
+/// there is one such walk at most.
+static WALKS: &str = "\
+- | 0 | 0 0 => 0 | a node to itself
+1; - | 0 0 | 0 1 => 0 1 | an edge
+1; - | 0 0 | 1 0 => none | no edge
+1; 0 2; - | 0 0 0 | 0 2 => 0 1 2 | a way round a loop
+1 2; 1; 3; - | 0 0 0 0 | 0 3 => 0 2 3 | past the end of the first row
+1 2; 3; 3; - | 0 1 0 0 | 0 3 => 0 2 3 | round a marked node
+1; 2; - | 0 1 0 | 0 2 => none | through a marked node alone
+1; - | 1 0 | 0 1 => none | from a marked node
+1; - | 0 1 | 0 1 => none | to a marked node
+";
 
-// In each there is one such walk at most.
-static WALKS: [Row; 9] = [
-    ("a node to itself", &[&[]], &[false], (0, 0), Some(&[0])),
-    (
-        "an edge",
-        &[&[1], &[]],
-        &[false, false],
-        (0, 1),
-        Some(&[0, 1]),
-    ),
-    ("no edge", &[&[1], &[]], &[false, false], (1, 0), None),
-    (
-        "a way round a loop",
-        &[&[1], &[0, 2], &[]],
-        &[false, false, false],
-        (0, 2),
-        Some(&[0, 1, 2]),
-    ),
-    (
-        "past the end of the first row",
-        &[&[1, 2], &[1], &[3], &[]],
-        &[false, false, false, false],
-        (0, 3),
-        Some(&[0, 2, 3]),
-    ),
-    (
-        "round a marked node",
-        &[&[1, 2], &[3], &[3], &[]],
-        &[false, true, false, false],
-        (0, 3),
-        Some(&[0, 2, 3]),
-    ),
-    (
-        "through a marked node alone",
-        &[&[1], &[2], &[]],
-        &[false, true, false],
-        (0, 2),
-        None,
-    ),
-    (
-        "from a marked node",
-        &[&[1], &[]],
-        &[true, false],
-        (0, 1),
-        None,
-    ),
-    (
-        "to a marked node",
-        &[&[1], &[]],
-        &[false, true],
-        (0, 1),
-        None,
-    ),
-];
+/// Which nodes are marked.
+fn marks_of(alloc: Global, words: &str) -> Result<Vec<bool>, AllocError> {
+    let mut marks = Vec::new(alloc);
+    for word in words.split_whitespace() {
+        marks.push(word == "1")?;
+    }
+    Ok(marks)
+}
+
+/// The number at this place of the words.
+fn number_at(words: &str, place: usize) -> u32 {
+    part(words, " ", place).parse::<u32>().unwrap_or(0)
+}
+
+/// The path, if there is one.
+fn path_of(alloc: Global, words: &str) -> Result<Option<Vec<u32>>, AllocError> {
+    if words == "none" {
+        return Ok(None);
+    }
+    Ok(Some(numbers(alloc, words)?))
+}
 
 /// The walk, where the table and the marks fit one another.
 fn walk_of(
@@ -87,60 +60,27 @@ fn walk_of(
 #[test]
 fn a_walk_is_found_where_there_is_one(rt: HostRuntime) -> Result<(), Fail> {
     let alloc = rt.alloc();
-    for (name, rows, marks, ends, path) in &WALKS {
-        let table = lists(alloc, rows)?;
-        let found = walk_of(&rt, alloc, &table, marks, *ends)?;
-        assert_eq!(rt; found.as_deref(), *path, "{name}");
+    for row in WALKS.lines() {
+        let (asked, due) = (part(row, " => ", 0), part(row, " => ", 1));
+        let table = lists(alloc, part(asked, " | ", 0))?;
+        let marks = marks_of(alloc, part(asked, " | ", 1))?;
+        let ends = part(asked, " | ", 2);
+        let ends = (number_at(ends, 0), number_at(ends, 1));
+        let found = walk_of(&rt, alloc, &table, &marks, ends)?;
+        let path = path_of(alloc, part(due, " | ", 0))?;
+        assert_eq!(rt; found, path, "{row}");
     }
     Ok(())
 }
 
-/// What is told of a table, its rows, the marks, a node, and the marks of what it reaches.
-type Reach = (
-    &'static str,
-    &'static [&'static [u32]],
-    &'static [bool],
-    u32,
-    &'static [bool],
-);
-
-static REACHED: [Reach; 5] = [
-    (
-        "a node alone",
-        &[&[], &[]],
-        &[false, false],
-        1,
-        &[false, true],
-    ),
-    (
-        "a loop, and not what leads to it",
-        &[&[1], &[2], &[1]],
-        &[false, false, false],
-        1,
-        &[false, true, true],
-    ),
-    (
-        "both arms",
-        &[&[1, 2], &[3], &[3], &[], &[0]],
-        &[false, false, false, false, false],
-        0,
-        &[true, true, true, true, false],
-    ),
-    (
-        "not past a marked node",
-        &[&[1], &[2], &[]],
-        &[false, true, false],
-        0,
-        &[true, true, false],
-    ),
-    (
-        "nothing from a marked node",
-        &[&[1], &[]],
-        &[true, false],
-        0,
-        &[true, false],
-    ),
-];
+/// The rows of a table, the marks, a node, the marks of what it reaches, and what is told of them.
+static REACHED: &str = "\
+-; - | 0 0 | 1 => 0 1 | a node alone
+1; 2; 1 | 0 0 0 | 1 => 0 1 1 | a loop, and not what leads to it
+1 2; 3; 3; -; 0 | 0 0 0 0 0 | 0 => 1 1 1 1 0 | both arms
+1; 2; - | 0 1 0 | 0 => 1 1 0 | not past a marked node
+1; - | 1 0 | 0 => 1 0 | nothing from a marked node
+";
 
 /// Marks what the node reaches, where the table and the marks fit one another.
 fn mark(
@@ -159,11 +99,14 @@ fn mark(
 #[test]
 fn what_a_node_reaches_is_marked(rt: HostRuntime) -> Result<(), Fail> {
     let alloc = rt.alloc();
-    for (name, rows, before, from, after) in &REACHED {
-        let table = lists(alloc, rows)?;
-        let mut marks = before.to_vec(alloc)?;
-        mark(&rt, alloc, &table, &mut marks, *from)?;
-        assert_eq!(rt; marks.as_slice(), *after, "{name}");
+    for row in REACHED.lines() {
+        let (asked, due) = (part(row, " => ", 0), part(row, " => ", 1));
+        let table = lists(alloc, part(asked, " | ", 0))?;
+        let mut marks = marks_of(alloc, part(asked, " | ", 1))?;
+        let from = number_at(part(asked, " | ", 2), 0);
+        mark(&rt, alloc, &table, &mut marks, from)?;
+        let after = marks_of(alloc, part(due, " | ", 0))?;
+        assert_eq!(rt; marks.as_slice(), after.as_slice(), "{row}");
     }
     Ok(())
 }

@@ -17,6 +17,11 @@ pub fn field(line: &str, number: usize) -> &str {
     line.split(" | ").nth(number).unwrap_or("")
 }
 
+/// What stands before ` => `, and what stands after it. Empty where it is not there.
+pub fn side(line: &str, number: usize) -> &str {
+    line.split(" => ").nth(number).unwrap_or("")
+}
+
 /// The words of a line, parted by single spaces. An empty line has none.
 pub fn words_of(alloc: Global, line: &str) -> Result<Vec<String>, AllocError> {
     let mut words = Vec::new(alloc);

@@ -1,14 +1,9 @@
 //! Programs and files that are refused, and the line that tells it.
 
-use crate::answers::{field, three_files, told};
+use crate::answers::{field, side, three_files, told};
 use crate::notation::program_of;
 use std::alloc::{AllocError, Global};
 use std::test::Fail;
-
-// What stands before ` => `, and what stands after it.
-fn side(line: &str, number: usize) -> &str {
-    line.split(" => ").nth(number).unwrap_or("")
-}
 
 // Programs that do not pass the checks, each with its exports, its global frames and its functions, and
 // the line that tells it.
@@ -227,47 +222,29 @@ fn told_of_blocks(alloc: Global, words: &str, count: u32, wide: u32) -> Result<S
     )
 }
 
+// The words, the blocks, how many of them lead to three others, and what is told.
+const GRAPHS: &str = r#"run a.alf | 511 | 0 => 0 returned;turns 512;cost 511;
+run a.alf | 512 | 0 => 2 fault 13 limit nodes 513;
+run a.alf | 401 | 311 => 0 stopped uninit "main":0;turns 2;cost 1;
+run a.alf | 402 | 311 => 2 fault 13 limit edges 1025;
+run a.alf | 600 | 400 => 2 fault 13 limit nodes 513;
+run a.alf --root f | 512 | 0 => 2 fault 24 root "f";
+run a.alf --turns 1 | 512 | 0 => 2 fault 13 limit nodes 513;
+run a.alf --inputs i.toml | 512 | 0 => 2 fault 13 limit nodes 513;
+run a.alf --inputs i.toml | 511 | 0 => 2 fault 70 toml inputs;
+run a.alf --costs no.toml | 402 | 311 => 2 fault 13 limit edges 1025;
+analyse a.alf | 512 | 0 => 2 fault 13 limit nodes 513;
+analyse a.alf | 402 | 311 => 2 fault 13 limit edges 1025;"#;
+
 #[test]
 fn a_graph_has_at_most_512_nodes_and_1024_edges(rt: HostRuntime) -> Result<(), Fail> {
     let alloc = rt.alloc();
-    // The words, the blocks, how many of them lead to three others, and what is told.
-    let cases = [
-        ("run a.alf", 511, 0, "0 returned;turns 512;cost 511;"),
-        ("run a.alf", 512, 0, "2 fault 13 limit nodes 513;"),
-        (
-            "run a.alf",
-            401,
-            311,
-            "0 stopped uninit \"main\":0;turns 2;cost 1;",
-        ),
-        ("run a.alf", 402, 311, "2 fault 13 limit edges 1025;"),
-        ("run a.alf", 600, 400, "2 fault 13 limit nodes 513;"),
-        ("run a.alf --root f", 512, 0, "2 fault 24 root \"f\";"),
-        ("run a.alf --turns 1", 512, 0, "2 fault 13 limit nodes 513;"),
-        (
-            "run a.alf --inputs i.toml",
-            512,
-            0,
-            "2 fault 13 limit nodes 513;",
-        ),
-        (
-            "run a.alf --inputs i.toml",
-            511,
-            0,
-            "2 fault 70 toml inputs;",
-        ),
-        (
-            "run a.alf --costs no.toml",
-            402,
-            311,
-            "2 fault 13 limit edges 1025;",
-        ),
-        ("analyse a.alf", 512, 0, "2 fault 13 limit nodes 513;"),
-        ("analyse a.alf", 402, 311, "2 fault 13 limit edges 1025;"),
-    ];
-    for (words, count, wide, wanted) in cases {
-        let found = told_of_blocks(alloc, words, count, wide)?;
-        assert_eq!(rt; found.as_str(), wanted, "{words} {count} {wide}");
+    for line in GRAPHS.lines() {
+        let asked = side(line, 0);
+        let count = field(asked, 1).parse::<u32>().unwrap_or(0);
+        let wide = field(asked, 2).parse::<u32>().unwrap_or(0);
+        let found = told_of_blocks(alloc, field(asked, 0), count, wide)?;
+        assert_eq!(rt; found.as_str(), side(line, 1), "{line}");
     }
     let functions = chain(alloc, 40)?;
     let program = program_of(alloc, "-", "-", functions.as_str())?;

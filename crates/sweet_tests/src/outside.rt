@@ -1,26 +1,31 @@
 //! Files that are too long, reads that fail, each in its turn, and writes that fail.
 
-use crate::answers::{REPORT, RETURNS, answer_of, field, files_of, three_files, words_of};
+use crate::answers::{
+    REPORT, RETURNS, answer_of, field, files_of, lines_of, side, three_files, words_of,
+};
 use flow_base::{MemoryShelf, MemorySink, Shelf, Sink, SureShelf, SureSink};
 use std::alloc::{AllocError, Global};
 use std::test::Fail;
 use sweet_cli::{Status, run, run_in_memory};
 
+// The words, how many spaces the program has, and what is told, with a semicolon for the end of a line.
+const LENGTHS: &str = r#"analyse a.alf | 1048576 => fault 10 syntax 1 1048577;
+analyse a.alf | 1048577 => fault 13 limit bytes 1048577;
+print a.alf | 1048577 => fault 13 limit bytes 1048577;
+run a.alf | 1048576 => fault 10 syntax 1 1048577;
+run a.alf | 1048577 => fault 13 limit bytes 1048577;"#;
+
 #[test]
 fn a_file_has_at_most_so_many_bytes(rt: HostRuntime) -> Result<(), Fail> {
     let alloc = rt.alloc();
-    let cases = [
-        ("analyse a.alf", 1_048_576, "fault 10 syntax 1 1048577\n"),
-        ("analyse a.alf", 1_048_577, "fault 13 limit bytes 1048577\n"),
-        ("print a.alf", 1_048_577, "fault 13 limit bytes 1048577\n"),
-        ("run a.alf", 1_048_576, "fault 10 syntax 1 1048577\n"),
-        ("run a.alf", 1_048_577, "fault 13 limit bytes 1048577\n"),
-    ];
-    for (line, count, wanted) in cases {
+    for line in LENGTHS.lines() {
+        let asked = side(line, 0);
+        let count = field(asked, 1).parse::<usize>().unwrap_or(0);
         let spaces = vec![in alloc; b' '; count]?;
-        let (status, text) = answer_of(alloc, line, &spaces)?;
-        assert_eq!(rt; status, Status::Source, "{line} {count}");
-        assert_eq!(rt; text.as_slice(), wanted.as_bytes(), "{line} {count}");
+        let (status, text) = answer_of(alloc, field(asked, 0), &spaces)?;
+        assert_eq!(rt; status, Status::Source, "{line}");
+        let wanted = lines_of(alloc, side(line, 1))?;
+        assert_eq!(rt; text.as_slice(), wanted.as_slice(), "{line}");
     }
     Ok(())
 }
@@ -39,54 +44,25 @@ fn told_of_lines(alloc: Global, line: &str, count: usize) -> Result<Vec<u8>, All
     out.bytes().to_vec(alloc)
 }
 
+// The words, how many line feeds `t.toml` has, and what is told.
+const TOML_LENGTHS: &str = r#"run a.alf --inputs t.toml | 1048576 => returned;turns 2;cost 1;
+run a.alf --inputs t.toml | 1048577 => fault 13 limit bytes 1048577;
+run a.alf --costs t.toml | 1048576 => returned;turns 2;cost 1;
+run a.alf --costs t.toml | 1048577 => fault 13 limit bytes 1048577;
+run a.alf --inputs t.toml --costs no.toml | 1048577 => fault 13 limit bytes 1048577;
+run a.alf --inputs a.alf --costs t.toml | 1048577 => fault 70 toml inputs;
+analyse a.alf --inputs t.toml --costs no.toml | 1048577 => fault 13 limit bytes 1048577;
+analyse a.alf --costs t.toml | 1048577 => fault 13 limit bytes 1048577;"#;
+
 #[test]
 fn a_file_of_inputs_or_costs_has_at_most_so_many_bytes(rt: HostRuntime) -> Result<(), Fail> {
     let alloc = rt.alloc();
-    let cases = [
-        (
-            "run a.alf --inputs t.toml",
-            1_048_576,
-            "returned\nturns 2\ncost 1\n",
-        ),
-        (
-            "run a.alf --inputs t.toml",
-            1_048_577,
-            "fault 13 limit bytes 1048577\n",
-        ),
-        (
-            "run a.alf --costs t.toml",
-            1_048_576,
-            "returned\nturns 2\ncost 1\n",
-        ),
-        (
-            "run a.alf --costs t.toml",
-            1_048_577,
-            "fault 13 limit bytes 1048577\n",
-        ),
-        (
-            "run a.alf --inputs t.toml --costs no.toml",
-            1_048_577,
-            "fault 13 limit bytes 1048577\n",
-        ),
-        (
-            "run a.alf --inputs a.alf --costs t.toml",
-            1_048_577,
-            "fault 70 toml inputs\n",
-        ),
-        (
-            "analyse a.alf --inputs t.toml --costs no.toml",
-            1_048_577,
-            "fault 13 limit bytes 1048577\n",
-        ),
-        (
-            "analyse a.alf --costs t.toml",
-            1_048_577,
-            "fault 13 limit bytes 1048577\n",
-        ),
-    ];
-    for (line, count, wanted) in cases {
-        let text = told_of_lines(alloc, line, count)?;
-        assert_eq!(rt; text.as_slice(), wanted.as_bytes(), "{line} {count}");
+    for line in TOML_LENGTHS.lines() {
+        let asked = side(line, 0);
+        let count = field(asked, 1).parse::<usize>().unwrap_or(0);
+        let text = told_of_lines(alloc, field(asked, 0), count)?;
+        let wanted = lines_of(alloc, side(line, 1))?;
+        assert_eq!(rt; text.as_slice(), wanted.as_slice(), "{line}");
     }
     Ok(())
 }

@@ -117,37 +117,39 @@ fn other_words_are_no_command(rt: HostRuntime) -> Result<(), Fail> {
     Ok(())
 }
 
+// Words that are answered with the report, with what is told of the run, and with the node that is left.
+const REPORTED: &str = "analyse a.alf
+analyse a.alf --turns 2
+analyse a.alf --turns=2
+analyse --turns 2 a.alf
+analyse --turns=2 -- a.alf
+analyse a.alf --turns 000002
+analyse a.alf --turns 00000000000000000002
+analyse a.alf --turns 1000000
+analyse a.alf --pivots 1
+analyse --pivots=4000 a.alf";
+
+const TOLD: &str = "run a.alf
+run -- a.alf
+run a.alf --
+run a.alf --turns 00000000000000000002
+run a.alf --turns=1000000";
+
+const LEFT: &str = "analyse a.alf --turns 1
+run --turns 1 a.alf";
+
 #[test]
 fn a_run_ends_within_its_turns_or_is_unbounded(rt: HostRuntime) -> Result<(), Fail> {
-    let unbounded = "unbounded 0 \"main\":entry\n";
-    let told = "returned\nturns 2\ncost 1\n";
-    let cases = [
-        ("analyse a.alf", Status::Done, REPORT),
-        ("analyse a.alf --turns 2", Status::Done, REPORT),
-        ("analyse a.alf --turns=2", Status::Done, REPORT),
-        ("analyse --turns 2 a.alf", Status::Done, REPORT),
-        ("analyse --turns=2 -- a.alf", Status::Done, REPORT),
-        ("analyse a.alf --turns 000002", Status::Done, REPORT),
-        (
-            "analyse a.alf --turns 00000000000000000002",
-            Status::Done,
-            REPORT,
-        ),
-        ("analyse a.alf --turns 1000000", Status::Done, REPORT),
-        ("analyse a.alf --pivots 1", Status::Done, REPORT),
-        ("analyse --pivots=4000 a.alf", Status::Done, REPORT),
-        ("analyse a.alf --turns 1", Status::Unbounded, unbounded),
-        ("run a.alf", Status::Done, told),
-        ("run -- a.alf", Status::Done, told),
-        ("run a.alf --", Status::Done, told),
-        ("run a.alf --turns 00000000000000000002", Status::Done, told),
-        ("run a.alf --turns=1000000", Status::Done, told),
-        ("run --turns 1 a.alf", Status::Unbounded, unbounded),
-    ];
-    for (line, wanted, wanted_text) in cases {
-        let (status, text) = answer_of(rt.alloc(), line, RETURNS.as_bytes())?;
-        assert_eq!(rt; status, wanted, "{line}");
-        assert_eq!(rt; text.as_slice(), wanted_text.as_bytes(), "{line}");
+    for (lines, wanted, wanted_text) in [
+        (REPORTED, Status::Done, REPORT),
+        (TOLD, Status::Done, "returned\nturns 2\ncost 1\n"),
+        (LEFT, Status::Unbounded, "unbounded 0 \"main\":entry\n"),
+    ] {
+        for line in lines.lines() {
+            let (status, text) = answer_of(rt.alloc(), line, RETURNS.as_bytes())?;
+            assert_eq!(rt; status, wanted, "{line}");
+            assert_eq!(rt; text.as_slice(), wanted_text.as_bytes(), "{line}");
+        }
     }
     Ok(())
 }

@@ -174,80 +174,51 @@ fn along(alloc: Global, names: &[Name]) -> Result<String, AllocError> {
     Ok(text)
 }
 
-// The items of `main` and functions after it, the root, and what is told: `passes`, or the fault.
-static CASES: [(&str, &str, &str); 27] = [
-    ("{ return }", "main", "passes"),
-    ("@A { null } =own =shared !leaf ^A", "leaf", "passes"),
-    (
-        "@A { switch { dec_unsigned 8 1 } { target { dec_unsigned 8 1 } { label 32 { lref 32 \"A\" } { dec_unsigned 32 0 } } } { default { label 32 { lref 32 \"B\" } { dec_unsigned 32 0 } } } } @B { return { dec_unsigned 8 1 } }",
-        "main",
-        "passes",
-    ),
-    (
-        "!a { return } /a !b !leaf { return } /b !leaf { return }",
-        "main",
-        "passes",
-    ),
-    ("!gone { return }", "main", "unknown gone"),
-    ("^gone", "main", "unknown gone"),
-    ("=other { return }", "main", "unknown other"),
-    ("{ null } =other { return }", "main", "unknown other"),
-    ("@A ^A /a ^A", "main", "unknown A"),
-    ("@A { null } @A { return }", "main", "duplicate A"),
-    ("@leaf { return }", "main", "duplicate leaf"),
-    ("{ return } /main { return }", "main", "duplicate main"),
-    (
-        "{ return { add 32 { dec_unsigned 32 1 } { dec_unsigned 16 1 } { dec_unsigned 1 0 } } }",
-        "main",
-        "size main 0",
-    ),
-    (
-        "@A { null } { return { trunc 8 16 { dec_unsigned 8 1 } } }",
-        "main",
-        "size main 2",
-    ),
-    ("!main { return }", "main", "recursion main main"),
-    ("{ return } /a !a { return }", "main", "recursion a a"),
-    ("{ return } !main { return }", "main", "recursion main main"),
-    (
-        "{ return } /a !b { return } /b !a { return }",
-        "main",
-        "recursion a b a",
-    ),
-    (
-        "!b { return } /a !b { return } /b !c { return } /c !a { return }",
-        "main",
-        "recursion a b c a",
-    ),
-    (
-        "!b { return } /a !a { return } /b !b { return }",
-        "main",
-        "recursion a a",
-    ),
-    ("!leaf { return }", "top", "root top"),
-    ("!leaf { return }", "", "root "),
-    // An earlier item counts before a later one, and each of them before recursion and the root.
-    ("^gone @A { null } @A { return }", "top", "unknown gone"),
-    (
-        "!main { return { trunc 8 16 { dec_unsigned 8 1 } } }",
-        "top",
-        "size main 1",
-    ),
-    ("!main @A { null } @A { return }", "top", "duplicate A"),
-    ("!main { return } /a ^gone", "top", "unknown gone"),
-    ("!main { return }", "top", "recursion main main"),
-];
+// A part of a line, where ` | ` stands between two parts.
+fn field(line: &str, number: usize) -> &str {
+    line.split(" | ").nth(number).unwrap_or("")
+}
+
+// What is told, `passes` or the fault, the root, and the items of `main` and functions after it. In the last five an
+// earlier item counts before a later one, and each of them before recursion and the root.
+const CASES: &str = r#"passes | main | { return }
+passes | leaf | @A { null } =own =shared !leaf ^A
+passes | main | @A { switch { dec_unsigned 8 1 } { target { dec_unsigned 8 1 } { label 32 { lref 32 "A" } { dec_unsigned 32 0 } } } { default { label 32 { lref 32 "B" } { dec_unsigned 32 0 } } } } @B { return { dec_unsigned 8 1 } }
+passes | main | !a { return } /a !b !leaf { return } /b !leaf { return }
+unknown gone | main | !gone { return }
+unknown gone | main | ^gone
+unknown other | main | =other { return }
+unknown other | main | { null } =other { return }
+unknown A | main | @A ^A /a ^A
+duplicate A | main | @A { null } @A { return }
+duplicate leaf | main | @leaf { return }
+duplicate main | main | { return } /main { return }
+size main 0 | main | { return { add 32 { dec_unsigned 32 1 } { dec_unsigned 16 1 } { dec_unsigned 1 0 } } }
+size main 2 | main | @A { null } { return { trunc 8 16 { dec_unsigned 8 1 } } }
+recursion main main | main | !main { return }
+recursion a a | main | { return } /a !a { return }
+recursion main main | main | { return } !main { return }
+recursion a b a | main | { return } /a !b { return } /b !a { return }
+recursion a b c a | main | !b { return } /a !b { return } /b !c { return } /c !a { return }
+recursion a a | main | !b { return } /a !a { return } /b !b { return }
+root top | top | !leaf { return }
+root  |  | !leaf { return }
+unknown gone | top | ^gone @A { null } @A { return }
+size main 1 | top | !main { return { trunc 8 16 { dec_unsigned 8 1 } } }
+duplicate A | top | !main @A { null } @A { return }
+unknown gone | top | !main { return } /a ^gone
+recursion main main | top | !main { return }"#;
 
 #[test]
 fn a_program_passes_or_its_first_fault_is_told(rt: HostRuntime) -> Result<(), Fail> {
     let alloc = rt.alloc();
-    for (items, root, wanted) in &CASES {
-        let text = text_of(alloc, items)?;
-        let told = match checked_text(alloc, text.as_str(), root) {
+    for case in CASES.lines() {
+        let text = text_of(alloc, field(case, 2))?;
+        let told = match checked_text(alloc, text.as_str(), field(case, 1)) {
             Ok(_) => String::from_str(alloc, "passes")?,
             Err(fault) => shown(alloc, &fault)?,
         };
-        assert_eq!(rt; told.as_str(), *wanted, "{items}");
+        assert_eq!(rt; told.as_str(), field(case, 0), "{case}");
     }
     Ok(())
 }

@@ -101,8 +101,11 @@ fn the_name_of_a_file_tells_its_language(rt: HostRuntime) -> Result<(), Fail> {
         ("print a.c.alf", "a.c.alf", Status::Source),
         ("print a.C", "a.C", Status::Source),
         ("print c", "c", Status::Source),
-        ("analyse a.c", "a.c", Status::Usage),
-        ("run a.c", "a.c", Status::Usage),
+        ("analyse a.c", "a.c", Status::Source),
+        ("analyse a.C", "a.C", Status::Source),
+        ("run a.c", "a.c", Status::Source),
+        ("lower a.c", "a.c", Status::Source),
+        ("lower a.C", "a.C", Status::Usage),
     ];
     for (line, name, due) in cases {
         let mut files = Vec::new(alloc);

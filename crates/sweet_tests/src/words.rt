@@ -22,8 +22,8 @@ anal a.alf
 analyse a.alf --turns 1 --turns 2
 analyse a.alf a.alf
 analyse -a.alf
-analyse a.c
-analyse .c
+analyse a.c b.c
+analyse -a.c
 Analyse a.alf
 analyse a.alf --root
 analyse a.alf --root -f
@@ -64,9 +64,14 @@ run --root main
 run a.alf a.alf
 run a.alf b.alf
 run -a.alf
-run a.c
-run .c
-run --root main a.c
+run a.c a.alf
+run -a.c
+lower
+lower a.C
+lower -a.c
+lower a.c b.c
+lower a.c --turns 5
+lower a.c --root -f
 Run a.alf
 ru a.alf
 run a.alf --turns

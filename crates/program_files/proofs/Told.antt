@@ -1,5 +1,5 @@
 -- What told files say of the program that is read.
-use Rattle.std.proofs.Common.{◌≡◌, ℕ, List, [], Result, Ok, Err, Option, None, Some, IfOk, IfSome, inl, inr, ◌⊎◌, All, refl, sym, ap, subst, ◌∙◌}
+use Rattle.std.proofs.Common.{◌≡◌, ℕ, List, [], Result, Ok, Err, Option, None, Some, IfOk, IfSome, inl, inr, ◌⊎◌, sym, ap, subst, ◌∙◌}
 use Rattle.std.proofs.lemmas.List.Elements.{All-contains}
 use Rattle.lists.specs.Members.{all_members}
 use Rattle.flow_base.specs.Outside.{Files}
@@ -8,7 +8,6 @@ use Rattle.alf_check.specs.declared.rows.InputRow.{InputRow}
 use Rattle.alf_check.specs.CheckedPrograms.{CheckedParts, NumberedProgram, seen}
 use Rattle.alf_check.specs.Numbered.{numbered}
 use Rattle.alf_check.specs.Inputs.{IsRootArgument, KeepsInput, KeepInputs}
-use Rattle.alf_runs.specs.Starts.{IsStart}
 use Rattle.alf_runs.specs.Steps.{Moment}
 use Rattle.alf_runs.specs.Runs.{IsLonger}
 use Rattle.c_unit.specs.Units.{UnitTree, unit_of}

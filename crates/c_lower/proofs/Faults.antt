@@ -1,6 +1,6 @@
 -- What the checks of ALF tell of a program that passes them.
 --   only_memory   a want of memory alone
-use Rattle.std.proofs.Common.{◌≡◌, ℕ, List, [], Option, Some, None, IsSome, refl, sym, ap, ◌∙◌, subst}
+use Rattle.std.proofs.Common.{◌≡◌, ℕ, List, [], Some, None, refl, sym, ap, ◌∙◌}
 use Rattle.alf_program.specs.Tree.{WholeProgram}
 use Rattle.alf_faults.specs.Fault.{Fault, Unknown, Duplicate, Size, earliest}
 use Rattle.alf_faults.specs.Faults.{faults_in}

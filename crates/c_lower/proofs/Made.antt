@@ -1,7 +1,7 @@
 -- What is made of a unit.
 --   few_tokens   a unit has as many tokens as its text
 --   is_lowered   the checked program of what the unit is lowered to is one to which it is lowered
-use Rattle.std.proofs.Common.{◌≡◌, ◌≤◌, ℕ, List, length, map, refl, sym, subst}
+use Rattle.std.proofs.Common.{◌≡◌, ◌≤◌, ℕ, List, length, refl, sym, subst}
 use Rattle.std.proofs.lemmas.List.{length-map}
 use Rattle.alf_program.specs.Writable.{IsWritable}
 use Rattle.alf_check.specs.CheckedPrograms.{NumberedProgram}

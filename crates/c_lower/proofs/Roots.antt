@@ -1,7 +1,7 @@
 -- The name of the function that a program starts with is ASCII.
 --   nowhere      what stands nowhere is not found
 --   ascii_root   so it is of each program that can be written and passes the checks
-use Rattle.std.proofs.Common.{◌≡◌, ◌<◌, ◌≤◌, ◌+◌, ℕ, Bool, if◌then◌else◌, List, [], ◌∷◌, Option, Some, None, IsSome, refl, subst, arith}
+use Rattle.std.proofs.Common.{◌≡◌, ◌≤◌, ◌+◌, ℕ, Bool, if◌then◌else◌, List, [], ◌∷◌, Option, Some, None, IsSome, refl, subst, arith}
 use Rattle.std.specs.List.{AllByRecursion}
 use Rattle.std.specs.Option.{option_map}
 use Rattle.std.specs.Str.{bytes_eq, IsAscii}

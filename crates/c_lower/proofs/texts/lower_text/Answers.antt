@@ -1,5 +1,5 @@
 -- What is left to show of `lower_text`.
-use Rattle.std.proofs.Common.{◌≡◌, ◌≤◌, ℕ, length, ap, sym, ◌∙◌, subst, arith}
+use Rattle.std.proofs.Common.{◌≡◌, ◌≤◌, length, ap, sym, ◌∙◌, subst, arith}
 use Rattle.alf_program.specs.Tree.{program_of}
 use Rattle.alf_program.specs.Writable.{IsWritable}
 use Rattle.c_unit.specs.declared.unit.CUnit.{CUnit}

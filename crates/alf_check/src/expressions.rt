@@ -34,7 +34,7 @@ pub fn term(alloc: Global, names: &Names<'_>, expr: &Expr) -> Result<Term, Alloc
 pub fn terms(alloc: Global, names: &Names<'_>, exprs: &[Expr]) -> Result<Vec<Term>, AllocError>
     ensures { IfOk result (λ terms. map term_of terms.items ≡ map (with_frames (numbers_of names.now).frame) (map expression_of exprs.now)) }
 {
-    let mut terms = Vec::new(alloc);
+    let mut terms = Vec::with_capacity(alloc, exprs.len())?;
     for expr in exprs {
         let term = term(alloc, names, expr)?;
         terms.push(term)?;

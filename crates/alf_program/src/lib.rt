@@ -3,4 +3,4 @@
 
 mod program;
 
-pub use program::{Alloc, Expr, Func, Init, Item, Num, Program, Stmt};
+pub use program::{Alloc, Expr, Func, Init, Item, Num, Program, Sizes, Stmt};

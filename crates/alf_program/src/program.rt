@@ -1,4 +1,5 @@
 use alf_ops::Op;
+use arrayvec::ArrayVec;
 use flow_base::Name;
 
 /// A number as it is written: whether with a sign, its size in bits, and its word.
@@ -11,6 +12,9 @@ pub struct Num {
     pub bits: u64,
 }
 
+/// The sizes that are written after an operator. No operator has more.
+pub type Sizes = ArrayVec<u32, 3>;
+
 /// An expression.
 #[derive(Drop)]
 pub enum Expr {
@@ -20,7 +24,7 @@ pub enum Expr {
     /// A load of so many bits from an address.
     Load(u32, Box<Expr>),
     /// An operator, the sizes that are written after it, and its operands in order.
-    Apply(Op, Vec<u32>, Vec<Expr>),
+    Apply(Op, Sizes, Vec<Expr>),
 }
 
 /// A statement.

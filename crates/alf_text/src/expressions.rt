@@ -1,6 +1,6 @@
 //! Expressions. Reading one goes as deep as expressions may stand in one another.
 
-ghost use Rattle.std.specs.Prelude.{◌≡◌, ◌∷◌, ◌≤◌, map, IfOk, Result};
+ghost use Rattle.std.specs.Prelude.{◌≡◌, ◌∷◌, ◌≤◌, map, length, IfOk, Result};
 ghost use Rattle.grammar.specs.Rule.{maybe, exactly};
 ghost use Rattle.alf_program.specs.Tree.{expression_of};
 ghost use Rattle.std.specs.Option.{option_map};
@@ -15,7 +15,7 @@ use crate::fault::{Departure, misfit, outside};
 use crate::reader::Reader;
 use crate::words::operator_row;
 use alf_ops::{Op, OpRow};
-use alf_program::Expr;
+use alf_program::{Expr, Sizes};
 use alf_tokens::{Kind, Token};
 use flow_base::Which;
 use std::alloc::{AllocError, Global};
@@ -90,7 +90,8 @@ impl<'a> Reader<'a> {
     }
 
     fn many_further(&mut self, op: Op, count: u32) -> Result<Vec<u32>, Departure<'a>>
-        ensures { Reads (exactly count (further op)) (λ x. x.items) result self.old self.new }
+        ensures reads { Reads (exactly count (further op)) (λ x. x.items) result self.old self.new }
+        ensures counted { IfOk result (λ x. length x.items ≡ count) }
     {
         let mut sizes = Vec::new(self.alloc);
         for _ in 0..count {
@@ -101,13 +102,13 @@ impl<'a> Reader<'a> {
 
     // The sizes of an operator, which are so many.
     #[tactic(auto, unfolding(crate::specs::Grammar::sizes))]
-    fn sizes(&mut self, op: Op, count: u8) -> Result<Vec<u32>, Departure<'a>>
+    fn sizes(&mut self, op: Op, count: u8) -> Result<Sizes, Departure<'a>>
         requires { count ≡ size_count (layout_of op) }
         ensures { Reads (sizes op) (λ x. x.items) result self.old self.new }
     {
         let first = self.size()?;
         let others = self.many_further(op, u32::from(count.saturating_sub(1)))?;
-        Ok(with_first(self.alloc, first, &others)?)
+        Ok(with_first(first, &others))
     }
 
     /// An expression in which at most so many stand in one another.
@@ -209,12 +210,15 @@ impl<'a> Reader<'a> {
     }
 }
 
-// A number and others after it.
-fn with_first(alloc: Global, first: u32, others: &[u32]) -> Result<Vec<u32>, AllocError>
-    ensures { IfOk result (λ all. all.items ≡ first ∷ others.now) }
+// A size and at most two after it.
+fn with_first(first: u32, others: &[u32]) -> Sizes
+    requires { length others.now ≤ 2 }
+    ensures { result.items ≡ first ∷ others.now }
 {
-    let mut all = Vec::new(alloc);
-    all.push(first)?;
-    all.extend_from_slice(others)?;
-    Ok(all)
+    let mut sizes = Sizes::new();
+    sizes.push(first);
+    match sizes.try_extend_from_slice(others) {
+        Ok(()) => sizes,
+        Err(_) => unreachable!(),
+    }
 }

@@ -6,7 +6,7 @@ ghost use Rattle.alf_ops.specs.declared.operator.Op.TheVariants.{Neg};
 ghost use Rattle.c_lowered.specs.Values as values;
 
 use alf_ops::Op;
-use alf_program::{Expr, Num};
+use alf_program::{Expr, Num, Sizes};
 use c_constants::Worth;
 use flow_base::Name;
 use std::alloc::{AllocError, Global};
@@ -69,28 +69,27 @@ pub fn load(alloc: Global, bits: u32, at: Expr) -> Result<Expr, AllocError>
 }
 
 // One size, and two.
-fn one_size(alloc: Global, size: u32) -> Result<Vec<u32>, AllocError>
-    ensures { IfOk result (λ sizes. sizes.items ≡ size ∷ []) }
+fn one_size(size: u32) -> Sizes
+    ensures { result.items ≡ size ∷ [] }
 {
-    let mut sizes = Vec::new(alloc);
-    sizes.push(size)?;
-    Ok(sizes)
+    let mut sizes = Sizes::new();
+    sizes.push(size);
+    sizes
 }
 
-fn two_sizes(alloc: Global, first: u32, second: u32) -> Result<Vec<u32>, AllocError>
-    ensures { IfOk result (λ sizes. sizes.items ≡ first ∷ second ∷ []) }
+fn two_sizes(first: u32, second: u32) -> Sizes
+    ensures { result.items ≡ first ∷ second ∷ [] }
 {
-    let mut sizes = Vec::new(alloc);
-    sizes.push(first)?;
-    sizes.push(second)?;
-    Ok(sizes)
+    let mut sizes = one_size(first);
+    sizes.push(second);
+    sizes
 }
 
 // One operand, and two.
 fn one_operand(alloc: Global, operand: Expr) -> Result<Vec<Expr>, AllocError>
     ensures { IfOk result (λ operands. map expression_of operands.items ≡ expression_of operand ∷ []) }
 {
-    let mut operands = Vec::new(alloc);
+    let mut operands = Vec::with_capacity(alloc, 1)?;
     operands.push(operand)?;
     Ok(operands)
 }
@@ -98,7 +97,7 @@ fn one_operand(alloc: Global, operand: Expr) -> Result<Vec<Expr>, AllocError>
 fn two_operands(alloc: Global, left: Expr, right: Expr) -> Result<Vec<Expr>, AllocError>
     ensures { IfOk result (λ operands. map expression_of operands.items ≡ expression_of left ∷ expression_of right ∷ []) }
 {
-    let mut operands = Vec::new(alloc);
+    let mut operands = Vec::with_capacity(alloc, 2)?;
     operands.push(left)?;
     operands.push(right)?;
     Ok(operands)
@@ -112,7 +111,7 @@ fn three_operands(
 ) -> Result<Vec<Expr>, AllocError>
     ensures { IfOk result (λ operands. map expression_of operands.items ≡ expression_of left ∷ expression_of right ∷ expression_of carry ∷ []) }
 {
-    let mut operands = Vec::new(alloc);
+    let mut operands = Vec::with_capacity(alloc, 3)?;
     operands.push(left)?;
     operands.push(right)?;
     operands.push(carry)?;
@@ -123,9 +122,8 @@ fn three_operands(
 pub fn of_one(alloc: Global, op: Op, operand: Expr) -> Result<Expr, AllocError>
     ensures { IfOk result (λ e. expression_of e ≡ values.of_one op values.size (expression_of operand)) }
 {
-    let sizes = one_size(alloc, 32)?;
     let operands = one_operand(alloc, operand)?;
-    Ok(Expr::Apply(op, sizes, operands))
+    Ok(Expr::Apply(op, one_size(32), operands))
 }
 
 /// An operator that makes so many bits of so many.
@@ -138,27 +136,24 @@ pub fn converted(
 ) -> Result<Expr, AllocError>
     ensures { IfOk result (λ e. expression_of e ≡ values.of_one op (from ∷ to ∷ []) (expression_of operand)) }
 {
-    let sizes = two_sizes(alloc, from, to)?;
     let operands = one_operand(alloc, operand)?;
-    Ok(Expr::Apply(op, sizes, operands))
+    Ok(Expr::Apply(op, two_sizes(from, to), operands))
 }
 
 /// An operator of the size 32 over two operands.
 pub fn of_two(alloc: Global, op: Op, left: Expr, right: Expr) -> Result<Expr, AllocError>
     ensures { IfOk result (λ e. expression_of e ≡ values.of_two op values.size (expression_of left) (expression_of right)) }
 {
-    let sizes = one_size(alloc, 32)?;
     let operands = two_operands(alloc, left, right)?;
-    Ok(Expr::Apply(op, sizes, operands))
+    Ok(Expr::Apply(op, one_size(32), operands))
 }
 
 /// An operator of the sizes 32 and 32.
 pub fn of_pair(alloc: Global, op: Op, left: Expr, right: Expr) -> Result<Expr, AllocError>
     ensures { IfOk result (λ e. expression_of e ≡ values.of_two op values.sizes (expression_of left) (expression_of right)) }
 {
-    let sizes = two_sizes(alloc, 32, 32)?;
     let operands = two_operands(alloc, left, right)?;
-    Ok(Expr::Apply(op, sizes, operands))
+    Ok(Expr::Apply(op, two_sizes(32, 32), operands))
 }
 
 /// An operator of the size 32 over two operands and a bit.
@@ -171,9 +166,8 @@ pub fn with_carry(
 ) -> Result<Expr, AllocError>
     ensures { IfOk result (λ e. expression_of e ≡ values.of_three op values.size (expression_of left) (expression_of right) (values.bit (if carry then 1 else 0))) }
 {
-    let sizes = one_size(alloc, 32)?;
     let operands = three_operands(alloc, left, right, bit(carry))?;
-    Ok(Expr::Apply(op, sizes, operands))
+    Ok(Expr::Apply(op, one_size(32), operands))
 }
 
 /// The opposite number.

@@ -1,6 +1,7 @@
 -- Numbered expressions in a row.
 use Rattle.std.proofs.Common.{◌≡◌, ℕ, List, [], ◌∷◌, map, refl, ap, sym, ◌∙◌, Vec, rules}
 use Rattle.std.specs.declared.alloc.Global.{Global}
+use Rattle.arrayvec.specs.ArrayVec.{ArrayVec}
 use Rattle.alf_ops.specs.declared.operator.Op.{Op}
 use Rattle.alf_program.specs.declared.program.Expr.{Expr}
 use Rattle.alf_program.specs.declared.program.Expr.TheFolds.{fold-roll-Expr}
@@ -18,7 +19,7 @@ numbered_each : (frame : List ℕ → ℕ) (ts : List NamedExpression) → expre
 numbered_each frame [] = refl
 numbered_each frame (t ∷ ts) = ap (λ (x : NumberedExpressions). With (with_frames frame t) x) (numbered_each frame ts)
 
-text_applies : (op : Op) (sizes : Vec ℕ Global) (operands : Vec Expr Global) → expression_of (exprs.Apply op sizes operands) ≡ text.Apply op sizes.items (expressions_of (map expression_of operands.items))
+text_applies : (op : Op) (sizes : ArrayVec ℕ) (operands : Vec Expr Global) → expression_of (exprs.Apply op sizes operands) ≡ text.Apply op sizes.items (expressions_of (map expression_of operands.items))
 text_applies op sizes operands = ap expression_of (sym (exprs.rolls-Apply op sizes operands)) ∙ fold-roll-Expr NamedExpression expression_step _
 
 applies : (op : Op) (sizes : Vec ℕ Global) (operands : Vec Numbered Global) → term_of (terms.Apply op sizes operands) ≡ Apply op sizes.items (expressions_of (map term_of operands.items))

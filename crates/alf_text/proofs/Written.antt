@@ -362,13 +362,11 @@ act_writes (Jump n) w =
       then λ _. word_writes (codes "leaving") refl then λ _. last (fixed_writes 0 (omega arith))))
 act_writes (Switch value targets others) w = closed (worded item_tail line_feed (codes "switch") refl refl (λ left. grouped (term_marks value) (flat_map target_marks targets) (default_marks others)
     (whole_writes value w.0
-      then λ _.
-        until
-          (same_row opens_target target target_marks (λ t w more room. refl) (λ t w room. target_writes t w) targets
-            w.1) (λ more. refl) (λ _.
-          last
-            (closed
-              (begin_writes space (codes "default") refl refl then λ _. last (label_writes space others refl w.2)))))))
+      then λ _. until
+        (same_row opens_target target target_marks (λ t w more room. refl) (λ t w room. target_writes t w) targets w.1)
+        (λ more. refl)
+        (λ _. last
+          (closed (begin_writes space (codes "default") refl refl then λ _. last (label_writes space others refl w.2)))))))
 act_writes (Call n args to) w = closed (worded item_tail line_feed (codes "call") refl refl (λ left. label_writes space n refl w.0
     then λ _. grouped (flat_map term_marks args) (a_word (codes "result") ∷ []) (if_any address_marks to)
     (until (same_row opens whole_expr term_marks (λ t w more room. term_opens t more room) (λ t w room. whole_writes t w) args w.1) (λ more. refl)
@@ -395,10 +393,9 @@ item_opens (Do _) more room = refl
 stmts_write : (xs : List BodyItem) → All ItemIsWritable xs → ends_well xs ≡ true → {room : Room} → Plain room stmts (listed (codes "stmts") entry_marks xs) xs
 unfolding stmts closing_after
 stmts_write xs all good = closed (begin_writes space (codes "stmts") refl refl
-    then λ _.
-        ends {f = λ xs. xs} (λ xs. bound (closing_after xs).form (λ _. made xs))
-          (same_row opens item entry_marks (λ x w more room. item_opens x more room) (λ x w room. item_writes x w) xs
-            all) (λ more. refl) (λ z more e free. rw (e, good) refl))
+    then λ _. ends {f = λ xs. xs} (λ xs. bound (closing_after xs).form (λ _. made xs))
+      (same_row opens item entry_marks (λ x w more room. item_opens x more room) (λ x w room. item_writes x w) xs all)
+      (λ more. refl) (λ z more e free. rw (e, good) refl))
 
 scope_writes : (f : Function) → FunctionIsWritable f → {room : Room} → Writes never [] scope.form (scope_marks f.decls f.inits f.items) (needs f.decls room) room (f.decls, f.inits, f.items)
 unfolding scope

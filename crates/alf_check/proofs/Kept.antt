@@ -138,7 +138,10 @@ pub record IsFirst (items : List BodyItem) (n : ℕ) (found : FirstReturn) : Typ
 
 pub first_from : (n : ℕ) (items : List BodyItem) (found : FirstReturn) → first_return_from n items ≡ Some found → IsFirst items n found
 first_from n [] found e = absurd (none-some found e)
-first_from n (Do (text.Return value) ∷ items) found e = record { place = 0; value = value; at = refl; is = sym (same_Some (return_at n value) found e) ∙ ap (λ (i : ℕ). return_at i value) (sym (add-zero n)) }
+first_from n (Do (text.Return value) ∷ items) found e =
+    record {
+      place = 0; value = value; at = refl;
+      is = sym (same_Some (return_at n value) found e) ∙ ap (λ (i : ℕ). return_at i value) (sym (add-zero n)) }
 first_from n (item ∷ items) found e =
     let f = first_from (n + 1) items found e in
     record { place = suc f.place; value = f.value; at = f.at; is = f.is ∙ ap (λ (i : ℕ). return_at i f.value) (omega arith) }
@@ -183,8 +186,11 @@ module _ (whole : WholeProgram) (none : HasNoFault whole) (p : ℕ) (called : Fu
       ((none.funcs p called called_at).items j (Do (text.Return value)) is).fits
 
   -- a call of it agrees with its first return, which stands before the call or, as another item, after it
-  pub agreed : (k : ℕ) (func : Function) (i : ℕ) (label : List ℕ) (args : List NamedExpression) (result : Option (List ℕ × ℕ)) → slice_get whole.funcs k ≡ Some func → slice_get func.items i ≡ Some (Do (text.Call label args result))
-      → label ≡ called.name → agrees_behind p (first_return called.items) k i (is_some result) ≡ true → (found : FirstReturn) → first_return called.items ≡ Some found → agrees (is_some result) found ≡ true
+  pub agreed : (k : ℕ) (func : Function) (i : ℕ) (label : List ℕ) (args : List NamedExpression)
+        (result : Option (List ℕ × ℕ)) → slice_get whole.funcs k ≡ Some func
+      → slice_get func.items i ≡ Some (Do (text.Call label args result))
+      → label ≡ called.name → agrees_behind p (first_return called.items) k i (is_some result) ≡ true
+      → (found : FirstReturn) → first_return called.items ≡ Some found → agrees (is_some result) found ≡ true
   agreed k func i label args result at is same fits found first =
       let agrees_if : (not (is_before p found.item k i) || agrees (is_some result) found) ≡ true = ap (λ (o : Option FirstReturn). agrees_behind p o k i (is_some result)) (sym first) ∙ fits in
       let f = first_from 0 called.items found first in
@@ -206,7 +212,8 @@ bytes_size (Some size) e = (size, refl, eqb-true (size % 8) 0 e)
 
 -- ---- functions and blocks by their places
 
-function_at : (whole : WholeProgram) (first : ℕ) (funcs : List Function) (k n : ℕ) → n ≡ first + frames_before funcs k → slice_get (functions_from whole first funcs) k ≡ option_map (numbered_function whole n) (slice_get funcs k)
+function_at : (whole : WholeProgram) (first : ℕ) (funcs : List Function) (k n : ℕ) → n ≡ first + frames_before funcs k
+    → slice_get (functions_from whole first funcs) k ≡ option_map (numbered_function whole n) (slice_get funcs k)
 function_at whole first [] k n is = refl
 function_at whole first (func ∷ funcs) zero n is = ap (λ (z : ℕ). Some (numbered_function whole z func)) (let e : first ≡ n = omega arith in e)
 function_at whole first (func ∷ funcs) (suc k) n is = function_at whole (first + (length func.args + length func.decls)) funcs k n (omega arith)
@@ -215,7 +222,8 @@ pub count_functions : (whole : WholeProgram) (first : ℕ) (funcs : List Functio
 count_functions whole first [] = refl
 count_functions whole first (func ∷ funcs) = ap suc (count_functions whole (first + (length func.args + length func.decls)) funcs)
 
-block_in : (numbers : Numbers) (n : ℕ) (parts : List (List BodyItem)) (b m : ℕ) → m ≡ n + b → slice_get (numbered_blocks numbers n parts) b ≡ option_map (numbered_block numbers (suc m)) (slice_get parts b)
+block_in : (numbers : Numbers) (n : ℕ) (parts : List (List BodyItem)) (b m : ℕ) → m ≡ n + b
+    → slice_get (numbered_blocks numbers n parts) b ≡ option_map (numbered_block numbers (suc m)) (slice_get parts b)
 block_in numbers n [] b m is = refl
 block_in numbers n (part ∷ parts) zero m is = ap (λ (z : ℕ). Some (numbered_block numbers (suc z) part)) (let e : n ≡ m = omega arith in e)
 block_in numbers n (part ∷ parts) (suc b) m is = block_in numbers (suc n) parts b m (omega arith)
@@ -225,7 +233,9 @@ count_blocks numbers n [] = refl
 count_blocks numbers n (part ∷ parts) = ap suc (count_blocks numbers (suc n) parts)
 
 -- a block that returns ends with a return
-return_end : (numbers : Numbers) (next : ℕ) (last : BodyItem) (value : Option NumberedExpression) → end_by numbers next last ≡ Return value → (v : Option NamedExpression) × (last ≡ Do (text.Return v)) × (option_map (with_frames numbers.frame) v ≡ value)
+return_end : (numbers : Numbers) (next : ℕ) (last : BodyItem) (value : Option NumberedExpression)
+    → end_by numbers next last ≡ Return value
+    → (v : Option NamedExpression) × (last ≡ Do (text.Return v)) × (option_map (with_frames numbers.frame) v ≡ value)
 return_end numbers next (Do (text.Return v)) value e = (v, refl, cc)
 return_end numbers next last value e = cc
 
@@ -281,12 +291,15 @@ module _ (whole : WholeProgram) (root ranks : List ℕ) (none : HasNoFault whole
     is_cell : (e : NumberedExpression) (size : ℕ) → HasSize rows k size e → size % 8 ≡ 0 → IsCellSize size
     is_cell e size has bytes = cell_from size (size_within rows k size e has) bytes
 
-    arguments_fit : (owner : Option ℕ) (start : ℕ) (frames : List Allocation) (args : List NamedExpression) → AllZip (λ arg frame. term_size arg ≡ Some frame.bits) args frames → SeesAllFrames whole func (expressions_of args)
+    arguments_fit : (owner : Option ℕ) (start : ℕ) (frames : List Allocation) (args : List NamedExpression)
+        → AllZip (λ arg frame. term_size arg ≡ Some frame.bits) args frames
+        → SeesAllFrames whole func (expressions_of args)
         → All ExpressionIsWritable args → All AllocationIsWritable frames → StandAt rows owner start frames → AllZip (ArgumentKeeps rows k) (range_with_len start (length frames)) (map term args)
     arguments_fit owner start [] [] sizes seen w v standing = tt
     arguments_fit owner start (f ∷ frames) (arg ∷ args) sizes seen w v standing =
         let has = has_size arg f.bits (All-head ExpressionIsWritable arg args w).parts seen.0 sizes.0 in (
-          record { row = row_for owner f; at = ap (slice_get rows) (sym (add-zero start)) ∙ standing 0 f refl; cell = is_cell (term arg) f.bits has (All-head AllocationIsWritable f frames v).bytes; value_has = has },
+          record { row = row_for owner f; at = ap (slice_get rows) (sym (add-zero start)) ∙ standing 0 f refl;
+              cell = is_cell (term arg) f.bits has (All-head AllocationIsWritable f frames v).bytes; value_has = has },
           arguments_fit owner (start + 1) frames args sizes.1 seen.1 (All-tail ExpressionIsWritable arg args w) (All-tail AllocationIsWritable f frames v)
               (λ i g is. ap (slice_get rows) (let e : (start + 1) + i ≡ start + suc i = omega arith in e) ∙ standing (suc i) g is),
         )
@@ -303,7 +316,10 @@ module _ (whole : WholeProgram) (root ranks : List ℕ) (none : HasNoFault whole
         let found = some_image (numbered_block numbers (suc b)) (slice_get (blocks_of func.items) b) block (sym (block_in numbers 0 (blocks_of func.items) b b (sym (zero-add b))) ∙ is) in
         let part = found.0 in
         let last = last_of func.items b part found.1 in
-        let made = ap (λ (o : Option BodyItem). record { statements = flat_map (statements_by numbers.frame) part; ending = option_map_or (end_by numbers (suc b)) o (Fall (suc b)) }) (sym last.1) ∙ found.2 in
+        let made =
+          ap (λ (o : Option BodyItem). record {
+            statements = flat_map (statements_by numbers.frame) part;
+            ending = option_map_or (end_by numbers (suc b)) o (Fall (suc b)) }) (sym last.1) ∙ found.2 in
         subst (Holds b) made
         (each b part last.0 found.1 last.1 (in_items func.items part (contained (blocks_of func.items) b part found.1) last.0 (contained part (length part - 1) last.0 last.1)))
 
@@ -312,7 +328,8 @@ module _ (whole : WholeProgram) (root ranks : List ℕ) (none : HasNoFault whole
     return_gives : (j : ℕ) (v : Option NamedExpression) (size : ℕ) → slice_get func.items j ≡ Some (Do (text.Return v)) → return_size v ≡ Some size → GivesSize rows k size (option_map term v)
     return_gives j v size is =
         by_option (λ o. IfSome o ExpressionIsWritable → ((e : NamedExpression) → o ≡ Some e → SeesFrames whole func e) → return_size o ≡ Some size → GivesSize rows k size (option_map term o)) v
-        (λ none w seen has. sym (same_Some 0 size has)) (λ t some w seen has. has_size t size w.parts (seen t refl) has) (item_is_written j (Do (text.Return v)) is) ((none.funcs k func at).items j (Do (text.Return v)) is).sees
+        (λ none w seen has. sym (same_Some 0 size has)) (λ t some w seen has. has_size t size w.parts (seen t refl) has)
+          (item_is_written j (Do (text.Return v)) is) ((none.funcs k func at).items j (Do (text.Return v)) is).sees
 
     record GivesFirstSize (value : Option NumberedExpression) : Type 0 where
       found : FirstReturn
@@ -368,7 +385,9 @@ module _ (whole : WholeProgram) (root ranks : List ℕ) (none : HasNoFault whole
         let cell = bytes_size (term_size value) item.value_bytes in
         let has = has_size k func at value cell.0 w.1.parts item.value_sees cell.1 in
         All-cons (KeepsStatement rows k) (Store (term k func at to) (term k func at value)) []
-        (record { address = has_size k func at to 32 w.0.parts item.at_sees item.at_size; stored = record { size = cell.0; cell = is_cell k func at (term k func at value) cell.0 has cell.2; value_has = has } })
+        (record {
+          address = has_size k func at to 32 w.0.parts item.at_sees item.at_size;
+          stored = record { size = cell.0; cell = is_cell k func at (term k func at value) cell.0 has cell.2; value_has = has } })
         (All-nil (KeepsStatement rows k))
     keeps_statements i item is = All-nil (KeepsStatement rows k)
 
@@ -410,7 +429,9 @@ module _ (whole : WholeProgram) (root ranks : List ℕ) (none : HasNoFault whole
           goes_on = on;
         })
 
-    keeps_end : (b i : ℕ) (last : BodyItem) → slice_get func.items i ≡ Some last → (is_ending last ≡ false → GoesOn program k b (suc b)) → KeepsEnding program k b (end_by (numbers k func at) (suc b) last)
+    keeps_end : (b i : ℕ) (last : BodyItem) → slice_get func.items i ≡ Some last
+        → (is_ending last ≡ false → GoesOn program k b (suc b))
+        → KeepsEnding program k b (end_by (numbers k func at) (suc b) last)
     keeps_end b i (Do (text.Jump label)) is goes = leads label ((none.funcs k func at).items i (Do (text.Jump label)) is)
     keeps_end b i (Do (text.Switch value targets others)) is goes =
         let item = (none.funcs k func at).items i (Do (text.Switch value targets others)) is in
@@ -454,10 +475,16 @@ module _ (whole : WholeProgram) (root ranks : List ℕ) (none : HasNoFault whole
           owned = all_in_range (IsFrameOf rows (Some k)) first n (λ i low.
               let none : Allocation = record { name = []; bits = 0 } in
               let frame = get_or (own_frames func) i none in
-              record { row = row_for (Some k) frame; at = own_stand whole k func at i frame (slice_get-get_or (own_frames func) i none (omega (arith, length-append func.args func.decls))); owned = refl });
+              record { row = row_for (Some k) frame;
+                  at =
+                    own_stand whole k func at i frame
+                      (slice_get-get_or (own_frames func) i none (omega (arith, length-append func.args func.decls)));
+                  owned = refl });
           apart = range_apart first n;
           inits = all_images (InitFits rows (Some k)) (numbered_init (first + length func.args) func.decls) func.inits
-              (λ init c. init_fits rows (Some k) (first + length func.args) func.decls (own_decls_stand whole k func at) init ((none.funcs k func at).inits init c) (All-contains InitialIsWritable func.inits init w.inits c));
+              (λ init c.
+                init_fits rows (Some k) (first + length func.args) func.decls (own_decls_stand whole k func at) init
+                  ((none.funcs k func at).inits init c) (All-contains InitialIsWritable func.inits init w.inits c));
           some = omega (arith, some_block func.items w.ends, count_blocks (numbers k func at) 0 (blocks_of func.items));
           blocks = keeps_block;
           returns = one_size k func at;

@@ -48,18 +48,24 @@ Inside room p marks x = Writes never (closes ∷ []) p.form marks room room x
 
 -- the last part before the brace that closes, where a list does not go on
 last_row : {A B : Type 0} {goes_on : Place → Bool} {xs : List Mark} {p : Form Lexeme Room Fault A} {f : A → B} {a b : Room} {x : A}
-    → ((more : List Lexeme) → goes_on (place (tokens printing more (closes ∷ [])) b) ≡ false) → Writes goes_on [] p xs a b x → Writes never (closes ∷ []) (bound p (λ x. bound closing.form (λ _. made (f x)))) xs a b (f x)
+    → ((more : List Lexeme) → goes_on (place (tokens printing more (closes ∷ [])) b) ≡ false)
+    → Writes goes_on [] p xs a b x
+    → Writes never (closes ∷ []) (bound p (λ x. bound closing.form (λ _. made (f x)))) xs a b (f x)
 unfolding closing
 last_row {f = f} stops h = ends (λ x. bound closing.form (λ _. made (f x))) h stops (λ z more e free. refl)
 
-last : {A B : Type 0} {xs : List Mark} {p : Form Lexeme Room Fault A} {f : A → B} {a b : Room} {x : A} → Writes never [] p xs a b x → Writes never (closes ∷ []) (bound p (λ x. bound closing.form (λ _. made (f x)))) xs a b (f x)
+last : {A B : Type 0} {xs : List Mark} {p : Form Lexeme Room Fault A} {f : A → B} {a b : Room} {x : A}
+    → Writes never [] p xs a b x
+    → Writes never (closes ∷ []) (bound p (λ x. bound closing.form (λ _. made (f x)))) xs a b (f x)
 last h = last_row (λ more. refl) h
 
 -- with the brace that closes
 closed : {A : Type 0} {goes : Place → Bool} {xs : List Mark} {p : Form Lexeme Room Fault A} {a b : Room} {x : A} → Writes goes (closes ∷ []) p xs a b x → Writes goes [] p (xs ++ closes ∷ []) a b x
 closed h = ended refl h
 
-any_writes : {A : Type 0} (Fine : A → Type 0) (p : Rule true A) (marks : A → List Mark) → ((x : A) → Fine x → (more : List Lexeme) (room : Room) → opens (place (tokens printing more (marks x)) room) ≡ true)
+any_writes : {A : Type 0} (Fine : A → Type 0) (p : Rule true A) (marks : A → List Mark)
+    → ((x : A) → Fine x → (more : List Lexeme) (room : Room)
+      → opens (place (tokens printing more (marks x)) room) ≡ true)
     → ((x : A) → Fine x → (room : Room) → Plain room p (marks x) x) → (o : Option A) → IfSome o Fine → {room : Room} → Writes opens [] (maybe opens p).form (if_any marks o) room room o
 any_writes Fine p marks begins each None w = record { prints = refl; reads = λ more stops. rw stops refl }
 any_writes Fine p marks begins each (Some x) w {room = room} = let h = each x w room in record { prints = h.prints; reads = λ more stops. rw (begins x w more room, h.reads more refl) refl }
@@ -84,7 +90,9 @@ begin_writes blank w b h = opening_writes blank b then λ _. as_value (word_writ
 
 -- a brace and any word, which decides on the rule for what follows
 worded : {A : Type 0} {goes : Place → Bool} {end inner : List Mark} {a b : Room} {x : A} (rule : Lexeme → Rule true A) (blank : ℕ) (w : List ℕ) → is_separator blank ≡ true → is_word_text w ≡ true
-    → ((left : ℕ) → Writes goes end (rule (record { kind = kinds.Word; text = w; left = left })).form inner a b x) → Writes goes end (bound opening.form (λ _. bound some_word.form (λ w. (rule w).form))) (canonical.opens blank ∷ a_word w ∷ inner) a b x
+    → ((left : ℕ) → Writes goes end (rule (record { kind = kinds.Word; text = w; left = left })).form inner a b x)
+    → Writes goes end (bound opening.form (λ _. bound some_word.form (λ w. (rule w).form)))
+      (canonical.opens blank ∷ a_word w ∷ inner) a b x
 unfolding opening some_word
 worded rule blank w b h i = record { prints = rw (b, h) (i 0).prints; reads = λ more free. (i _).reads more free }
 
@@ -115,13 +123,17 @@ list_writes : {A : Type 0} {marks : List Mark} {a b : Room} {xs : List A} (p : R
     → Writes never [] (bound (begin list).form (λ _. bound (many opens p).form (λ xs. bound closing.form (λ _. made xs)))) (canonical.braced space list marks) a b xs
 list_writes p list h row = closed (begin_writes space list refl h then λ _. last_row (λ more. refl) row)
 
-references_write : (list w : List ℕ) (names : List (List ℕ)) → is_word_text list ≡ true → is_word_text w ≡ true → All IsName names → {room : Room} → Plain room (references list w) (refs_marks list w names) names
+references_write : (list w : List ℕ) (names : List (List ℕ)) → is_word_text list ≡ true → is_word_text w ≡ true
+    → All IsName names → {room : Room} → Plain room (references list w) (refs_marks list w names) names
 unfolding references
 references_write list w names h i all = list_writes (reference w) list h (same_row opens (reference w) (ref_marks w) (λ n is more room. refl) (λ n is room. reference_writes w n i is) names all)
 
 offset_writes : (o : ℕ) → o < 2 ^ 32 → {room : Room} → Plain room offset (dec_unsigned_marks 32 o) o
 unfolding offset
-offset_writes o lt = closed (begin_writes space (codes "dec_unsigned") refl refl then λ _. fixed_writes 32 (omega arith) then λ _. last (at_most_writes (2 ^ 32 - 1) o (omega (arith, lt)) (omega (arith, lt))))
+offset_writes o lt =
+    closed
+    (begin_writes space (codes "dec_unsigned") refl refl then λ _. fixed_writes 32 (omega arith)
+      then λ _. last (at_most_writes (2 ^ 32 - 1) o (omega (arith, lt)) (omega (arith, lt))))
 
 label_tail_writes : (n : List ℕ) → IsName n → {room : Room} → Inside room label_tail (a_number 32 ∷ ref_marks (codes "lref") n ++ dec_unsigned_marks 32 0) n
 unfolding label_tail zero_offset
@@ -185,10 +197,14 @@ needs fs room = row_room need fs room
 
 frame_writes : (f : Allocation) → AllocationIsWritable f → (room : Room) → Writes never [] alloc.form (frame_marks f) (need f room) room f
 unfolding alloc
-frame_writes f w room = closed (opening_writes line_feed refl then λ _. one_frame_writes then λ _. word_writes (codes "alloc") refl then λ _. fixed_writes 32 (omega arith) then λ _. name_writes f.name w.name
+frame_writes f w room =
+    closed
+    (opening_writes line_feed refl then λ _. one_frame_writes then λ _. word_writes (codes "alloc") refl
+      then λ _. fixed_writes 32 (omega arith) then λ _. name_writes f.name w.name
     then λ _. last (bits_writes f.bits w.some w.bytes w.small))
 
-frames_write : (list : List ℕ) (fs : List Allocation) → is_word_text list ≡ true → All AllocationIsWritable fs → {room : Room} → Writes never [] (allocs list).form (listed list frame_marks fs) (needs fs room) room fs
+frames_write : (list : List ℕ) (fs : List Allocation) → is_word_text list ≡ true → All AllocationIsWritable fs
+    → {room : Room} → Writes never [] (allocs list).form (listed list frame_marks fs) (needs fs room) room fs
 unfolding allocs
 frames_write list fs h all {room = room} = list_writes alloc list h (row_writes opens alloc frame_marks need (λ f w more room. refl) frame_writes fs all room)
 
@@ -309,9 +325,13 @@ mutual
   term_writes (Load s e) (suc depth) d w = closed (worded (expr_tail (expr depth)) space (codes "load") refl refl
       (λ left. number_writes 8 64 8 s (omega (arith, w.0.small)) (omega (arith, w.0.some, w.0.bytes)) w.0.small w.0.bytes then λ _. last (term_writes e depth (omega arith) w.1)))
   term_writes (Apply op ss es) (suc depth) d w {room = room} = subst (λ (ts : NamedExpressions). Plain room (expr (suc depth)) (term_marks (Apply op ss es)) (Apply op ss ts)) (same_terms es)
-      (closed (worded (expr_tail (expr depth)) space (spelling op) refl (own_word op) (λ left. operator_writes (expr depth) op left (sizes_write op ss w.0 then λ _. last (terms_write es depth (operand_count op) w.1 (omega arith) w.2)))))
+      (closed
+        (worded (expr_tail (expr depth)) space (spelling op) refl (own_word op) (λ left.
+          operator_writes (expr depth) op left
+            (sizes_write op ss w.0 then λ _. last (terms_write es depth (operand_count op) w.1 (omega arith) w.2)))))
 
-  terms_write : (ts : NamedExpressions) (depth n : ℕ) → count ts ≡ n → most_deep ts ≤ depth → AllPartsAreWritable ts → {room : Room} → Writes never [] (exactly_form n (expr depth).form) (terms_marks ts) room room (list_of ts)
+  terms_write : (ts : NamedExpressions) (depth n : ℕ) → count ts ≡ n → most_deep ts ≤ depth → AllPartsAreWritable ts
+      → {room : Room} → Writes never [] (exactly_form n (expr depth).form) (terms_marks ts) room room (list_of ts)
   terms_write Empty depth zero e d w = value_writes
   terms_write (With t ts) depth (suc n) e d w = term_writes t depth (omega arith) w.0 then λ _. as_value (terms_write ts depth n (omega arith) (omega arith) w.1)
   terms_write _ depth _ e d w = absurd (omega arith)
@@ -336,14 +356,27 @@ unfolding item item_tail null store with_word jump leaving switch default_arm ca
 act_writes Null w = closed (worded {inner = []} item_tail line_feed (codes "null") refl refl (λ left. record { prints = refl; reads = λ more free. refl }))
 act_writes (Store at value) w = closed (worded item_tail line_feed (codes "store") refl refl (λ left. grouped (term_marks at) (a_word (codes "with") ∷ []) (term_marks value)
     (whole_writes at w.0 then λ _. word_writes (codes "with") refl then λ _. last (whole_writes value w.1))))
-act_writes (Jump n) w = closed (worded item_tail line_feed (codes "jump") refl refl (λ left. label_writes space n refl w then λ _. word_writes (codes "leaving") refl then λ _. last (fixed_writes 0 (omega arith))))
+act_writes (Jump n) w =
+    closed
+    (worded item_tail line_feed (codes "jump") refl refl (λ left. label_writes space n refl w
+      then λ _. word_writes (codes "leaving") refl then λ _. last (fixed_writes 0 (omega arith))))
 act_writes (Switch value targets others) w = closed (worded item_tail line_feed (codes "switch") refl refl (λ left. grouped (term_marks value) (flat_map target_marks targets) (default_marks others)
-    (whole_writes value w.0 then λ _. until (same_row opens_target target target_marks (λ t w more room. refl) (λ t w room. target_writes t w) targets w.1) (λ more. refl) (λ _. last (closed (begin_writes space (codes "default") refl refl then λ _. last (label_writes space others refl w.2)))))))
+    (whole_writes value w.0
+      then λ _. until
+        (same_row opens_target target target_marks (λ t w more room. refl) (λ t w room. target_writes t w) targets w.1)
+        (λ more. refl)
+        (λ _. last
+          (closed (begin_writes space (codes "default") refl refl then λ _. last (label_writes space others refl w.2)))))))
 act_writes (Call n args to) w = closed (worded item_tail line_feed (codes "call") refl refl (λ left. label_writes space n refl w.0
     then λ _. grouped (flat_map term_marks args) (a_word (codes "result") ∷ []) (if_any address_marks to)
     (until (same_row opens whole_expr term_marks (λ t w more room. term_opens t more room) (λ t w room. whole_writes t w) args w.1) (λ more. refl)
     (λ _. word_writes (codes "result") refl then λ _. last_row (λ more. refl) (any_writes AddressIsWritable address address_marks (λ a w more room. refl) (λ a w room. address_writes a w) to w.2)))))
-act_writes (Return value) w = closed (worded item_tail line_feed (codes "return") refl refl (λ left. last_row (λ more. refl) (any_writes ExpressionIsWritable whole_expr term_marks (λ t w more room. term_opens t more room) (λ t w room. whole_writes t w) value w)))
+act_writes (Return value) w =
+    closed
+    (worded item_tail line_feed (codes "return") refl refl (λ left.
+      last_row (λ more. refl)
+        (any_writes ExpressionIsWritable whole_expr term_marks (λ t w more room. term_opens t more room)
+          (λ t w room. whole_writes t w) value w)))
 
 item_writes : (x : BodyItem) → ItemIsWritable x → {room : Room} → Plain room item (entry_marks x) x
 unfolding item item_tail label_item
@@ -360,7 +393,9 @@ item_opens (Do _) more room = refl
 stmts_write : (xs : List BodyItem) → All ItemIsWritable xs → ends_well xs ≡ true → {room : Room} → Plain room stmts (listed (codes "stmts") entry_marks xs) xs
 unfolding stmts closing_after
 stmts_write xs all good = closed (begin_writes space (codes "stmts") refl refl
-    then λ _. ends {f = λ xs. xs} (λ xs. bound (closing_after xs).form (λ _. made xs)) (same_row opens item entry_marks (λ x w more room. item_opens x more room) (λ x w room. item_writes x w) xs all) (λ more. refl) (λ z more e free. rw (e, good) refl))
+    then λ _. ends {f = λ xs. xs} (λ xs. bound (closing_after xs).form (λ _. made xs))
+      (same_row opens item entry_marks (λ x w more room. item_opens x more room) (λ x w room. item_writes x w) xs all)
+      (λ more. refl) (λ z more e free. rw (e, good) refl))
 
 scope_writes : (f : Function) → FunctionIsWritable f → {room : Room} → Writes never [] scope.form (scope_marks f.decls f.inits f.items) (needs f.decls room) room (f.decls, f.inits, f.items)
 unfolding scope
@@ -411,11 +446,15 @@ last_of_all : {A B : Type 0} {xs : List Mark} {p : Form Lexeme Room Fault A} {f 
 unfolding closing end
 last_of_all {A = A} {f = f} {b = b} h = ends (λ x. bound closing.form (λ _. bound end.form (λ _. made (f x)))) h (λ more. refl) (λ z more e free. over more z free)
   where
-    over : (more : List Lexeme) (z : A) → is_more (place more b) ≡ false → (bound closing.form (λ _. bound end.form (λ _. made (f z)))).reading (place (tokens printing more (closes ∷ [])) b) ≡ Ok (f z, place more b)
+    over : (more : List Lexeme) (z : A) → is_more (place more b) ≡ false
+        → (bound closing.form (λ _. bound end.form (λ _. made (f z)))).reading
+            (place (tokens printing more (closes ∷ [])) b) ≡ Ok (f z, place more b)
     over [] z free = refl
     over (t ∷ ts) z free = absurd cc
 
-pub program_writes : (whole : WholeProgram) → IsWritable whole → (room : Room) → writing.Writes printing is_more [] program.form (program_marks whole) (needs whole.decls (all_need whole.funcs room)) room whole
+pub program_writes : (whole : WholeProgram) → IsWritable whole → (room : Room)
+    → writing.Writes printing is_more [] program.form (program_marks whole)
+      (needs whole.decls (all_need whole.funcs room)) room whole
 unfolding program
 program_writes whole w room = closed (begin_writes space (codes "alf") refl refl then λ _. heading_writes
     then λ _. grouped (names_marks (codes "exports") whole.exports whole.labels) (names_marks (codes "imports") [] []) (globals_marks whole)

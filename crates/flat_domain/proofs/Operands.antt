@@ -42,11 +42,12 @@ words_fit [] (d ∷ args) a b c small sized p q r e f g = absurd sized
 words_fit (s ∷ []) (d ∷ []) a b c small sized p q r e f g = (fits_at s a d sized.0 p e, tt)
 words_fit (s ∷ t ∷ sizes) (d ∷ []) a b c small sized p q r e f g = absurd sized.1
 words_fit (s ∷ []) (d ∷ i ∷ args) a b c small sized p q r e f g = absurd sized.1
-words_fit (s ∷ t ∷ []) (d ∷ i ∷ []) a b c small sized p q r e f g =
-    (fits_at s a d sized.0 p e, (fits_at t b i sized.1.0 q f, tt))
-words_fit (s ∷ t ∷ u ∷ sizes) (d ∷ i ∷ []) a b c small sized p q r e f g = absurd sized.1.1
-words_fit (s ∷ t ∷ []) (d ∷ i ∷ j ∷ args) a b c small sized p q r e f g = absurd sized.1.1
-words_fit (s ∷ t ∷ u ∷ []) (d ∷ i ∷ j ∷ []) a b c small sized p q r e f g =
-    (fits_at s a d sized.0 p e, (fits_at t b i sized.1.0 q f, (fits_at u c j sized.1.1.0 r g, tt)))
-words_fit (s ∷ t ∷ u ∷ v ∷ sizes) (d ∷ i ∷ j ∷ []) a b c small sized p q r e f g = absurd sized.1.1.1
+words_fit (s ∷ t ∷ []) (d ∷ i ∷ []) a b c small (first, (second, end)) p q r e f g =
+    (fits_at s a d first p e, (fits_at t b i second q f, tt))
+words_fit (s ∷ t ∷ u ∷ sizes) (d ∷ i ∷ []) a b c small (first, (second, too_long)) p q r e f g = absurd too_long
+words_fit (s ∷ t ∷ []) (d ∷ i ∷ j ∷ args) a b c small (first, (second, too_long)) p q r e f g = absurd too_long
+words_fit (s ∷ t ∷ u ∷ []) (d ∷ i ∷ j ∷ []) a b c small (first, (second, (third, end))) p q r e f g =
+    (fits_at s a d first p e, (fits_at t b i second q f, (fits_at u c j third r g, tt)))
+words_fit (s ∷ t ∷ u ∷ v ∷ sizes) (d ∷ i ∷ j ∷ []) a b c small (first, (second, (third, too_long))) p q r e f g =
+    absurd too_long
 words_fit sizes (d ∷ i ∷ j ∷ k ∷ args) a b c small sized p q r e f g = absurd (omega (arith, small))

@@ -69,7 +69,9 @@ Given Choice m n a b c x y z = Good 1 a x × Good m b y × Good m c z
 rest_kept : (a : Stride) (args : List Stride) → AreKept stride_sets (a ∷ args) → AreKept stride_sets args
 rest_kept a args of_args e c = of_args e (further_member a args e c)
 
-operand_good : (sizes : List ℕ) (args : List Stride) (xs : List ℕ) (i s : ℕ) → slice_get sizes i ≡ Some s → HaveSizes stride_sets sizes args → AreKept stride_sets args → HaveWords stride_sets args xs → Good s (operand args i) (slice_index xs i)
+operand_good : (sizes : List ℕ) (args : List Stride) (xs : List ℕ) (i s : ℕ) → slice_get sizes i ≡ Some s
+    → HaveSizes stride_sets sizes args → AreKept stride_sets args → HaveWords stride_sets args xs
+    → Good s (operand args i) (slice_index xs i)
 operand_good [] args xs i s e sized of_args words = cc
 operand_good (t ∷ sizes) [] xs i s e sized of_args words = absurd sized
 operand_good (t ∷ sizes) (a ∷ args) [] i s e sized of_args words = absurd words
@@ -130,26 +132,43 @@ reading_some n y small some e =
     some (sym (word_signed n y small) ∙ ap (λ (k : ℤ). word n k) z ∙ word_itself n 0 (pow_pos n))
 
 -- where the operator does not divide
-rule_good : (op : Op) (m n h : ℕ) (a b c : Stride) (x y z : ℕ) → divides op ≡ false → Given (layout_of op) m n a b c x y z → is_typed (layout_of op) m n h ≡ true → IsWordSize (result_by_layout (layout_of op) m n h)
+rule_good : (op : Op) (m n h : ℕ) (a b c : Stride) (x y z : ℕ) → divides op ≡ false
+    → Given (layout_of op) m n a b c x y z → is_typed (layout_of op) m n h ≡ true
+    → IsWordSize (result_by_layout (layout_of op) m n h)
     → Good (result_by_layout (layout_of op) m n h) (rule op m n h a b c) (word (result_by_layout (layout_of op) m n h) (formula op m n h x y z))
 rule_good Neg m n h a b c x y z d g = rw (← g.size) (λ typed size. neg_good a x g.kept g.covers)
 rule_good Not m n h a b c x y z d g = rw (← g.size) (λ typed size. complement_good a x g.kept g.covers)
-rule_good Add m n h a b c x y z d g = rw (← g.0.size) (λ typed size. add_good a b c x y z g.0.kept g.1.kept g.2.kept (same_sizes m a b x y g.0 g.1) (bit_below c z g.2) g.0.covers g.1.covers g.2.covers)
-rule_good Sub m n h a b c x y z d g = rw (← g.0.size) (λ typed size. sub_good a b c x y z g.0.kept g.1.kept g.2.kept (same_sizes m a b x y g.0 g.1) (bit_below c z g.2) g.0.covers g.1.covers g.2.covers)
+rule_good Add m n h a b c x y z d g = rw (← g.0.size) (λ typed size.
+    add_good a b c x y z g.0.kept g.1.kept g.2.kept (same_sizes m a b x y g.0 g.1) (bit_below c z g.2) g.0.covers
+      g.1.covers g.2.covers)
+rule_good Sub m n h a b c x y z d g = rw (← g.0.size) (λ typed size.
+    sub_good a b c x y z g.0.kept g.1.kept g.2.kept (same_sizes m a b x y g.0 g.1) (bit_below c z g.2) g.0.covers
+      g.1.covers g.2.covers)
 rule_good CAdd m n h a b c x y z d g = λ typed size. every_good 1 (word 1 (formula CAdd m n h x y z)) size (word_below 1 (formula CAdd m n h x y z))
 rule_good CSub m n h a b c x y z d g = λ typed size. every_good 1 (word 1 (formula CSub m n h x y z)) size (word_below 1 (formula CSub m n h x y z))
 rule_good UMul m n h a b c x y z d g = λ typed size. unsigned_pair_good (m + n) products a b x y (pos (x * y)) size g.0.kept g.1.kept g.0.covers g.1.covers
     (λ p q i j. products_is p q i.progression j.progression) (λ p q i j k l. products_has p q (pos x) (pos y) i.progression j.progression k l)
-rule_good SMul m n h a b c x y z d g = rw (← g.0.size, ← g.1.size) (λ typed size. signed_pair_good (a.size + b.size) products a b x y (signed a.size x *ℤ signed b.size y) size g.0.kept g.1.kept g.0.covers g.1.covers
+rule_good SMul m n h a b c x y z d g =
+    rw (← g.0.size, ← g.1.size) (λ typed size.
+    signed_pair_good (a.size + b.size) products a b x y (signed a.size x *ℤ signed b.size y) size g.0.kept g.1.kept
+      g.0.covers g.1.covers
     (λ p q i j. products_is p q i.progression j.progression) (λ p q i j k l. products_has p q (signed a.size x) (signed b.size y) i.progression j.progression k l))
 rule_good UDiv m n h a b c x y z d g = cc
 rule_good SDiv m n h a b c x y z d g = cc
 rule_good UMod m n h a b c x y z d g = cc
 rule_good SMod m n h a b c x y z d g = cc
-rule_good LShift m n h a b c x y z d g = rw (← g.0.size) (λ typed size. by_word_good b y a.size (word a.size (pos (x * 2 ^ y))) (l_shift_by a) size (word_below a.size (pos (x * 2 ^ y))) g.1.covers (l_shift_good a x y g.0.kept g.0.covers))
-rule_good RShift m n h a b c x y z d g = rw (← g.0.size) (λ typed size. by_word_good b y a.size (word a.size (pos (x / 2 ^ y))) (r_shift_by a) size (word_below a.size (pos (x / 2 ^ y))) g.1.covers (r_shift_good a x y g.0.kept g.0.covers))
-rule_good RShiftA m n h a b c x y z d g = rw (← g.0.size) (λ typed size. let r = int_div_euclid (signed a.size x) (full y) in by_word_good b y a.size (word a.size r) (r_shift_a_by a) size (word_below a.size r) g.1.covers
-    (signed_good a.size (quotients (full y)) a x r size g.0.kept g.0.covers (λ p piece. quotients_is (2 ^ y) p (pow_pos y) piece.progression) (λ p piece i. quotients_has (2 ^ y) p (signed a.size x) (pow_pos y) i)))
+rule_good LShift m n h a b c x y z d g = rw (← g.0.size) (λ typed size.
+    by_word_good b y a.size (word a.size (pos (x * 2 ^ y))) (l_shift_by a) size (word_below a.size (pos (x * 2 ^ y)))
+      g.1.covers (l_shift_good a x y g.0.kept g.0.covers))
+rule_good RShift m n h a b c x y z d g = rw (← g.0.size) (λ typed size.
+    by_word_good b y a.size (word a.size (pos (x / 2 ^ y))) (r_shift_by a) size (word_below a.size (pos (x / 2 ^ y)))
+      g.1.covers (r_shift_good a x y g.0.kept g.0.covers))
+rule_good RShiftA m n h a b c x y z d g =
+    rw (← g.0.size) (λ typed size. let r = int_div_euclid (signed a.size x) (full y) in
+    by_word_good b y a.size (word a.size r) (r_shift_a_by a) size (word_below a.size r) g.1.covers
+    (signed_good a.size (quotients (full y)) a x r size g.0.kept g.0.covers
+      (λ p piece. quotients_is (2 ^ y) p (pow_pos y) piece.progression)
+      (λ p piece i. quotients_has (2 ^ y) p (signed a.size x) (pow_pos y) i)))
 rule_good And m n h a b c x y z d g = rw (← g.0.size) (λ typed size. conjunction_good a b x y g.0.kept g.1.kept (same_sizes m a b x y g.0 g.1) g.0.covers g.1.covers)
 rule_good Or m n h a b c x y z d g = λ typed size. every_good m (word m (formula Or m n h x y z)) size (word_below m (formula Or m n h x y z))
 rule_good Xor m n h a b c x y z d g = λ typed size. every_good m (word m (formula Xor m n h x y z)) size (word_below m (formula Xor m n h x y z))
@@ -163,14 +182,30 @@ rule_good Neq m n h a b c x y z d g = λ typed size. truth_good (may_differ a b)
     not_false : (v : Bool) → not v ≡ false → v ≡ true
     not_false true e = refl
     not_false false e = absurd (false≢true (sym e))
-rule_good ULt m n h a b c x y z d g = λ typed size. less_good (unsigned_of a) (unsigned_of b) (pos x) (pos y) (nat_lt x y) (unsigned_there m a x g.0) (unsigned_there m b y g.1) (λ e. omega (arith, ints, ltb-true x y e)) (not_below x y)
-rule_good ULe m n h a b c x y z d g = λ typed size. less_or_equal_good (unsigned_of a) (unsigned_of b) (pos x) (pos y) (nat_le x y) (unsigned_there m a x g.0) (unsigned_there m b y g.1) (λ e. omega (arith, ints, leb-true x y e)) (not_at_most x y)
-rule_good UGt m n h a b c x y z d g = λ typed size. less_good (unsigned_of b) (unsigned_of a) (pos y) (pos x) (nat_lt y x) (unsigned_there m b y g.1) (unsigned_there m a x g.0) (λ e. omega (arith, ints, ltb-true y x e)) (not_below y x)
-rule_good UGe m n h a b c x y z d g = λ typed size. less_or_equal_good (unsigned_of b) (unsigned_of a) (pos y) (pos x) (nat_le y x) (unsigned_there m b y g.1) (unsigned_there m a x g.0) (λ e. omega (arith, ints, leb-true y x e)) (not_at_most y x)
-rule_good SLt m n h a b c x y z d g = λ typed size. less_good (signed_of a) (signed_of b) (signed m x) (signed m y) (int_lt (signed m x) (signed m y)) (signed_there m a x g.0) (signed_there m b y g.1) (λ e. omega (arith, ints, e)) (λ e. omega (arith, ints, e))
-rule_good SLe m n h a b c x y z d g = λ typed size. less_or_equal_good (signed_of a) (signed_of b) (signed m x) (signed m y) (int_le (signed m x) (signed m y)) (signed_there m a x g.0) (signed_there m b y g.1) (λ e. omega (arith, ints, e)) (λ e. omega (arith, ints, e))
-rule_good SGt m n h a b c x y z d g = λ typed size. less_good (signed_of b) (signed_of a) (signed m y) (signed m x) (int_lt (signed m y) (signed m x)) (signed_there m b y g.1) (signed_there m a x g.0) (λ e. omega (arith, ints, e)) (λ e. omega (arith, ints, e))
-rule_good SGe m n h a b c x y z d g = λ typed size. less_or_equal_good (signed_of b) (signed_of a) (signed m y) (signed m x) (int_le (signed m y) (signed m x)) (signed_there m b y g.1) (signed_there m a x g.0) (λ e. omega (arith, ints, e)) (λ e. omega (arith, ints, e))
+rule_good ULt m n h a b c x y z d g = λ typed size.
+    less_good (unsigned_of a) (unsigned_of b) (pos x) (pos y) (nat_lt x y) (unsigned_there m a x g.0)
+    (unsigned_there m b y g.1) (λ e. omega (arith, ints, ltb-true x y e)) (not_below x y)
+rule_good ULe m n h a b c x y z d g = λ typed size.
+    less_or_equal_good (unsigned_of a) (unsigned_of b) (pos x) (pos y) (nat_le x y) (unsigned_there m a x g.0)
+    (unsigned_there m b y g.1) (λ e. omega (arith, ints, leb-true x y e)) (not_at_most x y)
+rule_good UGt m n h a b c x y z d g = λ typed size.
+    less_good (unsigned_of b) (unsigned_of a) (pos y) (pos x) (nat_lt y x) (unsigned_there m b y g.1)
+    (unsigned_there m a x g.0) (λ e. omega (arith, ints, ltb-true y x e)) (not_below y x)
+rule_good UGe m n h a b c x y z d g = λ typed size.
+    less_or_equal_good (unsigned_of b) (unsigned_of a) (pos y) (pos x) (nat_le y x) (unsigned_there m b y g.1)
+    (unsigned_there m a x g.0) (λ e. omega (arith, ints, leb-true y x e)) (not_at_most y x)
+rule_good SLt m n h a b c x y z d g = λ typed size.
+    less_good (signed_of a) (signed_of b) (signed m x) (signed m y) (int_lt (signed m x) (signed m y))
+    (signed_there m a x g.0) (signed_there m b y g.1) (λ e. omega (arith, ints, e)) (λ e. omega (arith, ints, e))
+rule_good SLe m n h a b c x y z d g = λ typed size.
+    less_or_equal_good (signed_of a) (signed_of b) (signed m x) (signed m y) (int_le (signed m x) (signed m y))
+    (signed_there m a x g.0) (signed_there m b y g.1) (λ e. omega (arith, ints, e)) (λ e. omega (arith, ints, e))
+rule_good SGt m n h a b c x y z d g = λ typed size.
+    less_good (signed_of b) (signed_of a) (signed m y) (signed m x) (int_lt (signed m y) (signed m x))
+    (signed_there m b y g.1) (signed_there m a x g.0) (λ e. omega (arith, ints, e)) (λ e. omega (arith, ints, e))
+rule_good SGe m n h a b c x y z d g = λ typed size.
+    less_or_equal_good (signed_of b) (signed_of a) (signed m y) (signed m x) (int_le (signed m y) (signed m x))
+    (signed_there m b y g.1) (signed_there m a x g.0) (λ e. omega (arith, ints, e)) (λ e. omega (arith, ints, e))
 rule_good SExt m n h a b c x y z d g = rw (← g.size) (λ typed size. signed_good n (λ p. p) a x (signed a.size x) size g.kept g.covers (λ p piece. piece.progression) (λ p piece i. i))
 rule_good ZExt m n h a b c x y z d g = λ typed size. z_ext_good n a x size g.kept g.covers
 rule_good Trunc m n h a b c x y z d g = λ typed size. trunc_good n a x size (rw g.size (leb-true n m (both (is_size m && is_size n) (nat_le n m) typed).1)) g.kept g.covers
@@ -185,15 +220,21 @@ rule_good If m n h a b c x y z d g = λ typed size. good_as m (choice a b c) (if
 rule_good RotL m n h a b c x y z d g = λ typed size. every_good m (word m (formula RotL m n h x y z)) size (word_below m (formula RotL m n h x y z))
 rule_good RotR m n h a b c x y z d g = λ typed size. every_good m (word m (formula RotR m n h x y z)) size (word_below m (formula RotR m n h x y z))
 rule_good UMin m n h a b c x y z d g = λ typed size. good_as m (unsigned_pair m lesser a b) (word m (int_min (pos x) (pos y))) (word m (pos (min x y))) (ap (word m) (lesser_of x y))
-    (unsigned_pair_good m lesser a b x y (int_min (pos x) (pos y)) size g.0.kept g.1.kept g.0.covers g.1.covers (λ p q i j. lesser_is p q i.progression j.progression) (λ p q i j k l. lesser_has p q (pos x) (pos y) k l))
+    (unsigned_pair_good m lesser a b x y (int_min (pos x) (pos y)) size g.0.kept g.1.kept g.0.covers g.1.covers
+      (λ p q i j. lesser_is p q i.progression j.progression) (λ p q i j k l. lesser_has p q (pos x) (pos y) k l))
 rule_good UMax m n h a b c x y z d g = λ typed size. good_as m (unsigned_pair m greater a b) (word m (int_max (pos x) (pos y))) (word m (pos (max x y))) (ap (word m) (greater_of x y))
-    (unsigned_pair_good m greater a b x y (int_max (pos x) (pos y)) size g.0.kept g.1.kept g.0.covers g.1.covers (λ p q i j. greater_is p q i.progression j.progression) (λ p q i j k l. greater_has p q (pos x) (pos y) k l))
+    (unsigned_pair_good m greater a b x y (int_max (pos x) (pos y)) size g.0.kept g.1.kept g.0.covers g.1.covers
+      (λ p q i j. greater_is p q i.progression j.progression) (λ p q i j k l. greater_has p q (pos x) (pos y) k l))
 rule_good SMin m n h a b c x y z d g = λ typed size. good_as m (signed_pair m lesser a b) (word m (int_min (signed a.size x) (signed b.size y))) (word m (int_min (signed m x) (signed m y)))
     (rw (g.0.size, g.1.size) refl)
-    (signed_pair_good m lesser a b x y (int_min (signed a.size x) (signed b.size y)) size g.0.kept g.1.kept g.0.covers g.1.covers (λ p q i j. lesser_is p q i.progression j.progression) (λ p q i j k l. lesser_has p q (signed a.size x) (signed b.size y) k l))
+    (signed_pair_good m lesser a b x y (int_min (signed a.size x) (signed b.size y)) size g.0.kept g.1.kept g.0.covers
+      g.1.covers (λ p q i j. lesser_is p q i.progression j.progression)
+      (λ p q i j k l. lesser_has p q (signed a.size x) (signed b.size y) k l))
 rule_good SMax m n h a b c x y z d g = λ typed size. good_as m (signed_pair m greater a b) (word m (int_max (signed a.size x) (signed b.size y))) (word m (int_max (signed m x) (signed m y)))
     (rw (g.0.size, g.1.size) refl)
-    (signed_pair_good m greater a b x y (int_max (signed a.size x) (signed b.size y)) size g.0.kept g.1.kept g.0.covers g.1.covers (λ p q i j. greater_is p q i.progression j.progression) (λ p q i j k l. greater_has p q (signed a.size x) (signed b.size y) k l))
+    (signed_pair_good m greater a b x y (int_max (signed a.size x) (signed b.size y)) size g.0.kept g.1.kept g.0.covers
+      g.1.covers (λ p q i j. greater_is p q i.progression j.progression)
+      (λ p q i j k l. greater_has p q (signed a.size x) (signed b.size y) k l))
 
 -- ---- division
 
@@ -218,7 +259,9 @@ u_mod_good a b x y s t h k some =
     (by_word_good b y w (word w (pos (x % y))) (λ d. unsigned_each w (rests (pos d)) a) t.size (word_below w (pos (x % y))) k
     (unsigned_good w (rests (pos y)) a x (pos (x % y)) t.size s h (λ p i. rests_is y p positive i.progression) (λ p i u. rests_has y p (pos x) positive u)))
 
-s_mod_good : (a b : Stride) (x y : ℕ) → IsStride a → IsStride b → Covers a x → Covers b y → y ≢ 0 → Good b.size (s_mod a b) (word b.size (signed a.size x -ℤ (signed b.size y *ℤ int_div (signed a.size x) (signed b.size y))))
+s_mod_good : (a b : Stride) (x y : ℕ) → IsStride a → IsStride b → Covers a x → Covers b y → y ≢ 0
+    → Good b.size (s_mod a b)
+      (word b.size (signed a.size x -ℤ (signed b.size y *ℤ int_div (signed a.size x) (signed b.size y))))
 s_mod_good a b x y s t h k some =
     let w = b.size in
     let r = signed a.size x -ℤ (signed w y *ℤ int_div (signed a.size x) (signed w y)) in
@@ -287,7 +330,10 @@ divisor_keeps : (b : Stride) (y : ℕ) → IsStride b → Covers b y → y ≢ 0
 divisor_keeps b y t h some = by_test (has b 0)
     (λ e. rw e (let w = b.size in
     let small = member_below w b.numbers y h in
-    let g = rest_gives w (without_end (pos 0)) (pos 0) (full w -ℤ pos 1) (pos y) (unsigned_of b) t.size.least (end_part (pos 0)) (end_keeps (pos 0) (pos y) (λ same. some (omega (arith, ints, same)))) (of_unsigned b t) (unsigned_some b y t h) in
+    let g =
+      rest_gives w (without_end (pos 0)) (pos 0) (full w -ℤ pos 1) (pos y) (unsigned_of b) t.size.least
+        (end_part (pos 0)) (end_keeps (pos 0) (pos y) (λ same. some (omega (arith, ints, same)))) (of_unsigned b t)
+        (unsigned_some b y t h) in
     let size = rest_size w (without_end (pos 0)) (pos 0) (full w -ℤ pos 1) (unsigned_of b) t.size (end_part (pos 0)) (of_unsigned b t) g.0 g.1 in
     (g.0, g.1, record { kept = size.kept; size = size.size; covers = subst (Covers g.0) (word_itself w y small) g.2 })))
     (λ e. rw e (b, refl, record { kept = t; size = refl; covers = h }))
@@ -348,7 +394,10 @@ rest_word b d t e =
     )
   where
     reads_zero : (w : ℕ) (n : ℤ) → pos 0 ≤ℤ n → n <ℤ full w → word w n ≡ 0 → n ≡ pos 0
-    reads_zero w n low high z = by_distance w n (pos 0) (let f = from_word w n in divides_same (full w) (n -ℤ pos (word w n)) (n -ℤ pos 0) (omega (arith, ints, z)) f) (omega (arith, ints, high)) (omega (arith, ints, low, pow_pos w))
+    reads_zero w n low high z =
+        by_distance w n (pos 0)
+        (let f = from_word w n in divides_same (full w) (n -ℤ pos (word w n)) (n -ℤ pos 0) (omega (arith, ints, z)) f)
+        (omega (arith, ints, high)) (omega (arith, ints, low, pow_pos w))
 
 divisor_word : (b d : Stride) → IsStride b → divisor b ≡ Some d → (y : ℕ) × Good b.size d y × (y ≢ 0)
 divisor_word b d t e = by_test (has b 0)
@@ -398,7 +447,8 @@ divides_zero_test op xs divides_not = by_test (divides op && (slice_index xs 1 =
     (λ e. let h = both (divides op) (slice_index xs 1 == 0) e in absurd (divides_not (h.0, eqb-true (slice_index xs 1) 0 h.1)))
     (λ e. e)
 
-known_gives : (op : Op) (sizes xs : List ℕ) → IsSome (result_size op sizes) → (DividesByZero op xs → ⊥) → GivesOnly stride_sets (known op sizes xs).value (value op sizes xs) × ((known op sizes xs).divide ≡ false)
+known_gives : (op : Op) (sizes xs : List ℕ) → IsSome (result_size op sizes) → (DividesByZero op xs → ⊥)
+    → GivesOnly stride_sets (known op sizes xs).value (value op sizes xs) × ((known op sizes xs).divide ≡ false)
 known_gives op sizes xs typed divides_not =
     let size = result_is_size op sizes typed in
     let small : value op sizes xs < 2 ^ size_of_result op sizes = word_below (size_of_result op sizes) _ in
@@ -420,14 +470,17 @@ typed_test op sizes some = by_test (is_written_so (layout_of op) sizes)
     (λ e. (both (length sizes == size_count (layout_of op)) (is_typed (layout_of op) (slice_index sizes 0) (slice_index sizes 1) (slice_index sizes 2)) e).1)
     (λ e. absurd (false≢true (rw e at some)))
 
-ruled_good : (op : Op) (sizes : List ℕ) (args : List Stride) (xs : List ℕ) → IsSome (result_size op sizes) → divides op ≡ false → HaveSizes stride_sets (operand_sizes op sizes) args → AreKept stride_sets args → HaveWords stride_sets args xs
+ruled_good : (op : Op) (sizes : List ℕ) (args : List Stride) (xs : List ℕ) → IsSome (result_size op sizes)
+    → divides op ≡ false → HaveSizes stride_sets (operand_sizes op sizes) args → AreKept stride_sets args
+    → HaveWords stride_sets args xs
     → Good (size_of_result op sizes) (ruled op sizes (operand args 0) (operand args 1) (operand args 2)) (value op sizes xs)
 ruled_good op sizes args xs typed d sized of_args words =
     rule_good op (slice_index sizes 0) (slice_index sizes 1) (slice_index sizes 2) (operand args 0) (operand args 1) (operand args 2) (slice_index xs 0) (slice_index xs 1) (slice_index xs 2) d
     (given_of (layout_of op) (slice_index sizes 0) (slice_index sizes 1) (slice_index sizes 2) args xs sized of_args words) (typed_test op sizes typed) (result_is_size op sizes typed)
 
 -- the two operands of a division
-dividend : (op : Op) (sizes : List ℕ) (args : List Stride) (xs : List ℕ) → divides op ≡ true → HaveSizes stride_sets (operand_sizes op sizes) args → AreKept stride_sets args → HaveWords stride_sets args xs
+dividend : (op : Op) (sizes : List ℕ) (args : List Stride) (xs : List ℕ) → divides op ≡ true
+    → HaveSizes stride_sets (operand_sizes op sizes) args → AreKept stride_sets args → HaveWords stride_sets args xs
     → Good (slice_index sizes 0) (operand args 0) (slice_index xs 0) × Good (slice_index sizes 1) (operand args 1) (slice_index xs 1)
 dividend op sizes args xs d sized of_args words =
     let two : HaveSizes stride_sets (slice_index sizes 0 ∷ slice_index sizes 1 ∷ []) args = subst (λ (l : List ℕ). HaveSizes stride_sets l args) (two_operands op sizes d) sized in (
@@ -439,7 +492,9 @@ by_divisor_good : (op : Op) (sizes : List ℕ) (a d : Stride) (x y z : ℕ) → 
     → Good (size_of_result op sizes) (ruled op sizes a d d) (word (size_of_result op sizes) (formula op (slice_index sizes 0) (slice_index sizes 1) (slice_index sizes 2) x y z))
 by_divisor_good op sizes a d x y z e g k some = divided_good op (slice_index sizes 0) (slice_index sizes 1) (slice_index sizes 2) a d x y z e g k some
 
-divided_gives : (op : Op) (sizes : List ℕ) (args : List Stride) (xs : List ℕ) → divides op ≡ true → HaveSizes stride_sets (operand_sizes op sizes) args → AreKept stride_sets args → HaveWords stride_sets args xs → (DividesByZero op xs → ⊥)
+divided_gives : (op : Op) (sizes : List ℕ) (args : List Stride) (xs : List ℕ) → divides op ≡ true
+    → HaveSizes stride_sets (operand_sizes op sizes) args → AreKept stride_sets args → HaveWords stride_sets args xs
+    → (DividesByZero op xs → ⊥)
     → Gives stride_sets (divided op sizes (operand args 0) (operand args 1)).value (value op sizes xs)
 divided_gives op sizes args xs d sized of_args words divides_not =
     let g = dividend op sizes args xs d sized of_args words in
@@ -468,7 +523,9 @@ divided_size op sizes args d sized of_args r is =
 
 -- ---- all of it
 
-applied_size : (op : Op) (sizes : List ℕ) (args : List Stride) → IsSome (result_size op sizes) → HaveSizes stride_sets (operand_sizes op sizes) args → AreKept stride_sets args → GivesSize stride_sets (applied op sizes args).value (size_of_result op sizes)
+applied_size : (op : Op) (sizes : List ℕ) (args : List Stride) → IsSome (result_size op sizes)
+    → HaveSizes stride_sets (operand_sizes op sizes) args → AreKept stride_sets args
+    → GivesSize stride_sets (applied op sizes args).value (size_of_result op sizes)
 applied_size op sizes args typed sized of_args r is = by_test (all_one args)
     (λ e. known_size op sizes (map word_of args) typed r (rw e at is))
     (λ e. by_test (divides op)
@@ -477,7 +534,9 @@ applied_size op sizes args typed sized of_args r is = by_test (all_one args)
     let g = ruled_good op sizes args words.0 typed f sized of_args words.1 in
     subst (IsOfSize stride_sets (size_of_result op sizes)) (same_Some _ r (rw (e, f) at is)) (record { kept = g.kept; size = g.size })))
 
-applied_gives : (op : Op) (sizes : List ℕ) (args : List Stride) (xs : List ℕ) → IsSome (result_size op sizes) → HaveSizes stride_sets (operand_sizes op sizes) args → AreKept stride_sets args → HaveWords stride_sets args xs → (DividesByZero op xs → ⊥)
+applied_gives : (op : Op) (sizes : List ℕ) (args : List Stride) (xs : List ℕ) → IsSome (result_size op sizes)
+    → HaveSizes stride_sets (operand_sizes op sizes) args → AreKept stride_sets args → HaveWords stride_sets args xs
+    → (DividesByZero op xs → ⊥)
     → Gives stride_sets (applied op sizes args).value (value op sizes xs)
 applied_gives op sizes args xs typed sized of_args words divides_not = by_test (all_one args)
     (λ e. rw (e, ones_alone args xs e words) (let g = (known_gives op sizes xs typed divides_not).0 in (g.0, g.1, g.2.is)))
@@ -485,13 +544,17 @@ applied_gives op sizes args xs typed sized of_args words divides_not = by_test (
     (λ f. rw (e, f) (divided_gives op sizes args xs f sized of_args words divides_not))
     (λ f. rw (e, f) (ruled op sizes (operand args 0) (operand args 1) (operand args 2), refl, (ruled_good op sizes args xs typed f sized of_args words).covers)))
 
-applied_tells : (op : Op) (sizes : List ℕ) (args : List Stride) (xs : List ℕ) → HaveSizes stride_sets (operand_sizes op sizes) args → AreKept stride_sets args → HaveWords stride_sets args xs → DividesByZero op xs → (applied op sizes args).divide ≡ true
+applied_tells : (op : Op) (sizes : List ℕ) (args : List Stride) (xs : List ℕ)
+    → HaveSizes stride_sets (operand_sizes op sizes) args → AreKept stride_sets args → HaveWords stride_sets args xs
+    → DividesByZero op xs → (applied op sizes args).divide ≡ true
 applied_tells op sizes args xs sized of_args words zero_divisor = by_test (all_one args)
     (λ e. rw (e, ones_alone args xs e words) ((known_divides op sizes xs zero_divisor).1))
     (λ e. let g = dividend op sizes args xs zero_divisor.0 sized of_args words in
     rw (e, zero_divisor.0) ((has_tells (operand args 1) 0 g.1.kept).1 (subst (Covers (operand args 1)) zero_divisor.1 g.1.covers)))
 
-pub is_applied : (op : Op) (sizes : List ℕ) (args : List Stride) → IsSome (result_size op sizes) → HaveSizes stride_sets (operand_sizes op sizes) args → AreKept stride_sets args → IsApplied stride_sets op sizes args (applied op sizes args)
+pub is_applied : (op : Op) (sizes : List ℕ) (args : List Stride) → IsSome (result_size op sizes)
+    → HaveSizes stride_sets (operand_sizes op sizes) args → AreKept stride_sets args
+    → IsApplied stride_sets op sizes args (applied op sizes args)
 is_applied op sizes args typed sized of_args = record {
   size = applied_size op sizes args typed sized of_args;
   covering = λ xs words divides_not. applied_gives op sizes args xs typed sized of_args words divides_not;

@@ -1,5 +1,5 @@
 -- The promises of the commands, and of a run.
-use Rattle.std.proofs.Common.{◌≡◌, ◌≤◌, ℕ, List, Vec, Global, Ok, Option, None, Some, IfSome, refl, ap, sym, ◌∙◌, subst, arith}
+use Rattle.std.proofs.Common.{◌≡◌, ◌≤◌, ℕ, List, Vec, Global, Ok, Option, None, Some, IfSome, refl, sym, ◌∙◌, subst, arith}
 use Rattle.flow_base.specs.Outside.{Files, Rose}
 use Rattle.flow_base.specs.Shelves.{ShelfState}
 use Rattle.flow_base.specs.Sinks.{SinkState}

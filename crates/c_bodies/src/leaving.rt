@@ -66,13 +66,13 @@ pub fn check_return(
     result_type: Outcome,
     token: u32,
     value: &Option<Value>,
-) -> Result<(), Fault>
+) -> Result<(), Stop>
     requires { functions.now.words ≡ scopes.now.words }
-    ensures told { told result ≡ earliest (return_faults scopes.now.words functions.now.names scopes.now.scopes result_type token (option_map value_of value.now)) }
+    ensures tells { Tells result (return_faults scopes.now.words functions.now.names scopes.now.scopes result_type token (option_map value_of value.now)) }
 {
     match value {
-        None => check_nothing(result_type, token),
-        Some(value) => check_given(scopes, functions, result_type, token, value),
+        None => Ok(check_nothing(result_type, token)?),
+        Some(value) => Ok(check_given(scopes, functions, result_type, token, value)?),
     }
 }
 

@@ -126,16 +126,12 @@ fn check_statement(
         Stmt::Block(body) => check_block(alloc, functions, scopes, place, body),
         Stmt::If(condition, body, otherwise) => match otherwise {
             None => check_if(alloc, functions, scopes, place, body, condition),
-            Some(otherwise) => {
-                match check_if(alloc, functions, scopes, place, body, condition) {
-                    Ok(()) => check_part(alloc, functions, scopes, place, otherwise),
-                    Err(stop) => Err(stop),
-                }
-            }
+            Some(otherwise) => match check_if(alloc, functions, scopes, place, body, condition) {
+                Ok(()) => check_part(alloc, functions, scopes, place, otherwise),
+                Err(stop) => Err(stop),
+            },
         },
-        Stmt::While(condition, body) => {
-            check_while(alloc, functions, scopes, place, body, condition)
-        }
+        Stmt::While(test, body) => check_while(alloc, functions, scopes, place, body, test),
         Stmt::Do(body, condition) => check_do(alloc, functions, scopes, place, body, condition),
         Stmt::For(first, condition, after, body) => match first {
             None => check_turns(alloc, functions, scopes, place, body, condition, after),
@@ -150,26 +146,11 @@ fn check_statement(
         },
         Stmt::Switch(value, body) => check_switch(alloc, functions, scopes, place, body, value),
         Stmt::Case(token, constant) => check_case(scopes.words(), labels, *token, *constant),
-        Stmt::Default(token) => {
-            check_default(labels, *token)?;
-            Ok(())
-        }
-        Stmt::Break(token) => {
-            check_leaving(place.may_break, *token)?;
-            Ok(())
-        }
-        Stmt::Continue(token) => {
-            check_leaving(place.in_loop, *token)?;
-            Ok(())
-        }
-        Stmt::Return(token, value) => {
-            check_return(scopes, functions, place.result, *token, value)?;
-            Ok(())
-        }
-        Stmt::Effect(effect) => {
-            check_effect(scopes, functions, effect)?;
-            Ok(())
-        }
+        Stmt::Default(token) => Ok(check_default(labels, *token)?),
+        Stmt::Break(token) => Ok(check_leaving(place.may_break, *token)?),
+        Stmt::Continue(token) => Ok(check_leaving(place.in_loop, *token)?),
+        Stmt::Return(token, value) => check_return(scopes, functions, place.result, *token, value),
+        Stmt::Effect(effect) => Ok(check_effect(scopes, functions, effect)?),
     }
 }
 

@@ -140,8 +140,11 @@ pub first_from : (n : ℕ) (items : List BodyItem) (found : FirstReturn) → fir
 first_from n [] found e = absurd (none-some found e)
 first_from n (Do (text.Return value) ∷ items) found e =
     record {
-      place = 0; value = value; at = refl;
-      is = sym (same_Some (return_at n value) found e) ∙ ap (λ (i : ℕ). return_at i value) (sym (add-zero n)) }
+      place = 0;
+      value = value;
+      at = refl;
+      is = sym (same_Some (return_at n value) found e) ∙ ap (λ (i : ℕ). return_at i value) (sym (add-zero n));
+    }
 first_from n (item ∷ items) found e =
     let f = first_from (n + 1) items found e in
     record { place = suc f.place; value = f.value; at = f.at; is = f.is ∙ ap (λ (i : ℕ). return_at i f.value) (omega arith) }
@@ -187,7 +190,7 @@ module _ (whole : WholeProgram) (none : HasNoFault whole) (p : ℕ) (called : Fu
 
   -- a call of it agrees with its first return, which stands before the call or, as another item, after it
   pub agreed : (k : ℕ) (func : Function) (i : ℕ) (label : List ℕ) (args : List NamedExpression)
-        (result : Option (List ℕ × ℕ)) → slice_get whole.funcs k ≡ Some func
+      (result : Option (List ℕ × ℕ)) → slice_get whole.funcs k ≡ Some func
       → slice_get func.items i ≡ Some (Do (text.Call label args result))
       → label ≡ called.name → agrees_behind p (first_return called.items) k i (is_some result) ≡ true
       → (found : FirstReturn) → first_return called.items ≡ Some found → agrees (is_some result) found ≡ true
@@ -298,8 +301,12 @@ module _ (whole : WholeProgram) (root ranks : List ℕ) (none : HasNoFault whole
     arguments_fit owner start [] [] sizes seen w v standing = tt
     arguments_fit owner start (f ∷ frames) (arg ∷ args) sizes seen w v standing =
         let has = has_size arg f.bits (All-head ExpressionIsWritable arg args w).parts seen.0 sizes.0 in (
-          record { row = row_for owner f; at = ap (slice_get rows) (sym (add-zero start)) ∙ standing 0 f refl;
-              cell = is_cell (term arg) f.bits has (All-head AllocationIsWritable f frames v).bytes; value_has = has },
+          record {
+            row = row_for owner f;
+            at = ap (slice_get rows) (sym (add-zero start)) ∙ standing 0 f refl;
+            cell = is_cell (term arg) f.bits has (All-head AllocationIsWritable f frames v).bytes;
+            value_has = has;
+          },
           arguments_fit owner (start + 1) frames args sizes.1 seen.1 (All-tail ExpressionIsWritable arg args w) (All-tail AllocationIsWritable f frames v)
               (λ i g is. ap (slice_get rows) (let e : (start + 1) + i ≡ start + suc i = omega arith in e) ∙ standing (suc i) g is),
         )
@@ -317,9 +324,10 @@ module _ (whole : WholeProgram) (root ranks : List ℕ) (none : HasNoFault whole
         let part = found.0 in
         let last = last_of func.items b part found.1 in
         let made =
-          ap (λ (o : Option BodyItem). record {
-            statements = flat_map (statements_by numbers.frame) part;
-            ending = option_map_or (end_by numbers (suc b)) o (Fall (suc b)) }) (sym last.1) ∙ found.2 in
+        ap (λ (o : Option BodyItem). record {
+          statements = flat_map (statements_by numbers.frame) part;
+          ending = option_map_or (end_by numbers (suc b)) o (Fall (suc b));
+        }) (sym last.1) ∙ found.2 in
         subst (Holds b) made
         (each b part last.0 found.1 last.1 (in_items func.items part (contained (blocks_of func.items) b part found.1) last.0 (contained part (length part - 1) last.0 last.1)))
 
@@ -329,7 +337,7 @@ module _ (whole : WholeProgram) (root ranks : List ℕ) (none : HasNoFault whole
     return_gives j v size is =
         by_option (λ o. IfSome o ExpressionIsWritable → ((e : NamedExpression) → o ≡ Some e → SeesFrames whole func e) → return_size o ≡ Some size → GivesSize rows k size (option_map term o)) v
         (λ none w seen has. sym (same_Some 0 size has)) (λ t some w seen has. has_size t size w.parts (seen t refl) has)
-          (item_is_written j (Do (text.Return v)) is) ((none.funcs k func at).items j (Do (text.Return v)) is).sees
+        (item_is_written j (Do (text.Return v)) is) ((none.funcs k func at).items j (Do (text.Return v)) is).sees
 
     record GivesFirstSize (value : Option NumberedExpression) : Type 0 where
       found : FirstReturn
@@ -387,7 +395,8 @@ module _ (whole : WholeProgram) (root ranks : List ℕ) (none : HasNoFault whole
         All-cons (KeepsStatement rows k) (Store (term k func at to) (term k func at value)) []
         (record {
           address = has_size k func at to 32 w.0.parts item.at_sees item.at_size;
-          stored = record { size = cell.0; cell = is_cell k func at (term k func at value) cell.0 has cell.2; value_has = has } })
+          stored = record { size = cell.0; cell = is_cell k func at (term k func at value) cell.0 has cell.2; value_has = has };
+        })
         (All-nil (KeepsStatement rows k))
     keeps_statements i item is = All-nil (KeepsStatement rows k)
 
@@ -475,16 +484,18 @@ module _ (whole : WholeProgram) (root ranks : List ℕ) (none : HasNoFault whole
           owned = all_in_range (IsFrameOf rows (Some k)) first n (λ i low.
               let none : Allocation = record { name = []; bits = 0 } in
               let frame = get_or (own_frames func) i none in
-              record { row = row_for (Some k) frame;
-                  at =
+              record {
+                row = row_for (Some k) frame;
+                at =
                     own_stand whole k func at i frame
-                      (slice_get-get_or (own_frames func) i none (omega (arith, length-append func.args func.decls)));
-                  owned = refl });
+                    (slice_get-get_or (own_frames func) i none (omega (arith, length-append func.args func.decls)));
+                owned = refl;
+              });
           apart = range_apart first n;
           inits = all_images (InitFits rows (Some k)) (numbered_init (first + length func.args) func.decls) func.inits
               (λ init c.
-                init_fits rows (Some k) (first + length func.args) func.decls (own_decls_stand whole k func at) init
-                  ((none.funcs k func at).inits init c) (All-contains InitialIsWritable func.inits init w.inits c));
+              init_fits rows (Some k) (first + length func.args) func.decls (own_decls_stand whole k func at) init
+              ((none.funcs k func at).inits init c) (All-contains InitialIsWritable func.inits init w.inits c));
           some = omega (arith, some_block func.items w.ends, count_blocks (numbers k func at) 0 (blocks_of func.items));
           blocks = keeps_block;
           returns = one_size k func at;

@@ -65,7 +65,7 @@ closed h = ended refl h
 
 any_writes : {A : Type 0} (Fine : A → Type 0) (p : Rule true A) (marks : A → List Mark)
     → ((x : A) → Fine x → (more : List Lexeme) (room : Room)
-      → opens (place (tokens printing more (marks x)) room) ≡ true)
+    → opens (place (tokens printing more (marks x)) room) ≡ true)
     → ((x : A) → Fine x → (room : Room) → Plain room p (marks x) x) → (o : Option A) → IfSome o Fine → {room : Room} → Writes opens [] (maybe opens p).form (if_any marks o) room room o
 any_writes Fine p marks begins each None w = record { prints = refl; reads = λ more stops. rw stops refl }
 any_writes Fine p marks begins each (Some x) w {room = room} = let h = each x w room in record { prints = h.prints; reads = λ more stops. rw (begins x w more room, h.reads more refl) refl }
@@ -92,7 +92,7 @@ begin_writes blank w b h = opening_writes blank b then λ _. as_value (word_writ
 worded : {A : Type 0} {goes : Place → Bool} {end inner : List Mark} {a b : Room} {x : A} (rule : Lexeme → Rule true A) (blank : ℕ) (w : List ℕ) → is_separator blank ≡ true → is_word_text w ≡ true
     → ((left : ℕ) → Writes goes end (rule (record { kind = kinds.Word; text = w; left = left })).form inner a b x)
     → Writes goes end (bound opening.form (λ _. bound some_word.form (λ w. (rule w).form)))
-      (canonical.opens blank ∷ a_word w ∷ inner) a b x
+    (canonical.opens blank ∷ a_word w ∷ inner) a b x
 unfolding opening some_word
 worded rule blank w b h i = record { prints = rw (b, h) (i 0).prints; reads = λ more free. (i _).reads more free }
 
@@ -133,7 +133,7 @@ unfolding offset
 offset_writes o lt =
     closed
     (begin_writes space (codes "dec_unsigned") refl refl then λ _. fixed_writes 32 (omega arith)
-      then λ _. last (at_most_writes (2 ^ 32 - 1) o (omega (arith, lt)) (omega (arith, lt))))
+    then λ _. last (at_most_writes (2 ^ 32 - 1) o (omega (arith, lt)) (omega (arith, lt))))
 
 label_tail_writes : (n : List ℕ) → IsName n → {room : Room} → Inside room label_tail (a_number 32 ∷ ref_marks (codes "lref") n ++ dec_unsigned_marks 32 0) n
 unfolding label_tail zero_offset
@@ -200,7 +200,7 @@ unfolding alloc
 frame_writes f w room =
     closed
     (opening_writes line_feed refl then λ _. one_frame_writes then λ _. word_writes (codes "alloc") refl
-      then λ _. fixed_writes 32 (omega arith) then λ _. name_writes f.name w.name
+    then λ _. fixed_writes 32 (omega arith) then λ _. name_writes f.name w.name
     then λ _. last (bits_writes f.bits w.some w.bytes w.small))
 
 frames_write : (list : List ℕ) (fs : List Allocation) → is_word_text list ≡ true → All AllocationIsWritable fs
@@ -326,9 +326,9 @@ mutual
       (λ left. number_writes 8 64 8 s (omega (arith, w.0.small)) (omega (arith, w.0.some, w.0.bytes)) w.0.small w.0.bytes then λ _. last (term_writes e depth (omega arith) w.1)))
   term_writes (Apply op ss es) (suc depth) d w {room = room} = subst (λ (ts : NamedExpressions). Plain room (expr (suc depth)) (term_marks (Apply op ss es)) (Apply op ss ts)) (same_terms es)
       (closed
-        (worded (expr_tail (expr depth)) space (spelling op) refl (own_word op) (λ left.
-          operator_writes (expr depth) op left
-            (sizes_write op ss w.0 then λ _. last (terms_write es depth (operand_count op) w.1 (omega arith) w.2)))))
+      (worded (expr_tail (expr depth)) space (spelling op) refl (own_word op) (λ left.
+      operator_writes (expr depth) op left
+      (sizes_write op ss w.0 then λ _. last (terms_write es depth (operand_count op) w.1 (omega arith) w.2)))))
 
   terms_write : (ts : NamedExpressions) (depth n : ℕ) → count ts ≡ n → most_deep ts ≤ depth → AllPartsAreWritable ts
       → {room : Room} → Writes never [] (exactly_form n (expr depth).form) (terms_marks ts) room room (list_of ts)
@@ -359,14 +359,14 @@ act_writes (Store at value) w = closed (worded item_tail line_feed (codes "store
 act_writes (Jump n) w =
     closed
     (worded item_tail line_feed (codes "jump") refl refl (λ left. label_writes space n refl w
-      then λ _. word_writes (codes "leaving") refl then λ _. last (fixed_writes 0 (omega arith))))
+    then λ _. word_writes (codes "leaving") refl then λ _. last (fixed_writes 0 (omega arith))))
 act_writes (Switch value targets others) w = closed (worded item_tail line_feed (codes "switch") refl refl (λ left. grouped (term_marks value) (flat_map target_marks targets) (default_marks others)
     (whole_writes value w.0
-      then λ _. until
-        (same_row opens_target target target_marks (λ t w more room. refl) (λ t w room. target_writes t w) targets w.1)
-        (λ more. refl)
-        (λ _. last
-          (closed (begin_writes space (codes "default") refl refl then λ _. last (label_writes space others refl w.2)))))))
+    then λ _. until
+    (same_row opens_target target target_marks (λ t w more room. refl) (λ t w room. target_writes t w) targets w.1)
+    (λ more. refl)
+    (λ _. last
+    (closed (begin_writes space (codes "default") refl refl then λ _. last (label_writes space others refl w.2)))))))
 act_writes (Call n args to) w = closed (worded item_tail line_feed (codes "call") refl refl (λ left. label_writes space n refl w.0
     then λ _. grouped (flat_map term_marks args) (a_word (codes "result") ∷ []) (if_any address_marks to)
     (until (same_row opens whole_expr term_marks (λ t w more room. term_opens t more room) (λ t w room. whole_writes t w) args w.1) (λ more. refl)
@@ -374,9 +374,9 @@ act_writes (Call n args to) w = closed (worded item_tail line_feed (codes "call"
 act_writes (Return value) w =
     closed
     (worded item_tail line_feed (codes "return") refl refl (λ left.
-      last_row (λ more. refl)
-        (any_writes ExpressionIsWritable whole_expr term_marks (λ t w more room. term_opens t more room)
-          (λ t w room. whole_writes t w) value w)))
+    last_row (λ more. refl)
+    (any_writes ExpressionIsWritable whole_expr term_marks (λ t w more room. term_opens t more room)
+    (λ t w room. whole_writes t w) value w)))
 
 item_writes : (x : BodyItem) → ItemIsWritable x → {room : Room} → Plain room item (entry_marks x) x
 unfolding item item_tail label_item
@@ -394,8 +394,8 @@ stmts_write : (xs : List BodyItem) → All ItemIsWritable xs → ends_well xs �
 unfolding stmts closing_after
 stmts_write xs all good = closed (begin_writes space (codes "stmts") refl refl
     then λ _. ends {f = λ xs. xs} (λ xs. bound (closing_after xs).form (λ _. made xs))
-      (same_row opens item entry_marks (λ x w more room. item_opens x more room) (λ x w room. item_writes x w) xs all)
-      (λ more. refl) (λ z more e free. rw (e, good) refl))
+    (same_row opens item entry_marks (λ x w more room. item_opens x more room) (λ x w room. item_writes x w) xs all)
+    (λ more. refl) (λ z more e free. rw (e, good) refl))
 
 scope_writes : (f : Function) → FunctionIsWritable f → {room : Room} → Writes never [] scope.form (scope_marks f.decls f.inits f.items) (needs f.decls room) room (f.decls, f.inits, f.items)
 unfolding scope
@@ -448,13 +448,13 @@ last_of_all {A = A} {f = f} {b = b} h = ends (λ x. bound closing.form (λ _. bo
   where
     over : (more : List Lexeme) (z : A) → is_more (place more b) ≡ false
         → (bound closing.form (λ _. bound end.form (λ _. made (f z)))).reading
-            (place (tokens printing more (closes ∷ [])) b) ≡ Ok (f z, place more b)
+        (place (tokens printing more (closes ∷ [])) b) ≡ Ok (f z, place more b)
     over [] z free = refl
     over (t ∷ ts) z free = absurd cc
 
 pub program_writes : (whole : WholeProgram) → IsWritable whole → (room : Room)
     → writing.Writes printing is_more [] program.form (program_marks whole)
-      (needs whole.decls (all_need whole.funcs room)) room whole
+    (needs whole.decls (all_need whole.funcs room)) room whole
 unfolding program
 program_writes whole w room = closed (begin_writes space (codes "alf") refl refl then λ _. heading_writes
     then λ _. grouped (names_marks (codes "exports") whole.exports whole.labels) (names_marks (codes "imports") [] []) (globals_marks whole)

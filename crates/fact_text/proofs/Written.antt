@@ -161,17 +161,22 @@ module _ {A : Type 0} (goes : List A → Place → Bool) (p : List A → Rule tr
 
   in_turn_of : (done xs : List A) → AllFine Fine done xs → (more : List Lexeme)
       → InTurn goes (λ y. (p y).form) (length xs) done (after (tokens printing more (all_lines line done xs)))
-        (done ++ xs) (after more)
+      (done ++ xs) (after more)
   in_turn_of done [] h more = (append-nil done, refl)
   in_turn_of done (x ∷ xs) h more =
       let others = tokens printing more (all_lines line (done ++ x ∷ []) xs) in
       let turns : InTurn goes (λ y. (p y).form) (length xs) (done ++ x ∷ []) (after others) (done ++ (x ∷ xs)) (after more)
       = subst (λ ys. InTurn goes (λ y. (p y).form) (length xs) (done ++ x ∷ []) (after others) ys (after more)) (append_assoc done (x ∷ []) xs) (in_turn_of (done ++ x ∷ []) xs h.1 more) in
-      rw (tokens_append more (line done x) (all_lines line (done ++ x ∷ []) xs))
-      (starts done x h.0 others,
-        (done ++ x ∷ [], after others,
+      rw (tokens_append more (line done x) (all_lines line (done ++ x ∷ []) xs)) (
+        starts done x h.0 others,
+        (
+          done ++ x ∷ [],
+          after others,
           reads_spells (p done) (after (tokens printing others (line done x))) (done ++ x ∷ []) (after others)
-            ((each done x h.0).reads others refl), turns))
+              ((each done x h.0).reads others refl),
+          turns,
+        ),
+      )
 
   grow_reads : (done xs : List A) → AllFine Fine done xs → (more : List Lexeme) → goes (done ++ xs) (after more) ≡ false
       → (grow goes p done).form.reading (after (tokens printing more (all_lines line done xs))) ≡ Ok (done ++ xs, after more)
@@ -201,14 +206,14 @@ node_lines done (x ∷ xs) = rw (node_lines (done ++ x ∷ []) xs, one_longer do
 nodes_print : (xs : List NamedNode) → length xs ≤ 2 ^ 32 → All NodeIsWritable xs → list_all is_mark (nodes_marks 0 xs) ≡ true
 nodes_print xs le w = rw (← node_lines [] xs)
     (lines_print node_begins next_node node_line NodeFine (λ done x h more. refl)
-      (λ done x h. as_value (node_writes (length done) h.0 x h.1)) [] xs (nodes_fine [] xs (omega (arith, le)) w))
+    (λ done x h. as_value (node_writes (length done) h.0 x h.1)) [] xs (nodes_fine [] xs (omega (arith, le)) w))
 
 nodes_read : (xs : List NamedNode) → length xs ≤ 2 ^ 32 → All NodeIsWritable xs → (more : List Lexeme) → line_is (codes "node") (after more) ≡ false
     → (grow node_begins next_node []).form.reading (after (tokens printing more (nodes_marks 0 xs))) ≡ Ok (xs, after more)
 nodes_read xs le w more stops = rw (← node_lines [] xs)
     (grow_reads node_begins next_node node_line NodeFine (λ done x h more. refl)
-      (λ done x h. as_value (node_writes (length done) h.0 x h.1)) [] xs (nodes_fine [] xs (omega (arith, le)) w) more
-      stops)
+    (λ done x h. as_value (node_writes (length done) h.0 x h.1)) [] xs (nodes_fine [] xs (omega (arith, le)) w) more
+    stops)
 
 -- ---- scopes
 
@@ -231,14 +236,14 @@ scope_lines done (x ∷ xs) = rw (scope_lines (done ++ x ∷ []) xs, one_longer 
 scopes_print : (xs : List ScopeRow) → length xs ≤ 2 ^ 32 → All ScopeIsWritable xs → list_all is_mark (scopes_marks 0 xs) ≡ true
 scopes_print xs le w = rw (← scope_lines [] xs)
     (lines_print scope_begins next_scope scope_line ScopeFine (λ done x h more. refl)
-      (λ done x h. as_value (scope_writes (length done) h.0 x h.1)) [] xs (scopes_fine [] xs (omega (arith, le)) w))
+    (λ done x h. as_value (scope_writes (length done) h.0 x h.1)) [] xs (scopes_fine [] xs (omega (arith, le)) w))
 
 scopes_read : (xs : List ScopeRow) → length xs ≤ 2 ^ 32 → All ScopeIsWritable xs → (more : List Lexeme) → line_is (codes "scope") (after more) ≡ false
     → (grow scope_begins next_scope []).form.reading (after (tokens printing more (scopes_marks 0 xs))) ≡ Ok (xs, after more)
 scopes_read xs le w more stops = rw (← scope_lines [] xs)
     (grow_reads scope_begins next_scope scope_line ScopeFine (λ done x h more. refl)
-      (λ done x h. as_value (scope_writes (length done) h.0 x h.1)) [] xs (scopes_fine [] xs (omega (arith, le)) w) more
-      stops)
+    (λ done x h. as_value (scope_writes (length done) h.0 x h.1)) [] xs (scopes_fine [] xs (omega (arith, le)) w) more
+    stops)
 
 -- ---- facts
 
@@ -325,7 +330,7 @@ facts_read : (form : ℕ) (fs : List Fact) → AllFine (FactFine form) [] fs →
     → (grow fact_begins (next_fact form) []).form.reading (after (tokens printing more (flat_map fact_marks fs))) ≡ Ok (fs, after more)
 facts_read form fs w more stops = rw (← fact_lines [] fs)
     (grow_reads fact_begins (next_fact form) fact_line (FactFine form) (λ done f h more. fact_starts f more)
-      (next_writes form) [] fs w more stops)
+    (next_writes form) [] fs w more stops)
 
 -- ---- facts in the order of lines
 
@@ -354,9 +359,10 @@ tail_ascends f fs h i j d lt within = h (suc i) (suc j) d (omega (arith, lt)) (o
 facts_fine : (form : ℕ) (done fs : List Fact) → HeadFollows (last_of done) fs → AllPairs IsBefore fs → All (FactIsWritable form) fs → AllFine (FactFine form) done fs
 facts_fine form done [] head ascends w = tt
 facts_fine form done (f ∷ fs) head ascends w =
-    let next : HeadFollows (last_of (done ++ f ∷ [])) fs = rw (last_push done f) (head_follows f fs ascends) in
-    (record { fits = All-head (FactIsWritable form) f fs w; kind = head.0; order = head.1 },
-      facts_fine form (done ++ f ∷ []) fs next (tail_ascends f fs ascends) (All-tail (FactIsWritable form) f fs w))
+    let next : HeadFollows (last_of (done ++ f ∷ [])) fs = rw (last_push done f) (head_follows f fs ascends) in (
+      record { fits = All-head (FactIsWritable form) f fs w; kind = head.0; order = head.1 },
+      facts_fine form (done ++ f ∷ []) fs next (tail_ascends f fs ascends) (All-tail (FactIsWritable form) f fs w),
+    )
 
 first_fine : (fs : List Fact) → HeadFollows None fs
 first_fine [] = tt
@@ -399,11 +405,15 @@ count_bound_writes v lt = begins_writes (codes "count-bound") refl then λ _. as
 path_bound_writes : (b : ℕ × BoundWord) → b.0 < 2 ^ 64 → Plain path_bound (path_bound_marks b) b
 unfolding path_bound begins number line_word next_word told
 path_bound_writes (v, Least) lt =
-    record { prints = rw (decimal_word v (omega (arith, lt))) refl;
-    reads = λ more free. rw (decimal_within (2 ^ 64 - 1) v _ (omega (arith, lt)) (omega (arith, lt))) refl }
+    record {
+      prints = rw (decimal_word v (omega (arith, lt))) refl;
+      reads = λ more free. rw (decimal_within (2 ^ 64 - 1) v _ (omega (arith, lt)) (omega (arith, lt))) refl;
+    }
 path_bound_writes (v, Stopped) lt =
-    record { prints = rw (decimal_word v (omega (arith, lt))) refl;
-    reads = λ more free. rw (decimal_within (2 ^ 64 - 1) v _ (omega (arith, lt)) (omega (arith, lt))) refl }
+    record {
+      prints = rw (decimal_word v (omega (arith, lt))) refl;
+      reads = λ more free. rw (decimal_within (2 ^ 64 - 1) v _ (omega (arith, lt)) (omega (arith, lt))) refl;
+    }
 
 -- ---- the end
 
@@ -420,13 +430,13 @@ cert_tokens c = tokens printing end_tokens (if_any cert_marks c)
 
 maybe_cert_reads : (c : Option Certificate) → IfSome c CertificateIsWritable
     → (maybe (line_is (codes "cert")) cert).form.reading (after (tokens printing end_tokens (if_any cert_marks c)))
-      ≡ Ok (c, after end_tokens)
+    ≡ Ok (c, after end_tokens)
 maybe_cert_reads None w = refl
 maybe_cert_reads (Some c) w = rw ((cert_writes c w).reads end_tokens refl) refl
 
 maybe_path_reads : (b : Option (ℕ × BoundWord)) → IfSome b (λ bound. bound.0 < 2 ^ 64) → (c : Option Certificate)
     → (maybe (line_is (codes "path-bound")) path_bound).form.reading
-      (after (tokens printing (tokens printing end_tokens (if_any cert_marks c)) (if_any path_bound_marks b)))
+    (after (tokens printing (tokens printing end_tokens (if_any cert_marks c)) (if_any path_bound_marks b)))
     ≡ Ok (b, after (tokens printing end_tokens (if_any cert_marks c)))
 maybe_path_reads None w None = refl
 maybe_path_reads None w (Some c) = refl
@@ -439,9 +449,12 @@ tail_reads r w =
     let p = if_any path_bound_marks r.path_bound in
     let v = count_bound_marks r.count_bound in
     rw (tokens_append [] (v ++ p ++ c) ending_marks, tokens_append end_tokens (v ++ p) c, tokens_append (tokens printing end_tokens c) v p)
-    (rw
-      ((count_bound_writes r.count_bound w.count_bound).reads (tokens printing (tokens printing end_tokens c) p) refl,
-        maybe_path_reads r.path_bound w.path_bound r.cert, maybe_cert_reads r.cert w.certificate, ending_reads) refl)
+    (rw (
+      (count_bound_writes r.count_bound w.count_bound).reads (tokens printing (tokens printing end_tokens c) p) refl,
+      maybe_path_reads r.path_bound w.path_bound r.cert,
+      maybe_cert_reads r.cert w.certificate,
+      ending_reads,
+    ) refl)
 
 path_prints : (b : Option (ℕ × BoundWord)) → IfSome b (λ bound. bound.0 < 2 ^ 64) → list_all is_mark (if_any path_bound_marks b) ≡ true
 path_prints None w = refl
@@ -456,9 +469,14 @@ tail_prints r w =
     let c = if_any cert_marks r.cert in
     let p = if_any path_bound_marks r.path_bound in
     let v = count_bound_marks r.count_bound in
-    rw (list_all-append is_mark (v ++ p ++ c) ending_marks, list_all-append is_mark (v ++ p) c,
-          list_all-append is_mark v p, (count_bound_writes r.count_bound w.count_bound).prints,
-          path_prints r.path_bound w.path_bound, cert_prints r.cert w.certificate) refl
+    rw (
+      list_all-append is_mark (v ++ p ++ c) ending_marks,
+      list_all-append is_mark (v ++ p) c,
+      list_all-append is_mark v p,
+      (count_bound_writes r.count_bound w.count_bound).prints,
+      path_prints r.path_bound w.path_bound,
+      cert_prints r.cert w.certificate,
+    ) refl
 
 -- ---- reports
 
@@ -489,13 +507,13 @@ no_node_first (Alarm n k ∷ fs) more h = refl
 
 no_node : (xs : List ScopeRow) (fs : List Fact) (more : List Lexeme) → LineOfBound more
     → line_is (codes "node")
-        (after (tokens printing (tokens printing more (flat_map fact_marks fs)) (scopes_marks 0 xs))) ≡ false
+    (after (tokens printing (tokens printing more (flat_map fact_marks fs)) (scopes_marks 0 xs))) ≡ false
 no_node [] fs more h = no_node_first fs more h
 no_node (x ∷ xs) fs more h = refl
 
 lists_read : (r : Reported) → IsWritable r → (more : List Lexeme) → LineOfBound more
     → (lists r.form).form.reading (after (tokens printing more (lists_marks r)))
-      ≡ Ok ((r.nodes, r.scopes, r.facts), after more)
+    ≡ Ok ((r.nodes, r.scopes, r.facts), after more)
 unfolding lists
 lists_read r w more h =
     let f = flat_map fact_marks r.facts in
@@ -513,9 +531,13 @@ lists_print r w =
     let f = flat_map fact_marks r.facts in
     let s = scopes_marks 0 r.scopes in
     let n = nodes_marks 0 r.nodes in
-    rw (list_all-append is_mark (n ++ s) f, list_all-append is_mark n s, nodes_print r.nodes w.few_nodes w.nodes,
-          scopes_print r.scopes w.few_scopes w.scopes,
-          facts_print r.form r.facts (facts_fine r.form [] r.facts (first_fine r.facts) w.ascends w.facts)) refl
+    rw (
+      list_all-append is_mark (n ++ s) f,
+      list_all-append is_mark n s,
+      nodes_print r.nodes w.few_nodes w.nodes,
+      scopes_print r.scopes w.few_scopes w.scopes,
+      facts_print r.form r.facts (facts_fine r.form [] r.facts (first_fine r.facts) w.ascends w.facts),
+    ) refl
 
 heading_writes : (form : ℕ) → (form ≡ 1) ⊎ (form ≡ 2) → Plain heading (heading_marks form) form
 unfolding heading begins line_word next_word told
@@ -531,9 +553,13 @@ report_reads r w =
 
 report_prints : (r : Reported) → IsWritable r → list_all is_mark (report_marks r) ≡ true
 report_prints r w =
-    rw (list_all-append is_mark (heading_marks r.form ++ lists_marks r) (tail_marks r),
-          list_all-append is_mark (heading_marks r.form) (lists_marks r), (heading_writes r.form w.form).prints,
-          lists_print r w, tail_prints r w) refl
+    rw (
+      list_all-append is_mark (heading_marks r.form ++ lists_marks r) (tail_marks r),
+      list_all-append is_mark (heading_marks r.form) (lists_marks r),
+      (heading_writes r.form w.form).prints,
+      lists_print r w,
+      tail_prints r w,
+    ) refl
 
 same_tokens : (more : List Lexeme) (ms : List Mark) → tokens printing more ms ≡ tokens_before more ms
 same_tokens more [] = refl
@@ -543,8 +569,8 @@ same_tokens more (m ∷ ms) = ap (λ (ts : List Lexeme). token_before ts m ∷ t
 pub text_spells : EachPrintedTextIsCut → (r : Reported) → IsWritable r → SpellsReport (report_text r) r
 text_spells cut r w =
     let e : tokens_of (report_text r) ≡ tokens printing [] (report_marks r) =
-      cut (marks.begins (codes "facts")) (a_number r.form ∷ (lists_marks r ++ tail_marks r)) refl (report_prints r w)
-        ∙ sym (same_tokens [] (report_marks r)) in
+    cut (marks.begins (codes "facts")) (a_number r.form ∷ (lists_marks r ++ tail_marks r)) refl (report_prints r w)
+    ∙ sym (same_tokens [] (report_marks r)) in
     (after [], rw e (reads_spells report (after (tokens printing [] (report_marks r))) r (after []) (report_reads r w)))
 
 -- reading gives one report

@@ -39,8 +39,8 @@ owned_is words f file (Declaration first o ds ∷ xs) = owned_is words f (extern
 owned_is words f file (Definition first o name params body ∷ xs) =
     let further = external_after file (Definition first o name params body) in
     let rest : owned_in words (f + 1) xs ≡ owned_from words (suc f) (functions_in further xs) =
-      ap (λ (k : ℕ). owned_in words k xs) (let one : f + 1 ≡ suc f = omega arith in one)
-        ∙ owned_is words (suc f) further xs in
+    ap (λ (k : ℕ). owned_in words k xs) (let one : f + 1 ≡ suc f = omega arith in one)
+    ∙ owned_is words (suc f) further xs in
     ap (λ (os : List Object). map (parameter_object f) params ++ (all_locals_in words f (statements_of body) ++ os)) rest
     ∙ sym (append_assoc (map (parameter_object f) params) (all_locals_in words f (statements_of body)) (owned_from words (suc f) (functions_in further xs)))
 
@@ -57,7 +57,7 @@ each_own P words k (g ∷ fs) (suc i) function at h =
     (each_own P words (suc k) fs i function at (each_parts P (own_objects words k g) (owned_from words (suc k) fs) h).1)
 
 pub apart_own : (R : Object → Object → Type 0) (words : List Word) (k : ℕ) (fs : List Function) (i : ℕ)
-      (function : Function) → slice_get fs i ≡ Some function → Apart R (owned_from words k fs)
+    (function : Function) → slice_get fs i ≡ Some function → Apart R (owned_from words k fs)
     → Apart R (own_objects words (k + i) function)
 apart_own R words k [] i function at h = absurd (none-some function at)
 apart_own R words k (g ∷ fs) zero function at h =
@@ -92,8 +92,8 @@ module _ (program : Program) (names : HasNames program) where
   objects_part f [] are apart = nothing program f 0
   objects_part f (g ∷ gs) are apart =
       joined program names f 0 0 0 0 (g ∷ []) gs (object_frame program g.token g.bits ∷ [])
-          (map (λ (o : Object). object_frame program o.token o.bits) gs) refl (apart.0, tt)
-          (an_object program f 0 g are.0) (objects_part f gs are.1 apart.1)
+      (map (λ (o : Object). object_frame program o.token o.bits) gs) refl (apart.0, tt)
+      (an_object program f 0 g are.0) (objects_part f gs are.1 apart.1)
 
 -- the frames that function f sees
 pub record View (program : Program) (globals : List Object) (f : ℕ) (function : Function) : Type 0 where
@@ -138,7 +138,7 @@ module _ (unit : UnitTree) (names : HasNames (program_of unit)) where
       let same : 0 + f ≡ f = omega arith in
       let apart : Apart (OfOtherFrames whole names) (own_objects unit.words f function) =
       subst (λ (n : ℕ). Apart (OfOtherFrames whole names) (own_objects unit.words n function)) same
-          (apart_own (OfOtherFrames whole names) unit.words 0 whole.functions f function at objects_apart.right)
+      (apart_own (OfOtherFrames whole names) unit.words 0 whole.functions f function at objects_apart.right)
       in
       let own : EachOf (IsObject whole) (own_objects unit.words f function) =
       subst (λ (n : ℕ). EachOf (IsObject whole) (own_objects unit.words n function)) same (each_own (IsObject whole) unit.words 0 whole.functions f function at all_objects.1)
@@ -146,19 +146,19 @@ module _ (unit : UnitTree) (names : HasNames (program_of unit)) where
       let across : Across (OfOtherFrames whole names) globals (own_objects unit.words f function) =
       each_when (λ (g : Object). EachOf (OfOtherFrames whole names g) owned) (λ (g : Object). EachOf (OfOtherFrames whole names g) (own_objects unit.words f function)) globals
       (λ g h.
-          subst (λ (n : ℕ). EachOf (OfOtherFrames whole names g) (own_objects unit.words n function)) same
-            (each_own (OfOtherFrames whole names g) unit.words 0 whole.functions f function at h)) objects_apart.across
+      subst (λ (n : ℕ). EachOf (OfOtherFrames whole names g) (own_objects unit.words n function)) same
+      (each_own (OfOtherFrames whole names g) unit.words 0 whole.functions f function at h)) objects_apart.across
       in
       let parts = apart_parts (OfOtherFrames whole names) params locals apart in
       let objects = each_parts (IsObject whole) params locals own in
       let across_params =
-        each_when (λ (g : Object). EachOf (OfOtherFrames whole names g) (params ++ locals))
-          (λ (g : Object). EachOf (OfOtherFrames whole names g) params) globals
-          (λ g h. (each_parts (OfOtherFrames whole names g) params locals h).0) across in
+      each_when (λ (g : Object). EachOf (OfOtherFrames whole names g) (params ++ locals))
+      (λ (g : Object). EachOf (OfOtherFrames whole names g) params) globals
+      (λ g h. (each_parts (OfOtherFrames whole names g) params locals h).0) across in
       let across_locals =
-        each_when (λ (g : Object). EachOf (OfOtherFrames whole names g) (params ++ locals))
-          (λ (g : Object). EachOf (OfOtherFrames whole names g) locals) globals
-          (λ g h. (each_parts (OfOtherFrames whole names g) params locals h).1) across in
+      each_when (λ (g : Object). EachOf (OfOtherFrames whole names g) (params ++ locals))
+      (λ (g : Object). EachOf (OfOtherFrames whole names g) locals) globals
+      (λ g h. (each_parts (OfOtherFrames whole names g) params locals h).1) across in
       let global = globals_part f in
       let args = parameters_part whole names f low function.parameters objects.0 parts.left in
       let decls = statements_part whole names f low function.body 0 (omega (arith, few)) objects.1 parts.right in
@@ -195,16 +195,16 @@ module _ (unit : UnitTree) (names : HasNames (program_of unit)) where
       each_joined (IsLater k all) (parameter_frames whole function.parameters) (all_frames_in whole k 0 function.body)
       (each_when (IsFrameOf whole k 0 0 params) (IsLater k all) (parameter_frames whole function.parameters)
       (λ a is.
-          later k 0 (let low : k ≤ k = omega arith in low)
-            (wider whole k 0 0 0 0 params all a (omega arith) (omega arith)
-              (λ o c. Contains-append_left (params ++ locals) rest o (Contains-append_left params locals o c)) is))
-        view.args.known)
+      later k 0 (let low : k ≤ k = omega arith in low)
+      (wider whole k 0 0 0 0 params all a (omega arith) (omega arith)
+      (λ o c. Contains-append_left (params ++ locals) rest o (Contains-append_left params locals o c)) is))
+      view.args.known)
       (each_when (IsFrameOf whole k 0 (0 + calls_in_all whole function.body) locals) (IsLater k all) (all_frames_in whole k 0 function.body)
       (λ a is. later k (0 + calls_in_all whole function.body) (let low : k ≤ k = omega arith in low)
       (wider whole k 0 (0 + calls_in_all whole function.body) 0 (0 + calls_in_all whole function.body) locals all a
-          (omega arith) (omega arith)
-          (λ o c. Contains-append_left (params ++ locals) rest o (Contains-append_right params locals o c)) is))
-        view.decls.known)
+      (omega arith) (omega arith)
+      (λ o c. Contains-append_left (params ++ locals) rest o (Contains-append_right params locals o c)) is))
+      view.decls.known)
 
   -- those of further functions are later
   later_still : (k : ℕ) (before rest : List Object) (frames : List Allocation) → EachOf (IsLater (suc k) rest) frames → EachOf (IsLater k (before ++ rest)) frames
@@ -214,7 +214,7 @@ module _ (unit : UnitTree) (names : HasNames (program_of unit)) where
       one a (later g count low is) =
           later g count (omega (arith, low))
           (wider whole g 0 count 0 count rest (before ++ rest) a (omega arith) (omega arith)
-            (λ o c. Contains-append_right before rest o c) is)
+          (λ o c. Contains-append_right before rest o c) is)
 
   own_before_later : (k : ℕ) (function : Function) (rest : List Object) (xs ys : List Allocation) → Across (OfOtherFrames whole names) (own_objects unit.words k function) rest
       → EachOf (IsFrameOf whole k 0 (calls_in_all whole function.body) (own_objects unit.words k function)) xs → EachOf (IsLater (suc k) rest) ys → Across DifferInName xs ys
@@ -225,11 +225,11 @@ module _ (unit : UnitTree) (names : HasNames (program_of unit)) where
       differ : (a : Allocation) → IsFrameOf whole k 0 (calls_in_all whole function.body) (own_objects unit.words k function) a → (b : Allocation) → IsLater (suc k) rest b → DifferInName a b
       differ a is b (later g count low is') =
           frames_differ whole names k g 0 (calls_in_all whole function.body) 0 count (own_objects unit.words k function)
-              rest a b across (λ l same from to from' to'. absurd (omega (arith, same, low))) is is'
+          rest a b across (λ l same from to from' to'. absurd (omega (arith, same, low))) is is'
 
   own_known : (k : ℕ) (function : Function) (view : View whole globals k function)
       → EachOf (IsFrameOf whole k 0 (calls_in_all whole function.body) (own_objects unit.words k function))
-        (own_frames (lowered_function whole k function))
+      (own_frames (lowered_function whole k function))
   own_known k function view =
       let params = map (parameter_object k) function.parameters in
       let locals = all_locals_in unit.words k function.body in
@@ -237,7 +237,7 @@ module _ (unit : UnitTree) (names : HasNames (program_of unit)) where
       each_joined (IsFrameOf whole k 0 calls (params ++ locals)) (parameter_frames whole function.parameters) (all_frames_in whole k 0 function.body)
       (all_wider whole k 0 0 0 calls params (params ++ locals) (parameter_frames whole function.parameters) (omega arith) (omega arith) (λ o c. Contains-append_left params locals o c) view.args.known)
       (all_wider whole k 0 (0 + calls) 0 calls locals (params ++ locals) (all_frames_in whole k 0 function.body)
-        (omega arith) (omega arith) (λ o c. Contains-append_right params locals o c) view.decls.known)
+      (omega arith) (omega arith) (λ o c. Contains-append_right params locals o c) view.decls.known)
 
   own_apart : (k : ℕ) (function : Function) (view : View whole globals k function) → Apart DifferInName (own_frames (lowered_function whole k function))
   own_apart k function view = apart_joined DifferInName (parameter_frames whole function.parameters) (all_frames_in whole k 0 function.body) view.args.apart view.decls.apart view.args_decls
@@ -271,10 +271,10 @@ module _ (unit : UnitTree) (names : HasNames (program_of unit)) where
   pub all_frames_apart : Apart DifferInName (frames_of (lowered unit))
   all_frames_apart =
       let functions =
-        functions_apart 0 whole.functions
-          (λ i function at.
-            subst (λ (n : ℕ). View whole globals n function) (let same : i ≡ 0 + i = omega arith in same)
-              (view_of i function at)) objects_apart.right in
+      functions_apart 0 whole.functions
+      (λ i function at.
+      subst (λ (n : ℕ). View whole globals n function) (let same : i ≡ 0 + i = omega arith in same)
+      (view_of i function at)) objects_apart.right in
       apart_joined DifferInName (global_frames whole) (flat_map own_frames (lowered_from whole 0 whole.functions))
-          (globals_part 0).apart functions.1
-          (globals_before (flat_map own_frames (lowered_from whole 0 whole.functions)) functions.0)
+      (globals_part 0).apart functions.1
+      (globals_before (flat_map own_frames (lowered_from whole 0 whole.functions)) functions.0)

@@ -102,7 +102,7 @@ module _ (o : Shape) (w : Tally) (is : IsTally o w) (i t m : ℕ) (scope : key_a
 
   gone_within : (n k : ℕ) (past : List ℕ) (s : ℕ × ℕ) → IsWithin (open_count o t m (n ∷ past)) s
       → IsWithin (open_count o t m (k ∷ n ∷ past))
-        (span_after (leaves o (key_at w.scopes i) n k) (is_at (key_at w.nodes i) k) s)
+      (span_after (leaves o (key_at w.scopes i) n k) (is_at (key_at w.nodes i) k) s)
   gone_within n k past s within =
       rw (left_by n k, entered_by k)
       (step_within (is_held o t k) (is_held o t n) (m == k) k m (open_execution o t (n ∷ past)) s refl (not_entered o t m k held) (open_none o t n past) within)
@@ -163,8 +163,8 @@ generated_wider b left s i =
     elim (low_or_over i (length b)) [
       | inl low ↦
           subst (λ (t : Option (ℕ × ℕ)). IsWider (spread_at b i) t)
-            (sym (at-generated (length b) (λ j. spread_after (left j) (spread_at b j) (s j)) i None low))
-            (after_wider (left i) (spread_at b i) (s i))
+          (sym (at-generated (length b) (λ j. spread_after (left j) (spread_at b j) (s j)) i None low))
+          (after_wider (left i) (spread_at b i) (s i))
       | inr over ↦ subst (λ (t : Option (ℕ × ℕ)). IsWider t (spread_at (generated (length b) (λ j. spread_after (left j) (spread_at b j) (s j))) i)) (sym (past_end b i None over)) tt
     ]
 
@@ -186,17 +186,17 @@ module _ (w : Outlined → Tally) (tallied : (o : Outlined) → IsOutline (shape
 
   gone_at : (o : Shape) (v : Tally) (r : List (ℕ × ℕ)) (n k i : ℕ) → i < length r
       → span_at (spans_gone o v r n k) i
-        ≡ span_after (leaves o (key_at v.scopes i) n k) (is_at (key_at v.nodes i) k) (span_at r i)
+      ≡ span_after (leaves o (key_at v.scopes i) n k) (is_at (key_at v.nodes i) k) (span_at r i)
   gone_at o v r n k i low = at-generated (length r) (λ j. span_after (leaves o (key_at v.scopes j) n k) (is_at (key_at v.nodes j) k) (span_at r j)) i (0, 0) low
 
   book_at : (o : Shape) (v : Tally) (r : List (ℕ × ℕ)) (b : List (Option (ℕ × ℕ))) (n k i : ℕ) → i < length b
       → spread_at (spreads_gone o v r b n k) i
-        ≡ spread_after (leaves o (key_at v.scopes i) n k) (spread_at b i) (span_at r i)
+      ≡ spread_after (leaves o (key_at v.scopes i) n k) (spread_at b i) (span_at r i)
   book_at o v r b n k i low = at-generated (length b) (λ j. spread_after (leaves o (key_at v.scopes j) n k) (spread_at b j) (span_at r j)) i None low
 
   ended_at : (o : Shape) (v : Tally) (r : List (ℕ × ℕ)) (b : List (Option (ℕ × ℕ))) (n i : ℕ) → i < length b
       → spread_at (spreads_ended o v r b n) i
-        ≡ spread_after (is_within o (key_at v.scopes i) n) (spread_at b i) (span_at r i)
+      ≡ spread_after (is_within o (key_at v.scopes i) n) (spread_at b i) (span_at r i)
   ended_at o v r b n i low = at-generated (length b) (λ j. spread_after (is_within o (key_at v.scopes j) n) (spread_at b j) (span_at r j)) i None low
 
   sharp_within : (c : ℕ) (s : ℕ × ℕ) → s ≡ (c, c) → IsWithin c s
@@ -212,15 +212,15 @@ module _ (w : Outlined → Tally) (tallied : (o : Outlined) → IsOutline (shape
       let low : i < length r = (let e = length-generated (length r) (λ j. span_after (leaves o (key_at v.scopes j) n k) (is_at (key_at v.nodes j) k) (span_at r j)) in omega arith) in
       let below = below_greatest r i low in
       subst (λ (s : ℕ × ℕ). (s.0 ≤ greatest r + 1) × (s.1 ≤ greatest r + 1)) (sym (gone_at o v r n k i low))
-          (after_more (leaves o (key_at v.scopes i) n k) (is_at (key_at v.nodes i) k) (span_at r i) (greatest r) below.0
-            below.1))
+      (after_more (leaves o (key_at v.scopes i) n k) (is_at (key_at v.nodes i) k) (span_at r i) (greatest r) below.0
+      below.1))
 
   first_greatest : (o : Outlined) → greatest ((tally_recording w).first o) ≤ 1
   first_greatest o = greatest_least ((tally_recording w).first o) 1 (λ i within.
       let low : i < length (w o).scopes =
-        (let e : length ((tally_recording w).first o) ≡ length (w o).scopes =
-            length-generated (length (w o).scopes) (λ j. cond (is_at (key_at (w o).nodes j) 0) (1, 1) (0, 0)) in
-          omega arith) in
+      (let e : length ((tally_recording w).first o) ≡ length (w o).scopes =
+      length-generated (length (w o).scopes) (λ j. cond (is_at (key_at (w o).nodes j) 0) (1, 1) (0, 0)) in
+      omega arith) in
       subst (λ (s : ℕ × ℕ). (s.0 ≤ 1) × (s.1 ≤ 1)) (sym (first_at o i low)) (first_most (is_at (key_at (w o).nodes i) 0)))
 
   -- spans and books of one outline
@@ -262,13 +262,13 @@ module _ (w : Outlined → Tally) (tallied : (o : Outlined) → IsOutline (shape
         spans = λ i t m low scope node.
             gone_at (shape_of o) (w o) r n k i (omega arith)
             ∙ gone_sharp (shape_of o) (w o) (tallied o ok) i t m scope node n k past (span_at r i)
-              (sharp.spans i t m low scope node);
+            (sharp.spans i t m low scope node);
         spreads = λ i t m low scope node. book_at (shape_of o) (w o) r b n k i (omega arith)
             ∙ gone_exact (shape_of o) (w o) (tallied o ok) i t m scope node n k past (span_at r i) (spread_at b i) (sharp.spans i t m low scope node) (sharp.spreads i t m low scope node);
         elsewhere = λ i low none.
             book_at (shape_of o) (w o) r b n k i (omega arith)
             ∙ nothing_left (shape_of o) (key_at (w o).scopes i) n k (spread_at b i) (span_at r i) none
-              (sharp.elsewhere i low none);
+            (sharp.elsewhere i low none);
       })
 
   exact_by : (o : Outlined) (v : Tally) (r : List (ℕ × ℕ)) (b : List (Option (ℕ × ℕ))) (n : ℕ) (past : List ℕ) → IsOutline (shape_of o) → v ≡ w o → length b ≡ length (w o).scopes
@@ -280,7 +280,7 @@ module _ (w : Outlined → Tally) (tallied : (o : Outlined) → IsOutline (shape
         elsewhere = λ i low none.
             ended_at (shape_of o) (w o) r b n i (omega arith)
             ∙ nothing_ends (shape_of o) (key_at (w o).scopes i) n (spread_at b i) (span_at r i) none
-              (sharp.elsewhere i low none);
+            (sharp.elsewhere i low none);
       })
 
   pub tally_is_recording : IsRecording (List (ℕ × ℕ)) Ledger span_order (tally_recording w)
@@ -322,7 +322,7 @@ module _ (w : Outlined → Tally) (tallied : (o : Outlined) → IsOutline (shape
       spreads = λ i t m low scope node.
           get_or-replicate (length (w o).scopes) i None None low
           ∙ ap (λ (counts : List ℕ). spread_of counts)
-            (sym (first_closed (shape_of o) (w o) (tallied o suited.kept) i t m scope node));
+          (sym (first_closed (shape_of o) (w o) (tallied o suited.kept) i t m scope node));
       elsewhere = λ i low none. get_or-replicate (length (w o).scopes) i None None low;
     };
     gone_sharp = λ o r b n k past is walk sharp. sharp_by o b.tally r b.spreads n k past is.suited.kept is.book.0 is.recorder is.book.1 sharp;

@@ -140,10 +140,10 @@ rule_good Neg m n h a b c x y z d g = rw (← g.size) (λ typed size. neg_good a
 rule_good Not m n h a b c x y z d g = rw (← g.size) (λ typed size. complement_good a x g.kept g.covers)
 rule_good Add m n h a b c x y z d g = rw (← g.0.size) (λ typed size.
     add_good a b c x y z g.0.kept g.1.kept g.2.kept (same_sizes m a b x y g.0 g.1) (bit_below c z g.2) g.0.covers
-      g.1.covers g.2.covers)
+    g.1.covers g.2.covers)
 rule_good Sub m n h a b c x y z d g = rw (← g.0.size) (λ typed size.
     sub_good a b c x y z g.0.kept g.1.kept g.2.kept (same_sizes m a b x y g.0 g.1) (bit_below c z g.2) g.0.covers
-      g.1.covers g.2.covers)
+    g.1.covers g.2.covers)
 rule_good CAdd m n h a b c x y z d g = λ typed size. every_good 1 (word 1 (formula CAdd m n h x y z)) size (word_below 1 (formula CAdd m n h x y z))
 rule_good CSub m n h a b c x y z d g = λ typed size. every_good 1 (word 1 (formula CSub m n h x y z)) size (word_below 1 (formula CSub m n h x y z))
 rule_good UMul m n h a b c x y z d g = λ typed size. unsigned_pair_good (m + n) products a b x y (pos (x * y)) size g.0.kept g.1.kept g.0.covers g.1.covers
@@ -151,7 +151,7 @@ rule_good UMul m n h a b c x y z d g = λ typed size. unsigned_pair_good (m + n)
 rule_good SMul m n h a b c x y z d g =
     rw (← g.0.size, ← g.1.size) (λ typed size.
     signed_pair_good (a.size + b.size) products a b x y (signed a.size x *ℤ signed b.size y) size g.0.kept g.1.kept
-      g.0.covers g.1.covers
+    g.0.covers g.1.covers
     (λ p q i j. products_is p q i.progression j.progression) (λ p q i j k l. products_has p q (signed a.size x) (signed b.size y) i.progression j.progression k l))
 rule_good UDiv m n h a b c x y z d g = cc
 rule_good SDiv m n h a b c x y z d g = cc
@@ -159,16 +159,16 @@ rule_good UMod m n h a b c x y z d g = cc
 rule_good SMod m n h a b c x y z d g = cc
 rule_good LShift m n h a b c x y z d g = rw (← g.0.size) (λ typed size.
     by_word_good b y a.size (word a.size (pos (x * 2 ^ y))) (l_shift_by a) size (word_below a.size (pos (x * 2 ^ y)))
-      g.1.covers (l_shift_good a x y g.0.kept g.0.covers))
+    g.1.covers (l_shift_good a x y g.0.kept g.0.covers))
 rule_good RShift m n h a b c x y z d g = rw (← g.0.size) (λ typed size.
     by_word_good b y a.size (word a.size (pos (x / 2 ^ y))) (r_shift_by a) size (word_below a.size (pos (x / 2 ^ y)))
-      g.1.covers (r_shift_good a x y g.0.kept g.0.covers))
+    g.1.covers (r_shift_good a x y g.0.kept g.0.covers))
 rule_good RShiftA m n h a b c x y z d g =
     rw (← g.0.size) (λ typed size. let r = int_div_euclid (signed a.size x) (full y) in
     by_word_good b y a.size (word a.size r) (r_shift_a_by a) size (word_below a.size r) g.1.covers
     (signed_good a.size (quotients (full y)) a x r size g.0.kept g.0.covers
-      (λ p piece. quotients_is (2 ^ y) p (pow_pos y) piece.progression)
-      (λ p piece i. quotients_has (2 ^ y) p (signed a.size x) (pow_pos y) i)))
+    (λ p piece. quotients_is (2 ^ y) p (pow_pos y) piece.progression)
+    (λ p piece i. quotients_has (2 ^ y) p (signed a.size x) (pow_pos y) i)))
 rule_good And m n h a b c x y z d g = rw (← g.0.size) (λ typed size. conjunction_good a b x y g.0.kept g.1.kept (same_sizes m a b x y g.0 g.1) g.0.covers g.1.covers)
 rule_good Or m n h a b c x y z d g = λ typed size. every_good m (word m (formula Or m n h x y z)) size (word_below m (formula Or m n h x y z))
 rule_good Xor m n h a b c x y z d g = λ typed size. every_good m (word m (formula Xor m n h x y z)) size (word_below m (formula Xor m n h x y z))
@@ -221,20 +221,20 @@ rule_good RotL m n h a b c x y z d g = λ typed size. every_good m (word m (form
 rule_good RotR m n h a b c x y z d g = λ typed size. every_good m (word m (formula RotR m n h x y z)) size (word_below m (formula RotR m n h x y z))
 rule_good UMin m n h a b c x y z d g = λ typed size. good_as m (unsigned_pair m lesser a b) (word m (int_min (pos x) (pos y))) (word m (pos (min x y))) (ap (word m) (lesser_of x y))
     (unsigned_pair_good m lesser a b x y (int_min (pos x) (pos y)) size g.0.kept g.1.kept g.0.covers g.1.covers
-      (λ p q i j. lesser_is p q i.progression j.progression) (λ p q i j k l. lesser_has p q (pos x) (pos y) k l))
+    (λ p q i j. lesser_is p q i.progression j.progression) (λ p q i j k l. lesser_has p q (pos x) (pos y) k l))
 rule_good UMax m n h a b c x y z d g = λ typed size. good_as m (unsigned_pair m greater a b) (word m (int_max (pos x) (pos y))) (word m (pos (max x y))) (ap (word m) (greater_of x y))
     (unsigned_pair_good m greater a b x y (int_max (pos x) (pos y)) size g.0.kept g.1.kept g.0.covers g.1.covers
-      (λ p q i j. greater_is p q i.progression j.progression) (λ p q i j k l. greater_has p q (pos x) (pos y) k l))
+    (λ p q i j. greater_is p q i.progression j.progression) (λ p q i j k l. greater_has p q (pos x) (pos y) k l))
 rule_good SMin m n h a b c x y z d g = λ typed size. good_as m (signed_pair m lesser a b) (word m (int_min (signed a.size x) (signed b.size y))) (word m (int_min (signed m x) (signed m y)))
     (rw (g.0.size, g.1.size) refl)
     (signed_pair_good m lesser a b x y (int_min (signed a.size x) (signed b.size y)) size g.0.kept g.1.kept g.0.covers
-      g.1.covers (λ p q i j. lesser_is p q i.progression j.progression)
-      (λ p q i j k l. lesser_has p q (signed a.size x) (signed b.size y) k l))
+    g.1.covers (λ p q i j. lesser_is p q i.progression j.progression)
+    (λ p q i j k l. lesser_has p q (signed a.size x) (signed b.size y) k l))
 rule_good SMax m n h a b c x y z d g = λ typed size. good_as m (signed_pair m greater a b) (word m (int_max (signed a.size x) (signed b.size y))) (word m (int_max (signed m x) (signed m y)))
     (rw (g.0.size, g.1.size) refl)
     (signed_pair_good m greater a b x y (int_max (signed a.size x) (signed b.size y)) size g.0.kept g.1.kept g.0.covers
-      g.1.covers (λ p q i j. greater_is p q i.progression j.progression)
-      (λ p q i j k l. greater_has p q (signed a.size x) (signed b.size y) k l))
+    g.1.covers (λ p q i j. greater_is p q i.progression j.progression)
+    (λ p q i j k l. greater_has p q (signed a.size x) (signed b.size y) k l))
 
 -- ---- division
 
@@ -261,7 +261,7 @@ u_mod_good a b x y s t h k some =
 
 s_mod_good : (a b : Stride) (x y : ℕ) → IsStride a → IsStride b → Covers a x → Covers b y → y ≢ 0
     → Good b.size (s_mod a b)
-      (word b.size (signed a.size x -ℤ (signed b.size y *ℤ int_div (signed a.size x) (signed b.size y))))
+    (word b.size (signed a.size x -ℤ (signed b.size y *ℤ int_div (signed a.size x) (signed b.size y))))
 s_mod_good a b x y s t h k some =
     let w = b.size in
     let r = signed a.size x -ℤ (signed w y *ℤ int_div (signed a.size x) (signed w y)) in
@@ -331,9 +331,9 @@ divisor_keeps b y t h some = by_test (has b 0)
     (λ e. rw e (let w = b.size in
     let small = member_below w b.numbers y h in
     let g =
-      rest_gives w (without_end (pos 0)) (pos 0) (full w -ℤ pos 1) (pos y) (unsigned_of b) t.size.least
-        (end_part (pos 0)) (end_keeps (pos 0) (pos y) (λ same. some (omega (arith, ints, same)))) (of_unsigned b t)
-        (unsigned_some b y t h) in
+    rest_gives w (without_end (pos 0)) (pos 0) (full w -ℤ pos 1) (pos y) (unsigned_of b) t.size.least
+    (end_part (pos 0)) (end_keeps (pos 0) (pos y) (λ same. some (omega (arith, ints, same)))) (of_unsigned b t)
+    (unsigned_some b y t h) in
     let size = rest_size w (without_end (pos 0)) (pos 0) (full w -ℤ pos 1) (unsigned_of b) t.size (end_part (pos 0)) (of_unsigned b t) g.0 g.1 in
     (g.0, g.1, record { kept = size.kept; size = size.size; covers = subst (Covers g.0) (word_itself w y small) g.2 })))
     (λ e. rw e (b, refl, record { kept = t; size = refl; covers = h }))

@@ -1,3 +1,4 @@
 pub mod Steps
 pub mod Scopes
 pub mod Rows
+pub mod Parts

@@ -102,9 +102,7 @@ pub fn put_plain(
     ensures known { OnOk result (scopes.new ≡ known_after scopes.old (statement_of statement.now)) }
 {
     match statement {
-        Stmt::Declare(_, kind, locals) => {
-            put_declared(code, scopes, items, next, *kind, locals)
-        }
+        Stmt::Declare(_, kind, locals) => { put_declared(code, scopes, items, next, *kind, locals) }
         Stmt::Break(_) => {
             put_leaving(code, items, targets.leave)?;
             Ok(next)

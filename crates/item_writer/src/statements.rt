@@ -98,7 +98,15 @@ fn put_braced(
         labels: opened.labels,
         calls: next.calls,
     };
-    let after = put_row(code, scopes, items, opened.targets, within, opened.place, row)?;
+    let after = put_row(
+        code,
+        scopes,
+        items,
+        opened.targets,
+        within,
+        opened.place,
+        row,
+    )?;
     close_row(code, scopes, items, opened.close)?;
     Ok(after)
 }
@@ -177,7 +185,9 @@ fn put_statement(
                 Some(first) => {
                     scopes.enter()?;
                     let middle = put_statement(code, scopes, items, targets, next, first)?;
-                    let after = put_controlled(code, scopes, items, targets, middle, body, control)?;
+                    let after = put_controlled(
+                        code, scopes, items, targets, middle, body, control,
+                    )?;
                     scopes.leave()?;
                     Ok(after)
                 }

@@ -1,4 +1,3 @@
 pub mod Steps
 pub mod Scopes
 pub mod Rows
-pub mod Parts

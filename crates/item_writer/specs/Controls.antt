@@ -13,7 +13,7 @@ use Rattle.c_unit.specs.Tree.{Statement, expression_of, effect_of}
 use Rattle.c_checks.specs.Names.{Scope}
 use Rattle.c_meaning.specs.Objects.{Program}
 use Rattle.c_lowered.specs.Conditions.{Within, label, jump, label_item, condition_labels, condition_items}
-use Rattle.c_lowered.specs.Statements.{Around, calls_if, calls_in, condition_if, effect_if, items_of, labels_if, labels_in}
+use Rattle.c_lowered.specs.Statements.{Around, calls_if, condition_if, effect_if, items_of, labels_if, labels_in}
 use Rattle.item_writer.specs.declared.controls.Control.{Control}
 use Rattle.item_writer.specs.declared.controls.Control.TheVariants as controls
 

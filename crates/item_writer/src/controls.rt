@@ -59,7 +59,8 @@ fn put_before(
         Control::While(condition) => begin_while(code, scopes, items, condition, labels),
         Control::Do(_) => {
             put_label(code, items, labels)?;
-            greater(3, labels)
+            let inner = greater(3, labels)?;
+            Ok(inner)
         }
         Control::For(condition, _) => begin_for(code, scopes, items, condition, labels),
     }

@@ -153,10 +153,15 @@ fn put_statement(
     ensures known { OnOk result (scopes.new ≡ known_after scopes.old (statement_of statement.now)) }
 {
     match statement {
-        Stmt::Block(body) => put_braced(code, scopes, items, targets, next, body, Braces::Block),
+        Stmt::Block(body) => {
+            let braces = Braces::Block;
+            let after = put_braced(code, scopes, items, targets, next, body, braces)?;
+            Ok(after)
+        }
         Stmt::Switch(value, body) => {
             let braces = Braces::Switch(value);
-            put_braced(code, scopes, items, targets, next, body, braces)
+            let after = put_braced(code, scopes, items, targets, next, body, braces)?;
+            Ok(after)
         }
         Stmt::If(condition, body, otherwise) => match otherwise {
             None => {
@@ -164,10 +169,13 @@ fn put_statement(
                 put_controlled(code, scopes, items, targets, next, body, control)
             }
             Some(otherwise) => {
-                let control = Control::Then(condition);
-                let middle = put_controlled(code, scopes, items, targets, next, body, control)?;
-                let control = Control::Else(next.labels);
-                put_controlled(code, scopes, items, targets, middle, otherwise, control)
+                let first = Control::Then(condition);
+                let middle = put_controlled(code, scopes, items, targets, next, body, first)?;
+                let second = Control::Else(next.labels);
+                let after = put_controlled(
+                    code, scopes, items, targets, middle, otherwise, second,
+                )?;
+                Ok(after)
             }
         },
         Stmt::While(condition, body) => {

@@ -1,11 +1,15 @@
--- Statements in a row.
-use Rattle.std.proofs.Common.{◌≡◌, ◌+◌, ◌++◌, List, map}
+-- Statements in a row, and the scope of the first part of a `for`.
+use Rattle.std.proofs.Common.{◌≡◌, ◌+◌, ◌++◌, List, Some, map, ap, sym, ◌∙◌}
 use Rattle.alf_program.specs.Tree.{BodyItem, item_of}
+use Rattle.c_unit.specs.declared.statement.Stmt.{Stmt}
+use Rattle.c_unit.specs.declared.statement.Stmt.TheVariants as stmts
 use Rattle.c_unit.specs.Tree.{statement_of, statements_of}
 use Rattle.c_lowered.specs.Statements.{calls_in_all, labels_in_all}
 use Rattle.object_tables.specs.Views.{program_in}
 use Rattle.item_writer.specs.Braces.{row_items}
-use Rattle.item_writer.specs.Views.{around_of, within_of}
+use Rattle.c_names.specs.Views.{Known, entered, left}
+use Rattle.item_writer.specs.Views.{around_of, known_after, within_of}
+use Rattle.item_writer.proofs.Scopes.{left_after, for_after}
 use Rattle.item_writer.proofs.Rows.{row_put, row_labels, row_calls, row_stays}
 use Rattle.item_writer.proofs.statements.+statements.Goals as goal
 
@@ -31,3 +35,15 @@ put_row-loop-statement-preserved t c =
           low is c.loop-statement.invariant.calls made.calls;
       stays = row_stays c.args.scopes.now c.loop-statement.scopes c.put_statement.new.scopes (statement_of s) c.loop-statement.invariant.stays made.known;
     }
+
+pub put_statement-returns-in_ok-leave-in-Some-first-clause-known : goal.put_statement-returns-in_ok-leave-in-Some-first-clause-known
+put_statement-returns-in_ok-leave-in-Some-first-clause-known t c =
+    let known = c.args.scopes.now in
+    let first = statement_of c.deref-in-Some-first.result.now in
+    let middle : c.put_statement.new.scopes ≡ known_after (entered known) first =
+    c.in_ok-middle-in-Some-first.ensures.known ∙ ap (λ (k : Known). known_after k first) c.in_ok-enter-in-Some-first.ensures in
+    let here : c.leave.new.self ≡ known =
+    c.in_ok-leave-in-Some-first.ensures ∙ ap left (c.in_ok-after-in-Some-first.ensures.same ∙ middle) ∙ left_after known first in
+    let is : c.args.statement.now ≡ stmts.For (Some c.in-Some-first.first) c.in-For.condition c.in-For.last c.in-For.body =
+    c.in-For.is ∙ ap (λ x. stmts.For x c.in-For.condition c.in-For.last c.in-For.body) c.in-Some-first.is in
+    here ∙ sym (ap (λ (x : Stmt). known_after known (statement_of x)) is ∙ for_after known c.in-Some-first.first c.in-For.condition c.in-For.last c.in-For.body)

@@ -13,7 +13,7 @@ abbrev pub invariant-put_row-loop-statement : goal.invariant-put_row-loop-statem
 invariant-put_row-loop-statement l =
     record {
       items : (rest : List BodyItem) → map item_of l.items.items ++ row_items (within_of l.code) l.scopes.scopes (statements_of (map statement_of (drop l.statement-index l.row))) l.here l.after.labels l.after.calls (around_of l.code l.targets) rest
-          ≡ map item_of l.initial.items.items ++ row_items (within_of l.code) l.initial.scopes.scopes (statements_of (map statement_of l.row)) l.place l.fn.next.labels l.fn.next.calls (around_of l.code l.targets) rest;
+          ≡ map item_of l.initial.items.items ++ row_items (within_of l.code) l.initial.scopes.scopes (statements_of (map statement_of l.row)) l.fn.place l.fn.next.labels l.fn.next.calls (around_of l.code l.targets) rest;
       labels : l.after.labels + labels_in_all (statements_of (map statement_of (drop l.statement-index l.row))) ≡ l.fn.next.labels + labels_in_all (statements_of (map statement_of l.row));
       calls : l.after.calls + calls_in_all (program_in l.code.table.now) (statements_of (map statement_of (drop l.statement-index l.row))) ≡ l.fn.next.calls + calls_in_all (program_in l.code.table.now) (statements_of (map statement_of l.row));
       stays : Stays l.initial.scopes l.scopes;

@@ -1,12 +1,24 @@
 -- Scopes after statements.
 --   others_after   a statement declares in the innermost scope alone
 --   left_after     a scope that a statement had for itself is left
-use Rattle.std.proofs.Common.{◌≡◌, List, [], ◌∷◌, refl, ap}
+--   left_row       a scope that a row had for itself is left
+--   for_after      a `for` declares nothing around it
+use Rattle.std.proofs.Common.{◌≡◌, List, [], ◌∷◌, Option, Some, Box, refl, ap, sym, ◌∙◌}
+use Rattle.std.specs.declared.alloc.Global.{Global}
 use Rattle.c_unit.specs.declared.types.Integer.{Integer}
-use Rattle.c_unit.specs.Tree.{LocalTree, Statement, Empty, Declares, Block, If, IfElse, While, Do, For, ForAfter, Switch, Case, Default, Break, Continue, Returns, Does}
+use Rattle.c_unit.specs.declared.expression.Expr.{Expr}
+use Rattle.c_unit.specs.declared.statement.Effect.{Effect}
+use Rattle.c_unit.specs.declared.statement.Stmt.{Stmt}
+use Rattle.c_unit.specs.declared.statement.Stmt.TheFolds.{fold-roll-Stmt}
+use Rattle.c_unit.specs.declared.statement.Stmt.TheOpen as stmts
+use Rattle.c_unit.specs.declared.statement.Stmt.TheVariants as variants
+use Rattle.c_unit.specs.declared.statement.Stmt.TheViews.{rolls-For}
+use Rattle.c_unit.specs.Units.{Word}
+use Rattle.c_unit.specs.Tree.{LocalTree, Statement, Empty, Declares, Block, If, IfElse, While, Do, For, ForAfter, Switch, Case, Default, Break, Continue, Returns, Does, statement_step, statement_of}
 use Rattle.c_checks.specs.Names.{Scope}
 use Rattle.c_checks.specs.Statements.{scopes_after, with_local, with_locals}
 use Rattle.c_names.specs.Views.{Known, others, entered, left}
+use Rattle.item_writer.specs.Afterwards.{Stays}
 use Rattle.item_writer.specs.Views.{known_after}
 
 other_locals : (kind : Integer) (scopes : List Scope) (locals : List LocalTree) → others (with_locals kind scopes locals) ≡ others scopes
@@ -36,3 +48,15 @@ others_after scopes (Does effect) = refl
 -- a scope that a statement had for itself is left
 pub left_after : (known : Known) (s : Statement) → left (known_after (entered known) s) ≡ known
 left_after known s = ap (λ (scopes : List Scope). record known { scopes = scopes }) (others_after ([] ∷ known.scopes) s)
+
+-- a scope that a row had for itself is left
+pub left_row : (known after : Known) → Stays (entered known) after → left after ≡ known
+left_row known after stays =
+    ap (λ (words : List Word). record after { words = words; scopes = others after.scopes }) stays.words
+    ∙ ap (λ (scopes : List Scope). record known { scopes = scopes }) stays.outer
+
+-- a `for` declares nothing around it
+pub for_after : (known : Known) (first : Box Stmt Global) (condition : Option Expr) (last : Option Effect) (body : Box Stmt Global) → known_after known (statement_of (variants.For (Some first) condition last body)) ≡ known
+for_after known first condition last body =
+    ap (λ (s : Statement). known_after known s)
+    (ap statement_of (sym (rolls-For (Some first) condition last body)) ∙ fold-roll-Stmt Statement statement_step (stmts.For (Some first) condition last body))

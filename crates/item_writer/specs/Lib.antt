@@ -4,3 +4,6 @@ pub mod Joins
 pub mod Marks
 pub mod Arguments
 pub mod ValueParts
+pub mod Controls
+pub mod Braces
+pub mod Plain

@@ -19,11 +19,20 @@ mod effects;
 mod locals;
 mod values;
 
-// Statements.
-mod marks;
+// Statements in which no statement stands.
+mod plain;
 mod returns;
-mod statements;
+
+// What is put before statements that stand in others, and after them.
+mod braces;
+mod branches;
+mod controls;
+mod loops;
+mod marks;
 mod switches;
+
+// Statements.
+mod statements;
 
 pub use code::Code;
 pub use statements::put_body;

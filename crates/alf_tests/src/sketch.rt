@@ -7,7 +7,7 @@
 //! 32 bits, `16` a number of 16 bits, and `sum` a sum that fits.
 
 use alf_ops::Op;
-use alf_program::{Alloc, Expr, Func, Init, Item, Num, Program, Stmt};
+use alf_program::{Alloc, Expr, Func, Init, Item, Num, Program, Sizes, Stmt};
 use flow_base::Name;
 use std::alloc::{AllocError, Global};
 use std::str::SplitWhitespace;
@@ -178,7 +178,8 @@ fn expr(alloc: Global, text: &str) -> Result<Expr, AllocError> {
 
 // A sum of 32 bits whose second operand and whose carry have these sizes.
 fn sum(alloc: Global, second: u32, carry: u32) -> Result<Expr, AllocError> {
-    let sizes = [32u32].as_slice().to_vec(alloc)?;
+    let mut sizes = Sizes::new();
+    sizes.push(32);
     let mut operands = Vec::new(alloc);
     for size in [32, second, carry] {
         operands.push(Expr::Num(zero(size)))?;

@@ -1,6 +1,6 @@
 //! Loads of cells of frames.
 
-ghost use Rattle.std.specs.Prelude.{◌≡◌, ◌↔◌, ◌∷◌, [], ℕ, Bool, true, List, Ok, None, length, map, IfOk, IfSome};
+ghost use Rattle.std.specs.Prelude.{◌≡◌, ◌↔◌, ◌∷◌, [], Bool, true, List, Ok, None, length, map, IfOk, IfSome};
 ghost use Rattle.alf_check.specs.Shapes.{shapes_of};
 ghost use Rattle.alf_ops.specs.declared.history.RunFault.{RunFault};
 ghost use Rattle.alf_ops.specs.declared.history.FrameShape.{FrameShape};

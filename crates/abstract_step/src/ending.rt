@@ -1,6 +1,6 @@
 //! Steps from blocks: statements, and then what the block ends with.
 
-ghost use Rattle.std.specs.Prelude.{◌≡◌, Some, IfOk, map};
+ghost use Rattle.std.specs.Prelude.{◌≡◌, Some, IfOk};
 ghost use Rattle.alf_check.specs.CheckedPrograms.{Return, seen, end_of, term_of};
 ghost use Rattle.alf_runs.specs.Steps.{frames_of};
 ghost use Rattle.seen_memories.specs.Parts.{memory_in};

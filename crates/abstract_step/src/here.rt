@@ -1,6 +1,6 @@
 //! The node where a step is made.
 
-ghost use Rattle.std.specs.Prelude.{◌≡◌, ◌<◌, Some, length, slice_get};
+ghost use Rattle.std.specs.Prelude.{◌≡◌, ◌<◌, Some, length};
 ghost use Rattle.alf_check.specs.CheckedPrograms.{seen};
 ghost use Rattle.alf_check.specs.Kept.{IsKept};
 ghost use Rattle.flow_graph.specs.Nodes.{Node, Leads, function_at};

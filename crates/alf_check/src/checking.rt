@@ -1,13 +1,10 @@
 //! Checks of a program, in the order in which they are told.
 
-ghost use Rattle.std.specs.Prelude.{◌≡◌, ◌<◌, ℕ, List, [], Some, IsSome, map, length, IfOk, IfErr, OnOk};
+ghost use Rattle.std.specs.Prelude.{◌≡◌, ◌<◌, ℕ, List, [], Some, map, IfOk, IfErr, OnOk};
 ghost use Rattle.alf_program.specs.Tree.{function_of, program_of};
 ghost use Rattle.alf_program.specs.Writable.{IsWritable};
-ghost use Rattle.alf_names.specs.Places.{function_place};
-ghost use Rattle.alf_faults.specs.Fault.{earliest};
 ghost use Rattle.alf_faults.specs.Faults.{faults_in};
-ghost use Rattle.alf_faults.specs.Told.{fault_of};
-ghost use Rattle.call_cycles.specs.Calls.{CallsWithin, IsRanked, OnCycle, calls_of};
+ghost use Rattle.call_cycles.specs.Calls.{IsRanked, OnCycle};
 ghost use Rattle.alf_check.specs.CheckedPrograms.{seen};
 ghost use Rattle.alf_check.specs.Numbered.{numbered};
 ghost use Rattle.alf_check.specs.Checking.{Passes, IsTold, calls_among, calls_in, name_at};

@@ -1,6 +1,6 @@
 //! Functions with numbers in place of names.
 
-ghost use Rattle.std.specs.Prelude.{◌≡◌, ◌<◌, ◌+◌, ◌^◌, map, length, All, IfOk};
+ghost use Rattle.std.specs.Prelude.{◌≡◌, ◌<◌, ◌+◌, map, length, All, IfOk};
 ghost use Rattle.alf_program.specs.Tree.{program_of, function_of};
 ghost use Rattle.alf_program.specs.Writable.{frames_of};
 ghost use Rattle.alf_check.specs.Blocks.{blocks_of};

@@ -1,6 +1,6 @@
 //! Checked programs and their look-ups.
 
-ghost use Rattle.std.specs.Prelude.{◌≡◌, ◌<◌, ◌^◌, ℕ, List, [], map, length, All, IfOk, IsSome, slice_get, Some, None};
+ghost use Rattle.std.specs.Prelude.{◌≡◌, ◌<◌, [], length, All, IfOk, slice_get, Some, None};
 ghost use Rattle.std.specs.Coded.{codes};
 ghost use Rattle.alf_program.specs.Tree.{program_of};
 ghost use Rattle.alf_program.specs.Writable.{IsWritable};

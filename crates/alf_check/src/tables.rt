@@ -1,6 +1,6 @@
 //! Frames, and what they hold at first.
 
-ghost use Rattle.std.specs.Prelude.{◌≡◌, ◌<◌, ◌+◌, ◌^◌, ◌++◌, Some, map, length, Option, ℕ, IfOk, OnOk};
+ghost use Rattle.std.specs.Prelude.{◌≡◌, ◌<◌, ◌+◌, ◌^◌, ◌++◌, Some, map, length, Option, IfOk, OnOk};
 ghost use Rattle.std.specs.List.{range_with_len};
 ghost use Rattle.alf_program.specs.Tree.{allocation_of, function_of, initial_of, program_of};
 ghost use Rattle.alf_check.specs.Numbers.{rows_of, rows_from, frame_rows};

@@ -1,6 +1,5 @@
 -- Items, functions and programs without a fault, and back.
-use Rattle.std.proofs.Common.{◌≡◌, ◌≢◌, ◌<◌, ◌+◌, ◌||◌, ◌&&◌, ℕ, Bool, true, false, not, List, [], ◌∷◌, ◌++◌, slice_get, AllPairs, Contains, flat_map, Option, Some, None, is_some, zero-add, refl, ap, sym, ◌∙◌, subst, arith}
-use Rattle.std.specs.Str.{bytes_eq}
+use Rattle.std.proofs.Common.{◌≡◌, ◌≢◌, ◌<◌, ◌+◌, ℕ, true, false, not, List, [], ◌∷◌, ◌++◌, slice_get, flat_map, Option, Some, None, is_some, zero-add, refl, ap, sym, ◌∙◌, subst, arith}
 use Rattle.std.proofs.lemmas.Bool.{false≢true, and_parts}
 use Rattle.std.proofs.lemmas.Option.{none-some, same_Some}
 use Rattle.lists.specs.Tests.{by_test}
@@ -12,10 +11,10 @@ use Rattle.alf_faults.specs.Duplicates.{frame_duplicates, function_duplicates, t
 use Rattle.alf_faults.specs.Unknowns.{unknown_in, unknown_among, unknown_function, unknown_label, unknown_targets, unknown_result, entry_unknowns}
 use Rattle.alf_faults.specs.TermSizes.{term_size, is_bytes}
 use Rattle.alf_faults.specs.Returns.{first_return}
-use Rattle.alf_faults.specs.Sizes.{targets_have, targets_fit, arguments_fit, agrees_behind, fits_function, fits_place, return_fits, entry_fits}
+use Rattle.alf_faults.specs.Sizes.{targets_fit, arguments_fit, agrees_behind, fits_function, fits_place, return_fits, entry_fits}
 use Rattle.alf_faults.specs.Faults.{export_faults, start_faults, entry_faults, header_faults, function_faults, global_faults, faults_in}
-use Rattle.alf_faults.specs.NoFault.{IsFunctionNamed, HasLabel, SeesFrames, LabelHasNoFault, StoreHasNoFault, SwitchHasNoFault, CallHasNoFault, ReturnHasNoFault, ItemHasNoFault, FunctionHasNoFault, HasNoFault, IsByParts}
-use Rattle.alf_faults.proofs.FaultLists.{no_parts, both_none, when_not, not_when, when_either, neither_when, not_false, none_each, each_none, none_joined, joined_none, exactly, exact_is, stands_first, is_first, place_none, same_name, is_name, other_name, names_differ, first_named}
+use Rattle.alf_faults.specs.NoFault.{SeesFrames, LabelHasNoFault, StoreHasNoFault, SwitchHasNoFault, CallHasNoFault, ReturnHasNoFault, ItemHasNoFault, FunctionHasNoFault, HasNoFault, IsByParts}
+use Rattle.alf_faults.proofs.FaultLists.{no_parts, both_none, when_not, not_when, when_either, not_false, none_each, each_none, none_joined, joined_none, exactly, exact_is, stands_first, is_first, same_name, other_name, names_differ, first_named}
 use Rattle.alf_faults.proofs.FaultParts.{function_named, named_function, label_found, found_label, frames_none, none_frames, init_none, none_init, export_none, none_export, differ_none, none_differ, leads_none, none_leads, sizes_none, none_sizes, args_none, none_args, sees, sees_all, none_unseen, all_none_unseen, result_none, none_result}
 
 module _ (whole : WholeProgram) (k : ℕ) (func : Function) (i : ℕ) where

@@ -1,11 +1,11 @@
 -- Lists of faults that are empty, and the first member that passes a test.
-use Rattle.std.proofs.Common.{◌≡◌, ◌≢◌, ◌<◌, ◌+◌, ℕ, zero, suc, Bool, true, false, not, ◌||◌, List, [], ◌∷◌, ◌++◌, get_or, length, slice_get, Contains, AllPairs, flat_map, Option, Some, None, is_some, option_map, add-one, add-zero, refl, ap, sym, ◌∙◌, subst, eqb-true, eq-eqb, arith}
+use Rattle.std.proofs.Common.{◌≡◌, ◌≢◌, ◌<◌, ◌+◌, ℕ, zero, suc, Bool, true, false, not, ◌||◌, List, [], ◌∷◌, ◌++◌, get_or, slice_get, Contains, AllPairs, flat_map, Option, Some, None, is_some, option_map, add-zero, refl, ap, sym, ◌∙◌, subst, eqb-true, eq-eqb, arith}
 use Rattle.std.specs.Str.{bytes_eq}
 use Rattle.std.proofs.lemmas.Bool.{false≢true}
 use Rattle.std.proofs.lemmas.Option.{none-some, same_Some, slice_get-get_or, slice_get_within, get_or_from_slice_get}
 use Rattle.std.proofs.lemmas.Slice.Eq.{bytes_eq-Decides}
 use Rattle.lists.specs.Tests.{by_test}
-use Rattle.lists.specs.Members.{no_member, first_member, further_member, first_or_further, contained, placed}
+use Rattle.lists.specs.Members.{no_member, first_member, further_member, first_or_further, contained}
 use Rattle.lists.specs.Images.{some_image}
 use Rattle.alf_names.specs.Places.{place_of}
 use Rattle.alf_faults.specs.Fault.{Fault, when, each_from, is_exactly}

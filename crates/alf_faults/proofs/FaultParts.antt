@@ -1,25 +1,24 @@
 -- The parts of a program without a fault, and back.
-use Rattle.std.proofs.Common.{◌≡◌, ◌≢◌, ◌<◌, ◌+◌, ◌==◌, ◌||◌, ◌&&◌, ℕ, zero, suc, Bool, true, false, not, List, [], ◌∷◌, ◌++◌, ◌⊎◌, inl, inr, get_or, length, slice_get, All, AllPairs, Contains, flat_map, Option, Some, None, is_some, zero-add, refl, ap, sym, ◌∙◌, subst, eqb-true, eq-eqb, arith}
+use Rattle.std.proofs.Common.{◌≡◌, ◌≢◌, ◌+◌, ◌==◌, ◌||◌, ℕ, zero, suc, Bool, true, false, not, List, [], ◌∷◌, ◌++◌, ◌⊎◌, inl, inr, slice_get, AllPairs, Contains, Option, Some, None, is_some, zero-add, refl, ap, sym, ◌∙◌, subst, eqb-true, eq-eqb, arith}
 use Rattle.std.specs.List.{AllZip, list_any}
 use Rattle.std.specs.Str.{bytes_eq}
 use Rattle.std.proofs.lemmas.Bool.{false≢true, and_parts, or_parts}
-use Rattle.std.proofs.lemmas.Option.{none-some, same_Some, slice_get-get_or, slice_get_within, get_or_from_slice_get}
+use Rattle.std.proofs.lemmas.Option.{none-some, same_Some}
 use Rattle.std.proofs.lemmas.List.Kept.{AllPairs-cons}
 use Rattle.std.proofs.lemmas.List.Elements.{Contains-append_left, Contains-push, Contains-push_cases}
 use Rattle.lists.specs.Tests.{by_test}
 use Rattle.lists.specs.Members.{no_member, first_member, further_member, first_or_further, contained, placed, all_members}
 use Rattle.alf_program.specs.declared.program.Num.{Num}
-use Rattle.alf_program.specs.Tree.{Number, Address, Load, Apply, Empty, With, NamedExpression, NamedExpressions, Null, Store, Jump, Switch, Call, Return, BodyItem, Label, Do, Allocation, InitialValue, Function, WholeProgram, expressions_of}
-use Rattle.alf_names.specs.Places.{place_of, frame_place, function_place, label_place, is_label_named}
+use Rattle.alf_program.specs.Tree.{Number, Address, Load, Apply, Empty, With, NamedExpression, NamedExpressions, BodyItem, Label, Do, Allocation, InitialValue, Function, WholeProgram}
+use Rattle.alf_names.specs.Places.{frame_place, function_place, label_place, is_label_named}
 use Rattle.alf_faults.specs.Fault.{Fault, Unknown, Duplicate, Size, when, each_from, is_exactly}
-use Rattle.alf_faults.specs.Duplicates.{frame_duplicates, function_duplicates, number_twice, target_duplicates, label_duplicates, entry_duplicates}
-use Rattle.alf_faults.specs.Unknowns.{is_frame, unknown_frame, unknown_in, unknown_among, unknown_function, unknown_label, unknown_targets, unknown_result, entry_unknowns}
-use Rattle.alf_faults.specs.TermSizes.{term_size, is_bytes}
-use Rattle.alf_faults.specs.Returns.{first_return}
-use Rattle.alf_faults.specs.Sizes.{start_fits, is_export_size, targets_have, targets_fit, takes_first, is_no_frame, other_frames, arguments_fit, agrees_behind, fits_function, fits_place, call_fits, return_fits, entry_fits}
-use Rattle.alf_faults.specs.Faults.{frame_at, export_faults_at, export_faults, start_faults_at, start_faults, entry_faults}
-use Rattle.alf_faults.specs.NoFault.{DifferInName, HaveOtherNames, IsFrameNamed, IsFunctionNamed, HasLabel, ExportHasNoFault, InitHasNoFault, IsSeen, SeesFrames, SeesAllFrames, LabelHasNoFault, StoreHasNoFault, SwitchHasNoFault, CallHasNoFault, ReturnHasNoFault, ItemHasNoFault}
-use Rattle.alf_faults.proofs.FaultLists.{no_parts, both_none, when_not, not_when, when_either, neither_when, not_false, none_each, each_none, exactly, exact_is, by_place, stands_first, is_first, some_place, place_some, place_none, same_name, is_name, other_name, names_differ, first_named}
+use Rattle.alf_faults.specs.Duplicates.{frame_duplicates, number_twice, target_duplicates}
+use Rattle.alf_faults.specs.Unknowns.{is_frame, unknown_frame, unknown_in, unknown_among, unknown_label, unknown_targets, unknown_result}
+use Rattle.alf_faults.specs.TermSizes.{term_size}
+use Rattle.alf_faults.specs.Sizes.{start_fits, is_export_size, targets_have, arguments_fit}
+use Rattle.alf_faults.specs.Faults.{frame_at, export_faults_at, export_faults, start_faults_at, start_faults}
+use Rattle.alf_faults.specs.NoFault.{DifferInName, HaveOtherNames, IsFrameNamed, IsFunctionNamed, HasLabel, ExportHasNoFault, InitHasNoFault, IsSeen, SeesFrames, SeesAllFrames}
+use Rattle.alf_faults.proofs.FaultLists.{no_parts, both_none, when_not, not_when, when_either, not_false, none_each, each_none, exactly, exact_is, some_place, place_some, place_none, same_name, is_name, other_name, names_differ, first_named}
 
 -- ---- names
 

@@ -12,10 +12,10 @@
 --   SeesFrames whole func e              it sees each frame in the expression
 --   ItemHasNoFault whole k func i item   item i of the function, function k, by what it is
 --   FunctionHasNoFault whole k func      the function, function k
-use Rattle.std.specs.Prelude.{◌≡◌, ◌≢◌, ◌<◌, ◌⊎◌, ◌↔◌, ⊤, ℕ, true, List, [], Option, None, Some, AllPairs, Contains, slice_get, is_some}
+use Rattle.std.specs.Prelude.{◌≡◌, ◌≢◌, ◌<◌, ◌⊎◌, ◌↔◌, ⊤, ℕ, true, List, [], Option, Some, AllPairs, Contains, slice_get, is_some}
 use Rattle.std.specs.List.{AllZip}
 use Rattle.alf_program.specs.declared.program.Num.{Num}
-use Rattle.alf_program.specs.Tree.{Expression, Expressions, Number, Address, Load, Apply, Empty, With, NamedExpression, NamedExpressions, Null, Store, Jump, Switch, Call, Return, BodyItem, Label, Do, Allocation, InitialValue, Function, WholeProgram, expressions_of}
+use Rattle.alf_program.specs.Tree.{Number, Address, Load, Apply, Empty, With, NamedExpression, NamedExpressions, Null, Store, Jump, Switch, Call, Return, BodyItem, Label, Do, Allocation, InitialValue, Function, WholeProgram, expressions_of}
 use Rattle.alf_names.specs.Places.{frame_place, function_place}
 use Rattle.alf_faults.specs.TermSizes.{term_size, is_bytes}
 use Rattle.alf_faults.specs.Returns.{first_return}

@@ -3,7 +3,6 @@
 ghost use Rattle.std.specs.Prelude.{◌≡◌, map};
 ghost use Rattle.std.specs.Option.{option_map};
 ghost use Rattle.alf_program.specs.Tree.{allocation_of, expression_of, item_of, function_of, program_of};
-ghost use Rattle.alf_faults.specs.Returns.{first_return, returns_of};
 ghost use Rattle.alf_faults.specs.Scopes.{IsScope};
 ghost use Rattle.alf_faults.specs.Sizes.{targets_have, targets_fit, arguments_fit, agrees_behind, call_fits, breaks_calls, return_fits, entry_fits};
 

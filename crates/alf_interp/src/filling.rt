@@ -1,6 +1,6 @@
 //! Functions entered, and what frames hold at first.
 
-ghost use Rattle.std.specs.Prelude.{◌≡◌, ◌<◌, ℕ, List, ◌∷◌, IfErr, OnOk, length};
+ghost use Rattle.std.specs.Prelude.{◌≡◌, ◌<◌, List, ◌∷◌, IfErr, OnOk, length};
 ghost use Rattle.std.specs.List.{AllZip, AllByRecursion};
 ghost use Rattle.alf_ops.specs.declared.history.RunEvent.{RunEvent};
 ghost use Rattle.alf_ops.specs.Values.{size_of};

@@ -1,9 +1,8 @@
 //! What a node's step does, but for the number of the next node.
 
-ghost use Rattle.std.specs.Prelude.{◌≡◌, ◌<◌, ℕ, List, All, IfSome, IfOk, Option, Some, None, length, map, reverse, slice_get};
+ghost use Rattle.std.specs.Prelude.{◌≡◌, ◌<◌, ℕ, List, IfSome, Option, Some, None, length, map, reverse, slice_get};
 ghost use Rattle.alf_ops.specs.declared.history.RunEvent.{RunEvent};
 ghost use Rattle.alf_ops.specs.Pointers.{operands};
-ghost use Rattle.alf_program.specs.Tree.{NumberedExpression};
 ghost use Rattle.alf_check.specs.CheckedPrograms.{NumberedProgram, Return, seen, end_of, term_of, blocks_at};
 ghost use Rattle.alf_check.specs.Kept.{KeepsEnding, IsBlockOf};
 ghost use Rattle.alf_values.specs.Memories.{shapes, IsMadeFor};

@@ -1,7 +1,7 @@
 //! The layouts of the table's rows: which sizes are written, which operands stand after them,
 //! and which size the result has.
 
-ghost use Rattle.std.specs.Prelude.{◌≡◌, ◌↔◌, ℕ, ◌<◌, IsTrue, slice_get, slice_index};
+ghost use Rattle.std.specs.Prelude.{◌≡◌, ◌<◌, IsTrue, slice_get, slice_index};
 ghost use Rattle.alf_ops.specs.Layouts.{size_count, is_size as size_in_range, is_typed, result_by_layout, operands_by_layout};
 
 /// How the sizes, the operands and the result of a row belong together.

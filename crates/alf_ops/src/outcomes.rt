@@ -1,10 +1,10 @@
 //! The operators at values of a run, which may be pointers.
 
-ghost use Rattle.std.specs.Prelude.{◌≡◌, ◌↔◌, ◌<◌, ◌^◌, ◌||◌, false, true, IsTrue, IsSome, IsErr, IfOk};
+ghost use Rattle.std.specs.Prelude.{◌≡◌, ◌↔◌, ◌<◌, ◌^◌, false, true, IsTrue, IsSome, IsErr, IfOk};
 ghost use Rattle.alf_ops.specs.Table.{result_size, operand_sizes, size_of_result};
 ghost use Rattle.alf_ops.specs.Words.{divides};
 ghost use Rattle.alf_ops.specs.Values.{bits_of, is_pointer, EachValueFits};
-ghost use Rattle.alf_ops.specs.Pointers.{operand_at, applied, at_words, by_rule, add_rule, subtract_rule, equality_rule, order_rule, choice_rule, outcome};
+ghost use Rattle.alf_ops.specs.Pointers.{operand_at, applied, add_rule, subtract_rule, equality_rule, order_rule, choice_rule, outcome};
 
 use crate::divide::Divide;
 use crate::history::{RunFault, Value};

@@ -1,9 +1,9 @@
 //! Arithmetic on words of a size.
 
-ghost use Rattle.std.specs.Prelude.{◌≡◌, ◌+◌, ◌-◌, ◌*◌, ◌/◌, ◌%◌, ◌^◌, ◌<◌, ◌≤◌, pos, neg_ℤ, nat_le, nat_lt, unsigned_abs, ◌*ℤ◌, ◌-ℤ◌, int_div, int_lt, int_le, if◌then◌else◌, bit_and, bit_or, bit_xor, slice_index, ◌==◌, ◌↔◌, IsErr, IfOk};
+ghost use Rattle.std.specs.Prelude.{◌≡◌, ◌+◌, ◌-◌, ◌*◌, ◌/◌, ◌%◌, ◌^◌, ◌<◌, ◌≤◌, pos, neg_ℤ, nat_le, ◌*ℤ◌, ◌-ℤ◌, int_div, int_lt, int_le, if◌then◌else◌, bit_and, bit_or, bit_xor, slice_index, ◌==◌, ◌↔◌, IsErr, IfOk};
 ghost use Rattle.std.specs.Prelude.{min, max};
 ghost use Rattle.std.specs.Int.{int_div_euclid, int_min, int_max};
-ghost use Rattle.alf_ops.specs.TwosComplement.{word, signed, sign, is_negative, distance, with_sign as signed_by};
+ghost use Rattle.alf_ops.specs.TwosComplement.{word, signed, is_negative, distance, with_sign as signed_by};
 ghost use Rattle.alf_ops.specs.Table.{bit as bit_of};
 
 use crate::divide::Divide;

@@ -1,8 +1,8 @@
 //! What is counted while a text is read: functions, frames, and the bytes of frames.
 
-ghost use Rattle.std.specs.Prelude.{◌≡◌, ◌≤◌, OnOk};
+ghost use Rattle.std.specs.Prelude.{◌≤◌, OnOk};
 ghost use Rattle.alf_text.specs.Grammar.{one_function, one_frame, fits_frame, more_bytes, bits, most_frame_bytes};
-ghost use Rattle.alf_text.specs.Reading.{position, Reads};
+ghost use Rattle.alf_text.specs.Reading.{Reads};
 
 use crate::fault::Departure;
 use crate::reader::Reader;

@@ -7,9 +7,9 @@ ghost use Rattle.std.specs.Option.{option_map};
 ghost use Rattle.alf_ops.specs.Layouts.{size_count};
 ghost use Rattle.alf_ops.specs.Table.{layout_of};
 ghost use Rattle.alf_ops.specs.Names.{TellsOperator};
-ghost use Rattle.alf_text.specs.Grammar.{one, opens, fits_too_deep, operand_count, operator, operator_named, unsigned_term, signed_term, address_term, load, further, sizes, apply, expr_tail, nested, expr, whole_expr, least_further, most_further};
+ghost use Rattle.alf_text.specs.Grammar.{one, opens, fits_too_deep, operator, operator_named, unsigned_term, signed_term, address_term, load, further, sizes, apply, expr_tail, nested, expr, whole_expr, least_further, most_further};
 ghost use Rattle.alf_tokens.specs.Ahead.{lexeme};
-ghost use Rattle.alf_text.specs.Reading.{position, Reads};
+ghost use Rattle.alf_text.specs.Reading.{Reads};
 
 use crate::fault::{Departure, misfit, outside};
 use crate::reader::Reader;
@@ -18,7 +18,6 @@ use alf_ops::{Op, OpRow};
 use alf_program::{Expr, Sizes};
 use alf_tokens::{Kind, Token};
 use flow_base::Which;
-use std::alloc::{AllocError, Global};
 
 const MOST_DEPTH: u32 = 64;
 

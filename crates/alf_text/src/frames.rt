@@ -1,9 +1,9 @@
 //! Frames and their initial values.
 
-ghost use Rattle.std.specs.Prelude.{◌≡◌, map};
+ghost use Rattle.std.specs.Prelude.{map};
 ghost use Rattle.alf_program.specs.Tree.{allocation_of, initial_of};
 ghost use Rattle.alf_text.specs.Grammar.{alloc, allocs, init, inits};
-ghost use Rattle.alf_text.specs.Reading.{position, Reads};
+ghost use Rattle.alf_text.specs.Reading.{Reads};
 
 use crate::fault::Departure;
 use crate::parts::{Allocs, Inits};

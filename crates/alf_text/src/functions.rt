@@ -3,7 +3,7 @@
 ghost use Rattle.std.specs.Prelude.{◌≡◌, map};
 ghost use Rattle.alf_program.specs.Tree.{allocation_of, initial_of, item_of, function_of};
 ghost use Rattle.alf_text.specs.Grammar.{is_ending, ends_well, closing_after, stmts, scope, arg_decls, function_tail, function, functions};
-ghost use Rattle.alf_text.specs.Reading.{position, Reads};
+ghost use Rattle.alf_text.specs.Reading.{Reads};
 
 use crate::fault::{Departure, misfit};
 use crate::parts::{Funcs, Items};

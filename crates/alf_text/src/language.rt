@@ -1,6 +1,6 @@
 //! Texts and what they mean.
 
-ghost use Rattle.std.specs.Prelude.{◌≡◌, ◌-◌, ◌≤◌, ℕ, not, List, length, take, filter, reverse, Ok, Err, IfOk, IfErr, IfSome, IsSomeAnd};
+ghost use Rattle.std.specs.Prelude.{◌≡◌, ◌-◌, ◌≤◌, ℕ, not, List, length, filter, reverse, Ok, Err, IfOk, IfErr, IfSome, IsSomeAnd};
 ghost use Rattle.std.specs.List.{prefix_len};
 ghost use Rattle.alf_program.specs.Tree.{program_of};
 ghost use Rattle.alf_program.specs.Writable.{IsWritable};

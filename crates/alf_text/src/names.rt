@@ -1,9 +1,8 @@
 //! Names: references to frames and labels, labels, and addresses.
 
-ghost use Rattle.std.specs.Prelude.{◌≡◌};
 ghost use Rattle.grammar.specs.Rule.{many, maybe};
 ghost use Rattle.alf_text.specs.Grammar.{opens, reference, references, offset, zero_offset, label_tail, label, address_tail, address, ref_place, at_most};
-ghost use Rattle.alf_text.specs.Reading.{position, Reads};
+ghost use Rattle.alf_text.specs.Reading.{Reads};
 
 use crate::fault::Departure;
 use crate::parts::References;

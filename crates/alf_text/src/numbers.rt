@@ -3,7 +3,7 @@
 ghost use Rattle.std.specs.Prelude.{◌≡◌, ◌≤◌, ◌<◌, ◌-◌, ◌^◌, IfOk, IfSome};
 ghost use Rattle.grammar.specs.Rule.{maybe};
 ghost use Rattle.alf_text.specs.Grammar.{opens, at_most, unsigned, minus, signed_bits, signed, num_tail, num};
-ghost use Rattle.alf_text.specs.Reading.{position, Reads};
+ghost use Rattle.alf_text.specs.Reading.{Reads};
 
 use crate::fault::{Departure, outside};
 use crate::reader::Reader;

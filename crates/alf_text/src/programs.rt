@@ -1,9 +1,8 @@
 //! WholeProgram programs.
 
-ghost use Rattle.std.specs.Prelude.{◌≡◌};
 ghost use Rattle.alf_program.specs.Tree.{program_of};
 ghost use Rattle.alf_text.specs.Grammar.{closing_empty, empty, addr_unit, macro_defs, little_endian, heading, exports, imports, program};
-ghost use Rattle.alf_text.specs.Reading.{position, Reads};
+ghost use Rattle.alf_text.specs.Reading.{Reads};
 
 use crate::fault::{Departure, misfit};
 use crate::reader::Reader;

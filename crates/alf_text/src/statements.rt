@@ -1,10 +1,9 @@
 //! Items of a function: labels and statements.
 
-ghost use Rattle.std.specs.Prelude.{◌≡◌};
 ghost use Rattle.grammar.specs.Rule.{many};
 ghost use Rattle.alf_program.specs.Tree.{item_of};
 ghost use Rattle.alf_text.specs.Grammar.{opens_target, target, default_arm, switch, with_word, store, label_item, null, leaving, jump, result_word, call, returns, item_tail, item};
-ghost use Rattle.alf_text.specs.Reading.{position, Reads};
+ghost use Rattle.alf_text.specs.Reading.{Reads};
 
 use crate::fault::{Departure, outside};
 use crate::parts::{Exprs, Targets};

@@ -1,6 +1,6 @@
 //! The words of operators.
 
-ghost use Rattle.std.specs.Prelude.{◌≡◌, All, map, find, IfSome};
+ghost use Rattle.std.specs.Prelude.{◌≡◌, All, find, IfSome};
 ghost use Rattle.std.specs.Option.{option_map};
 ghost use Rattle.std.specs.Str.{bytes_eq};
 ghost use Rattle.alf_ops.specs.Names.{TellsOperator};

@@ -1,6 +1,6 @@
-ghost use Rattle.std.specs.Prelude.{◌≡◌, ◌<◌, ◌≤◌, ◌++◌, [], true, length, IsNone};
+ghost use Rattle.std.specs.Prelude.{◌≡◌, ◌<◌, ◌≤◌, ◌++◌, [], length, IsNone};
 ghost use Rattle.alf_tokens.specs.declared.token.Kind.TheVariants as kinds;
-ghost use Rattle.alf_tokens.specs.Tokens.{Lexeme, tokens_of, shown, text_of, is_kind, is_numeral};
+ghost use Rattle.alf_tokens.specs.Tokens.{tokens_of, shown, text_of, is_numeral};
 ghost use Rattle.alf_tokens.specs.Ahead.{lexeme, ahead, taken, opens};
 
 use crate::lexer::piece;

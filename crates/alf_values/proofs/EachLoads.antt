@@ -4,7 +4,7 @@ use Rattle.std.specs.Prelude.{slice_get}
 use Rattle.std.proofs.Common.{◌≡◌, sym, ◌∙◌, ap, true, Some, Ok, refl, arith, ◌*◌, ◌+◌}
 use Rattle.std.proofs.lemmas.Bool.{le-leb}
 use Rattle.alf_ops.specs.declared.history.Value.TheVariants.{Ptr}
-use Rattle.alf_ops.specs.Histories.{origin, is_active, fits_in, address_in, address_of}
+use Rattle.alf_ops.specs.Histories.{is_active, fits_in, address_in, address_of}
 use Rattle.alf_ops.specs.Histories as histories
 use Rattle.alf_values.specs.Memories.{shapes, byte_in}
 use Rattle.alf_values.specs.Standing.{EachLoad}

@@ -1,6 +1,6 @@
 //! The cells of all frames.
 
-ghost use Rattle.std.specs.Prelude.{◌≡◌, ◌≢◌, ℕ, map, take, replicate, ◌+◌, ◌/◌, ◌<◌, ◌≤◌, ◌^◌, length, IfOk, Some, slice_get};
+ghost use Rattle.std.specs.Prelude.{◌≡◌, ◌≢◌, ℕ, map, replicate, ◌+◌, ◌/◌, ◌<◌, ◌≤◌, IfOk, Some, slice_get};
 ghost use Rattle.alf_ops.specs.Values.{size_of};
 ghost use Rattle.alf_values.specs.declared.cells.Frame.{Frame};
 ghost use Rattle.alf_values.specs.Memories.{is_live};

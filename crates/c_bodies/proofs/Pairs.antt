@@ -1,9 +1,9 @@
 -- An `if` with an `else`: what stops the first part stops both, and where the first has no fault, the second tells.
-use Rattle.std.proofs.Common.{◌≡◌, ◌++◌, List, [], ◌∷◌, ℕ, Result, Ok, Err, Some, refl, ap, sym, ◌∙◌, subst}
+use Rattle.std.proofs.Common.{◌≡◌, ◌++◌, List, [], ◌∷◌, ℕ, Result, Err, ap, sym, ◌∙◌, subst}
 use Rattle.std.proofs.lemmas.List.{append_assoc}
 use Rattle.c_unit.specs.Units.{Word}
 use Rattle.c_unit.specs.Tree.{Expression, Statement, If, IfElse}
-use Rattle.c_checks.specs.Faults.{Fault, earliest}
+use Rattle.c_checks.specs.Faults.{Fault}
 use Rattle.c_checks.specs.Names.{Scope}
 use Rattle.c_checks.specs.Expressions.{condition_faults}
 use Rattle.c_checks.specs.Statements.{Around, inside, statement_faults}

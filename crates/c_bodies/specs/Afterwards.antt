@@ -1,7 +1,7 @@
 -- What is known after statements.
 --   known_after known s   the words, and the scopes after the statement
 --   Stays before after    the words, and all scopes but the innermost
-use Rattle.std.specs.Prelude.{◌≡◌, List}
+use Rattle.std.specs.Prelude.{◌≡◌}
 use Rattle.c_unit.specs.Tree.{Statement}
 use Rattle.c_checks.specs.Statements.{scopes_after}
 use Rattle.c_names.specs.Views.{Known, others}

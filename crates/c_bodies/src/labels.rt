@@ -1,7 +1,6 @@
 //! Labels of a switch.
 
 ghost use Rattle.std.specs.Prelude.{◌≡◌, [], ◌∷◌, reverse, true, false, OnOk};
-ghost use Rattle.c_unit.specs.Units.{Word};
 ghost use Rattle.c_checks.specs.Statements.{label_of, is_label};
 ghost use Rattle.c_bodies.specs.Surroundings.{Marks, no_marks};
 

@@ -1,9 +1,9 @@
 //! Statements, and those in a row.
 
-ghost use Rattle.std.specs.Prelude.{◌≡◌, [], ◌∷◌, ◌++◌, map, OnOk};
+ghost use Rattle.std.specs.Prelude.{◌≡◌, [], ◌∷◌, map, OnOk};
 ghost use Rattle.std.specs.Option.{option_map};
 ghost use Rattle.c_unit.specs.Tree.{expression_of, effect_of, statement_of, statements_of, If, While, Do, For, Switch};
-ghost use Rattle.c_checks.specs.Statements.{around_after, in_function, in_loop_of, inside, scopes_after, statement_faults, statements_faults};
+ghost use Rattle.c_checks.specs.Statements.{around_after, in_function, statement_faults, statements_faults};
 ghost use Rattle.c_locals.specs.Tells.{Tells};
 ghost use Rattle.c_bodies.specs.Surroundings.{around_of, no_marks};
 ghost use Rattle.c_bodies.specs.Afterwards.{Stays, known_after};

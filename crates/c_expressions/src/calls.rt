@@ -91,6 +91,7 @@ pub fn read_arguments(reader: &mut Reader<'_>, parens: u32) -> Result<Vec<Expr>,
     }
 }
 
+/// The opening parenthesis of a call.
 #[tactic(auto, unfolding(c_grammar::specs::Expressions::open_paren))]
 pub fn open_paren(reader: &mut Reader<'_>) -> Result<(), Departure>
     ensures { Reads open_paren (λ x. x) result reader.old reader.new }

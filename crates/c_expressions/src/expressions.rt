@@ -1,6 +1,6 @@
 //! Expressions. Reading one goes as deep as operators and parentheses may be nested.
 
-ghost use Rattle.std.specs.Prelude.{◌≡◌, ◌≤◌, Result};
+ghost use Rattle.std.specs.Prelude.{◌≡◌, Result};
 ghost use Rattle.grammar_chains.specs.Chain.{grow};
 ghost use Rattle.c_unit.specs.Tree.{expression_of};
 ghost use Rattle.c_grammar.specs.Expressions.{at_operation, operator, shallow, some_depth, one_paren, operation, at_index, index, indexed, open_bracket, close_bracket, close_paren, parenthesised, after_cast_type, cast_type, cast, bracketed, bracketed_indexed, prefixed, lead, operand_after, operand, expr, inner_of, deeper_of, whole_expr, condition, target};
@@ -104,6 +104,7 @@ pub fn close_bracket(reader: &mut Reader<'_>, others: Others) -> Result<(), Depa
     Ok(())
 }
 
+/// A closing parenthesis, where these others might stand.
 #[tactic(auto, unfolding(c_grammar::specs::Expressions::close_paren))]
 pub fn close_paren(reader: &mut Reader<'_>, others: Others) -> Result<(), Departure>
     ensures { Reads (close_paren others) (λ x. x) result reader.old reader.new }

@@ -11,7 +11,7 @@ use Rattle.std.specs.Str.{bytes_eq}
 use Rattle.flow_base.specs.declared.place.Which.{Which}
 use Rattle.flow_base.specs.declared.place.Which.TheVariants as which
 use Rattle.grammar.specs.Form.{At, first}
-use Rattle.grammar.specs.Rule.{token, judge, refuse, value, spend, ◌>>=◌, ◌>>◌}
+use Rattle.grammar.specs.Rule.{token, judge, refuse, spend, ◌>>=◌, ◌>>◌}
 use Rattle.grammar.specs.Rule as rules
 use Rattle.c_grammar.specs.declared.symbol.Symbol.{Symbol}
 use Rattle.c_grammar.specs.declared.symbol.Symbol.TheVariants as symbols

@@ -15,6 +15,7 @@ const MOST_FRAMES: u64 = 256;
 const MOST_ELEMENTS: u64 = 8_192;
 
 impl<'a> Reader<'a> {
+    /// Counts one more function that is defined.
     #[tactic(auto, unfolding(c_grammar::specs::Tokens::one_function))]
     pub fn one_function(&mut self) -> Result<(), Departure>
         ensures { Reads one_function (λ x. x) result self.old self.new }
@@ -27,6 +28,7 @@ impl<'a> Reader<'a> {
         }
     }
 
+    /// Counts so many more frames, which the calls of a function take.
     #[tactic(auto, unfolding(c_grammar::specs::Tokens::some_frames))]
     pub fn some_frames(&mut self, count: u64) -> Result<(), Departure>
         ensures { Reads (some_frames count) (λ x. x) result self.old self.new }
@@ -39,6 +41,7 @@ impl<'a> Reader<'a> {
         }
     }
 
+    /// Counts so many more elements of arrays.
     #[tactic(auto, unfolding(c_grammar::specs::Tokens::some_elements))]
     pub fn some_elements(&mut self, count: u32) -> Result<(), Departure>
         ensures { Reads (some_elements count) (λ x. x) result self.old self.new }

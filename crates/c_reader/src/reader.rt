@@ -116,6 +116,7 @@ impl<'a> Reader<'a> {
         Ok(token)
     }
 
+    /// A name, where these others might stand.
     #[tactic(auto, unfolding(c_grammar::specs::Tokens::name))]
     pub fn name(&mut self, others: Others) -> Result<Token<'a>, Departure>
         ensures { Reads (name others) seen result self.old self.new }

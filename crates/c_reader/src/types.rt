@@ -103,6 +103,7 @@ impl<'a> Reader<'a> {
         }
     }
 
+    /// A type of integers that may stand in this setting.
     #[tactic(auto, unfolding(c_grammar::specs::Types::integer_type))]
     pub fn integer_type(&mut self, setting: Setting) -> Result<Integer, Departure>
         ensures { Reads (integer_type setting) (λ x. x) result self.old self.new }
@@ -112,6 +113,7 @@ impl<'a> Reader<'a> {
         Ok(integer)
     }
 
+    /// The word `const`.
     #[tactic(auto, unfolding(c_grammar::specs::Types::const_word))]
     pub fn const_word(&mut self) -> Result<(), Departure>
         ensures { Reads const_word (λ x. x) result self.old self.new }
@@ -192,6 +194,7 @@ impl<'a> Reader<'a> {
         }
     }
 
+    /// The sign `=`: its number as a token.
     #[tactic(auto, unfolding(c_grammar::specs::Types::assign_mark))]
     pub fn assign_mark(&mut self) -> Result<u32, Departure>
         ensures { Reads assign_mark (λ x. x) result self.old self.new }
@@ -200,6 +203,7 @@ impl<'a> Reader<'a> {
         Ok(number)
     }
 
+    /// A comma.
     #[tactic(auto, unfolding(c_grammar::specs::Types::comma_mark))]
     pub fn comma_mark(&mut self) -> Result<(), Departure>
         ensures { Reads comma_mark (λ x. x) result self.old self.new }
@@ -230,6 +234,7 @@ impl<'a> Reader<'a> {
         Ok(constant)
     }
 
+    /// One more element of a list in braces, after its comma.
     #[tactic(auto, unfolding(c_grammar::specs::Types::further_element))]
     pub fn further_element(&mut self) -> Result<Constant, Departure>
         ensures { Reads further_element (λ x. x) result self.old self.new }
@@ -239,6 +244,7 @@ impl<'a> Reader<'a> {
         Ok(constant)
     }
 
+    /// The closing brace of a list.
     #[tactic(auto, unfolding(c_grammar::specs::Types::close_brace))]
     pub fn close_brace(&mut self) -> Result<(), Departure>
         ensures { Reads close_brace (λ x. x) result self.old self.new }
@@ -296,6 +302,7 @@ impl<'a> Reader<'a> {
         Ok(Some(elements))
     }
 
+    /// The opening bracket of a size.
     #[tactic(auto, unfolding(c_grammar::specs::Types::left_bracket))]
     pub fn left_bracket(&mut self) -> Result<(), Departure>
         ensures { Reads left_bracket (λ x. x) result self.old self.new }
@@ -304,6 +311,7 @@ impl<'a> Reader<'a> {
         Ok(())
     }
 
+    /// The closing bracket of a size, where these others might stand.
     #[tactic(auto, unfolding(c_grammar::specs::Types::right_bracket))]
     pub fn right_bracket(&mut self, others: Others) -> Result<(), Departure>
         ensures { Reads (right_bracket others) (λ x. x) result self.old self.new }

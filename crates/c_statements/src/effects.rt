@@ -1,6 +1,5 @@
 //! What statements and parts of a `for` do: assignments, steps and calls.
 
-ghost use Rattle.std.specs.Prelude.{◌≡◌};
 ghost use Rattle.c_unit.specs.Tree.{expression_of, effect_of};
 ghost use Rattle.c_grammar.specs.Tokens.{before};
 ghost use Rattle.c_grammar.specs.Statements.{effect_end, call_effect, step, prefix_step, assigning_mark, assign, update, postfix_step, effect_after, target_effect, other_effect, effect};

@@ -1,6 +1,5 @@
 //! Heads of statements: each up to the statements that stand in it.
 
-ghost use Rattle.std.specs.Prelude.{◌≡◌};
 ghost use Rattle.c_reader.specs.Reading.{seen, Reads};
 ghost use Rattle.c_statements.specs.Heads.{head_of, if_head, while_head, for_head, switch_head, leaving_head, worded_head_after, worded_head, empty_head, block_head, effect_head, unworded_long_head, unworded_head, statement_head, declared_head, item_head, label_head, switch_item_head, placed_head};
 

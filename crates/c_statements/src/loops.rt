@@ -1,6 +1,5 @@
 //! What stands in the parentheses of `if`, of loops and of `switch`.
 
-ghost use Rattle.std.specs.Prelude.{◌≡◌};
 ghost use Rattle.std.specs.Option.{option_map};
 ghost use Rattle.c_unit.specs.Tree.{expression_of, effect_of, statement_of};
 ghost use Rattle.c_grammar.specs.Statements.{controlling, while_word, empty_first, declared_first, effect_first, some_first, for_first, empty_condition, some_condition, for_condition, empty_last, some_last, for_last, switch_value};

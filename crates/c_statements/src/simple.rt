@@ -1,6 +1,5 @@
 //! Statements in which no statement stands.
 
-ghost use Rattle.std.specs.Prelude.{◌≡◌};
 ghost use Rattle.c_unit.specs.Tree.{statement_of};
 ghost use Rattle.c_grammar.specs.Statements.{break_after, continue_after, return_nothing, return_value, return_after, leaving_after, empty_statement, effect_statement};
 ghost use Rattle.c_reader.specs.Reading.{seen, Reads};

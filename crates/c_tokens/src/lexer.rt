@@ -5,7 +5,7 @@ ghost use Rattle.std.specs.List.{prefix_len};
 ghost use Rattle.c_tokens.specs.Bytes.{in_line};
 ghost use Rattle.c_tokens.specs.Ends.{comment_end, literal_end};
 ghost use Rattle.c_tokens.specs.Kinds.{kind_of_one, literal_kind, opens_comment, opens_line_comment, is_wide};
-ghost use Rattle.c_tokens.specs.Cutting.{comment_piece, wide_piece, quoted_piece, symbol_piece, longer_piece, cut_piece};
+ghost use Rattle.c_tokens.specs.Cutting.{comment_piece, wide_piece, quoted_piece, symbol_piece, cut_piece};
 
 use crate::bytes::{is_blank, is_letter, is_quote, line_len, word_len};
 use crate::comments::comment_end;

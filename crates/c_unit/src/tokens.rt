@@ -1,6 +1,6 @@
 //! The tokens of a text, as ranges of its bytes.
 
-ghost use Rattle.std.specs.Prelude.{◌≡◌, map, length, take, drop, IfOk};
+ghost use Rattle.std.specs.Prelude.{◌≡◌, map, take, drop, IfOk};
 ghost use Rattle.c_tokens.specs.Tokens.{tokens_of};
 ghost use Rattle.c_unit.specs.Units.{word_of_span, word_of};
 

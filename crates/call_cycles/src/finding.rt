@@ -2,7 +2,7 @@
 
 ghost use Rattle.std.specs.Prelude.{◌≡◌, ◌<◌, ◌^◌, ◌↔◌, ℕ, length, IsTrue, IfOk, IfNone, IfSome};
 ghost use Rattle.walks.specs.Walks.{Reaches};
-ghost use Rattle.walks.specs.Marks.{IsMarked, marked_count};
+ghost use Rattle.walks.specs.Marks.{marked_count};
 ghost use Rattle.call_cycles.specs.Calls.{Calls, CallsWithin, IsCycle, calls_of};
 ghost use Rattle.call_cycles.specs.Findings.{IsMarking, IsCaller, IsFinding};
 

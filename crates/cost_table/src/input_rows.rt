@@ -1,6 +1,6 @@
 //! The rows of an inputs file.
 
-ghost use Rattle.std.specs.Prelude.{◌≡◌, ◌≢◌, ◌<◌, ◌≤◌, ◌+◌, ◌*◌, ◌^◌, ◌++◌, ◌/◌, ℕ, [], length, map, IfOk, IfErr, IfSome, IfNone, OnOk, IsTrue, Some, true, pos, ◌↔◌, slice_get};
+ghost use Rattle.std.specs.Prelude.{◌≡◌, ◌≢◌, ◌<◌, ◌≤◌, ◌+◌, ◌*◌, ◌++◌, ◌/◌, ℕ, [], length, map, IfOk, IfErr, IfSome, IfNone, OnOk, Some, true, pos, slice_get};
 ghost use lib.Signed.{◌≤ℤ◌, ◌<ℤ◌};
 ghost use Rattle.alf_faults.specs.Sizes.{is_export_size};
 ghost use Rattle.std.specs.Bool.{OnTrue, OnFalse};

@@ -1,6 +1,6 @@
 //! Rows of one entry.
 
-ghost use Rattle.std.specs.Prelude.{◌≡◌, ◌<◌, ◌≤◌, ◌+◌, ◌*◌, ◌/◌, ◌^◌, ◌++◌, OnOk};
+ghost use Rattle.std.specs.Prelude.{◌≡◌, ◌<◌, ◌+◌, ◌*◌, ◌/◌, ◌^◌, ◌++◌, OnOk};
 ghost use Rattle.cost_table.specs.Inputs.{rows_from};
 
 use alf_check::InputRow;

@@ -1,6 +1,6 @@
 //! Scopes around a scope, by their parents.
 
-ghost use Rattle.std.specs.Prelude.{◌≡◌, ◌<◌, ◌==◌, ℕ, Some, List, length, IfOk};
+ghost use Rattle.std.specs.Prelude.{◌≡◌, ◌<◌, ◌==◌, ℕ, Some, length, IfOk};
 ghost use Rattle.std.specs.List.{list_any};
 ghost use Rattle.domain_core.specs.Outlines.{parent_of, scopes_from};
 

@@ -1,6 +1,6 @@
 //! Domains of words.
 
-ghost use Rattle.std.specs.Prelude.{◌≡◌, ◌≤◌, ◌<◌, ◌^◌, IsSome};
+ghost use Rattle.std.specs.Prelude.{◌≡◌, ◌<◌, ◌^◌, IsSome};
 ghost use Rattle.alf_ops.specs.Table.{result_size, operand_sizes};
 ghost use Rattle.domain_core.specs.WordSets.{WordSets, IsWordSets, IsWordSize, HaveSizes};
 

@@ -1,6 +1,6 @@
 //! What the definitions promise, as clauses of functions that do nothing.
 
-ghost use Rattle.std.specs.Prelude.{◌≡◌, ◌≢◌, ◌<◌, ◌≤◌, ◌-◌, ◌^◌, ◌⊎◌, ◌↔◌, ◌∷◌, ◌++◌, ◌||◌, [], ℕ, true, false, List, reverse, length, slice_index, Contains, AllPairs};
+ghost use Rattle.std.specs.Prelude.{◌≡◌, ◌≢◌, ◌<◌, ◌-◌, ◌^◌, ◌⊎◌, ◌↔◌, ◌∷◌, ◌++◌, ◌||◌, [], ℕ, true, false, List, reverse, length, slice_index, Contains, AllPairs};
 ghost use Rattle.domain_core.specs.Reducible.{IsEdge, IsReducible, IsCrossing, IsFalling, IsForwardEdge, Dominates, IsDecidedBack};
 ghost use Rattle.domain_core.specs.Scopes.{Plan, leads, IsPlan, InScope, IsHeader, IsInside};
 ghost use Rattle.domain_core.specs.Outlines.{Shape, IsOutline, Holds, LeadsTo, header_of, kind_of, scopes_around};

@@ -1,7 +1,6 @@
 //! Columns: ways that lead on from a node.
 
-ghost use Rattle.std.specs.Prelude.{◌≡◌, ◌==◌};
-ghost use Rattle.path_rows.specs.Columns.{Column as ColumnOf};
+ghost use Rattle.std.specs.Prelude.{◌≡◌};
 
 use std::marker::Model;
 

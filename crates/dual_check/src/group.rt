@@ -1,6 +1,6 @@
 //! The groups of rows, and the constraints of facts.
 
-ghost use Rattle.std.specs.Prelude.{◌≡◌, ◌++◌, ◌∷◌, [], map, take, All, OnOk, IfOk, length};
+ghost use Rattle.std.specs.Prelude.{◌≡◌, ◌++◌, ◌∷◌, [], map, take, All, OnOk, IfOk};
 ghost use Rattle.std.specs.List.{flat_map, range_with_len};
 ghost use Rattle.domain_core.specs.Outlines.{shape_of};
 ghost use Rattle.flow_facts.specs.Facts.{IsAbout};

@@ -1,7 +1,7 @@
 //! A linear program as a cost for each column and rows by terms, and the same terms by columns.
 
-ghost use Rattle.std.specs.Prelude.{◌≡◌, ◌<◌, ◌^◌, length, slice_get, Some};
-ghost use Rattle.path_rows.specs.Programs.{IsProgram, row_at, cost_at};
+ghost use Rattle.std.specs.Prelude.{◌≡◌, ◌<◌, length, slice_get, Some};
+ghost use Rattle.path_rows.specs.Programs.{row_at, cost_at};
 ghost use Rattle.path_rows.specs.Sums.{coefficient, IsAscending};
 ghost use Rattle.dual_rules.specs.Sparse.{column_terms};
 ghost use Rattle.dual_check.specs.Systems.{IsSystem};

@@ -1,7 +1,6 @@
 //! The program that an outline and a report's facts make.
 
 ghost use Rattle.std.specs.Prelude.{◌≡◌, ◌==◌, ◌<◌, ◌++◌, ◌^◌, ◌↔◌, IsTrue, map, All, OnOk, IfOk, length};
-ghost use Rattle.std.specs.List.{flat_map, range_with_len};
 ghost use Rattle.domain_core.specs.Outlines.{shape_of};
 ghost use Rattle.flow_facts.specs.Facts.{IsAbout};
 ghost use Rattle.path_rows.specs.Rows.{row_of, cost_of};

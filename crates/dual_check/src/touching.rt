@@ -1,6 +1,6 @@
 //! The columns that lead from each node or into it.
 
-ghost use Rattle.std.specs.Prelude.{◌≡◌, ◌<◌, ◌≤◌, ◌+◌, ◌++◌, ◌∷◌, ◌^◌, [], ℕ, OnOk, IfOk, length, get_or, slice_set};
+ghost use Rattle.std.specs.Prelude.{◌≡◌, ◌<◌, ◌+◌, ◌++◌, ◌∷◌, ◌^◌, [], ℕ, OnOk, IfOk, length, get_or, slice_set};
 ghost use Rattle.dual_check.specs.Places.{touches, place_if, AreTouching};
 ghost use Rattle.dual_check.specs.Terms.{AreFrom};
 

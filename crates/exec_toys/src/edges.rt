@@ -1,6 +1,6 @@
 //! Whether a flow chart goes along an outline.
 
-ghost use Rattle.std.specs.Prelude.{◌↔◌, ◌≤◌, IsTrue, Contains, length, drop};
+ghost use Rattle.std.specs.Prelude.{IsTrue, Contains};
 ghost use Rattle.exec_toys.specs.Charts.{IsWayAlong, AreForksAlong};
 
 use crate::{Fork, Way};

@@ -2,7 +2,7 @@
 
 ghost use Rattle.std.specs.Prelude.{◌≡◌, IfOk};
 ghost use Rattle.alf_program.specs.Tree as alf;
-ghost use Rattle.c_unit.specs.Tree.{Expression, expression_of};
+ghost use Rattle.c_unit.specs.Tree.{expression_of};
 ghost use Rattle.c_unit.specs.Units.{unit_of};
 ghost use Rattle.c_checks.specs.Expressions.{on_both, type_of};
 ghost use Rattle.c_checks.specs.Types as types;

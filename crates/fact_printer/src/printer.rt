@@ -1,11 +1,11 @@
 //! The text of a report.
 
-ghost use Rattle.std.specs.Prelude.{◌≡◌, ◌∷◌, [], map, codes, OnOk, IfOk};
+ghost use Rattle.std.specs.Prelude.{◌≡◌, ◌∷◌, [], map, OnOk, IfOk};
 ghost use Rattle.std.specs.List.{flat_map};
 ghost use Rattle.std.specs.Option.{option_map};
 ghost use Rattle.flow_facts.specs.Reports.{node_of, certificate_of, reported};
 ghost use Rattle.fact_printer.specs.Printing.{all_put};
-ghost use Rattle.fact_printer.specs.Canonical.{begins, a_number, nodes_marks, scopes_marks, fact_marks, event_marks, multiplier_marks, if_any, path_bound_marks, cert_marks, ending_marks, lists_marks, tail_marks, report_text};
+ghost use Rattle.fact_printer.specs.Canonical.{nodes_marks, scopes_marks, fact_marks, event_marks, multiplier_marks, if_any, path_bound_marks, cert_marks, ending_marks, lists_marks, tail_marks, report_text};
 
 use crate::lines::{
     put_count_bound, put_event, put_fact, put_multiplier, put_node, put_path_bound, put_scale,

@@ -1,40 +1,35 @@
 -- What a rule spells is writable: a line a rule.
 use Rattle.std.proofs.Common.{◌≡◌, ◌<◌, ◌≤◌, ◌+◌, ◌-◌, ◌^◌, ◌&&◌, ℕ, zero, suc, ℤ, pos, negsuc, Bool, true, false, cond, ltb, leb, List, [], ◌∷◌, ◌++◌, length, All, Ok, Err, Option, Some, None, Result, inl, inr, ◌⊎◌, refl, sym, ap, subst, ◌∙◌, arith, length-append, codes}
-use Rattle.std.specs.Prelude.{◌==◌, IfSome, neg_ℤ}
+use Rattle.std.specs.Prelude.{◌==◌, IfSome}
 use Rattle.std.specs.List.{AllPairs}
 use Rattle.std.specs.Str.{bytes_eq}
-use Rattle.std.specs.Ordering.{nat_cmp, is_lt, is_le}
-use Rattle.std.specs.Cmp.Lexicographic.{slice_cmp, nat_list_cmp_total}
+use Rattle.std.specs.Ordering.{is_lt}
+use Rattle.std.specs.Cmp.Lexicographic.{nat_list_cmp_total}
 use Rattle.std.specs.BTreeMap.Comparable.{le_lt_trans}
 use Rattle.std.specs.declared.cmp.Ordering.{Ordering}
 use Rattle.std.specs.declared.cmp.Ordering.TheVariants.{Less, Equal, Greater}
 use Rattle.std.proofs.lemmas.Bool.{leb-true, eqb-true}
 use Rattle.std.proofs.lemmas.List.Elements.{All-head, All-nil, All-cons, All-append}
 use Rattle.std.proofs.lemmas.List.Quantifiers.{all_pairs_push}
-use Rattle.lists.specs.Tests.{by_test}
-use Rattle.flow_base.specs.Digits.{number_of}
-use Rattle.grammar.specs.Form.{At, Form, bound, made, and_then}
+use Rattle.grammar.specs.Form.{bound, and_then}
 use Rattle.grammar.specs.Exact.{ok_is, ok_no_err}
 use Rattle.grammar.specs.Each.{Each}
-use Rattle.grammar.specs.Keeping.{Any, ◌>>-◌, done, stays, passes, keeps, weakened, one_stays, one_passes, judged_stays, refused_stays, row_stays, maybe_stays}
+use Rattle.grammar.specs.Keeping.{Any, ◌>>-◌, done, stays, keeps, weakened, one_passes, judged_stays, refused_stays, row_stays, maybe_stays}
 use Rattle.grammar.specs.Keeping
-use Rattle.grammar_chains.specs.Chain.{InTurn, chain, grow}
-use Rattle.alf_ops.specs.declared.history.RunFault.{RunFault}
-use Rattle.domain_core.specs.declared.event.Event.{Event}
+use Rattle.grammar_chains.specs.Chain.{InTurn, grow}
 use Rattle.domain_core.specs.declared.outline.ScopeRow.{ScopeRow}
-use Rattle.domain_core.specs.declared.scope_kind.ScopeKind.{ScopeKind}
 use Rattle.flow_facts.specs.declared.fact.Fact.{Fact}
 use Rattle.flow_facts.specs.declared.fact.Fact.TheVariants.{Loop, Count, Dead, Total, Pair, Alarm}
 use Rattle.flow_facts.specs.declared.report.BoundWord.{BoundWord}
 use Rattle.flow_facts.specs.Reports.{NamedNode, Certificate, Reported}
 use Rattle.flow_facts.specs.Writable.{IsNumber, IsNodeName, kind_place, numbers_of, IsBefore, NodeIsWritable, ScopeIsWritable, EventIsWritable, FactIsWritable, IsLong, IsScale, CertificateIsWritable, IsWritable}
 use Rattle.fact_tokens.specs.Tokens.{Lexeme}
-use Rattle.fact_words.specs.Numbers.{Fault, Syntax, Number, number_within, whole_within, is_positive}
+use Rattle.fact_words.specs.Numbers.{Fault, Syntax, number_within, whole_within, is_positive}
 use Rattle.fact_words.specs.DigitLaws.{within_bounds, whole_bounds}
 use Rattle.fact_words.specs.NameLaws.{node_name_is}
 use Rattle.fact_words.specs.Names.{is_node_name}
-use Rattle.fact_text.specs.Grammar.{Place, Rule, line_word, next_word, told, only_if, check, begins, number, count, whole, either, unknown, line_is, form_of, heading, is_next, numbered, name, node, next_node, node_begins, parent_of, parent, scope_kind, scope, next_scope, scope_begins, place_of_word, fact_begins, may_stand, bounds, loop_fact, count_fact, dead_fact, total_fact, pair_fact, cause, alarm_fact, fact_tail, stands_before, follows, low_fits, fact, or_last, last_of, next_fact, count_bound, path_bound, event_begins, step, merge, event_tail, event, scale, multiplier, cert, ending, lists, tail, report}
-use Rattle.fact_text.specs.Language.{start, SpellsReport, IsSpelled}
+use Rattle.fact_text.specs.Grammar.{Place, Rule, line_word, next_word, told, only_if, check, begins, number, count, whole, either, unknown, line_is, form_of, heading, numbered, name, node, next_node, node_begins, parent_of, parent, scope_kind, scope, next_scope, scope_begins, place_of_word, fact_begins, may_stand, bounds, loop_fact, count_fact, dead_fact, total_fact, pair_fact, cause, alarm_fact, fact_tail, stands_before, follows, low_fits, fact, or_last, last_of, next_fact, count_bound, path_bound, event_begins, step, merge, event_tail, event, scale, multiplier, cert, ending, lists, tail, report}
+use Rattle.fact_text.specs.Language.{start, IsSpelled}
 
 -- each value that the rule spells is so
 abbrev Stays : {some : Bool} {A : Type 0} → Rule some A → (A → Type 0) → Type 0

@@ -1,5 +1,5 @@
 -- The text of a report is read as the report: a line a rule.
-use Rattle.std.proofs.Common.{◌≡◌, ◌<◌, ◌≤◌, ◌+◌, ◌-◌, ◌^◌, ◌&&◌, ℕ, zero, suc, ℤ, pos, negsuc, Bool, true, false, cond, ltb, leb, List, [], ◌∷◌, ◌++◌, length, All, Ok, Err, Option, Some, None, Result, inl, inr, ◌⊎◌, refl, sym, ap, subst, ◌∙◌, arith, append_assoc, append-nil, length-append, codes}
+use Rattle.std.proofs.Common.{◌≡◌, ◌<◌, ◌≤◌, ◌+◌, ◌-◌, ◌^◌, ℕ, zero, suc, ℤ, pos, negsuc, Bool, true, false, cond, ltb, leb, List, [], ◌∷◌, ◌++◌, length, All, Ok, Option, Some, None, inl, inr, ◌⊎◌, refl, sym, ap, subst, ◌∙◌, arith, append_assoc, append-nil, length-append, codes}
 use Rattle.std.specs.Prelude.{◌==◌, decimal, IfSome}
 use Rattle.std.specs.Fmt.{signed_decimal}
 use Rattle.std.specs.List.{list_all, flat_map}
@@ -9,16 +9,16 @@ use Rattle.std.specs.List.{AllPairs}
 use Rattle.std.specs.Ordering.{nat_cmp, ordering_then}
 use Rattle.std.specs.Cmp.Lexicographic.{slice_cmp}
 use Rattle.std.specs.declared.cmp.Ordering.{Ordering}
-use Rattle.std.specs.declared.cmp.Ordering.TheVariants.{Less, Equal, Greater}
-use Rattle.std.proofs.lemmas.Bool.{le-leb, leb-true, ltb-true, eq-eqb, eqb-true}
+use Rattle.std.specs.declared.cmp.Ordering.TheVariants.{Less, Greater}
+use Rattle.std.proofs.lemmas.Bool.{le-leb, ltb-true, eq-eqb, eqb-true}
 use Rattle.std.proofs.lemmas.Slice.Eq.{bytes_eq-Decides}
 use Rattle.std.proofs.lemmas.List.Elements.{All-head, All-tail}
 use Rattle.std.proofs.lemmas.List.Folds.{list_all-append}
-use Rattle.grammar.specs.Form.{At, Form, bound, made}
+use Rattle.grammar.specs.Form.{bound}
 use Rattle.grammar.specs.Exact.{ok_is}
-use Rattle.grammar.specs.Rule.{many, maybe}
+use Rattle.grammar.specs.Rule.{maybe}
 use Rattle.grammar.specs.Writing.{Printing, tokens, place, never, Writes, reads_spells, ◌then◌, until, as_value, grouped, same_row}
-use Rattle.grammar_chains.specs.Chain.{InTurn, grow, chain}
+use Rattle.grammar_chains.specs.Chain.{InTurn, grow}
 use Rattle.alf_ops.specs.declared.history.RunFault.{RunFault}
 use Rattle.alf_ops.specs.declared.history.RunFault.TheVariants as causes
 use Rattle.domain_core.specs.declared.event.Event.{Event}
@@ -35,12 +35,11 @@ use Rattle.flow_facts.specs.Writable.{IsNumber, IsNodeName, kind_place, numbers_
 use Rattle.lists.specs.Tests.{by_test}
 use Rattle.fact_tokens.specs.Tokens.{Lexeme, tokens_of}
 use Rattle.fact_tokens.specs.Laws.{EachPrintedTextIsCut}
-use Rattle.fact_tokens.specs.Printed.{Mark, is_word, is_mark, token_before, tokens_before, left_before}
-use Rattle.fact_printer.specs.Canonical.{a_word, a_number, a_whole, node_marks, nodes_marks, parent_mark, scope_word, scope_marks, scopes_marks, fault_word, fact_marks, count_bound_marks, bound_word, path_bound_marks, event_marks, scale_marks, multiplier_marks, cert_marks, if_any, heading_marks, lists_marks, ending_marks, tail_marks, report_marks, report_text}
+use Rattle.fact_tokens.specs.Printed.{Mark, is_word, is_mark, token_before, tokens_before}
+use Rattle.fact_printer.specs.Canonical.{a_word, a_number, a_whole, node_marks, nodes_marks, parent_mark, scope_word, scope_marks, scopes_marks, fault_word, fact_marks, count_bound_marks, path_bound_marks, event_marks, scale_marks, multiplier_marks, cert_marks, if_any, heading_marks, lists_marks, ending_marks, tail_marks, report_marks, report_text}
 use Rattle.fact_printer.specs.Canonical as marks
 use Rattle.fact_words.specs.Numbers.{Fault, number_within, whole_within, is_positive}
-use Rattle.fact_words.specs.Names.{is_node_name}
-use Rattle.fact_text.specs.Grammar.{Place, Rule, line_word, next_word, told, begins, number, count, whole, either, unknown, line_is, heading, numbered, name, node, next_node, node_begins, parent, scope_kind, scope, next_scope, scope_begins, place_of_word, fact_begins, last_place, may_stand, bounds, loop_fact, count_fact, dead_fact, total_fact, pair_fact, cause, alarm_fact, fact_tail, follows, low_fits, fact, stands_before, last_of, next_fact, count_bound, path_bound, event_begins, step, merge, event_tail, event, scale, multiplier, cert, ending, lists, tail, report}
+use Rattle.fact_text.specs.Grammar.{Place, Rule, line_word, next_word, told, begins, number, count, whole, line_is, heading, numbered, name, node, next_node, node_begins, parent, scope_kind, scope, next_scope, scope_begins, place_of_word, fact_begins, last_place, bounds, loop_fact, count_fact, dead_fact, total_fact, pair_fact, cause, alarm_fact, fact_tail, follows, fact, stands_before, last_of, next_fact, count_bound, path_bound, event_begins, step, merge, event_tail, event, scale, multiplier, cert, ending, lists, tail, report}
 use Rattle.fact_words.specs.DigitLaws.{decimal_within, decimal_word, positive_within, negative_within, negative_word, decimal_one, decimal_two, decimal_is}
 use Rattle.fact_text.specs.Language.{start, SpellsReport}
 use Rattle.fact_words.specs.NameLaws.{node_name_passes, node_name_word}

@@ -3,7 +3,7 @@
 --   Rule some A      a part of the grammar that spells values of type A, and takes some of the text where some is true
 --   line_word, next_word   one word: the first of a line, and one after a space
 --   told r           the answer r, and no text is taken
-use Rattle.std.specs.Prelude.{ℕ, suc, ℤ, ◌-◌, ◌^◌, ◌&&◌, ◌||◌, ◌==◌, not, List, [], ◌∷◌, ◌++◌, length, Bool, true, false, Result, Ok, Err, Option, Some, None, nat_lt, nat_le, if◌then◌else◌, codes}
+use Rattle.std.specs.Prelude.{ℕ, suc, ℤ, ◌-◌, ◌^◌, ◌&&◌, ◌||◌, ◌==◌, not, List, [], ◌∷◌, ◌++◌, length, Bool, true, false, Result, Ok, Err, Option, Some, None, nat_le, if◌then◌else◌, codes}
 use Rattle.std.specs.Str.{bytes_eq}
 use Rattle.std.specs.Cmp.Lexicographic.{slice_cmp}
 use Rattle.std.specs.Ordering.{nat_cmp, is_lt}
@@ -25,7 +25,7 @@ use Rattle.flow_facts.specs.declared.report.BoundWord.TheVariants.{Least, Stoppe
 use Rattle.flow_facts.specs.Reports.{NamedNode, Certificate, Reported}
 use Rattle.flow_facts.specs.Writable.{kind_place, numbers_of}
 use Rattle.fact_tokens.specs.Tokens.{Lexeme}
-use Rattle.fact_words.specs.Numbers.{Fault, Syntax, Number, number_within, whole_within, is_positive}
+use Rattle.fact_words.specs.Numbers.{Fault, Syntax, number_within, whole_within, is_positive}
 use Rattle.fact_words.specs.Names.{is_node_name}
 
 abbrev pub Place : Type 0

@@ -7,7 +7,7 @@
 --   Means bytes meaning           the bytes spell the report, or depart so
 --   HasOneMeaning bytes           they have exactly one meaning
 --   departure_of answer           the departure of an answer of `read`, or none where memory ran out
-use Rattle.std.specs.Prelude.{◌≡◌, ◌+◌, ◌-◌, ◌==◌, ℕ, not, Bool, List, length, take, filter, reverse, Result, Ok, Err, Option, Some, None}
+use Rattle.std.specs.Prelude.{◌≡◌, ◌+◌, ◌-◌, ◌==◌, ℕ, not, Bool, List, length, take, filter, reverse, Result, Ok, Err, Option}
 use Rattle.std.specs.List.{prefix_len}
 use Rattle.flow_base.specs.declared.place.Place.{Place}
 use Rattle.flow_facts.specs.Reports.{Reported}

@@ -1,9 +1,8 @@
 //! A place in a text, and what is read of single words there.
 
-ghost use Rattle.std.specs.Prelude.{◌≡◌, ◌≤◌, ◌<◌, ◌-◌, ◌^◌, None, Some, IfOk, IfErr};
+ghost use Rattle.std.specs.Prelude.{◌≡◌, ◌≤◌, ◌<◌, ◌-◌, None, Some, IfOk, IfErr};
 ghost use Rattle.std.specs.Option.{option_map};
 ghost use Rattle.grammar.specs.Form.{first, after};
-ghost use Rattle.fact_tokens.specs.Tokens.{tokens_of};
 ghost use Rattle.fact_tokens.specs.Ahead.{lexeme};
 ghost use Rattle.fact_words.specs.declared.fault.FaultAt.TheVariants.{Syntax};
 ghost use Rattle.fact_text.specs.Language.{start};

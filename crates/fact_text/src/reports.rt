@@ -1,11 +1,11 @@
 //! Whole reports.
 
-ghost use Rattle.std.specs.Prelude.{◌≡◌, codes, map};
+ghost use Rattle.std.specs.Prelude.{codes, map};
 ghost use Rattle.std.specs.Option.{option_map};
 ghost use Rattle.grammar.specs.Rule.{maybe};
 ghost use Rattle.flow_facts.specs.Reports.{node_of, certificate_of, reported};
 ghost use Rattle.fact_text.specs.Grammar.{heading, count_bound, path_bound, line_is, cert, ending, lists, tail, report};
-ghost use Rattle.fact_text.specs.Reading.{position, Reads};
+ghost use Rattle.fact_text.specs.Reading.{Reads};
 
 use crate::reader::Reader;
 use domain_core::ScopeRow;

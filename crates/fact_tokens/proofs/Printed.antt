@@ -1,10 +1,8 @@
 -- The tokens of a text that was printed are those that were printed.
-use Rattle.std.proofs.Common.{◌≡◌, ℕ, zero, suc, ◌+◌, Bool, true, false, cond, ◌&&◌, not, List, [], ◌∷◌, ◌++◌, length, refl, sym, ap, ◌∙◌, arith, length-append, append-nil}
-use Rattle.std.specs.Prelude.{◌==◌}
+use Rattle.std.proofs.Common.{◌≡◌, ℕ, zero, suc, ◌+◌, Bool, true, false, cond, ◌&&◌, not, List, [], ◌∷◌, ◌++◌, length, refl, ap, ◌∙◌, arith, length-append, append-nil}
 use Rattle.std.specs.List.{flat_map, list_all}
-use Rattle.lists.specs.Tests.{by_test}
-use Rattle.fact_tokens.specs.Tokens.{Lexeme, ends_word, is_quoted_after, with_byte, tokens_from, others_of, tokens_of}
-use Rattle.fact_tokens.specs.Printed.{Mark, goes_through, is_word, is_mark, separator, printed, left_before, token_before, tokens_before, text_of_marks}
+use Rattle.fact_tokens.specs.Tokens.{ends_word, is_quoted_after, tokens_from, tokens_of}
+use Rattle.fact_tokens.specs.Printed.{Mark, goes_through, is_mark, separator, printed, left_before, tokens_before, text_of_marks}
 
 and_left : (a b : Bool) → a && b ≡ true → a ≡ true
 and_left true b h = refl

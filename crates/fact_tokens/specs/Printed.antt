@@ -5,7 +5,7 @@
 --   printed mark             the bytes of a mark
 --   text_of_marks marks      the text: the marks without the byte before the first
 --   tokens_before more marks the tokens that the marks print, and then these
-use Rattle.std.specs.Prelude.{ℕ, suc, ◌+◌, List, [], ◌∷◌, ◌++◌, length, drop, Bool, true, false, ◌&&◌, not, if◌then◌else◌}
+use Rattle.std.specs.Prelude.{ℕ, suc, ◌+◌, List, [], ◌∷◌, length, drop, Bool, false, ◌&&◌, not, if◌then◌else◌}
 use Rattle.std.specs.List.{flat_map}
 use Rattle.fact_tokens.specs.Tokens.{Lexeme, ends_word, is_quoted_after}
 

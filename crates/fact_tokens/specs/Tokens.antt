@@ -6,7 +6,7 @@
 --   tokens_from line quoted bytes  the tokens of the bytes, of which the first begins a line where line is true
 --   others_of after          the tokens after a word, where these bytes come after it
 --   tokens_of bytes          the tokens of a text
-use Rattle.std.specs.Prelude.{ℕ, suc, ◌+◌, List, [], ◌∷◌, length, Bool, true, false, not, ◌&&◌, ◌||◌, ◌==◌, if◌then◌else◌}
+use Rattle.std.specs.Prelude.{ℕ, suc, List, [], ◌∷◌, length, Bool, true, false, not, ◌&&◌, ◌||◌, ◌==◌, if◌then◌else◌}
 
 -- a token: whether it begins a line, its bytes, and how many bytes of the text are left where it begins
 pub record Lexeme : Type 0 where

@@ -1,6 +1,6 @@
 ghost use Rattle.std.specs.Prelude.{◌≡◌, ◌++◌, [], IsNone};
 ghost use Rattle.fact_tokens.specs.Tokens.{tokens_of, others_of};
-ghost use Rattle.fact_tokens.specs.Ahead.{lexeme, ahead, taken};
+ghost use Rattle.fact_tokens.specs.Ahead.{ahead, taken};
 
 use crate::token::Token;
 use crate::words::word_len;

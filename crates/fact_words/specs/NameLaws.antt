@@ -1,5 +1,5 @@
 -- The names of nodes, by their parts and as they are made.
-use Rattle.std.proofs.Common.{◌≡◌, ℕ, suc, ◌+◌, ◌-◌, ◌^◌, ◌<◌, ◌≤◌, ◌&&◌, ◌||◌, Bool, true, false, not, cond, ltb, leb, List, [], ◌∷◌, ◌++◌, length, All, refl, sym, ap, subst, ◌∙◌, arith, append_assoc, append-nil, codes}
+use Rattle.std.proofs.Common.{◌≡◌, ℕ, suc, ◌+◌, ◌-◌, ◌^◌, ◌≤◌, ◌&&◌, ◌||◌, Bool, true, false, not, cond, ltb, leb, List, [], ◌∷◌, ◌++◌, length, All, refl, ap, subst, ◌∙◌, arith, append_assoc, append-nil, codes}
 use Rattle.std.specs.Prelude.{◌==◌, decimal}
 use Rattle.std.specs.List.{list_all}
 use Rattle.std.specs.Str.{bytes_eq}
@@ -8,11 +8,9 @@ use Rattle.std.proofs.lemmas.Bool.{le-leb, leb-true, ne_eqb, eqb-true}
 use Rattle.std.proofs.lemmas.Bool.Decides.{nat_tests}
 use Rattle.std.proofs.lemmas.Slice.Eq.{bytes_eq-Decides}
 use Rattle.std.proofs.lemmas.List.Elements.{All-head, All-tail, All-nil, All-cons}
-use Rattle.std.proofs.lemmas.List.Folds.{list_all-append}
 use Rattle.lists.specs.Tests.{by_test}
 use Rattle.flow_base.specs.Digits.{number_of}
 use Rattle.flow_facts.specs.Writable.{IsNumber, IsNameByte, IsName, quoted, IsPathName, of_root, of_call, IsNodeName, of_entry, of_block}
-use Rattle.fact_tokens.specs.Tokens.{ends_word, is_quoted_after}
 use Rattle.fact_tokens.specs.Printed.{goes_through, is_word}
 use Rattle.fact_words.specs.Numbers.{is_numeral, has_zeros}
 use Rattle.fact_words.specs.Names.{with_first, parts_of, is_name_byte, is_name, is_block, is_call, is_end, is_over, fits_parts, begins_quoted, is_node_name}

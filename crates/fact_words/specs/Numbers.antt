@@ -4,7 +4,7 @@
 --   has_zeros text              a zero stands before other digits
 --   number_within most text left  the number that the word writes, of at most so much, or the fault of the word, where so many bytes are left
 --   whole_within text left      the same for a whole number of 128 bits with its sign
-use Rattle.std.specs.Prelude.{ℕ, ℤ, pos, negsuc, neg_ℤ, ◌-◌, ◌^◌, ◌&&◌, ◌==◌, List, [], ◌∷◌, length, Bool, true, false, Result, Ok, Err, nat_lt, if◌then◌else◌}
+use Rattle.std.specs.Prelude.{ℕ, ℤ, pos, negsuc, neg_ℤ, ◌-◌, ◌^◌, ◌&&◌, ◌==◌, List, [], ◌∷◌, length, Bool, false, Result, Ok, Err, nat_lt, if◌then◌else◌}
 use Rattle.std.specs.List.{list_all}
 use Rattle.std.specs.Char.{is_ascii_digit}
 use Rattle.flow_base.specs.Digits.{number_of}

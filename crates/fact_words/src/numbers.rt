@@ -1,10 +1,9 @@
 //! Numbers in digits.
 
-ghost use Rattle.std.specs.Prelude.{◌≡◌, ◌≤◌, ◌<◌, ◌^◌, ◌-◌, length, IfOk, IfSome, IsSome, IsNone, ◌↔◌};
+ghost use Rattle.std.specs.Prelude.{◌≡◌, ◌≤◌, ◌<◌, ◌^◌, ◌-◌, IfOk};
 ghost use Rattle.std.specs.List.{list_all};
 ghost use Rattle.std.specs.Char.{is_ascii_digit};
-ghost use Rattle.flow_base.specs.Digits.{number_of};
-ghost use Rattle.fact_words.specs.Numbers.{is_numeral, has_zeros, is_below, after_minus, number_within, negative, whole_within, is_positive};
+ghost use Rattle.fact_words.specs.Numbers.{is_numeral, has_zeros, number_within, negative, whole_within, is_positive};
 ghost use Rattle.fact_words.specs.Answers.{Answers};
 
 use crate::fault::Departure;
@@ -91,6 +90,7 @@ pub fn whole_within(text: &[u8], left: usize) -> Result<i128, Departure>
     }
 }
 
+/// Whether the number is above zero.
 pub fn is_positive(number: i128) -> bool
     ensures { result ≡ is_positive number }
 {

@@ -10,18 +10,17 @@ use Rattle.path_rows.specs.Rows.{vanishes}
 use Rattle.path_rows.specs.UseLaws.{vanish_is}
 use Rattle.path_rows.specs.Sums.{coefficient, coefficient_of, StartsAbove, IsAscending}
 use Rattle.path_rows.specs.Programs.{Row, Program, IsWithin, row_at}
-use Rattle.dual_rules.specs.Firsts.{entry}
 use Rattle.dual_rules.specs.SumLaws.{term_here, term_elsewhere}
 use Rattle.dual_rules.specs.RowLaws.{found_here, found_later}
 use Rattle.dual_check.specs.Terms.{term_if}
 use Rattle.pivot_rules.specs.Lines.{spread, line_gcd}
-use Rattle.pivot_rules.specs.Tableaus.{Held, Tableau, Generator, placed, turned, slack_line, next_slack, row_lines, generators, width_from, cost_terms, objective_line, slacks_from, width_of, held_of, first_tableau}
+use Rattle.pivot_rules.specs.Tableaus.{Held, Tableau, Generator, placed, turned, slack_line, next_slack, row_lines, generators, width_from, cost_terms, objective_line, slacks_from, width_of, held_of}
 use Rattle.pivot_rules.specs.FirstTableau.{beyond, within_more, spread_is}
 use Rattle.pivot_rules.specs.HandedOut.{width_above}
 use Rattle.pivot_rules.specs.NarrowOpening.{IsUpTo}
 use Rattle.pivot_rules.specs.Steps.{divisor_above, line_gcd_least, line_gcd_divides}
-use Rattle.tableau_lines.specs.TermLaws.{turned_rises, turned_within}
-use Rattle.pivot_steps.specs.Sparse.{HeldTerms, terms_at, shown_rows, Seen, seen, IsKept, AreKept}
+use Rattle.tableau_lines.specs.TermLaws.{turned_within}
+use Rattle.pivot_steps.specs.Sparse.{HeldTerms, shown_rows, seen, IsKept, AreKept}
 use Rattle.first_tableaus.specs.FirstTerms.{first_terms, slack_held, row_held, first_rows, some_costs, first_costs, AreSmall}
 use Rattle.first_tableaus.specs.Started.{IsFirst}
 

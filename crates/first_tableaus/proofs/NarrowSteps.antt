@@ -1,6 +1,6 @@
 -- The numbers of the opening fit: no pivot of it is wide.
-use Rattle.std.proofs.Common.{◌≡◌, ℕ, ℤ, pos, negsuc, neg_ℤ, zero, suc, ◌+◌, ◌<◌, ◌≤◌, ◌^◌, arith, refl, sym, ap, ◌∙◌, subst, List, [], ◌∷◌, length, ⊎_elim, ◌⊎◌, inl, inr, Bool, true, false}
-use Rattle.std.specs.Prelude.{◌+ℤ◌, ◌-ℤ◌, ◌*ℤ◌, ◌≤ℤ◌, not, ◌&&◌, ◌||◌}
+use Rattle.std.proofs.Common.{◌≡◌, ℕ, ℤ, pos, negsuc, neg_ℤ, zero, suc, ◌<◌, ◌≤◌, ◌^◌, arith, refl, sym, ap, ◌∙◌, subst, List, [], ◌∷◌, length, ⊎_elim, ◌⊎◌, inl, inr, Bool, true, false}
+use Rattle.std.specs.Prelude.{◌-ℤ◌, ◌*ℤ◌, ◌≤ℤ◌, not}
 use Rattle.std.specs.Int.{int_div_euclid}
 use Rattle.std.specs.List.{list_any}
 use Rattle.std.proofs.lemmas.Int.{ints}
@@ -10,13 +10,13 @@ use Rattle.whole_numbers.specs.GcdLaws.{gcd_first, gcd_second}
 use Rattle.whole_numbers.specs.DivisionLaws.{divides_at_most}
 use Rattle.path_rows.specs.Rows.{vanishes}
 use Rattle.path_rows.specs.Sums.{total, coefficient, coefficient_of}
-use Rattle.path_rows.specs.Programs.{Row, Program, IsProgram, row_at, cost_at}
+use Rattle.path_rows.specs.Programs.{Row, Program, row_at, cost_at}
 use Rattle.dual_rules.specs.Firsts.{fits, entry}
 use Rattle.dual_rules.specs.Duality.{times_rising}
 use Rattle.dual_rules.specs.SumLaws.{term_here, term_elsewhere, times_neg, total_nothing}
-use Rattle.pivot_rules.specs.Tableaus.{Held, Tableau, Generator, held_at, placed, turned, slack_line, next_slack, row_lines, generators, cost_terms, objective_line, slacks_from, first_tableau}
-use Rattle.pivot_rules.specs.PivotRule.{cleared_wide, mixed_wide, rows_wide, opening_at, opened}
-use Rattle.pivot_rules.specs.Promise.{generator_at, lines_of, coefficient_at, cost_of, Opens}
+use Rattle.pivot_rules.specs.Tableaus.{Held, Tableau, Generator, held_at, placed, turned, slack_line, next_slack, row_lines, generators, cost_terms, slacks_from}
+use Rattle.pivot_rules.specs.PivotRule.{cleared_wide, mixed_wide, rows_wide, opening_at}
+use Rattle.pivot_rules.specs.Promise.{generator_at, coefficient_at, cost_of, Opens}
 use Rattle.pivot_rules.specs.FirstLines.{coefficient_placed, coefficient_placed_low, coefficient_turned}
 use Rattle.pivot_rules.specs.NarrowOpening.{IsUpTo, IsSmall}
 use Rattle.pivot_rules.specs.PlainOpening.{IsPlain, freed_of, times_none}

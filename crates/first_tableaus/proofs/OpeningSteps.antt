@@ -1,18 +1,16 @@
 -- The opening, pivot by pivot.
 use Rattle.std.proofs.Common.{◌≡◌, ℕ, ℤ, pos, zero, suc, ◌+◌, ◌*◌, ◌<◌, ◌≤◌, arith, refl, sym, ap, ◌∙◌, subst, List, [], ◌∷◌, length, Bool, true, false, slice_get, Some}
-use Rattle.std.specs.Prelude.{◌≤ℤ◌, ◌<ℤ◌}
+use Rattle.std.specs.Prelude.{◌<ℤ◌}
 use Rattle.std.proofs.lemmas.Int.{ints}
 use Rattle.std.proofs.lemmas.Option.{same_Some, none-some}
 use Rattle.path_rows.specs.Programs.{Row, Program, IsProgram, row_at}
-use Rattle.dual_rules.specs.Firsts.{entry}
-use Rattle.pivot_rules.specs.Tableaus.{Tableau, held_at, number_at, basic_at, all_lines, width_of, first_tableau}
+use Rattle.pivot_rules.specs.Tableaus.{Tableau, held_at, number_at, all_lines, width_of, first_tableau}
 use Rattle.pivot_rules.specs.PivotRule.{opening_at, opened, pivoted}
-use Rattle.pivot_rules.specs.Promise.{lines_of, coefficient_at, Opens}
 use Rattle.pivot_rules.specs.Pivoting.{IsSound}
-use Rattle.pivot_rules.specs.Opening.{IsOpened, opened_is}
-use Rattle.pivot_rules.specs.OpeningPlaces.{next_line, line_place, opening_places, OpensRows, started}
+use Rattle.pivot_rules.specs.Opening.{opened_is}
+use Rattle.pivot_rules.specs.OpeningPlaces.{next_line, line_place, opening_places, OpensRows}
 use Rattle.pivot_rules.specs.OpeningPlaceLaws.{opens_lines}
-use Rattle.pivot_rules.specs.PlainOpening.{IsPlain, plain_opening}
+use Rattle.pivot_rules.specs.PlainOpening.{plain_opening}
 use Rattle.pivot_steps.specs.Sparse.{Seen}
 use Rattle.pivot_steps.specs.Stepped.{CanPivot, exchange_wide, IsOpened as IsPivotOpened}
 use Rattle.pivot_rules.specs.NarrowOpening.{IsSmall}

@@ -3,7 +3,7 @@
 --   rows_end, costs_end   past the last nothing is left
 --   width_next, width_more, slack_below   the rows left end at the width, and their slacks lie below it
 --   rows_more, costs_more what was made so far, and then what is left, is all
-use Rattle.std.proofs.Common.{◌≡◌, ℕ, ℤ, pos, neg_ℤ, zero, suc, ◌+◌, ◌<◌, ◌≤◌, arith, refl, sym, ap, ◌∙◌, subst, List, [], ◌∷◌, ◌++◌, length, drop, Bool, true, false}
+use Rattle.std.proofs.Common.{◌≡◌, ℕ, ℤ, pos, neg_ℤ, zero, suc, ◌+◌, ◌<◌, ◌≤◌, arith, refl, sym, ap, ◌∙◌, List, [], ◌∷◌, ◌++◌, length, drop, Bool, true, false}
 use Rattle.path_rows.specs.Programs.{Row, Program, row_at, cost_at}
 use Rattle.pivot_rules.specs.Tableaus.{next_slack, width_from, slacks_from, width_of}
 use Rattle.pivot_rules.specs.HandedOut.{width_above}

@@ -1,6 +1,6 @@
 //! The first tableau.
 
-ghost use Rattle.std.specs.Prelude.{◌≡◌, ◌<◌, ◌^◌, IfOk, length};
+ghost use Rattle.std.specs.Prelude.{◌≡◌, ◌<◌, ◌^◌, IfOk};
 ghost use Rattle.pivot_rules.specs.Tableaus.{width_of, slacks_from};
 ghost use Rattle.pivot_rules.specs.NarrowOpening.{IsSmall};
 ghost use Rattle.first_tableaus.specs.FirstTerms.{first_rows as first_rows_of};

@@ -1,6 +1,6 @@
 //! The lines of a row.
 
-ghost use Rattle.std.specs.Prelude.{◌≡◌, ◌<◌, ◌≤◌, ◌+◌, ◌-◌, ◌++◌, ◌^◌, ◌∷◌, [], neg_ℤ, pos, IfOk, OnOk, length};
+ghost use Rattle.std.specs.Prelude.{◌≡◌, ◌<◌, ◌≤◌, ◌+◌, ◌-◌, ◌++◌, ◌^◌, ◌∷◌, [], neg_ℤ, IfOk, OnOk, length};
 ghost use Rattle.path_rows.specs.Sums.{IsAscending};
 ghost use Rattle.path_rows.specs.Programs.{IsWithin, row_at};
 ghost use Rattle.dual_check.specs.Terms.{term_if};

@@ -3,7 +3,7 @@
 ghost use Rattle.std.specs.Prelude.{◌≡◌, ◌<◌, ◌+◌, ◌^◌, IfOk, length};
 ghost use Rattle.pivot_rules.specs.NarrowOpening.{IsSmall};
 ghost use Rattle.pivot_rules.specs.OpeningPlaces.{OpensRows, line_place, next_line};
-ghost use Rattle.first_tableaus.specs.Started.{IsFirst, IsOpenedSo, IsStarted};
+ghost use Rattle.first_tableaus.specs.Started.{IsOpenedSo, IsStarted};
 
 use crate::first::first_tableau;
 use dual_check::Rows;

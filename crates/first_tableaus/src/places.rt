@@ -1,6 +1,6 @@
 //! The number of places.
 
-ghost use Rattle.std.specs.Prelude.{◌≡◌, ◌+◌, IfSome, length};
+ghost use Rattle.std.specs.Prelude.{◌≡◌, IfSome};
 ghost use Rattle.pivot_rules.specs.Tableaus.{width_of, slacks_from, next_slack};
 
 use dual_check::Rows;

@@ -1,7 +1,6 @@
 //! The sets, and what the traits ask of them.
 
-ghost use Rattle.std.specs.Prelude.{◌≡◌, ◌<◌, ◌^◌, IsSome};
-ghost use Rattle.alf_ops.specs.Table.{result_size, operand_sizes};
+ghost use Rattle.std.specs.Prelude.{◌≡◌, ◌<◌};
 ghost use Rattle.flat_domain.specs.Flats.{FlatSet, IsFlat, flat_order, flat_sets};
 
 use crate::known::{given, may_divide, may_relate, must_divide};

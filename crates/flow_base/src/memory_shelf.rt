@@ -1,6 +1,6 @@
 //! Files in memory, with reads that fail as they are told to.
 
-ghost use Rattle.std.specs.Prelude.{◌≡◌, ◌≤◌, ◌==◌, List, [], ℕ, map, Some, None, IsNone, IfSome, IsErrOf, IsTrue, string_bytes, option_map};
+ghost use Rattle.std.specs.Prelude.{◌≡◌, ◌≤◌, ◌==◌, [], map, Some, None, IsNone, IfSome, IsErrOf, IsTrue, string_bytes, option_map};
 ghost use Rattle.std.specs.List.{list_any};
 ghost use Rattle.flow_base.specs.Outside.{next_count};
 ghost use Rattle.flow_base.specs.Shelves.{IsRead};

@@ -1,6 +1,6 @@
 //! A sink in memory, with writes that fail as they are told to.
 
-ghost use Rattle.std.specs.Prelude.{◌≡◌, ◌≤◌, List, [], ℕ, Some, None, IsNone, IfSome, IsErrOf, length, take};
+ghost use Rattle.std.specs.Prelude.{◌≡◌, ◌≤◌, [], Some, None, IsNone, IfSome, IsErrOf, length, take};
 ghost use Rattle.flow_base.specs.Outside.{next_count};
 ghost use Rattle.flow_base.specs.Sinks.{IsWritten};
 ghost use Rattle.flow_base.specs.MemorySink.{HeldSink, seen_sink, prefix_before_fault, TakesPrefix};

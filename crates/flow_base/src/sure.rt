@@ -1,6 +1,6 @@
 //! A shelf and a sink in memory that never fail.
 
-ghost use Rattle.std.specs.Prelude.{◌≡◌, List, [], ℕ, map, string_bytes, Some, None};
+ghost use Rattle.std.specs.Prelude.{◌≡◌, [], map, string_bytes, Some, None};
 ghost use Rattle.flow_base.specs.Held.{content_of, pairs_of};
 ghost use Rattle.flow_base.specs.Sure.{SureFiles, seen_files, SureBytes, seen_bytes};
 

@@ -1,6 +1,6 @@
 //! The edges between the nodes that are kept.
 
-ghost use Rattle.std.specs.Prelude.{◌≡◌, ◌<◌, ◌≤◌, ◌+◌, ℕ, length, Contains, AllPairs, IfOk, OnOk, Some, slice_get, slice_index_or};
+ghost use Rattle.std.specs.Prelude.{◌≡◌, ◌<◌, ◌≤◌, ◌+◌, length, Contains, AllPairs, IfOk, OnOk, Some, slice_get};
 ghost use Rattle.alf_check.specs.CheckedPrograms.{seen};
 ghost use Rattle.flow_graph.specs.Numbering.{IsBefore, IsNumbering, IsEdges, most_nodes};
 ghost use Rattle.flow_graph.specs.Places.{node_at, nodes_of};

@@ -1,9 +1,8 @@
 //! Where a node leads.
 
-ghost use Rattle.std.specs.Prelude.{◌≡◌, ◌<◌, ◌↔◌, ℕ, [], ◌∷◌, ◌++◌, length, reverse, map, Contains, AllPairs, IfOk, IfSome, IsSome, Some, None};
-ghost use Rattle.alf_check.specs.CheckedPrograms.{seen, blocks_at};
+ghost use Rattle.std.specs.Prelude.{◌≡◌, ◌<◌, ◌↔◌, ℕ, [], ◌∷◌, ◌++◌, length, reverse, Contains, AllPairs, IfOk, Some, None};
+ghost use Rattle.alf_check.specs.CheckedPrograms.{seen};
 ghost use Rattle.flow_graph.specs.Nodes.{IsKeptNode, IsTarget, callee_of, ending_at, function_at};
-ghost use Rattle.flow_graph.specs.Numbering.{block_rank};
 ghost use Rattle.flow_graph.specs.Paths.{IsCallPath, IsCall, next_of};
 ghost use Rattle.flow_graph.specs.Places.{node_of};
 ghost use Rattle.flow_graph.specs.Goals.{AreGoals, GoalsHave, GoesBack, GoesToTargets};

@@ -1,6 +1,6 @@
 //! The graph of a program.
 
-ghost use Rattle.std.specs.Prelude.{◌≡◌, ◌<◌, ◌≤◌, ℕ, List, map, reverse, length, All, AllPairs, IfOk, IfErr, Some, slice_get, slice_index_or};
+ghost use Rattle.std.specs.Prelude.{◌≡◌, ◌<◌, map, reverse, length, All, IfOk, IfErr, Some, slice_get};
 ghost use Rattle.alf_check.specs.CheckedPrograms.{seen};
 ghost use Rattle.flow_graph.specs.Nodes.{function_at, IsKeptNode};
 ghost use Rattle.flow_graph.specs.Names.{node_name};

@@ -1,11 +1,11 @@
 //! The nodes that are kept.
 
-ghost use Rattle.std.specs.Prelude.{◌≡◌, ◌≤◌, ℕ, [], ◌∷◌, ◌++◌, length, Contains, AllPairs, IfOk, IfErr, OnOk, Some};
+ghost use Rattle.std.specs.Prelude.{◌≡◌, ◌≤◌, [], ◌∷◌, ◌++◌, length, AllPairs, IfOk, IfErr, OnOk, Some};
 ghost use Rattle.std.specs.List.{insert};
 ghost use Rattle.alf_check.specs.CheckedPrograms.{seen};
 ghost use Rattle.flow_graph.specs.Nodes.{Node, Leads, IsKeptNode};
 ghost use Rattle.flow_graph.specs.Numbering.{IsBefore, IsNumbering, HasMoreNodes, most_nodes};
-ghost use Rattle.flow_graph.specs.Places.{node_at, node_of, nodes_of, IsGap};
+ghost use Rattle.flow_graph.specs.Places.{node_at, node_of, nodes_of};
 ghost use Rattle.flow_graph.specs.Goals.{IsGoalIn};
 ghost use Rattle.flow_graph.specs.Faults.{FaultTells};
 ghost use Rattle.flow_graph.specs.Growing.{IsGrown, Overflows};

@@ -1,6 +1,6 @@
 //! Places of nodes, as the code keeps them.
 
-ghost use Rattle.std.specs.Prelude.{◌≡◌, ◌<◌, ℕ, length, AllPairs, IfOk, IfErr, slice_get, Some};
+ghost use Rattle.std.specs.Prelude.{◌≡◌, ◌<◌, AllPairs, IfOk, IfErr, slice_get, Some};
 ghost use Rattle.flow_graph.specs.Numbering.{block_rank, node_cmp, IsBefore};
 ghost use Rattle.std.specs.Ordering.{nat_cmp};
 ghost use Rattle.flow_graph.specs.Places.{node_of, node_at, nodes_of, IsGap};

@@ -1,6 +1,6 @@
 //! What is counted in an outline, and the spans of a run that begins.
 
-ghost use Rattle.std.specs.Prelude.{◌≡◌, ℕ, ◌<◌, ◌+◌, length, IfOk, IsTrue, Some, Option, if◌then◌else◌};
+ghost use Rattle.std.specs.Prelude.{◌≡◌, ◌<◌, length, IfOk, Some, Option, if◌then◌else◌};
 ghost use Rattle.domain_core.specs.Outlines.{shape_of, header_of};
 ghost use Rattle.run_recordings.specs.Generated.{generated};
 ghost use Rattle.run_recordings.specs.TallyRules.{key_at, is_at};

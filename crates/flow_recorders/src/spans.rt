@@ -1,6 +1,6 @@
 //! Spans of counts: the least and the greatest.
 
-ghost use Rattle.std.specs.Prelude.{◌≡◌, ℕ, ◌<◌, length, IfOk, OnOk, Option, slice_index_or};
+ghost use Rattle.std.specs.Prelude.{◌≡◌, ◌<◌, length, IfOk, Option};
 ghost use Rattle.run_recordings.specs.Spans.{span_of, collected};
 ghost use Rattle.run_recordings.specs.SpanLaws.{spans_of};
 ghost use Rattle.run_recordings.specs.TotalRules.{all_collected};

@@ -1,9 +1,9 @@
 //! Visits counted in the executions of scopes.
 
-ghost use Rattle.std.specs.Prelude.{◌≡◌, ℕ, ◌-◌, ◌^◌, ◌<◌, length, slice_get, replicate, Option, Some, None, IfOk, OnOk};
+ghost use Rattle.std.specs.Prelude.{◌≡◌, ◌-◌, ◌^◌, ◌<◌, length, slice_get, replicate, Option, Some, None, IfOk, OnOk};
 ghost use Rattle.domain_core.specs.Outlines.{shape_of};
 ghost use Rattle.run_recordings.specs.Spans.{greatest};
-ghost use Rattle.run_recordings.specs.TallyRules.{Tally, Ledger, spans_gone, spreads_gone, spreads_ended};
+ghost use Rattle.run_recordings.specs.TallyRules.{Ledger, spans_gone, spreads_gone, spreads_ended};
 ghost use Rattle.flow_recorders.specs.Chained.{KeysBelow};
 ghost use Rattle.flow_recorders.specs.Ledgers.{IsLedger};
 
@@ -23,7 +23,7 @@ pub struct Tallies {
 }
 
 impl Model for Tallies {
-    ghost use Rattle.run_recordings.specs.TallyRules.{Tally, Ledger};
+    ghost use Rattle.run_recordings.specs.TallyRules.{Ledger};
 
     ghost Value = { Ledger };
 

@@ -1,6 +1,6 @@
 //! What is changed at all numbers that have a key.
 
-ghost use Rattle.std.specs.Prelude.{◌≡◌, ℕ, ◌+◌, ◌-◌, ◌^◌, ◌<◌, length, Option, None, Bool, if◌then◌else◌};
+ghost use Rattle.std.specs.Prelude.{◌≡◌, ℕ, ◌+◌, ◌-◌, ◌^◌, ◌<◌, length, Option, None, if◌then◌else◌};
 ghost use Rattle.std.specs.List.{list_any};
 ghost use Rattle.run_recordings.specs.Spans.{one_more, collected, greatest};
 ghost use Rattle.run_recordings.specs.TotalRules.{span_at, spread_at};

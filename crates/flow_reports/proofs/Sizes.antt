@@ -1,11 +1,10 @@
 -- What a pool has collected has a number for each node and each scope.
 --   pool_sized   so it is, as the code holds it
-use Rattle.std.proofs.Common.{◌≡◌, length, Option, Some, sym, ◌∙◌, subst}
+use Rattle.std.proofs.Common.{◌≡◌, length, Some, sym, ◌∙◌, subst}
 use Rattle.domain_core.specs.Outlines.{Outlined, shape_of}
 use Rattle.domain_core.specs.Machines.{Machine}
 use Rattle.run_recordings.specs.Generated.{length-generated}
-use Rattle.run_recordings.specs.TallyRules.{Ledger}
-use Rattle.run_recordings.specs.LoopRules.{loop_tally, count_tally, counted_scope}
+use Rattle.run_recordings.specs.LoopRules.{counted_scope}
 use Rattle.pool_events.specs.Pools.{Pooled}
 use Rattle.pool_events.specs.Kept.{IsKept}
 use Rattle.told_reports.specs.Told.{FourRecorders, FourBooks, four_recording, Found, found_of}
@@ -14,12 +13,12 @@ use Rattle.flow_reports.specs.Gathering.{found_in, IsSized}
 
 sized : {S T C : Type 0} (machine : S → Machine T C) (w : Pooled S T FourRecorders FourBooks) → IsKept machine four_recording w → IsSized w.outline (found_of w)
 sized machine w kept =
-    let book = kept.book in
+    let ((totals_long, (loop_tally_is, loops_long)), ((count_tally_is, counts_long), (owned_is, pairs_long))) = kept.book in
     record {
-      totals = book.0.0;
-      loops = book.0.1.1 ∙ length-generated (length w.outline.scopes) (λ s. Some s);
-      counts = book.1.0.1 ∙ length-generated (length w.outline.nodes) (counted_scope (shape_of w.outline));
-      pairs = book.1.1.1;
+      totals = totals_long;
+      loops = loops_long ∙ length-generated (length w.outline.scopes) (λ s. Some s);
+      counts = counts_long ∙ length-generated (length w.outline.nodes) (counted_scope (shape_of w.outline));
+      pairs = pairs_long;
       alarms = kept.told;
       stepped = kept.flags;
     }

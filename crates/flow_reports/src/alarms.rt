@@ -1,7 +1,6 @@
 //! The lines of alarms.
 
 ghost use Rattle.std.specs.Prelude.{◌≡◌, ◌<◌, ◌++◌, length, OnOk};
-ghost use Rattle.pool_events.specs.Pools.{alarm_at};
 ghost use Rattle.told_reports.specs.Told.{below, alarm_line, alarm_lines};
 ghost use Rattle.flow_reports.specs.Gathering.{found_in, IsSized};
 

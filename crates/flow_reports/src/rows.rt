@@ -1,6 +1,6 @@
 //! The lines of nodes and scopes.
 
-ghost use Rattle.std.specs.Prelude.{◌≡◌, ◌<◌, map, length, IfOk, Some, slice_get};
+ghost use Rattle.std.specs.Prelude.{◌≡◌, ◌<◌, map, IfOk};
 ghost use Rattle.flow_facts.specs.Reports.{node_of};
 ghost use Rattle.told_reports.specs.Told.{named_nodes};
 ghost use Rattle.flow_reports.specs.Gathering.{named_node};

@@ -1,6 +1,6 @@
 //! The bytes of a frame.
 
-ghost use Rattle.std.specs.Prelude.{◌≡◌, ◌+◌, ◌≤◌, ◌<◌, ◌^◌, map};
+ghost use Rattle.std.specs.Prelude.{◌≡◌, ◌+◌, ◌<◌, ◌^◌, map};
 ghost use Rattle.std.specs.List.{list_any, list_all};
 ghost use Rattle.alf_ops.specs.Histories.{offsets};
 ghost use Rattle.memory_rules.specs.Frames.{is_stored as is_stored_byte};

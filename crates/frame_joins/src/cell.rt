@@ -5,7 +5,7 @@ ghost use Rattle.pointer_rules.specs.AbstractValues.{joined};
 ghost use Rattle.memory_rules.specs.AbstractSets.{abstract_sets};
 ghost use Rattle.memory_rules.specs.Covers.{FrameSized};
 ghost use Rattle.memory_rules.specs.Frames.{either, join_cells};
-ghost use Rattle.held_memories.specs.HeldFrames.{cell_held, cell_seen, frame_of, is_cell_size};
+ghost use Rattle.held_memories.specs.HeldFrames.{cell_held, frame_of, is_cell_size};
 ghost use Rattle.frame_joins.specs.FrameJoins.{SuitValues, join_of, seen};
 
 use domain_core::Lattice;

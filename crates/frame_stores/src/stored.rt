@@ -1,7 +1,6 @@
 //! Slots that hold already what a store leaves.
 
 ghost use Rattle.std.specs.Prelude.{◌≡◌, ◌≢◌, ℕ, IsTrue, true, false, None, Some};
-ghost use Rattle.std.specs.Option.{option_map};
 ghost use Rattle.memory_pages.specs.Slots.{cell_of};
 ghost use Rattle.held_memories.specs.HeldFrames.{is_cell_size};
 ghost use Rattle.frame_stores.specs.Places.{HasLone, IsStored, known};

@@ -1,11 +1,9 @@
 //! What globals hold at first.
 
 ghost use Rattle.std.specs.Prelude.{◌≡◌, ◌+◌, [], ◌∷◌, ◌++◌, map, IfOk, OnOk};
-ghost use Rattle.std.specs.Option.{option_map, option_map_or};
 ghost use Rattle.alf_ops.specs.TwosComplement.{word};
 ghost use Rattle.alf_program.specs.Tree.{initial_of};
 ghost use Rattle.c_unit.specs.Tree.{declarator_of, shape_of, external_of};
-ghost use Rattle.c_unit.specs.Units.{unit_of};
 ghost use Rattle.c_checks.specs.Units as checks;
 ghost use Rattle.c_meaning.specs.Values as sizes;
 ghost use Rattle.c_meaning.specs.Objects as meaning;

@@ -1,6 +1,6 @@
 //! Comparisons of values.
 
-ghost use Rattle.std.specs.Prelude.{◌≡◌, ◌≤◌, ◌^◌, pos, neg_ℤ};
+ghost use Rattle.std.specs.Prelude.{◌≡◌, ◌^◌, pos, neg_ℤ};
 ghost use Rattle.progressions.specs.Parts.{ArePieces};
 ghost use Rattle.strided_rules.specs.Members.{unsigned_of, signed_of};
 ghost use Rattle.strided_rules.specs.Operators.{truth as truth_of, less as less_of, less_or_equal as less_or_equal_of, may_equal as may_equal_of, may_differ as may_differ_of};

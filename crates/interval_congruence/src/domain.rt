@@ -1,9 +1,8 @@
 //! Strided values as a domain.
 
-ghost use Rattle.std.specs.Prelude.{◌≡◌, ◌<◌, ◌^◌, IsSome, ◌≤◌, IfSome, false, true, map, take, length, slice_get};
+ghost use Rattle.std.specs.Prelude.{◌≡◌, ◌<◌, IsSome, ◌≤◌, IfSome, false, true, map, take, length, slice_get};
 ghost use Rattle.alf_ops.specs.Table.{result_size, operand_sizes};
 ghost use Rattle.alf_ops.specs.Words.{divides as divides_of, EachFits};
-ghost use Rattle.domain_core.specs.WordSets.{HaveSizes};
 ghost use Rattle.strided_rules.specs.Members.{word_of};
 ghost use Rattle.strided_rules.specs.Domains.{operand as operand_of, all_one as all_one_of, divisor as divisor_of, divided as divided_of, known as known_of, stride_sets};
 ghost use Rattle.interval_congruence.specs.Operands.{IsSized};

@@ -1,6 +1,6 @@
 //! Values of what rules give at the pieces of values.
 
-ghost use Rattle.std.specs.Prelude.{◌≡◌, ◌≤◌, ◌^◌, pos, neg_ℤ};
+ghost use Rattle.std.specs.Prelude.{◌≡◌};
 ghost use Rattle.domain_core.specs.WordSets.{IsWordSize};
 ghost use Rattle.strided_operators.specs.Limits.{CanPlace};
 ghost use Rattle.strided_rules.specs.Strides.{norm as norm_of};

@@ -1,6 +1,6 @@
 //! Parts of the pieces of a value, joined.
 
-ghost use Rattle.std.specs.Prelude.{◌≡◌, ◌≤◌, ◌^◌, pos, neg_ℤ, ◌≤ℤ◌};
+ghost use Rattle.std.specs.Prelude.{◌≡◌, ◌^◌, pos, neg_ℤ};
 ghost use Rattle.domain_core.specs.WordSets.{IsWordSize};
 ghost use Rattle.progressions.specs.Parts.{ArePieces, between as between_of};
 ghost use Rattle.strided_rules.specs.Joins.{IfPlaced, kept_value as kept_value_of};

@@ -1,8 +1,8 @@
 //! Pieces of numbers, most of which need no turn to be words.
 
-ghost use Rattle.std.specs.Prelude.{◌≡◌, ◌≤◌, ◌<◌, ◌^◌, pos, neg_ℤ, ◌≤ℤ◌, ◌<ℤ◌, IsTrue};
-ghost use Rattle.progressions.specs.Progressions.{IsPlaced, full, half};
-ghost use Rattle.progressions.specs.Parts.{IsPiece, unsigned_pieces as unsigned_pieces_of, signed_pieces as signed_pieces_of};
+ghost use Rattle.std.specs.Prelude.{◌≡◌, ◌≤◌, ◌<◌, pos, ◌≤ℤ◌, ◌<ℤ◌, IsTrue};
+ghost use Rattle.progressions.specs.Progressions.{IsPlaced, full};
+ghost use Rattle.progressions.specs.Parts.{unsigned_pieces as unsigned_pieces_of, signed_pieces as signed_pieces_of};
 
 use progressions::{Pieces, Progression};
 use strided_operators::power;

@@ -1,6 +1,6 @@
 //! The later part of a list, turned round: its last entry is the first element.
 
-ghost use Rattle.std.specs.Prelude.{◌≡◌, ◌++◌, ◌∷◌, ◌<◌, [], reverse, length, OnOk};
+ghost use Rattle.std.specs.Prelude.{◌≡◌, ◌∷◌, ◌<◌, [], reverse, length, OnOk};
 ghost use Rattle.least_lists.specs.Least.{IsFirstLeast, key_at};
 ghost use Rattle.least_lists.specs.Lines.{AreLeast, keys_of, items_of};
 

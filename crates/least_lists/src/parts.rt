@@ -2,7 +2,7 @@
 
 ghost use Rattle.std.specs.Prelude.{◌≡◌, ◌++◌, ◌∷◌, ◌+◌, ◌<◌, ◌≤◌, ◌^◌, [], reverse, length, OnOk, slice_get, Some};
 ghost use Rattle.least_lists.specs.Least.{IsFirstLeast};
-ghost use Rattle.least_lists.specs.Lines.{AreFirst, AreLeast, keys_of, items_of, line_of};
+ghost use Rattle.least_lists.specs.Lines.{AreFirst, AreLeast, keys_of, line_of};
 
 use crate::Keyed;
 use crate::earlier::{key_earlier, least_earlier, put_last};

@@ -29,7 +29,7 @@ use Rattle.c_meaning.specs.Objects.{Object, Function, Program, program_of, objec
 use Rattle.c_meaning.specs.Statements.{first_element, zero_value, constant_value}
 use Rattle.c_meaning.specs.Programs.{elements_first, global_first, declarators_first, globals_first}
 use Rattle.c_lowered.specs.Names.{frame_of}
-use Rattle.c_lowered.specs.Frames.{parameter_frames, global_frames, element_words, shape_words, declarators_words, first_words, first_num, constant_num, number_of_type}
+use Rattle.c_lowered.specs.Frames.{parameter_frames, global_frames, element_words, shape_words, declarators_words, first_words}
 use Rattle.c_lowered.specs.Frames as frames
 use Rattle.c_lowered.specs.Programs.{lowered_function, lowered_from, lowered}
 use Rattle.embedded_histories.specs.EmbeddingLaws.{EventsAgree}

@@ -14,7 +14,7 @@ use Rattle.c_unit.specs.Tree.{ExternalTree, Declaration, Definition, statements_
 use Rattle.c_unit.specs.Units.{Word, UnitTree}
 use Rattle.c_checks.specs.Units.{File, with_parameters, external_after}
 use Rattle.c_meaning.specs.Objects as meaning
-use Rattle.c_meaning.specs.Objects.{Object, Function, Program, program_of, objects_of, object_at, functions_in, functions_of, parameter_object, all_locals_in, owned_in, globals_in, shape_of_object}
+use Rattle.c_meaning.specs.Objects.{Object, Function, Program, program_of, objects_of, functions_in, functions_of, parameter_object, all_locals_in, owned_in, globals_in, shape_of_object}
 use Rattle.c_lowered.specs.Names.{name_at, frame_of}
 use Rattle.c_lowered.specs.Frames.{parameter_frames, all_frames_in, global_frames}
 use Rattle.c_lowered.specs.Programs.{lowered_function, lowered_from, lowered}

@@ -5,7 +5,7 @@
 use Rattle.std.proofs.Common.{◌≡◌, ◌≢◌, ◌<◌, ◌≤◌, ◌^◌, ◌+◌, ◌-◌, ◌%◌, ◌==◌, ◌||◌, ℕ, suc, max, Bool, true, false, List, ◌∷◌, refl, sym, ◌∙◌, arith, eq-eqb}
 use Rattle.lists.specs.Tests.{by_test}
 use Rattle.alf_program.specs.declared.program.Num.{Num}
-use Rattle.alf_program.specs.Tree.{NamedExpression, Switch, Jump, BodyItem, Label, Do, WholeProgram}
+use Rattle.alf_program.specs.Tree.{NamedExpression, BodyItem, WholeProgram}
 use Rattle.alf_program.specs.Tree as alf
 use Rattle.c_unit.specs.declared.types.Integer.{Integer}
 use Rattle.c_unit.specs.declared.types.Constant.{Constant}

@@ -6,7 +6,7 @@ use Rattle.std.proofs.Common.{◌≡◌, ◌≤◌, ◌+◌, ◌*◌, ℕ, zero,
 use Rattle.std.proofs.Common.{◌∙◌, subst, arith, bytes_eq, if◌then◌else◌, suc-mul}
 use Rattle.std.proofs.lemmas.Option.{same_Some}
 use Rattle.lists.specs.Tests.{by_test}
-use Rattle.alf_program.specs.Tree.{NamedExpression, Address, Store, BodyItem, Do, WholeProgram}
+use Rattle.alf_program.specs.Tree.{Address, BodyItem, WholeProgram}
 use Rattle.alf_program.specs.Tree as alf
 use Rattle.c_unit.specs.declared.types.Integer.{Integer}
 use Rattle.c_unit.specs.declared.types.Integer.TheVariants.{Char, UnsignedChar, Short, UnsignedShort, Int, UnsignedInt}

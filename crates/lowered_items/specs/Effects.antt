@@ -10,7 +10,7 @@ use Rattle.std.proofs.lemmas.Option.{none-some}
 use Rattle.lists.specs.Tests.{by_test}
 use Rattle.lists.specs.Members.{no_member, first_member, further_member, first_or_further}
 use Rattle.c_unit.specs.Units.{Word}
-use Rattle.alf_program.specs.Tree.{NamedExpression, Address, Load, Store, Call, BodyItem, Do, WholeProgram}
+use Rattle.alf_program.specs.Tree.{NamedExpression, Address, Load, BodyItem, WholeProgram}
 use Rattle.alf_program.specs.Tree as alf
 use Rattle.alf_program.specs.Writable.{IsLoadSize}
 use Rattle.c_unit.specs.declared.types.Integer.{Integer}

@@ -2,7 +2,7 @@
 --   AroundStands a b     the labels to which `break` and `continue` lead are the function's, where they may stand
 --   items_stand, all_items_stand   the items of a statement stand, and of statements in a row
 use Rattle.std.proofs.Common.{◌≡◌, ◌<◌, ◌≤◌, ◌+◌, ℕ, true, List, [], ◌∷◌, ◌++◌, Option, None, Some, sym, subst, arith}
-use Rattle.alf_program.specs.Tree.{NamedExpression, Return, Jump, BodyItem, Label, Do, WholeProgram}
+use Rattle.alf_program.specs.Tree.{NamedExpression, BodyItem, WholeProgram}
 use Rattle.alf_program.specs.Tree as alf
 use Rattle.c_unit.specs.declared.types.Integer.{Integer}
 use Rattle.c_unit.specs.declared.types.Scalar.TheVariants as scalars
@@ -18,15 +18,14 @@ use Rattle.c_checks.specs.Recursion as asked
 use Rattle.c_meaning.specs.Objects.{Object, Program, function_at, locals_in, all_locals_in}
 use Rattle.c_lowered.specs.Conditions.{Within, label, condition_labels, condition_items}
 use Rattle.c_lowered.specs.Statements.{is_case, cases_in, labels_in, labels_in_all, labels_if, calls_if, calls_in, calls_in_all}
-use Rattle.c_lowered.specs.Statements.{condition_if, effect_if, result_within, as_result, return_item, return_items, switch_type}
-use Rattle.c_lowered.specs.Statements.{switch_item, Body, loop_items, items_of, all_items_of, body_items}
+use Rattle.c_lowered.specs.Statements.{condition_if, effect_if, as_result, return_item, return_items, switch_type}
+use Rattle.c_lowered.specs.Statements.{Body, loop_items, items_of, all_items_of, body_items}
 use Rattle.c_lowered.specs.Statements as lowered
 use Rattle.spelled_trees.specs.Expressions.{IfValue, IfEffect, IfCondition as InCondition, InStatement, InStatements}
 use Rattle.lowered_names.specs.Lists.{EachOf, each_parts}
 use Rattle.lowered_terms.specs.Terms.{Term, deeper}
 use Rattle.lowered_terms.specs.Operators.{cut_term}
 use Rattle.lowered_terms.specs.Values.{names_stand, deep, value_term}
-use Rattle.lowered_items.specs.Standing.{IsLabel, ItemStands}
 use Rattle.lowered_items.specs.Standing as standing
 use Rattle.lowered_items.specs.Effects.{Shallow, ResultsUsable, IsAsked, within, value_items_stand, effect_items_stand}
 use Rattle.lowered_items.specs.Declarations.{IsLocal, AreKnown, known_with_locals, locals_items_stand}

@@ -10,7 +10,6 @@ use Rattle.alf_ops.specs.declared.history.RunEvent.TheVariants.{Enter, Leave, St
 use Rattle.alf_ops.specs.Histories.{is_running}
 use Rattle.alf_ops.specs.Values.{size_of}
 use Rattle.alf_program.specs.Tree as alf
-use Rattle.alf_program.specs.Tree.{Allocation}
 use Rattle.alf_check.specs.declared.rows.InitRow.{InitRow}
 use Rattle.alf_check.specs.declared.rows.InputRow.{InputRow}
 use Rattle.alf_check.specs.CheckedPrograms.{NumberedProgram}

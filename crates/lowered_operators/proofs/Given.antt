@@ -18,7 +18,7 @@ use Rattle.c_unit.specs.declared.expression.Binary.TheVariants as binary
 use Rattle.c_checks.specs.Types.{promoted, greater}
 use Rattle.c_checks.specs.Expressions.{is_of_conditions}
 use Rattle.c_meaning.specs.Values as meaning
-use Rattle.c_meaning.specs.Values.{Valued, on_value, on_both, widened, cut, cut_to, cast_to, negation, complement, opposite, truth_of, product, quotient, remainder, shifted_left, shifted_right, bitwise, difference, equality, order, is_signed, bits_of_type, bytes_of_type, shared, left_type}
+use Rattle.c_meaning.specs.Values.{Valued, on_value, on_both, widened, cut, cut_to, cast_to, negation, complement, truth_of, product, quotient, remainder, shifted_left, shifted_right, bitwise, difference, equality, order, is_signed, bits_of_type, shared, left_type}
 use Rattle.c_meaning.specs.Expressions.{element_address, pointee}
 use Rattle.c_lowered.specs.Values as lowered
 use Rattle.embedded_histories.specs.Embedding.{embedded_result}

@@ -9,7 +9,7 @@ use Rattle.std.proofs.lemmas.Option.{none-some, same_Some, slice_get_within}
 use Rattle.lists.specs.Members.{no_member, placed}
 use Rattle.lists.specs.Images.{mapped}
 use Rattle.alf_program.specs.declared.program.Num.{Num}
-use Rattle.alf_program.specs.Tree.{NamedExpression, Null, Store, Jump, Switch, Call, Return, BodyItem, Label, Do, Allocation, InitialValue, WholeProgram, expressions_of}
+use Rattle.alf_program.specs.Tree.{NamedExpression, Null, Store, Jump, Switch, Call, Return, BodyItem, Label, Do, Allocation, expressions_of}
 use Rattle.alf_program.specs.Tree as alf
 use Rattle.alf_faults.specs.declared.returns.FirstReturn.{FirstReturn}
 use Rattle.alf_faults.specs.TermSizes.{term_size, is_bytes}
@@ -18,7 +18,7 @@ use Rattle.alf_names.specs.Places.{function_place}
 use Rattle.alf_faults.specs.Sizes.{agrees_behind}
 use Rattle.alf_faults.specs.NoFault as faults
 use Rattle.alf_program.specs.Writable.{IsName}
-use Rattle.alf_faults.specs.NoFault.{IsFunctionNamed, HasLabel, SeesFrames, SeesAllFrames, LabelHasNoFault, CallHasNoFault, ItemHasNoFault, FunctionHasNoFault, HasNoFault}
+use Rattle.alf_faults.specs.NoFault.{HasLabel, SeesFrames, SeesAllFrames, CallHasNoFault, ItemHasNoFault, FunctionHasNoFault, HasNoFault}
 use Rattle.alf_faults.specs.NoFaultLaws.{agreeing_fits}
 use Rattle.c_unit.specs.declared.types.Outcome.{Outcome}
 use Rattle.c_unit.specs.declared.types.Outcome.TheVariants as outcomes

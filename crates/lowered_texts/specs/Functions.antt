@@ -7,7 +7,6 @@ use Rattle.std.specs.Option.{option_map_or}
 use Rattle.std.proofs.lemmas.Option.{none-some, slice_get_within}
 use Rattle.std.proofs.lemmas.Slice.Eq.{bytes_eq-Decides}
 use Rattle.lists.specs.Members.{contained}
-use Rattle.alf_program.specs.Tree.{BodyItem, WholeProgram}
 use Rattle.alf_program.specs.Tree as alf
 use Rattle.std.specs.List.{sum_by}
 use Rattle.alf_program.specs.Writable.{IsName, most_functions, most_frames, most_bytes, frame_bytes, frames_of}

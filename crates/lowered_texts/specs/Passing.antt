@@ -13,7 +13,7 @@ use Rattle.lists.specs.Tests.{by_test}
 use Rattle.lists.specs.Members.{no_member, placed, first_or_further, all_members}
 use Rattle.lists.specs.Images.{all_images, from_joined}
 use Rattle.alf_program.specs.declared.program.Num.{Num}
-use Rattle.alf_program.specs.Tree.{NamedExpression, Null, Store, Jump, Switch, Call, Return, BodyItem, Label, Do, Allocation, InitialValue, WholeProgram}
+use Rattle.alf_program.specs.Tree.{NamedExpression, Null, Store, Jump, Switch, Call, Return, BodyItem, Label, Do, Allocation}
 use Rattle.alf_program.specs.Tree as alf
 use Rattle.alf_program.specs.Writable.{IsName, ExpressionIsWritable, TargetIsWritable, ItemIsWritable, is_ending, ends_well, AllocationIsWritable, AddressIsWritable, InitialIsWritable, FunctionIsWritable, IsWritable}
 use Rattle.alf_names.specs.Places.{function_place}

@@ -33,7 +33,7 @@ use Rattle.c_unit.specs.Units.{UnitTree}
 use Rattle.c_constants.specs.declared.worth.Worth.{Worth}
 use Rattle.c_constants.specs.declared.worth.Worth.TheVariants as worth
 use Rattle.c_checks.specs.Names.{worth_at, number_of, text_at}
-use Rattle.c_meaning.specs.Values.{Valued, widened, bits_of_type}
+use Rattle.c_meaning.specs.Values.{Valued, bits_of_type}
 use Rattle.c_meaning.specs.Objects as meaning
 use Rattle.c_meaning.specs.Objects.{program_of, objects_of, object_at, function_at, integers_of, token_of_parameter}
 use Rattle.c_meaning.specs.Statements.{constant_number}

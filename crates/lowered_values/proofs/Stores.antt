@@ -7,7 +7,6 @@ use Rattle.alf_ops.specs.declared.history.Value.TheVariants as values
 use Rattle.alf_ops.specs.declared.history.RunFault.{RunFault}
 use Rattle.alf_ops.specs.declared.history.RunEvent.{RunEvent}
 use Rattle.alf_ops.specs.Values.{size_of, FitsValue}
-use Rattle.alf_ops.specs.Histories.{is_running, load, store}
 use Rattle.alf_ops.specs.Pointers.{operands, before}
 use Rattle.alf_program.specs.Tree.{NamedExpression, with_frames}
 use Rattle.alf_runs.specs.Expressions.{value_of}
@@ -22,7 +21,7 @@ use Rattle.c_meaning.specs.Values.{Valued, on_value, cut_to}
 use Rattle.c_meaning.specs.Objects.{Program, program_of, shapes_of}
 use Rattle.c_meaning.specs.Expressions as meaning
 use Rattle.c_meaning.specs.Statements as statements
-use Rattle.c_meaning.specs.Statements.{stored, given}
+use Rattle.c_meaning.specs.Statements.{stored}
 use Rattle.c_lowered.specs.Values as lowered
 use Rattle.c_lowered.specs.Effects as effects
 use Rattle.embedded_histories.specs.Embedding.{embedded_value, embedded_result, embedded_results}

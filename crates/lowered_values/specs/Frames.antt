@@ -26,7 +26,7 @@ use Rattle.c_unit.specs.Units.{UnitTree}
 use Rattle.c_checks.specs.Names.{Entry, Scope, look_up}
 use Rattle.c_checks.specs.Expressions.{value_type}
 use Rattle.c_meaning.specs.Values.{bits_of_type}
-use Rattle.c_meaning.specs.Objects.{Object, objects_of, program_of, object_at, function_at, shape_of_object}
+use Rattle.c_meaning.specs.Objects.{Object, objects_of, program_of, object_at, function_at}
 use Rattle.c_meaning.specs.Objects as meaning
 use Rattle.c_lowered.specs.Names.{same_owner, name_at, call_name}
 use Rattle.c_lowered.specs.Frames.{all_frames_in}

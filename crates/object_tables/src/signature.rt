@@ -1,6 +1,6 @@
 //! What functions give and take.
 
-ghost use Rattle.std.specs.Prelude.{◌≡◌, ◌++◌, map, IfOk};
+ghost use Rattle.std.specs.Prelude.{◌≡◌, map, IfOk};
 ghost use Rattle.c_unit.specs.Tree.{external_of};
 ghost use Rattle.object_tables.specs.Views.{signature_of, signatures_of};
 

@@ -1,6 +1,6 @@
 //! Rows of bits, those of marked places.
 
-ghost use Rattle.std.specs.Prelude.{◌≡◌, ℕ, ◌*◌, ◌^◌, ◌<◌, ◌≤◌, length, slice_index, bit_or};
+ghost use Rattle.std.specs.Prelude.{◌≡◌, ◌*◌, ◌^◌, ◌<◌, ◌≤◌, length, slice_index, bit_or};
 ghost use Rattle.pair_bits.specs.Marks.{AreRows};
 
 use crate::words::{add_words, clear_words, next_mark};

@@ -1,5 +1,5 @@
 -- The point that is read off a tableau.
-use Rattle.std.proofs.Common.{◌≡◌, ℕ, ℤ, pos, neg_ℤ, zero, suc, ◌+◌, ◌-◌, ◌<◌, ◌≤◌, arith, refl, sym, ap, ◌∙◌, subst, List, [], ◌∷◌, ◌++◌, length, drop, Option, Some, None, Bool, true, false, ⊎_elim}
+use Rattle.std.proofs.Common.{◌≡◌, ℕ, ℤ, pos, zero, suc, ◌+◌, ◌-◌, ◌<◌, ◌≤◌, arith, refl, sym, ap, ◌∙◌, subst, List, [], ◌∷◌, ◌++◌, length, drop, Option, Some, None, true, false}
 use Rattle.std.specs.Prelude.{◌*ℤ◌, ◌≤ℤ◌, ◌==◌}
 use Rattle.std.proofs.lemmas.Int.{ints}
 use Rattle.std.proofs.lemmas.Bool.{eq-eqb, ne_eqb}
@@ -10,13 +10,12 @@ use Rattle.dual_rules.specs.Firsts.{entry}
 use Rattle.dual_rules.specs.Fractions.{AreFractions}
 use Rattle.dual_rules.specs.SumLaws.{swap_first}
 use Rattle.pivot_rules.specs.Tableaus.{Held, Tableau, held_at, number_at}
-use Rattle.pivot_rules.specs.PivotRule.{leaving, at_limit}
+use Rattle.pivot_rules.specs.PivotRule.{leaving}
 use Rattle.pivot_rules.specs.Choices.{IsLeaving, leaving_is}
-use Rattle.pivot_rules.specs.Promise.{own_of, basic_whole, bare_number, basic_number, basic_point, point_whole}
+use Rattle.pivot_rules.specs.Promise.{own_of, basic_whole, basic_number, basic_point}
 use Rattle.pivot_rules.specs.ReadOff.{AreParts, IsReadOff}
 use Rattle.pivot_steps.specs.Sparse.{Seen}
 use Rattle.first_tableaus.specs.RowSteps.{drop_more}
-use Rattle.path_lp.specs.Handing.{IsHanded}
 use Rattle.path_lp.specs.Stepping.{Stands}
 use Rattle.path_lp.specs.Fractions.{fraction_of, fractions}
 

@@ -9,7 +9,7 @@ use Rattle.dual_rules.specs.Firsts.{entry}
 use Rattle.pivot_rules.specs.Lines.{spread}
 use Rattle.pivot_rules.specs.Tableaus.{next_slack, multiplier, multipliers, slacks_from, width_of, width_from}
 use Rattle.pivot_rules.specs.FirstTableau.{beyond, spread_is}
-use Rattle.pivot_rules.specs.HandedOut.{IsRising, width_above}
+use Rattle.pivot_rules.specs.HandedOut.{width_above}
 use Rattle.pivot_steps.specs.Sparse.{Seen, IsKept}
 use Rattle.pivot_steps.specs.Choosing.{dropped}
 use Rattle.pivot_steps.specs.TermsFrom.{dropped_rises, dropped_same}

@@ -1,20 +1,18 @@
 -- The run of the rule, turn by turn, and what the solver tells of it.
-use Rattle.std.proofs.Common.{◌≡◌, ℕ, ℤ, pos, zero, suc, ◌+◌, ◌-◌, ◌<◌, ◌≤◌, arith, refl, sym, ap, ◌∙◌, subst, List, length, Option, Some, None, Bool, true, false, ⊎_elim}
+use Rattle.std.proofs.Common.{◌≡◌, ℕ, ℤ, zero, suc, ◌+◌, ◌-◌, ◌<◌, ◌≤◌, arith, refl, sym, ap, ◌∙◌, subst, List, Option, Some, None}
 use Rattle.std.specs.Prelude.{◌*ℤ◌, ◌≤ℤ◌, if◌then◌else◌}
-use Rattle.std.proofs.lemmas.Bool.{cases_lt}
-use Rattle.std.proofs.lemmas.Option.{none-some, same_Some}
 use Rattle.lists.specs.Tests.{by_test}
-use Rattle.path_rows.specs.Programs.{Program, IsProgram}
+use Rattle.path_rows.specs.Programs.{Program}
 use Rattle.dual_rules.specs.Firsts.{entry}
 use Rattle.dual_rules.specs.Duals.{IsDual, dual_sum}
-use Rattle.dual_rules.specs.Fractions.{IsPoint, IsFeasible, part_of, whole_of}
+use Rattle.dual_rules.specs.Fractions.{part_of, whole_of}
 use Rattle.path_rows.specs.Points.{worth}
 use Rattle.pivot_rules.specs.Tableaus.{Tableau, held_at}
 use Rattle.pivot_rules.specs.PivotRule.{leaving, entering, entering_wide, pivot_wide, RunEnd, TooWide, Ended, variables_of, after_place, after_row, at_limit, run}
 use Rattle.pivot_rules.specs.Promise.{handed, Answers}
 use Rattle.pivot_rules.specs.Runs.{IsRight, IsRight}
 use Rattle.pivot_rules.specs.ReadOff.{IsReadOff, IsLeastPoint}
-use Rattle.pivot_rules.specs.OpeningPlaces.{OpensRows, started, ended}
+use Rattle.pivot_rules.specs.OpeningPlaces.{started, ended}
 use Rattle.pivot_steps.specs.Sparse.{Seen}
 use Rattle.first_tableaus.specs.Started.{IsStarted}
 use Rattle.path_lp.specs.declared.solved.SolveEnd.{SolveEnd}

@@ -1,6 +1,6 @@
 -- One pivot of the rule.
-use Rattle.std.proofs.Common.{◌≡◌, ℕ, ℤ, pos, neg_ℤ, zero, suc, ◌-◌, ◌<◌, ◌≤◌, arith, refl, sym, ap, ◌∙◌, subst, List, [], ◌∷◌, length, Option, Some, None, Bool, true, false, ⊎_elim}
-use Rattle.std.specs.Prelude.{◌≤ℤ◌, ◌<ℤ◌, ◌||◌, if◌then◌else◌}
+use Rattle.std.proofs.Common.{◌≡◌, ℕ, ℤ, pos, neg_ℤ, zero, suc, ◌-◌, ◌<◌, arith, refl, sym, ap, ◌∙◌, subst, List, [], ◌∷◌, length, Option, Some, None, Bool, true, false}
+use Rattle.std.specs.Prelude.{◌<ℤ◌, ◌||◌, if◌then◌else◌}
 use Rattle.std.proofs.lemmas.Int.{ints}
 use Rattle.std.proofs.lemmas.Bool.{or_left, or_right, or_from}
 use Rattle.std.proofs.lemmas.Option.{none-some, same_Some}
@@ -9,9 +9,8 @@ use Rattle.path_rows.specs.Programs.{Row, Program}
 use Rattle.dual_rules.specs.Firsts.{entry}
 use Rattle.dual_rules.specs.Verdicts.{verdict}
 use Rattle.pivot_rules.specs.Lines.{times_line}
-use Rattle.pivot_rules.specs.Tableaus.{Tableau, held_at, number_at, next_slack, multipliers, slacks_from, all_lines, width_of}
+use Rattle.pivot_rules.specs.Tableaus.{Tableau, held_at, number_at, next_slack, multipliers, slacks_from}
 use Rattle.pivot_rules.specs.PivotRule.{entering, entering_wide, pivot_wide, handed_wide, is_wide, line_wide, rows_wide, cleared_wide, pivoted, variables_of}
-use Rattle.pivot_rules.specs.Pivoting.{IsSound}
 use Rattle.pivot_rules.specs.Choices.{IsEntering, EnteringIs, entering_is}
 use Rattle.pivot_rules.specs.Runs.{IsRight, right_pivot}
 use Rattle.pivot_rules.specs.Promise.{handed}

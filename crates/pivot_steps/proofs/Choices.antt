@@ -1,7 +1,6 @@
 -- The choice of the place that enters, term by term, is that of whole lines.
 use Rattle.std.proofs.Common.{◌≡◌, ℕ, ℤ, pos, zero, suc, ◌<◌, ◌≤◌, ◌-◌, arith, refl, sym, ap, ◌∙◌, subst, List, [], ◌∷◌, Option, Some, None, ⊎_elim, Bool, true, false}
 use Rattle.std.specs.Prelude.{◌*ℤ◌, neg_ℤ, int_lt, not, ◌&&◌, ◌||◌, if◌then◌else◌}
-use Rattle.std.proofs.lemmas.Int.{ints}
 use Rattle.std.proofs.lemmas.Bool.{cases_eq, or_left, or_right, or_from}
 use Rattle.lists.specs.Tests.{by_test}
 use Rattle.path_rows.specs.Sums.{coefficient, StartsAbove, IsAscending}

@@ -1,14 +1,12 @@
 -- The tableau after a pivot, as it is shown.
-use Rattle.std.proofs.Common.{◌≡◌, ℕ, ℤ, pos, zero, suc, ◌<◌, ◌≤◌, arith, refl, sym, ap, ◌∙◌, subst, List, [], ◌∷◌, length, ⊎_elim, Bool, true, false}
-use Rattle.std.specs.Prelude.{◌<ℤ◌, ◌≤ℤ◌, ◌||◌}
+use Rattle.std.proofs.Common.{◌≡◌, ℕ, ℤ, zero, suc, ◌<◌, arith, refl, ap, ◌∙◌, List, [], ◌∷◌, length, true, false}
 use Rattle.std.specs.List.{list_any}
-use Rattle.std.proofs.lemmas.Int.{ints}
-use Rattle.std.proofs.lemmas.Bool.{cases_eq, or_left, or_right, or_from}
+use Rattle.std.proofs.lemmas.Bool.{or_left, or_right, or_from}
 use Rattle.path_rows.specs.Programs.{IsWithin}
 use Rattle.pivot_rules.specs.Lines.{spread, cleared}
 use Rattle.pivot_rules.specs.Tableaus.{Held}
 use Rattle.pivot_rules.specs.PivotRule.{replaced, exchanged, cleared_wide, rows_wide}
-use Rattle.pivot_steps.specs.Sparse.{HeldTerms, terms_at, shown_rows, IsKept, AreKept}
+use Rattle.pivot_steps.specs.Sparse.{HeldTerms, terms_at, shown_rows, AreKept}
 use Rattle.pivot_steps.specs.Stepped.{IsStepped, IsStepWide, IsSomeWide}
 
 two_heads : (x y : Held) (f h : List Held) → x ≡ y → f ≡ h → x ∷ f ≡ y ∷ h

@@ -1,19 +1,16 @@
 -- A row freed of a place, and rows.
 use Rattle.std.specs.Prelude.{slice_set}
-use Rattle.std.proofs.Common.{◌≡◌, ℕ, ℤ, pos, zero, suc, ◌<◌, ◌≤◌, ◌+◌, arith, refl, sym, ap, ◌∙◌, subst, List, [], ◌∷◌, length, take, drop, ◌++◌, ⊎_elim, Bool, true, false}
-use Rattle.std.specs.Prelude.{◌<ℤ◌, ◌≤ℤ◌}
+use Rattle.std.proofs.Common.{◌≡◌, ℕ, ℤ, pos, zero, suc, ◌<◌, ◌+◌, arith, refl, sym, ap, ◌∙◌, subst, List, [], ◌∷◌, length, take, drop, ◌++◌, ⊎_elim, Bool, true, false}
+use Rattle.std.specs.Prelude.{◌<ℤ◌}
 use Rattle.std.proofs.lemmas.Int.{ints}
-use Rattle.std.proofs.lemmas.Bool.{cases_eq, cases_lt}
+use Rattle.std.proofs.lemmas.Bool.{cases_eq}
 use Rattle.path_rows.specs.Sums.{coefficient}
-use Rattle.path_rows.specs.Programs.{IsWithin}
-use Rattle.dual_rules.specs.Firsts.{entry}
-use Rattle.pivot_rules.specs.Lines.{spread, cleared}
-use Rattle.pivot_rules.specs.PivotRule.{cleared_wide}
+use Rattle.pivot_rules.specs.Lines.{spread}
 use Rattle.pivot_rules.specs.FirstTableau.{spread_is}
 use Rattle.tableau_lines.specs.Shown.{IsFreed, IsFreedWide}
 use Rattle.tableau_lines.specs.StepLaws.{cleared_kept, wide_by}
-use Rattle.pivot_steps.specs.Sparse.{HeldTerms, terms_at, IsKept}
-use Rattle.pivot_steps.specs.Stepped.{IsStepped, IsStepWide, StepsRow, IsDone, IsSomeWide, StepsRows, IsReplaced}
+use Rattle.pivot_steps.specs.Sparse.{HeldTerms, terms_at}
+use Rattle.pivot_steps.specs.Stepped.{IsStepped, IsStepWide, StepsRow, IsDone, StepsRows, IsReplaced}
 use Rattle.pivot_steps.proofs.Shown.{set_count, set_there, set_other}
 
 spread_count : (n j : ℕ) (ts : List (ℕ × ℤ)) → length (spread n j ts) ≡ n

@@ -1,6 +1,6 @@
 -- A tableau by terms after a pivot.
-use Rattle.std.proofs.Common.{◌≡◌, ℕ, ℤ, pos, neg_ℤ, zero, suc, ◌<◌, ◌≤◌, arith, refl, sym, ap, ◌∙◌, subst, List, [], ◌∷◌, length, ⊎_elim, Bool, true, false}
-use Rattle.std.specs.Prelude.{◌<ℤ◌, ◌≤ℤ◌, ◌*ℤ◌, ◌||◌}
+use Rattle.std.proofs.Common.{◌≡◌, ℕ, ℤ, pos, neg_ℤ, zero, suc, ◌<◌, ◌≤◌, arith, refl, sym, ap, ◌∙◌, subst, List, [], ◌∷◌, length, ⊎_elim, true}
+use Rattle.std.specs.Prelude.{◌<ℤ◌, ◌≤ℤ◌, ◌*ℤ◌}
 use Rattle.std.proofs.lemmas.Int.{ints}
 use Rattle.std.proofs.lemmas.Bool.{cases_eq, or_left, or_right, or_from}
 use Rattle.path_rows.specs.Sums.{coefficient}
@@ -8,13 +8,13 @@ use Rattle.path_rows.specs.Programs.{IsWithin}
 use Rattle.dual_rules.specs.Firsts.{entry}
 use Rattle.pivot_rules.specs.Lines.{spread, times_line, line_gcd, cleared}
 use Rattle.pivot_rules.specs.Tableaus.{Held, Tableau, held_at, number_at, basic_at}
-use Rattle.pivot_rules.specs.PivotRule.{exchanged, cleared_wide, rows_wide, line_wide, pivoted}
+use Rattle.pivot_rules.specs.PivotRule.{exchanged, cleared_wide, rows_wide, line_wide}
 use Rattle.pivot_rules.specs.Steps.{entry_times}
 use Rattle.pivot_rules.specs.FirstTableau.{spread_is}
 use Rattle.tableau_lines.specs.Shown.{IsTurned, IsTurnedWide}
 use Rattle.tableau_lines.specs.DivisorLaws.{turned_gcd}
 use Rattle.pivot_steps.specs.Sparse.{HeldTerms, terms_at, shown_rows, Seen, seen, IsKept, AreKept}
-use Rattle.pivot_steps.specs.Stepped.{IsFreeable, IsStepped, IsStepWide, IsSomeWide, IsReplaced, CanPivot, exchange_wide, step_wide, IsExchanged, IsPivoted, IsOpened}
+use Rattle.pivot_steps.specs.Stepped.{IsFreeable, IsStepped, IsStepWide, IsSomeWide, IsReplaced, exchange_wide, step_wide, IsExchanged, IsPivoted, IsOpened}
 use Rattle.pivot_steps.proofs.Shown.{shown_count, number_shown, basic_shown}
 use Rattle.pivot_steps.proofs.Exchange.{exchanged_rows, rows_narrow, some_row_wide}
 

@@ -1,6 +1,6 @@
 -- What rows by terms show.
 use Rattle.std.specs.Prelude.{slice_set}
-use Rattle.std.proofs.Common.{◌≡◌, ℕ, ℤ, pos, zero, suc, ◌<◌, arith, refl, sym, ap, ◌∙◌, List, [], ◌∷◌, length, get_or}
+use Rattle.std.proofs.Common.{◌≡◌, ℕ, ℤ, zero, suc, ◌<◌, arith, refl, sym, ap, ◌∙◌, List, [], ◌∷◌, length, get_or}
 use Rattle.path_rows.specs.Sums.{coefficient}
 use Rattle.path_rows.specs.Programs.{IsWithin}
 use Rattle.dual_rules.specs.Firsts.{entry}

@@ -1,11 +1,10 @@
 -- A product with a factor that is turned, also where the factor, turned, does not fit.
-use Rattle.std.proofs.Common.{◌≡◌, ℕ, ℤ, pos, negsuc, arith, rules, ◌<◌, ◌≤◌, suc, inl, inr, ◌⊎◌, refl, ap, Some, None, true, false, ⊎_elim, Bool}
-use Rattle.std.specs.Prelude.{◌^◌, ◌*ℤ◌, ◌-ℤ◌, ◌+ℤ◌, ◌≤ℤ◌, ◌<ℤ◌, neg_ℤ}
+use Rattle.std.proofs.Common.{◌≡◌, ℤ, pos, negsuc, arith, rules, ◌<◌, ◌≤◌, suc, inl, inr, ◌⊎◌, refl, ap, None, ⊎_elim}
+use Rattle.std.specs.Prelude.{◌^◌, ◌*ℤ◌, ◌-ℤ◌, ◌≤ℤ◌, ◌<ℤ◌, neg_ℤ}
 use Rattle.std.specs.Int.{w128}
 use Rattle.std.specs.Int.RustNames.{FitsSigned}
 use Rattle.std.proofs.lemmas.Int.{ints}
 use Rattle.std.proofs.lemmas.Bool.{le-ltb, cases_lt}
-use Rattle.dual_rules.specs.Firsts.{fits}
 use Rattle.dual_rules.specs.SumLaws.{neg_times, times_neg}
 use Rattle.dual_rules.specs.Duality.{times_rising}
 use Rattle.dual_check.specs.Fitting.{fitting}

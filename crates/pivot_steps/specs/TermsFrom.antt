@@ -2,9 +2,8 @@
 --   dropped_rises, dropped_from, dropped_within   they ascend, begin there, and keep the width
 --   dropped_same   from the place on their numbers are those of all terms
 --   first_is, cost_is   the number of their first term, if it is at the place, is that of all terms there
-use Rattle.std.proofs.Common.{◌≡◌, ℕ, ℤ, pos, ◌<◌, ◌≤◌, arith, refl, ◌∙◌, List, [], ◌∷◌, ⊎_elim}
+use Rattle.std.proofs.Common.{◌≡◌, ℕ, ℤ, pos, ◌≤◌, arith, refl, ◌∙◌, List, [], ◌∷◌, ⊎_elim}
 use Rattle.std.specs.Prelude.{nat_lt}
-use Rattle.std.proofs.lemmas.Int.{ints}
 use Rattle.std.proofs.lemmas.Bool.{cases_eq, eq-eqb, ne_eqb, ltb-true, ltb-false}
 use Rattle.lists.specs.Tests.{by_test}
 use Rattle.path_rows.specs.Sums.{coefficient, IsAscending}

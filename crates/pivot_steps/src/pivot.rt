@@ -3,7 +3,7 @@
 ghost use Rattle.std.specs.Prelude.{◌≡◌, ◌<◌, ℕ, pos, ◌<ℤ◌, ◌≤ℤ◌, true, IfOk, MatchOption, length};
 ghost use Rattle.path_rows.specs.Sums.{coefficient};
 ghost use Rattle.dual_rules.specs.Firsts.{entry};
-ghost use Rattle.pivot_rules.specs.Lines.{spread, times_line};
+ghost use Rattle.pivot_rules.specs.Lines.{spread};
 ghost use Rattle.pivot_rules.specs.Tableaus.{held_at, number_at, basic_at};
 ghost use Rattle.pivot_steps.specs.Sparse.{IsKept};
 ghost use Rattle.pivot_steps.specs.Stepped.{CanPivot, exchange_wide, step_wide, IsExchanged, IsPivoted, IsOpened};

@@ -39,16 +39,16 @@ pointer_size : (size : ℕ) (args : List Alternative) → EachSuits (size ∷ si
 pointer_size size [] suits some = absurd suits
 pointer_size size (a ∷ []) suits some = absurd suits.1
 pointer_size size (a ∷ b ∷ []) suits some = absurd suits.1.1
-pointer_size size (a ∷ b ∷ c ∷ d ∷ args) suits some = absurd suits.1.1.1
-pointer_size size (a ∷ b ∷ c ∷ []) suits some = size_of_places size a b c suits.0 suits.1.0 suits.1.1.0 some
+pointer_size size (a ∷ b ∷ c ∷ d ∷ args) (first, (second, (third, too_long))) some = absurd too_long
+pointer_size size (a ∷ b ∷ c ∷ []) (first, (second, (third, end))) some = size_of_places size a b c first second third some
 
 alike_members : (size : ℕ) (args : List Alternative) → EachSuits (1 ∷ size ∷ size ∷ []) args → AreAlike (alone (alternative_at args 1)) (alone (alternative_at args 2))
 alike_members size [] suits = absurd suits
 alike_members size (a ∷ []) suits = absurd suits.1
 alike_members size (a ∷ b ∷ []) suits = absurd suits.1.1
-alike_members size (a ∷ b ∷ c ∷ d ∷ args) suits = absurd suits.1.1.1
-alike_members size (a ∷ b ∷ c ∷ []) suits =
-    let first = alone_is size b suits.1.0 in let second = alone_is size c suits.1.1.0 in
+alike_members size (a ∷ b ∷ c ∷ d ∷ args) (first, (second, (third, too_long))) = absurd too_long
+alike_members size (a ∷ b ∷ c ∷ []) (bit, (suits_b, (suits_c, end))) =
+    let first = alone_is size b suits_b in let second = alone_is size c suits_c in
     record { size = size; first = (first.is, first.sized); second = (second.is, second.sized) }
 
 sized_result : (op : Op) (sizes : List ℕ) (args : List Alternative) → IsSome (result_size op sizes) → EachSuits (operand_sizes op sizes) args

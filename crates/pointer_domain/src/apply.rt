@@ -2,7 +2,7 @@
 
 ghost use Rattle.std.specs.Prelude.{◌≡◌, IfOk, IfSome, IsSome, map};
 ghost use Rattle.std.specs.List.{AllZip};
-ghost use Rattle.alf_ops.specs.Table.{result_size, size_of_result, operand_sizes};
+ghost use Rattle.alf_ops.specs.Table.{result_size, operand_sizes};
 ghost use Rattle.pointer_rules.specs.AbstractValues.{HasSize, AreAlike};
 ghost use Rattle.pointer_rules.specs.Choices.{either_value as either_value_of, united as united_of, gathered as gathered_of, nothing, at_choice as at_choice_of, applied};
 ghost use Rattle.pointer_rules.specs.Covering.{EachSuits};

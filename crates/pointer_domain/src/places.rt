@@ -2,7 +2,7 @@
 
 ghost use Rattle.std.specs.Prelude.{◌≡◌, ◌≢◌, ◌≤◌, ℕ, Some, OnOk, length, IfSome, IfNone, slice_get};
 ghost use Rattle.strided_rules.specs.Strides.{Stride};
-ghost use Rattle.pointer_rules.specs.AbstractValues.{ArePlaces, AreAscending, IsPlace, with_place, with_places};
+ghost use Rattle.pointer_rules.specs.AbstractValues.{ArePlaces, IsPlace, with_place, with_places};
 ghost use Rattle.pointer_domain.specs.Parts.{lower};
 
 use interval_congruence::Strided;

@@ -1,7 +1,6 @@
 //! The values.
 
 ghost use Rattle.std.specs.Prelude.{◌≡◌, IfOk, IfSome};
-ghost use Rattle.strided_rules.specs.Strides.{Stride};
 ghost use Rattle.pointer_rules.specs.AbstractValues.{AbstractValue, IsAbstract, Words, Places, alone, either_words as either_words_of};
 
 use crate::places::put_all;

@@ -204,11 +204,11 @@ by_three : (P : List Alternative → List Value → Type 0) (r s t : ℕ) → ((
 by_three P r s t p [] values suits is = absurd suits
 by_three P r s t p (a ∷ []) values suits is = absurd suits.1
 by_three P r s t p (a ∷ b ∷ []) values suits is = absurd suits.1.1
-by_three P r s t p (a ∷ b ∷ c ∷ d ∷ args) values suits is = absurd suits.1.1.1
+by_three P r s t p (a ∷ b ∷ c ∷ d ∷ args) values (first, (second, (third, too_long))) is = absurd too_long
 by_three P r s t p (a ∷ b ∷ c ∷ []) [] suits is = absurd is
 by_three P r s t p (a ∷ b ∷ c ∷ []) (x ∷ []) suits is = absurd is.1
 by_three P r s t p (a ∷ b ∷ c ∷ []) (x ∷ y ∷ []) suits is = absurd is.1.1
-by_three P r s t p (a ∷ b ∷ c ∷ []) (x ∷ y ∷ z ∷ w ∷ values) suits is = absurd is.1.1.1
+by_three P r s t p (a ∷ b ∷ c ∷ []) (x ∷ y ∷ z ∷ w ∷ values) suits (first, (second, (third, too_long))) = absurd too_long
 by_three P r s t p (a ∷ b ∷ c ∷ []) (x ∷ y ∷ z ∷ []) suits is = p a b c x y z
 
 -- a carry is no pointer
@@ -230,16 +230,18 @@ RuleAnswersAt op sizes args values = Chosen op sizes args values
 
 add_answers : RuleAnswers Add
 add_answers sizes args values chosen = by_three (RuleAnswersAt Add sizes) (slice_index sizes 0) (slice_index sizes 0) 1
-    (λ a b c x y z k. no_carry c z (sum (numbers Add sizes (a ∷ b ∷ c ∷ [])) a b) (add_rule (applied_at Add sizes x y z) x y) (slice_index sizes 0) (EachOnly (a ∷ b ∷ c ∷ []) (x ∷ y ∷ z ∷ [])) k.is.1.1.0
+    (λ a b c x y z k. let (suits_a, (suits_b, suits_others)) = k.suits in let (is_a, (is_b, (is_c, end))) = k.is in
+    no_carry c z (sum (numbers Add sizes (a ∷ b ∷ c ∷ [])) a b) (add_rule (applied_at Add sizes x y z) x y) (slice_index sizes 0) (EachOnly (a ∷ b ∷ c ∷ []) (x ∷ y ∷ z ∷ [])) is_c
     (sum_answers (numbers Add sizes (a ∷ b ∷ c ∷ [])) (slice_index sizes 0) (applied_at Add sizes x y z) (EachOnly (a ∷ b ∷ c ∷ []) (x ∷ y ∷ z ∷ [])) a b x y
-    (number Add sizes (a ∷ b ∷ c ∷ []) (x ∷ y ∷ z ∷ []) k refl) k.suits.0 k.suits.1.0 k.is.0 k.is.1.0))
+    (number Add sizes (a ∷ b ∷ c ∷ []) (x ∷ y ∷ z ∷ []) k refl) suits_a suits_b is_a is_b))
     args values chosen.suits chosen.is chosen
 
 subtract_answers : RuleAnswers Sub
 subtract_answers sizes args values chosen = by_three (RuleAnswersAt Sub sizes) (slice_index sizes 0) (slice_index sizes 0) 1
-    (λ a b c x y z k. no_carry c z (difference (numbers Sub sizes (a ∷ b ∷ c ∷ [])) a b) (subtract_rule (slice_index sizes 0) (applied_at Sub sizes x y z) x y) (slice_index sizes 0) (EachOnly (a ∷ b ∷ c ∷ []) (x ∷ y ∷ z ∷ [])) k.is.1.1.0
+    (λ a b c x y z k. let (suits_a, (suits_b, suits_others)) = k.suits in let (is_a, (is_b, (is_c, end))) = k.is in
+    no_carry c z (difference (numbers Sub sizes (a ∷ b ∷ c ∷ [])) a b) (subtract_rule (slice_index sizes 0) (applied_at Sub sizes x y z) x y) (slice_index sizes 0) (EachOnly (a ∷ b ∷ c ∷ []) (x ∷ y ∷ z ∷ [])) is_c
     (difference_answers (numbers Sub sizes (a ∷ b ∷ c ∷ [])) (slice_index sizes 0) (applied_at Sub sizes x y z) (EachOnly (a ∷ b ∷ c ∷ []) (x ∷ y ∷ z ∷ [])) a b x y
-    (number Sub sizes (a ∷ b ∷ c ∷ []) (x ∷ y ∷ z ∷ []) k refl) k.suits.0 k.suits.1.0 k.is.0 k.is.1.0))
+    (number Sub sizes (a ∷ b ∷ c ∷ []) (x ∷ y ∷ z ∷ []) k refl) suits_a suits_b is_a is_b))
     args values chosen.suits chosen.is chosen
 
 -- a comparison of offsets
@@ -281,8 +283,9 @@ at_least_answers sizes = compare UGe sizes refl
 
 if_answers : RuleAnswers If
 if_answers sizes args values chosen = by_three (RuleAnswersAt If sizes) 1 (slice_index sizes 0) (slice_index sizes 0)
-    (λ a b c x y z k. chosen_answers (slice_index sizes 0) (EachOnly (a ∷ b ∷ c ∷ []) (x ∷ y ∷ z ∷ [])) a b c x y z k.suits.0 k.suits.1.0 k.suits.1.1.0 k.is.0 k.is.1.0 k.is.1.1.0
-    (λ only. only.0) (λ only. only.1.0) (λ only. only.1.1.0))
+    (λ a b c x y z k. let (suits_a, (suits_b, (suits_c, suited))) = k.suits in let (is_a, (is_b, (is_c, end))) = k.is in
+    chosen_answers (slice_index sizes 0) (EachOnly (a ∷ b ∷ c ∷ []) (x ∷ y ∷ z ∷ [])) a b c x y z suits_a suits_b suits_c is_a is_b is_c
+    (λ only. only.0) (λ only. only.1.0) (λ only. let (first, (second, (third, end))) = only in third))
     args values chosen.suits chosen.is chosen
 
 rule_answers : (op : Op) → RuleAnswers op

@@ -1,6 +1,6 @@
 //! The laws of abstract values.
 
-ghost use Rattle.std.specs.Prelude.{◌≡◌, ℕ, List, IsSome};
+ghost use Rattle.std.specs.Prelude.{ℕ, List, IsSome};
 ghost use Rattle.std.specs.List.{AllZip};
 ghost use Rattle.alf_ops.specs.declared.operator.Op.{Op};
 ghost use Rattle.alf_ops.specs.declared.history.Value.{Value};

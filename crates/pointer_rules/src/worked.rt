@@ -1,12 +1,10 @@
 //! The rules at some pointers and words, worked out apart from the definitions.
 
-ghost use Rattle.std.specs.Prelude.{◌≡◌, pos, Some, None, [], ◌∷◌};
-ghost use Rattle.alf_ops.specs.declared.operator.Op.TheVariants.{Add, Sub, Eq, Neq, ULt, If, Neg};
-ghost use Rattle.alf_ops.specs.declared.history.RunFault.TheVariants.{Divide, Kind, Pointers};
+ghost use Rattle.std.specs.Prelude.{◌≡◌, Some, None, [], ◌∷◌};
+ghost use Rattle.alf_ops.specs.declared.operator.Op.TheVariants.{Sub, Eq, Neq, ULt};
+ghost use Rattle.alf_ops.specs.declared.history.RunFault.TheVariants.{Kind, Pointers};
 ghost use Rattle.domain_core.specs.FaultSets.{no_faults, with_fault};
-ghost use Rattle.progressions.specs.Progressions.{from_to};
 ghost use Rattle.strided_rules.specs.Strides.{one_word};
-ghost use Rattle.pointer_rules.specs.AbstractValues.{AbstractValue};
 ghost use Rattle.pointer_rules.specs.Choices.{applied};
 
 /// Pointers to the frames 1 and 2 are unequal, and not ordered. A pointer into one of two frames, less the

@@ -1,6 +1,5 @@
 //! Places.
 
-ghost use Rattle.std.specs.Prelude.{◌≡◌};
 
 use least_lists::Keyed;
 use std::marker::Model;

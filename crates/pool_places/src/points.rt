@@ -1,7 +1,7 @@
 //! Merge points.
 
-ghost use Rattle.std.specs.Prelude.{◌≡◌, ◌<◌, ◌↔◌, ℕ, length, replicate, false, IsTrue, IfOk};
-ghost use Rattle.domain_core.specs.Outlines.{shape_of, Holds};
+ghost use Rattle.std.specs.Prelude.{◌<◌, ◌↔◌, length, false, IsTrue, IfOk};
+ghost use Rattle.domain_core.specs.Outlines.{shape_of};
 ghost use Rattle.pool_places.specs.Points.{AreMergePoints, IsLeft};
 
 use domain_core::Outline;

@@ -1,6 +1,6 @@
 //! Tests of what calls ask of a progression.
 
-ghost use Rattle.std.specs.Prelude.{◌≡◌, ◌≤◌, ◌-ℤ◌, IsTrue, ◌↔◌};
+ghost use Rattle.std.specs.Prelude.{◌≤◌, ◌-ℤ◌, IsTrue, ◌↔◌};
 ghost use Rattle.std.specs.Int.{w128};
 ghost use Rattle.std.specs.Int.RustNames.{FitsSigned};
 ghost use Rattle.progressions.specs.Progressions.{IsProgression, IsPlaced};

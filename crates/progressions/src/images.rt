@@ -1,6 +1,6 @@
 //! Images of progressions under arithmetic.
 
-ghost use Rattle.std.specs.Prelude.{◌≡◌, pos, neg_ℤ, ◌+ℤ◌, ◌-ℤ◌, ◌*ℤ◌, ◌<ℤ◌};
+ghost use Rattle.std.specs.Prelude.{◌≡◌, pos, neg_ℤ, ◌+ℤ◌, ◌*ℤ◌, ◌<ℤ◌};
 ghost use Rattle.std.specs.Int.{w128};
 ghost use Rattle.std.specs.Int.RustNames.{FitsSigned};
 ghost use Rattle.progressions.specs.Images.{moved as moved_by, negated as negated_of, sums as sums_of, differences as differences_of, products as products_of, multiples as multiples_of, quotients as quotients_of, quotient_step as quotient_step_of};

@@ -1,6 +1,6 @@
 //! What the progressions of the definitions have, as laws.
 
-ghost use Rattle.std.specs.Prelude.{◌≡◌, ◌≢◌, ◌↔◌, ◌⊎◌, ◌≤◌, ℕ, ℤ, pos, neg_ℤ, ◌+ℤ◌, ◌-ℤ◌, ◌*ℤ◌, ◌≤ℤ◌, ◌<ℤ◌, ◌<◌};
+ghost use Rattle.std.specs.Prelude.{◌≢◌, ◌↔◌, ◌⊎◌, ◌≤◌, ℕ, ℤ, pos, neg_ℤ, ◌+ℤ◌, ◌-ℤ◌, ◌*ℤ◌, ◌≤ℤ◌, ◌<ℤ◌, ◌<◌};
 ghost use Rattle.std.specs.Int.{int_div_euclid};
 ghost use Rattle.progressions.specs.declared.ends.Progression.{Progression as Numbers};
 ghost use Rattle.progressions.specs.Progressions.{Has, IsProgression, IsPlaced, HasSome, full, half, hull};

@@ -1,9 +1,9 @@
 //! Parts of progressions: from a number on, up to one, without an end.
 
 ghost use Rattle.std.specs.Prelude.{◌≡◌};
-ghost use Rattle.progressions.specs.Progressions.{IsProgression, IfProgression};
+ghost use Rattle.progressions.specs.Progressions.{IsProgression};
 ghost use Rattle.progressions.specs.Parts.{from_least as from_least_of, up_to as up_to_of, between as between_of, without_first as without_first_of, without_last as without_last_of};
-ghost use Rattle.progressions.specs.Limits.{IsSmall, IfSmall};
+ghost use Rattle.progressions.specs.Limits.{IsSmall};
 
 use crate::ends::Progression;
 use whole_numbers::Whole;

@@ -23,7 +23,7 @@ use Rattle.flow_facts.specs.declared.report.BoundWord.TheVariants.{Least, Stoppe
 use Rattle.flow_facts.specs.Reports.{NamedNode}
 use Rattle.fact_tokens.specs.Tokens.{Lexeme}
 use Rattle.fact_tokens.specs.Printed.{Mark, left_before}
-use Rattle.fact_printer.specs.Canonical.{a_word, a_number, a_whole, node_marks, nodes_marks, parent_mark, scope_word, scope_marks, scopes_marks, fault_word, fact_marks, count_bound_marks, bound_word, path_bound_marks, event_marks, scale_marks, multiplier_marks, cert_marks, if_any, heading_marks, lists_marks, ending_marks, tail_marks, report_marks}
+use Rattle.fact_printer.specs.Canonical.{a_word, a_number, a_whole, node_marks, nodes_marks, parent_mark, scope_word, scope_marks, scopes_marks, fault_word, fact_marks, count_bound_marks, bound_word, path_bound_marks, event_marks, scale_marks, multiplier_marks, cert_marks, if_any, heading_marks, ending_marks, report_marks}
 use Rattle.fact_printer.specs.Canonical as marks
 use Rattle.fact_words.specs.Numbers.{Fault, Syntax, number_within, whole_within, is_positive}
 use Rattle.fact_words.specs.Names.{is_node_name}

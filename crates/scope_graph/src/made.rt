@@ -1,6 +1,6 @@
 //! Outlines of graphs.
 
-ghost use Rattle.std.specs.Prelude.{◌≡◌, ◌<◌, ◌≤◌, ◌^◌, ◌-◌, ℕ, List, [], length, map, take, IfOk, IfErr, All, AllPairs};
+ghost use Rattle.std.specs.Prelude.{◌≡◌, ◌<◌, ◌-◌, ℕ, [], IfOk, IfErr};
 ghost use Rattle.domain_core.specs.Reducible.{IsEdge, IsReducible, IsFalling};
 ghost use Rattle.domain_core.specs.Outlines.{shape_of};
 ghost use Rattle.domain_core.specs.OutlineOf.{IsOutlineOf};

@@ -1,6 +1,6 @@
 //! The rows of an outline.
 
-ghost use Rattle.std.specs.Prelude.{◌≡◌, ◌<◌, ◌≤◌, ◌^◌, ◌-◌, ℕ, None, Some, length, IfOk};
+ghost use Rattle.std.specs.Prelude.{◌≡◌, ◌<◌, ◌^◌, ◌-◌, ℕ, None, Some, length, IfOk};
 ghost use Rattle.scope_graph.specs.Inner.{IsGrid, IsHeld, IsInnermost, lists_of};
 ghost use Rattle.scope_graph.specs.Assembled.{IsParented, IsOwned};
 

@@ -23,14 +23,14 @@ use Rattle.c_grammar.specs.Types.{at_list_comma}
 use Rattle.c_grammar.specs.Statements.{in_block, standing}
 use Rattle.c_grammar.specs.Units.{global_initial, global_integer, global_array, after_global, object, prototype, declarator}
 use Rattle.c_grammar.specs.Units.{further_declarator, may_be_defined, all_named, parameters_of, declaration_after, after_sole, body}
-use Rattle.c_grammar.specs.Units.{open_body, definition_after, sees_body, external_after, external, is_left, unit}
+use Rattle.c_grammar.specs.Units.{open_body, definition_after, sees_body, external_after, external, is_left}
 use Rattle.c_grammar.specs.Units as grammar
 use Rattle.lowered_names.specs.Texts.{IsIdentifier}
 use Rattle.spelled_trees.specs.Counts.{all_tokens_in}
 use Rattle.spelled_trees.specs.Units.{Names, gives, known_after, is_known, names_of_shape, names_of_declarators, names_after}
 use Rattle.spelled_trees.specs.Units.{tokens_of_shape, tokens_of_declarators, tokens_of_parameters, tokens_of, all_tokens_of}
 use Rattle.spelled_trees.specs.Units.{elements_of_shape, elements_of_declarators, elements_of, all_elements_of, frames_of}
-use Rattle.spelled_trees.specs.Units.{all_frames_of, Ascends, FunctionStands, FunctionsStand}
+use Rattle.spelled_trees.specs.Units.{all_frames_of, FunctionStands, FunctionsStand}
 use Rattle.spelled_trees.specs.Units as units
 use Rattle.spelled_counts.specs.Taking.{Good, Later, later_on, same_place, Takes, mark_takes, maybe_takes, made_takes, ◌>>>◌}
 use Rattle.spelled_counts.specs.TypesTake.{assign_mark_takes, signed_constant_takes, before_either_takes, integer_told_takes}

@@ -1,7 +1,7 @@
 -- What stands in statements, in the order of the text.
 --   tokens_in s          the tokens of the locals that a statement declares
 --   elements_in words s  how many elements its arrays have in all
-use Rattle.std.specs.Prelude.{ℕ, ◌+◌, List, [], ◌∷◌, ◌++◌, map, Option}
+use Rattle.std.specs.Prelude.{ℕ, ◌+◌, List, [], ◌∷◌, ◌++◌}
 use Rattle.c_unit.specs.Tree.{LocalShapeTree, LocalInteger, LocalPointer, LocalArray, LocalTree, Statement, Empty, Declares, Block, If, IfElse, While, Do, For, ForAfter, Switch, Case, Default, Break, Continue, Returns, Does, Statements, Nothing, Then}
 use Rattle.c_unit.specs.Units.{Word}
 use Rattle.c_checks.specs.Names.{worth_at, number_of}

@@ -4,7 +4,7 @@ ghost use Rattle.std.specs.Prelude.{◌≡◌, IfOk, IfSome, OnOk};
 ghost use Rattle.std.specs.Option.{option_map};
 ghost use Rattle.strided_rules.specs.Members.{assumed};
 ghost use Rattle.seen_memories.specs.Parts.{memory_in, rows_of, IsMemory};
-ghost use Rattle.step_rules.specs.Refining.{pinned_side, pinned_sides};
+ghost use Rattle.step_rules.specs.Refining.{pinned_side};
 ghost use Rattle.step_arms.specs.Places.{seen_place, PinFits};
 ghost use Rattle.step_arms.specs.Refinements.{there, sides_by, refined_by, SidesFit, Refines};
 

@@ -12,7 +12,7 @@ ghost use Rattle.pointer_rules.specs.AbstractValues.{HasSize};
 ghost use Rattle.pointer_rules.specs.Covering.{IsValue};
 ghost use Rattle.seen_memories.specs.Parts.{memory_in, rows_of, IsMemory};
 ghost use Rattle.step_rules.specs.Evaluating.{pointer_value, value_at};
-ghost use Rattle.step_rules.specs.Refining.{is_extension as is_extension_of, cell_of, cell_where as cell_where_of, loaded_cell, place_in, place_of, words_alone as words_alone_of, operand_place};
+ghost use Rattle.step_rules.specs.Refining.{is_extension as is_extension_of, cell_of, cell_where as cell_where_of, loaded_cell, place_in, place_of, words_alone as words_alone_of};
 ghost use Rattle.step_statements.specs.Typed.{IsTyped};
 ghost use Rattle.step_arms.specs.Places.{seen_place};
 ghost use Rattle.step_arms.specs.Sides.{loaded_value, at_one, IsSide};

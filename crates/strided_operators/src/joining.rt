@@ -1,6 +1,6 @@
 //! Joins of two progressions in normal form.
 
-ghost use Rattle.std.specs.Prelude.{◌≡◌, ◌≤◌, ◌^◌, pos, neg_ℤ, ◌-ℤ◌, ◌≤ℤ◌, ◌<ℤ◌};
+ghost use Rattle.std.specs.Prelude.{◌≡◌, ◌≤◌, ◌-ℤ◌};
 ghost use Rattle.progressions.specs.Progressions.{full, hull as hull_of};
 ghost use Rattle.progressions.specs.Images.{moved as moved_by};
 ghost use Rattle.progressions.specs.Limits.{AreNear, IsSmall};

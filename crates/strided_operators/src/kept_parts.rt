@@ -1,6 +1,6 @@
 //! Parts of a piece.
 
-ghost use Rattle.std.specs.Prelude.{◌≡◌, ◌≤◌, ◌^◌, pos, neg_ℤ};
+ghost use Rattle.std.specs.Prelude.{◌≡◌, ◌^◌, pos, neg_ℤ};
 ghost use Rattle.progressions.specs.Parts.{IsPiece, IfPiece, between as between_of};
 ghost use Rattle.strided_rules.specs.Members.{part_of, without_end as without_end_of};
 

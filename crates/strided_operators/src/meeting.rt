@@ -1,8 +1,6 @@
 //! Whether two progressions may have a number in common.
 
-ghost use Rattle.std.specs.Prelude.{◌≡◌, ◌≤◌, ◌^◌, pos, neg_ℤ, ◌≤ℤ◌};
-ghost use Rattle.std.specs.Int.{w128};
-ghost use Rattle.std.specs.Int.RustNames.{FitsSigned};
+ghost use Rattle.std.specs.Prelude.{◌≡◌, ◌^◌, pos, neg_ℤ};
 ghost use Rattle.progressions.specs.Parts.{IsPiece};
 ghost use Rattle.strided_rules.specs.Members.{is_same as is_same_of};
 ghost use Rattle.strided_rules.specs.Operators.{agree as agree_of, meet as meet_of};

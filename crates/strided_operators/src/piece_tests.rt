@@ -1,6 +1,6 @@
 //! What may hold of the numbers of two pieces, and of some choice of them.
 
-ghost use Rattle.std.specs.Prelude.{◌≡◌, ◌≤◌, ◌^◌, pos, neg_ℤ, Bool, Some};
+ghost use Rattle.std.specs.Prelude.{◌≡◌, ◌^◌, pos, neg_ℤ, Bool, Some};
 ghost use Rattle.progressions.specs.declared.ends.Progression.{Progression as Numbers};
 ghost use Rattle.progressions.specs.Parts.{IsPiece, IfPiece, ArePieces};
 ghost use Rattle.strided_rules.specs.Operators.{at_choice as at_choice_of, some_second as some_second_of, some_choice as some_choice_of, below as below_of, at_most as at_most_of, meet as meet_of};

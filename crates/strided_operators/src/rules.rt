@@ -1,8 +1,7 @@
 //! What operators give at pieces of one operand.
 
-ghost use Rattle.std.specs.Prelude.{◌≡◌, ◌≢◌, ◌≤◌, ◌<◌, ◌^◌, pos, neg_ℤ, ◌≤ℤ◌, ◌<ℤ◌};
+ghost use Rattle.std.specs.Prelude.{◌≡◌, ◌≢◌, ◌≤◌, ◌<◌, ◌^◌, pos, ◌≤ℤ◌, ◌<ℤ◌};
 ghost use Rattle.progressions.specs.Images.{quotients as quotients_of};
-ghost use Rattle.progressions.specs.Parts.{IsPiece};
 ghost use Rattle.progressions.specs.Progressions.{full};
 ghost use Rattle.strided_rules.specs.Rules.{rests as rests_of, toward_zero as toward_zero_of, signed_rests as signed_rests_of, least_rest as least_rest_of, greatest_rest as greatest_rest_of};
 

@@ -1,19 +1,18 @@
 -- A line freed of a place: the terms that are made are those of the definition's line, and so is the test.
-use Rattle.std.proofs.Common.{◌≡◌, ℕ, ℤ, pos, negsuc, suc, ◌<◌, ◌≤◌, ◌+◌, arith, refl, sym, ap, ◌∙◌, List, subst, true, false, Bool, ⊎_elim}
-use Rattle.std.specs.Prelude.{◌*ℤ◌, ◌-ℤ◌, ◌≤ℤ◌, ◌<ℤ◌, not, ◌&&◌}
+use Rattle.std.proofs.Common.{◌≡◌, ℕ, ℤ, pos, negsuc, suc, ◌<◌, ◌≤◌, arith, sym, ap, ◌∙◌, List, subst, true, false, Bool, ⊎_elim}
+use Rattle.std.specs.Prelude.{◌*ℤ◌, ◌≤ℤ◌, ◌<ℤ◌, not, ◌&&◌}
 use Rattle.std.specs.Int.{int_div_euclid, w128}
 use Rattle.std.specs.Int.RustNames.{FitsSigned}
 use Rattle.std.proofs.lemmas.Int.{ints}
 use Rattle.std.proofs.lemmas.Bool.{and_right, cases_lt}
 use Rattle.lists.specs.Tests.{by_test}
 use Rattle.whole_numbers.specs.Numbers.{gcd}
-use Rattle.whole_numbers.specs.GcdLaws.{gcd_first, gcd_second, gcd_fits_first}
+use Rattle.whole_numbers.specs.GcdLaws.{gcd_first, gcd_fits_first}
 use Rattle.path_rows.specs.Rows.{vanishes}
 use Rattle.path_rows.specs.UseLaws.{vanish_is}
 use Rattle.path_rows.specs.Sums.{coefficient, IsAscending}
 use Rattle.path_rows.specs.Programs.{IsWithin}
-use Rattle.dual_rules.specs.Firsts.{entry}
-use Rattle.pivot_rules.specs.Lines.{spread, mixed, line_gcd, divided, reduced, cleared}
+use Rattle.pivot_rules.specs.Lines.{spread, mixed, line_gcd, divided, reduced}
 use Rattle.pivot_rules.specs.PivotRule.{mixed_wide, cleared_wide}
 use Rattle.pivot_rules.specs.Mixing.{cancel_above, product_above}
 use Rattle.pivot_rules.specs.Steps.{exact, first_gcd_above}

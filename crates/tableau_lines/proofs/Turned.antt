@@ -1,7 +1,5 @@
 -- A line turned: the terms that are made are those of the definition's line, and so is the test.
-use Rattle.std.proofs.Common.{◌≡◌, ℕ, ℤ, pos, neg_ℤ, suc, ◌<◌, ◌≤◌, ◌+◌, arith, refl, sym, ap, ◌∙◌, List, [], ◌∷◌, Some, None, subst, true, false, Bool, ⊎_elim}
-use Rattle.std.specs.Prelude.{◌&&◌}
-use Rattle.std.proofs.lemmas.Int.{ints}
+use Rattle.std.proofs.Common.{◌≡◌, ℕ, ℤ, pos, neg_ℤ, suc, ◌<◌, ◌≤◌, arith, refl, sym, ap, ◌∙◌, List, [], ◌∷◌, Some, None, subst, true, false, Bool, ⊎_elim}
 use Rattle.std.proofs.lemmas.Bool.{and_parts, cases_eq, cases_lt}
 use Rattle.lists.specs.Tests.{by_test}
 use Rattle.path_rows.specs.Sums.{coefficient, IsAscending}
@@ -9,7 +7,7 @@ use Rattle.path_rows.specs.Programs.{IsWithin}
 use Rattle.dual_rules.specs.Firsts.{fits}
 use Rattle.dual_rules.specs.RowLaws.{found_here, found_later}
 use Rattle.dual_check.specs.Fitting.{fitting}
-use Rattle.pivot_rules.specs.Lines.{spread, times_line}
+use Rattle.pivot_rules.specs.Lines.{spread}
 use Rattle.pivot_rules.specs.Tableaus.{turned}
 use Rattle.pivot_rules.specs.PivotRule.{line_wide}
 use Rattle.pivot_rules.specs.FirstLines.{coefficient_turned}

@@ -4,9 +4,8 @@
 --   gcd_is_line          started from one of the line's numbers above 0, it is that of the whole line
 --   reduced_one          a line divided by its common divisor has the divisor 1
 --   turned_gcd           a line turned has the divisor of the line
-use Rattle.std.proofs.Common.{◌≡◌, ℕ, ℤ, pos, negsuc, neg_ℤ, zero, suc, ◌<◌, ◌≤◌, arith, refl, sym, ap, ◌∙◌, List, [], ◌∷◌, subst}
-use Rattle.std.specs.Prelude.{◌*ℤ◌, ◌-ℤ◌, ◌≤ℤ◌, ◌<ℤ◌, unsigned_abs}
-use Rattle.std.specs.Int.{int_div_euclid}
+use Rattle.std.proofs.Common.{◌≡◌, ℕ, ℤ, pos, negsuc, neg_ℤ, zero, suc, ◌≤◌, arith, refl, sym, ap, ◌∙◌, List, [], ◌∷◌, subst}
+use Rattle.std.specs.Prelude.{◌*ℤ◌, ◌-ℤ◌, ◌≤ℤ◌, unsigned_abs}
 use Rattle.std.proofs.lemmas.Int.{ints}
 use Rattle.std.proofs.Math.IntN.{*ℤ_comm}
 use Rattle.whole_numbers.specs.Numbers.{Divides, gcd, gcd_nat}
@@ -18,7 +17,7 @@ use Rattle.path_rows.specs.Sums.{coefficient, IsAscending}
 use Rattle.path_rows.specs.Programs.{IsWithin}
 use Rattle.dual_rules.specs.Firsts.{entry}
 use Rattle.dual_rules.specs.SumLaws.{times_difference}
-use Rattle.pivot_rules.specs.Lines.{spread, times_line, line_gcd, divided, reduced}
+use Rattle.pivot_rules.specs.Lines.{spread, times_line, line_gcd, reduced}
 use Rattle.pivot_rules.specs.Mixing.{cancel_above, cancel_at_least}
 use Rattle.pivot_rules.specs.Steps.{divisor_above, line_gcd_least, line_gcd_divides, entry_divided, first_gcd_above}
 use Rattle.pivot_rules.specs.FirstTableau.{spread_is}

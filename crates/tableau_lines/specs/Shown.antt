@@ -3,7 +3,7 @@
 --   IsFreedWide e h f    some number on the way is wide
 --   IsTurned f out       out is f with each number turned, and none is wide
 --   IsTurnedWide f       some number is wide, turned
-use Rattle.std.specs.Prelude.{◌≡◌, ℕ, ℤ, pos, neg_ℤ, Bool, true, false, List}
+use Rattle.std.specs.Prelude.{◌≡◌, ℕ, ℤ, pos, neg_ℤ, true, false, List}
 use Rattle.path_rows.specs.Sums.{IsAscending}
 use Rattle.path_rows.specs.Programs.{IsWithin}
 use Rattle.pivot_rules.specs.Lines.{spread, times_line, line_gcd, cleared}

@@ -3,12 +3,12 @@
 --   mixed_narrow, mixed_wide_there                the tests of a mixture
 --   cleared_by, wide_by     the step and its test by the two numbers at the place
 --   cleared_kept            a line without the place, of divisor 1, stays
-use Rattle.std.proofs.Common.{◌≡◌, ℕ, ℤ, pos, negsuc, neg_ℤ, zero, suc, ◌<◌, ◌≤◌, ◌+◌, arith, refl, sym, ap, ◌∙◌, List, [], ◌∷◌, length, Bool, true, false, subst, ⊎_elim}
-use Rattle.std.specs.Prelude.{◌*ℤ◌, ◌-ℤ◌, ◌≤ℤ◌, not, ◌||◌, ◌&&◌}
+use Rattle.std.proofs.Common.{◌≡◌, ℕ, ℤ, pos, negsuc, neg_ℤ, zero, suc, ◌<◌, ◌≤◌, ◌+◌, arith, refl, sym, ap, ◌∙◌, List, [], ◌∷◌, length, true, false, subst, ⊎_elim}
+use Rattle.std.specs.Prelude.{◌*ℤ◌, ◌-ℤ◌, ◌≤ℤ◌, not, ◌&&◌}
 use Rattle.std.specs.Int.{int_div_euclid}
 use Rattle.std.proofs.lemmas.Int.{ints}
 use Rattle.std.proofs.lemmas.Bool.{cases_eq, or_left, or_right}
-use Rattle.whole_numbers.specs.Numbers.{Divides, gcd, gcd_nat}
+use Rattle.whole_numbers.specs.Numbers.{Divides, gcd}
 use Rattle.whole_numbers.specs.GcdLaws.{gcd_end, gcd_first, gcd_second}
 use Rattle.path_rows.specs.Rows.{vanishes}
 use Rattle.path_rows.specs.Sums.{coefficient}

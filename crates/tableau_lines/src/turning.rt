@@ -1,7 +1,6 @@
 //! Terms turned.
 
 ghost use Rattle.std.specs.Prelude.{◌≡◌, true, false, neg_ℤ, IfOk, MatchOption};
-ghost use Rattle.path_rows.specs.Sums.{IsAscending};
 ghost use Rattle.dual_check.specs.Fitting.{fitting};
 ghost use Rattle.pivot_rules.specs.Tableaus.{turned};
 ghost use Rattle.tableau_lines.specs.Turning.{turned_fits};

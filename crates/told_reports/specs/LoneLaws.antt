@@ -104,10 +104,11 @@ module _ {S T C : Type 0} (machine : S → Machine T C) (states : Order T) (even
   told_so k n d ending here over is ends told =
       let kept = four_kept machine states events stepper o w states_laws machine_laws stepper_kept ok along happen in
       let same = events_one_on machine states events (opened machine four_recording stepper o) w happen in
+      let (loops_sized, (counts_sized, (owned_is, pairs_sized))) = kept.book in
       let one : Alone w.outline (found_of w) (trace_to run k) n ending = record {
         kept = kept.suited.kept;
         walk = is.walk;
-        sized = kept.book.1.1.1;
+        sized = pairs_sized;
         books = record { totals = is.book.0.0; loops = is.book.0.1; counts = is.book.1.0; pairs = is.book.1.1 };
         flags = kept.flags;
         all = is.stepped.all;

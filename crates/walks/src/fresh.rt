@@ -1,6 +1,6 @@
 //! The next node of a row.
 
-ghost use Rattle.std.specs.Prelude.{◌≡◌, ◌<◌, ◌≤◌, ℕ, length, All, IfNone, IfSome, slice_index};
+ghost use Rattle.std.specs.Prelude.{◌<◌, ◌≤◌, ℕ, length, All, IfNone, IfSome, slice_index};
 ghost use Rattle.walks.specs.Marks.{IsMarked};
 ghost use Rattle.walks.specs.Searching.{IsFresh};
 

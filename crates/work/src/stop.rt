@@ -1,7 +1,7 @@
 //! Why work stops, and the line that tells it.
 
 ghost use Rattle.std.specs.Prelude.{◌≡◌};
-ghost use Rattle.work.specs.Outcome.{Outcome, cause_of, status_of, IsStop};
+ghost use Rattle.work.specs.Outcome.{cause_of, status_of, IsStop};
 ghost use Rattle.work.specs.declared.stop.Stop.TheVariants.{Memory};
 
 use crate::Status;

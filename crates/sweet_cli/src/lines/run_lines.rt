@@ -1,6 +1,6 @@
 //! What `run` tells of a run.
 
-ghost use Rattle.std.specs.Prelude.{◌≡◌, ◌≤◌, ◌<◌, ◌-◌, ◌^◌, ◌++◌, ◌∷◌, [], length, string_bytes, IfOk, OnOk, Some, pos};
+ghost use Rattle.std.specs.Prelude.{◌≡◌, ◌≤◌, ◌<◌, ◌-◌, ◌^◌, ◌++◌, ◌∷◌, [], length, IfOk, OnOk, Some, pos};
 ghost use Rattle.std.specs.List.{zip};
 ghost use Rattle.alf_ops.specs.TwosComplement.{signed};
 ghost use Rattle.alf_check.specs.CheckedPrograms.{seen};

@@ -1,6 +1,6 @@
 //! Lines that tell why a file of inputs or of costs is refused.
 
-ghost use Rattle.std.specs.Prelude.{◌≡◌, string_bytes, IfOk, Some};
+ghost use Rattle.std.specs.Prelude.{◌≡◌, IfOk, Some};
 ghost use Rattle.sweet_cli.specs.Tables.{table_line};
 
 use cost_table::TableFault;

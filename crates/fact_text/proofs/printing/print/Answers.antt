@@ -1,7 +1,5 @@
 -- The text that was printed spells the report.
-use Rattle.std.proofs.Common.{subst, sym}
 use Rattle.flow_facts.specs.Reports.{reported}
-use Rattle.fact_text.specs.Language.{SpellsReport}
 use Rattle.fact_text.proofs.printing.print.Goals as goal
 
 pub returns-clause-spelled : goal.returns-clause-spelled

@@ -1,5 +1,5 @@
 -- The parts fit one after the other.
-use Rattle.std.proofs.Common.{◌≡◌, ◌<◌, ◌&&◌, [], length, drop, take, true, false, not, cond, sym, ◌∙◌, arith, length-drop}
+use Rattle.std.proofs.Common.{◌≡◌, ◌<◌, [], length, drop, take, true, false, not, cond, sym, ◌∙◌, arith, length-drop}
 use Rattle.fact_words.specs.Names.{fits_parts, parts_of, further, is_name, is_call, is_end}
 use Rattle.fact_words.proofs.NameParts.{at_last, at_more}
 use Rattle.fact_words.proofs.names.fits_after_quote.Goals as goal

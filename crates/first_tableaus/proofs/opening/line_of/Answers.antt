@@ -1,5 +1,5 @@
 -- One row more.
-use Rattle.std.proofs.Common.{rules, ◌≡◌, ◌<◌, length, arith, ◌∙◌, ap, ℕ}
+use Rattle.std.proofs.Common.{rules, ◌≡◌, ◌<◌, length, arith, ◌∙◌}
 use Rattle.path_rows.specs.Programs.{row_at}
 use Rattle.pivot_rules.specs.OpeningPlaces.{line_place, next_line}
 use Rattle.first_tableaus.proofs.OpeningSteps.{line_more}

@@ -1,8 +1,7 @@
 -- The row and the place are those of the opening, and the tableau is ready for the pivot.
-use Rattle.std.proofs.Common.{rules, ◌≡◌, ◌∙◌, sym, suc, slice_get, Some, true}
+use Rattle.std.proofs.Common.{rules, ◌≡◌, ◌∙◌, sym, suc, Some, true}
 use Rattle.std.proofs.lemmas.Bool.{false≢true}
 use Rattle.pivot_rules.specs.Tableaus.{held_at}
-use Rattle.pivot_rules.specs.OpeningPlaces.{line_place}
 use Rattle.pivot_steps.specs.Stepped.{exchange_wide, IsOpened}
 use Rattle.first_tableaus.proofs.OpeningSteps.{ready_at, never_wide, opened_more}
 use Rattle.first_tableaus.proofs.opening.open_next.Goals as goal

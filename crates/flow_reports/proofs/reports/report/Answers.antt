@@ -1,5 +1,5 @@
 -- What is left to show of `report`.
-use Rattle.std.proofs.Common.{◌≡◌, sym, ap, ◌∙◌, subst}
+use Rattle.std.proofs.Common.{sym, ap, ◌∙◌, subst}
 use Rattle.flow_facts.specs.Reports.{Reported}
 use Rattle.flow_facts.specs.Writable.{IsWritable}
 use Rattle.told_reports.specs.Told.{Found, found_of, told_report}

@@ -1,10 +1,6 @@
 -- What is left to show of `known_value`: facts of the proof files, applied.
-use Rattle.std.specs.Prelude.{[], ◌∷◌, Ok}
-use Rattle.std.proofs.Common.{◌≡◌}
+use Rattle.std.specs.Prelude.{[], ◌∷◌}
 use Rattle.std.proofs.lemmas.Option.{IfSome_then}
-use Rattle.pointer_rules.specs.Covering.{IsValue}
-use Rattle.memory_rules.specs.AbstractSets.{abstract_sets}
-use Rattle.memory_rules.specs.Frames.{load_results}
 use Rattle.held_memories.specs.HeldFrames.{frame_of}
 use Rattle.frame_cells.specs.StandingCells.{seen}
 use Rattle.frame_loads.proofs.Results.{known_is, known_sized}

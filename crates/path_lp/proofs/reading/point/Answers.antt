@@ -1,6 +1,6 @@
 -- One column more.
 use Rattle.std.proofs.Common.{rules, ◌≡◌, ◌<◌, ◌+◌, ◌++◌, ◌∷◌, [], length}
-use Rattle.path_lp.specs.Fractions.{fraction_of, fractions}
+use Rattle.path_lp.specs.Fractions.{fractions}
 use Rattle.path_lp.proofs.FractionLaws.{fractions_more}
 use Rattle.path_lp.proofs.reading.point.Goals as goal
 

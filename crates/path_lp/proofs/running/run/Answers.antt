@@ -1,5 +1,5 @@
 -- Each turn ends the run, or goes on with it.
-use Rattle.std.proofs.Common.{rules, ◌≡◌, ◌≤◌, ◌<◌, None, Some, arith, sym, ◌∙◌}
+use Rattle.std.proofs.Common.{rules, ◌≡◌, ◌≤◌, ◌<◌, None, Some, ◌∙◌}
 use Rattle.pivot_rules.specs.PivotRule.{leaving, at_limit, run}
 use Rattle.path_lp.specs.Stepping.{stepped, IsNext}
 use Rattle.path_lp.specs.Solving.{IsSolved}

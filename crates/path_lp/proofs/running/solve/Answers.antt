@@ -1,5 +1,5 @@
 -- The run from the opening is the rule's, and what the rule promises holds of what is told.
-use Rattle.std.proofs.Common.{rules, ◌≡◌}
+use Rattle.std.proofs.Common.{rules}
 use Rattle.pivot_rules.specs.PivotRule.{run}
 use Rattle.pivot_rules.specs.NarrowOpening.{IsSmall}
 use Rattle.pivot_rules.specs.OpeningPlaces.{ended}

@@ -4,7 +4,6 @@ use Rattle.dual_rules.specs.Verdicts.{verdict}
 use Rattle.pivot_rules.specs.PivotRule.{is_wide}
 use Rattle.pivot_steps.specs.Stepped.{IsPivoted}
 use Rattle.path_lp.specs.Handing.{IsHanded}
-use Rattle.path_lp.specs.Stepping.{Stands}
 use Rattle.path_lp.proofs.StepLaws.{more_stands, handed_scale, next_is}
 use Rattle.path_lp.proofs.stepping.pivot_on.Goals as goal
 

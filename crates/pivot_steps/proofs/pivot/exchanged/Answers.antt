@@ -1,6 +1,5 @@
 -- The rows can be freed, and what is made is what the definitions say.
-use Rattle.std.proofs.Common.{rules, ◌≡◌}
-use Rattle.pivot_steps.specs.Sparse.{HeldTerms}
+use Rattle.std.proofs.Common.{rules}
 use Rattle.pivot_steps.specs.Stepped.{IsStepped, IsReplaced}
 use Rattle.pivot_steps.proofs.Pivots.{rows_freeable, exchanged_is}
 use Rattle.pivot_steps.proofs.pivot.exchanged.Goals as goal

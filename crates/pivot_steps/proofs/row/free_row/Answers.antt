@@ -1,5 +1,5 @@
 -- A row that has the place is the line that freeing it gives.
-use Rattle.std.proofs.Common.{rules, ◌≡◌, subst}
+use Rattle.std.proofs.Common.{rules, subst}
 use Rattle.tableau_lines.specs.Shown.{IsFreed}
 use Rattle.pivot_steps.specs.Sparse.{HeldTerms}
 use Rattle.pivot_steps.specs.Stepped.{IsStepped}

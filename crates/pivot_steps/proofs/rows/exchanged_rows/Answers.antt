@@ -1,5 +1,5 @@
 -- All is freed but the row in which the line then stands.
-use Rattle.std.proofs.Common.{rules, ◌≡◌, length}
+use Rattle.std.proofs.Common.{rules, length}
 use Rattle.pivot_steps.specs.Stepped.{IsDone}
 use Rattle.pivot_steps.proofs.FreedRows.{stands_in_all}
 use Rattle.pivot_steps.proofs.rows.exchanged_rows.Goals as goal

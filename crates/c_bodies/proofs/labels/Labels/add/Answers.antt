@@ -1,5 +1,5 @@
 -- One constant more.
-use Rattle.std.proofs.Common.{◌≡◌, Bool, List, ℕ, ◌∷◌, false, reverse, ap, sym, ◌∙◌}
+use Rattle.std.proofs.Common.{◌≡◌, List, ℕ, ◌∷◌, false, reverse, ap, ◌∙◌}
 use Rattle.c_checks.specs.Statements.{is_label}
 use Rattle.c_bodies.specs.Surroundings.{Marks}
 use Rattle.c_bodies.proofs.Marked.{one_more}

@@ -1,5 +1,5 @@
 -- The row, turned, keeps its width and its divisor.
-use Rattle.std.proofs.Common.{rules, ◌≡◌, ℕ, ℤ, List, sym, subst}
+use Rattle.std.proofs.Common.{rules, ℕ, ℤ, List, sym, subst}
 use Rattle.tableau_lines.specs.Shown.{IsTurned}
 use Rattle.pivot_steps.specs.Sparse.{IsKept}
 use Rattle.pivot_steps.proofs.Pivots.{turned_kept}

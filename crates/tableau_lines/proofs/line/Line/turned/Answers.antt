@@ -1,5 +1,4 @@
 -- The terms are turned, and keep their order.
-use Rattle.std.proofs.Common.{◌≡◌}
 use Rattle.path_rows.specs.Sums.{IsAscending}
 use Rattle.tableau_lines.specs.Shown.{IsTurned}
 use Rattle.tableau_lines.proofs.Turned.{turned_is, turned_wide}

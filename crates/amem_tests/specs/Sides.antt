@@ -8,7 +8,7 @@
 --   cell_there             a cell that is there lies in its frame, which is active
 --   cell_of                and is a cell of it
 use Rattle.std.specs.Prelude.{slice_get, if◌then◌else◌, ◌==◌}
-use Rattle.std.proofs.Common.{◌≡◌, ◌∙◌, ℕ, Bool, true, false, List, [], ◌∷◌, Option, Some, None, Result, Ok, Err, refl, sym, ap, subst, ◌<◌}
+use Rattle.std.proofs.Common.{◌≡◌, ◌∙◌, ℕ, Bool, true, false, List, [], ◌∷◌, Option, Some, None, Result, Ok, Err, refl, sym, ap, subst}
 use Rattle.lists.specs.Tests.{by_test}
 use Rattle.alf_ops.specs.declared.history.FrameShape.{FrameShape}
 use Rattle.alf_ops.specs.declared.history.RunFault.{RunFault}
@@ -19,7 +19,7 @@ use Rattle.alf_check.specs.CheckedPrograms.{CheckedParts}
 use Rattle.pointer_rules.specs.AbstractValues.{AbstractValue}
 use Rattle.memory_rules.specs.AbstractSets.{abstract_sets}
 use Rattle.memory_rules.specs.Addresses.{tested, tested_in, stored_at, cells_of}
-use Rattle.memory_rules.specs.Memories.{Mem, is_on, fresh, stored, weak_at, weak_all, entered, left, both}
+use Rattle.memory_rules.specs.Memories.{Mem, is_on, fresh, stored, weak_at, weak_all, entered, left}
 use Rattle.seen_memories.specs.Parts.{MemoryParts, memory_in, rows_of, functions_of, IsMemory}
 use Rattle.seen_memories.specs.SeenOrders.{AreAlike, joined, joined_seen, joined_is}
 use Rattle.step_rules.specs.CellStores.{IsCellAt}

@@ -3,8 +3,8 @@
 --   words_are              words as a value
 --   bare_slots             slots that hold nothing
 --   stored_slots, mixed_slots, pinned_slots   after a strong store, a weak one, and a pin
-use Rattle.std.specs.Prelude.{replicate, ◌/◌}
-use Rattle.std.proofs.Common.{◌≡◌, ◌∙◌, ℕ, suc, zero, true, List, [], ◌∷◌, map, length, refl, sym, ap, subst}
+use Rattle.std.specs.Prelude.{replicate}
+use Rattle.std.proofs.Common.{◌≡◌, ◌∙◌, ℕ, suc, zero, List, [], ◌∷◌, length, refl, sym, ap, subst}
 use Rattle.strided_rules.specs.Strides.{Stride, IsStride}
 use Rattle.pointer_rules.specs.AbstractValues.{AbstractValue, Words, alone}
 use Rattle.pointer_rules.specs.Covering.{IsValue}
@@ -12,7 +12,7 @@ use Rattle.memory_pages.specs.Slots.{HeldSlot, bare}
 use Rattle.memory_rules.specs.AbstractSets.{abstract_sets}
 use Rattle.memory_rules.specs.AbstractSetLaws.{abstract_is_sets}
 use Rattle.memory_rules.specs.Covers.{FrameSized, IsCellSize}
-use Rattle.memory_rules.specs.Frames.{FrameMem, strong, weak, pinned, empty}
+use Rattle.memory_rules.specs.Frames.{strong, weak, pinned}
 use Rattle.memory_rules.specs.Memories.{Mem}
 use Rattle.memory_rules.specs.Updates.{strong_sized, weak_sized, pinned_sized, empty_sized}
 use Rattle.held_memories.specs.HeldFrames.{frame_of}

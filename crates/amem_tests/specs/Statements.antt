@@ -5,9 +5,9 @@
 --   all_typed, given_typed      the statements of a block, and the expression of a return, keep the rules of the checks
 --   row_at                      the row at a place that is there
 --   argument_of, call_of        a value of the size of a frame may be its argument; such values are those of a call
-use Rattle.std.specs.Prelude.{slice_get, get_or, All, ◌/◌, ◌%◌, ◌^◌}
+use Rattle.std.specs.Prelude.{slice_get, get_or, All, ◌/◌, ◌^◌}
 use Rattle.std.specs.List.{AllZip, AllByRecursion}
-use Rattle.std.proofs.Common.{◌≡◌, ◌∙◌, ℕ, suc, zero, true, false, List, [], ◌∷◌, map, length, Option, Some, None, refl, sym, ap, subst, arith, ◌<◌, ◌≤◌}
+use Rattle.std.proofs.Common.{◌≡◌, ◌∙◌, ℕ, suc, zero, false, List, [], ◌∷◌, length, Some, None, refl, sym, ap, subst, arith, ◌<◌, ◌≤◌}
 use Rattle.std.proofs.Math.Pow.{pow_mono}
 use Rattle.std.proofs.lemmas.List.Elements.{All-head, All-tail}
 use Rattle.alf_program.specs.Tree.{NumberedExpression, Number}
@@ -15,7 +15,7 @@ use Rattle.alf_check.specs.declared.rows.FrameRow.{FrameRow}
 use Rattle.alf_check.specs.declared.rows.FuncRow.{FuncRow}
 use Rattle.alf_check.specs.declared.rows.InitRow.{InitRow}
 use Rattle.alf_check.specs.CheckedPrograms.{CheckedParts, NumberedStatement, NumberedProgram, BlockEnding, Return, seen}
-use Rattle.alf_check.specs.Kept.{IsCellSize as IsCellOfText, InitFits, KeepsStatement, KeepsEnding}
+use Rattle.alf_check.specs.Kept.{InitFits, KeepsStatement, KeepsEnding}
 use Rattle.alf_check.specs.Lookups.{IsFunction}
 use Rattle.pointer_rules.specs.AbstractValues.{AbstractValue}
 use Rattle.pointer_rules.specs.Covering.{IsValue}

@@ -2,7 +2,6 @@
 
 ghost use Rattle.std.specs.Prelude.{◌≡◌, ◌≤◌, ◌+◌, ◌/◌, true, IsTrue, IfOk, OnOk};
 ghost use Rattle.held_memories.specs.HeldFrames.{is_cell_size};
-ghost use Rattle.held_memories.specs.HeldMemories.{held_no_byte};
 ghost use Rattle.amem_tests.specs.Slots.{AreSlots};
 
 use crate::values::{is_cell, is_value, told, value};

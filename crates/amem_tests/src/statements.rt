@@ -1,8 +1,7 @@
 //! Functions entered, statements, expressions and cells that are filled, of the program.
 
-ghost use Rattle.std.specs.Prelude.{◌≡◌, IsTrue, IfOk, OnOk};
+ghost use Rattle.std.specs.Prelude.{IsTrue, IfOk, OnOk};
 ghost use Rattle.std.specs.List.{AllZip};
-ghost use Rattle.alf_check.specs.CheckedPrograms.{seen};
 ghost use Rattle.step_rules.specs.EvaluatingLaws.{ArgumentIs};
 ghost use Rattle.amem_tests.specs.Statements.{IsMemoryOf};
 

@@ -1,6 +1,6 @@
 //! Explorations by policies.
 
-ghost use Rattle.std.specs.Prelude.{◌≡◌, ℕ};
+ghost use Rattle.std.specs.Prelude.{ℕ};
 ghost use Rattle.domain_core.specs.Outlines.{shape_of};
 ghost use Rattle.domain_core.specs.Machines.{IsAlong};
 ghost use Rattle.exec_toys.specs.declared.span.Span.{Span};

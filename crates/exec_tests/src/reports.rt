@@ -1,6 +1,6 @@
 //! Reports of explorations.
 
-ghost use Rattle.std.specs.Prelude.{◌≡◌, ℕ, IfSome};
+ghost use Rattle.std.specs.Prelude.{ℕ};
 ghost use Rattle.domain_core.specs.Outlines.{shape_of};
 ghost use Rattle.domain_core.specs.Machines.{IsAlong};
 ghost use Rattle.exec_toys.specs.declared.span.Span.{Span};

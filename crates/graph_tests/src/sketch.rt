@@ -1,6 +1,6 @@
 //! Programs in a short notation, and graphs as text.
 
-ghost use Rattle.std.specs.Prelude.{◌≡◌, ◌<◌, length};
+ghost use Rattle.std.specs.Prelude.{◌<◌};
 
 use alf_check::{Checked, check};
 use alf_text::read;

@@ -1,7 +1,7 @@
 // Goes through rounds on the memory of the program in a file, for bench/memory, which takes the time.
 #![tactic(auto)]
 
-ghost use Rattle.std.specs.Prelude.{◌≡◌, ◌<◌, ◌≤◌, ◌^◌, length};
+ghost use Rattle.std.specs.Prelude.{◌≡◌, ◌<◌, length};
 
 use alf_check::{Checked, check};
 use alf_ops::Value;

@@ -1,6 +1,6 @@
 // Calls of a recorder, so many times.
 
-ghost use Rattle.std.specs.Prelude.{◌≤◌, ◌<◌, ◌+◌, ◌-◌, ◌^◌, OnOk, IfOk, IfSome, length};
+ghost use Rattle.std.specs.Prelude.{◌<◌, ◌+◌, ◌-◌, ◌^◌, OnOk, IfOk, IfSome, length};
 
 use crate::edges::walk_from_entry;
 use domain_core::{Outline, Recorder};

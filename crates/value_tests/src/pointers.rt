@@ -3,7 +3,7 @@
 //! A row has the operator, three operands, the size of the result, its value and its faults. A value has
 //! one part or two, joined by `|`: a word, or a frame and an offset in it, as `1@4`.
 
-ghost use Rattle.std.specs.Prelude.{◌≡◌, IfOk};
+ghost use Rattle.std.specs.Prelude.{IfOk};
 ghost use Rattle.domain_core.specs.WordSets.{IsWordSize};
 ghost use Rattle.pointer_rules.specs.AbstractValues.{HasSize};
 

@@ -1,6 +1,5 @@
 //! Places.
 
-
 use least_lists::Keyed;
 use std::marker::Model;
 

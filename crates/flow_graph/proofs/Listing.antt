@@ -111,7 +111,7 @@ module _ (program : NumberedProgram) (nodes : List Node) (k : ℕ) (path : List 
   -- the edges to nodes of one instance, block by block
   pub row_first : (edges : List (ℕ × ℕ)) → IsListed (IsDoneBefore program nodes k) edges → IsListed (IsDoneInRow program nodes k path blocks 0) edges
   row_first edges listed =
-      listed_as (IsDoneBefore program nodes k) (IsDoneInRow program nodes k path blocks 0) edges (λ u v h. inl h) (λ u v h. elim h [ inl old ↦ old | inr (same, n, (block, within, is), at) ↦ no_member block within ]) listed
+      listed_as (IsDoneBefore program nodes k) (IsDoneInRow program nodes k path blocks 0) edges (λ u v h. inl h) (λ u v h. elim h [ inl old ↦ old | inr (same, (n, (block, within, is), at)) ↦ no_member block within ]) listed
 
   module _ (ascends : AllPairs IsBefore nodes) (up : AllPairs (λ (a b : Option ℕ). block_rank a < block_rank b) blocks) (j : ℕ) (x : Option ℕ) (low : j < length blocks) (is : x ≡ get_or blocks j x)
       (to : ℕ) (at : slice_get nodes to ≡ Some (node_at path x)) where

@@ -28,7 +28,7 @@ impl<'a> Reader<'a> {
         }
     }
 
-    /// Counts so many more frames, which the calls of a function take.
+    /// Counts so many more frames: of variables, and of what calls give.
     #[tactic(auto, unfolding(c_grammar::specs::Tokens::some_frames))]
     pub fn some_frames(&mut self, count: u64) -> Result<(), Departure>
         ensures { Reads (some_frames count) (λ x. x) result self.old self.new }

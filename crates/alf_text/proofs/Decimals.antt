@@ -9,7 +9,7 @@ use Rattle.std.proofs.lemmas.List.Folds.{list_all-append}
 use Rattle.lists.specs.Tests.{by_test}
 use Rattle.flow_base.specs.Digits.{prefix_digits, number_after, number_of}
 use Rattle.alf_tokens.specs.Printed.{is_number_text}
-use Rattle.alf_text.specs.Grammar.{number_within}
+use Rattle.alf_reader.specs.Grammar.{number_within}
 
 -- ds are digits that write n
 record Writes (n : ℕ) (ds : List ℕ) : Type 0 where

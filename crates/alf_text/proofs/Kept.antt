@@ -23,10 +23,11 @@ use Rattle.alf_tokens.specs.Printed.{is_name_text, is_named_well}
 use Rattle.alf_tokens.specs.Laws.{EachNameIsNamedWell}
 use Rattle.alf_program.specs.Tree.{NamedExpression, BodyItem, Allocation, InitialValue, WholeProgram, expressions_of}
 use Rattle.alf_program.specs.Writable.{most_depth, most_frame_bytes, IsName, IsSize, IsFurther, AreSizesOf, NumIsWritable, AddressIsWritable, count, PartsAreWritable, AllPartsAreWritable, depth_of, most_deep, ExpressionIsWritable, TargetIsWritable, ItemIsWritable, ends_well, AllocationIsWritable, InitialIsWritable, FunctionIsWritable, IsWritable}
-use Rattle.alf_text.specs.Grammar.{Fault, Limit, most_functions, most_frames, most_bytes, Room, Rule, Number, misfit, outside, or_fault, fits, fits_number, number_within, from_least, number_between, either, opening, closing, end, some_word, word, between, fixed, size, at_most, name, begin, unknown, opens, opens_target, one_function, one_frame, fits_frame, more_bytes, bits, reference, references, offset, zero_offset, label_tail, label, alloc, allocs, address_tail, address, unsigned, minus, signed_bits, signed, num_tail, num, ref_place, init, inits, operator_named, operand_count, unsigned_term, signed_term, address_term, load, further, sizes, apply, operator, expr_tail, nested, expr, whole_expr, target, default_arm, switch, with_word, store, label_item, null, leaving, jump, result_word, call, returns, item_tail, item, closing_after, stmts, scope, arg_decls, function_tail, function, functions, closing_empty, empty, addr_unit, macro_defs, little_endian, heading, exports, imports, program}
+use Rattle.alf_reader.specs.Grammar.{Fault, Limit, most_functions, most_frames, most_bytes, Room, Rule, Number, misfit, outside, or_fault, fits, fits_number, number_within, from_least, number_between, either, opening, closing, end, some_word, word, between, fixed, size, at_most, name, begin, unknown, opens, one_function, one_frame, fits_frame, more_bytes, bits, reference, references, offset, zero_offset, label_tail, label, alloc, allocs, address_tail, address, unsigned, minus, signed_bits, signed, num_tail, num, ref_place, init, inits, operator_named, operand_count, unsigned_term, signed_term, address_term, load, further, sizes, apply, operator, expr_tail, nested, expr, whole_expr}
+use Rattle.alf_text.specs.Grammar.{opens_target, target, default_arm, switch, with_word, store, label_item, null, leaving, jump, result_word, call, returns, item_tail, item, closing_after, stmts, scope, arg_decls, function_tail, function, functions, closing_empty, empty, addr_unit, macro_defs, little_endian, heading, exports, imports, program}
 use Rattle.alf_text.specs.Language.{start, IsSpelled}
 use Rattle.alf_text.proofs.Named.{text_name}
-use Rattle.alf_text.proofs.Signed.{half_power, some_power, word_fits}
+use Rattle.alf_reader.specs.Signed.{half_power, some_power, word_fits}
 use Rattle.alf_text.proofs.Written.{with_function, with_frame, with_bytes, need, needs, func_needs, all_need, some_sizes}
 use Rattle.alf_text.proofs.Needs.{full, whole_needs, whole_counted}
 

@@ -1,9 +1,7 @@
--- Shared lemmas: the reader's, and which programs some text spells.
-pub mod Depths
+-- Shared lemmas: which programs some text spells.
 pub mod Meaning
 pub mod Decimals
 pub mod Named
-pub mod Signed
 pub mod Written
 pub mod Needs
 pub mod Kept

@@ -2,7 +2,8 @@
 use Rattle.std.proofs.Common.{◌≡◌, ℕ, List, Result, Ok, Err, refl, sym, ap, subst}
 use Rattle.grammar.specs.Exact.{Says}
 use Rattle.alf_program.specs.Tree.{WholeProgram}
-use Rattle.alf_text.specs.Grammar.{Fault, Place, program}
+use Rattle.alf_reader.specs.Grammar.{Fault, Place}
+use Rattle.alf_text.specs.Grammar.{program}
 use Rattle.alf_text.specs.Language.{start, Departure, placed, Means, HasOneMeaning}
 
 -- what reading gives, as it is told

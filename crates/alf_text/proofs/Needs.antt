@@ -10,7 +10,8 @@ use Rattle.alf_tokens.specs.Laws.{EachPrintedTextIsCut}
 use Rattle.alf_program.specs.Tree.{Allocation, Function, WholeProgram}
 use Rattle.alf_program.specs.Writable.{most_functions, most_frames, most_bytes, own_frames, frames_of, frame_bytes, IsWritable}
 use Rattle.alf_printer.specs.Canonical.{program_marks, canonical_text}
-use Rattle.alf_text.specs.Grammar.{Fault, Room, Place, program}
+use Rattle.alf_reader.specs.Grammar.{Fault, Room, Place}
+use Rattle.alf_text.specs.Grammar.{program}
 use Rattle.alf_text.specs.Language.{start, SpellsProgram}
 use Rattle.alf_text.proofs.Written.{printing, needs, all_need, program_writes}
 

@@ -6,18 +6,18 @@
 --   Departure, placed bytes fault the fault as it is told: with the place in the text
 --   Means bytes meaning           the bytes spell the program, or depart so
 --   HasOneMeaning bytes           they have exactly one meaning
---   departure_in see answer       the departure of an answer whose words are seen so, or none where memory ran out
 --   departure_of answer           the departure of an answer of `read`
-use Rattle.std.specs.Prelude.{◌≡◌, ◌+◌, ◌-◌, ◌==◌, ℕ, not, Bool, List, length, take, filter, reverse, Result, Ok, Err, Option, Some, None}
+use Rattle.std.specs.Prelude.{◌≡◌, ◌+◌, ◌-◌, ◌==◌, ℕ, not, Bool, List, length, take, filter, reverse, Result, Ok, Err, Option}
 use Rattle.std.specs.List.{prefix_len}
 use Rattle.flow_base.specs.declared.place.Place.{Place}
 use Rattle.alf_tokens.specs.Tokens.{tokens_of}
-use Rattle.alf_text.specs.declared.fault.FaultAt.{FaultAt}
-use Rattle.alf_text.specs.declared.fault.FaultAt.TheVariants as faults
+use Rattle.alf_reader.specs.declared.fault.FaultAt.{FaultAt}
 use Rattle.alf_program.specs.Tree.{WholeProgram}
-use Rattle.alf_text.specs.Grammar.{DepartureAt, Fault, program, most_functions, most_frames, most_bytes}
-pub use Rattle.alf_text.specs.Grammar.{Syntax, Number, OutOfProfile, Limit}
-use Rattle.alf_text.specs.Grammar as grammar
+use Rattle.alf_reader.specs.Grammar.{DepartureAt, Fault, most_functions, most_frames, most_bytes}
+use Rattle.alf_reader.specs.Grammar as grammar
+use Rattle.alf_reader.specs.Reading.{departure_in}
+use Rattle.alf_text.specs.Grammar.{program}
+pub use Rattle.alf_reader.specs.Grammar.{Syntax, Number, OutOfProfile, Limit}
 
 -- where the reading of a text starts: nothing is counted yet
 abbrev pub start : List ℕ → grammar.Place
@@ -75,14 +75,6 @@ pub record HasOneMeaning (bytes : List ℕ) : Type 0 where
   pub meaning : Result WholeProgram Departure
   pub means : Means bytes meaning
   pub only : (other : Result WholeProgram Departure) → Means bytes other → meaning ≡ other
-
--- the departure that an answer tells where words are seen so, or none for want of memory
-abbrev pub departure_in : {P W : Type 0} → (W → List ℕ) → FaultAt P W → Option (DepartureAt P)
-departure_in see (faults.Syntax place) = Some (Syntax place)
-departure_in see (faults.Number place) = Some (Number place)
-departure_in see (faults.OutOfProfile place word) = Some (OutOfProfile place (see word))
-departure_in see (faults.Limit which count) = Some (Limit which count)
-departure_in see faults.Memory = None
 
 -- the departure that `read` tells
 abbrev pub departure_of : FaultAt Place (List ℕ) → Option Departure

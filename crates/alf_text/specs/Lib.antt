@@ -1,7 +1,6 @@
--- Programs and their canonical text, the grammar, the reader, what a text means, and what printing back promises.
+-- Programs and their canonical text, the grammar of items, functions and programs, what a text means, and what printing back promises.
 pub use Rattle.alf_program.specs.Tree
 pub use Rattle.alf_printer.specs.Canonical
 pub mod Grammar
-pub mod Reading
 pub mod Language
 pub mod CanonicalLaws

@@ -4,13 +4,13 @@ ghost use Rattle.std.specs.Prelude.{◌≡◌, ◌-◌, ◌≤◌, ℕ, not, Lis
 ghost use Rattle.std.specs.List.{prefix_len};
 ghost use Rattle.alf_program.specs.Tree.{program_of};
 ghost use Rattle.alf_program.specs.Writable.{IsWritable};
-ghost use Rattle.alf_text.specs.Reading.{fault_of};
+ghost use Rattle.alf_reader.specs.Reading.{fault_of};
 ghost use Rattle.alf_text.specs.Language.{Means, HasOneMeaning, departure_of, placed, place_of, place_after, is_line_feed};
 
-use crate::fault::{Departure, TextFault};
-use crate::reader::{Counts, Reader};
+use crate::programs::program;
 use crate::writable::writable_programs_are_spelled;
 use alf_program::Program;
+use alf_reader::{Counts, Departure, Reader, TextFault};
 use flow_base::{Name, Place};
 use std::alloc::Global;
 
@@ -34,7 +34,7 @@ pub fn read(alloc: Global, bytes: &[u8]) -> Result<Program, TextFault>
 {
     writable_programs_are_spelled();
     let mut reader = Reader::new(alloc, bytes, LIMITS);
-    match reader.program() {
+    match program(&mut reader) {
         Ok(program) => Ok(program),
         Err(departure) => Err(told(alloc, bytes, departure)),
     }

@@ -1,20 +1,8 @@
 //! The text of ALF: programs, what a text spells, and where it departs from the grammar first.
 #![tactic(auto)]
 
-// Where a text departs from the grammar.
-mod fault;
-
-// Single tokens, and what is counted.
-mod counts;
-mod reader;
-mod words;
-
 // Reading by the grammar's rules.
-mod expressions;
-mod frames;
 mod functions;
-mod names;
-mod numbers;
 mod parts;
 mod programs;
 mod statements;
@@ -28,7 +16,7 @@ mod writable;
 mod printing;
 
 pub use alf_program::{Alloc, Expr, Func, Init, Item, Num, Program, Stmt};
-pub use fault::{FaultAt, TextFault};
+pub use alf_reader::{FaultAt, TextFault};
 pub use language::{one_meaning, read};
 pub use laws::canonical_texts_are_read_back;
 pub use printing::print;

@@ -1,112 +1,18 @@
 //! What stands in lists. Their loop is `grammar::many`.
 
-ghost use Rattle.std.specs.Prelude.{◌≡◌, ℕ, List, None};
+ghost use Rattle.std.specs.Prelude.{ℕ, List};
 ghost use Rattle.alf_program.specs.declared.program.Num.{Num};
-ghost use Rattle.alf_program.specs.Tree.{NamedExpression, BodyItem, Allocation, InitialValue, Function, expression_of, item_of, allocation_of, initial_of, function_of};
-ghost use Rattle.alf_text.specs.Grammar.{opens, opens_target, alloc, init, whole_expr, item, function, target, reference};
-ghost use Rattle.alf_text.specs.Reading.{alf, fault_of};
+ghost use Rattle.alf_program.specs.Tree.{BodyItem, Function, item_of, function_of};
+ghost use Rattle.alf_reader.specs.Grammar.{opens};
+ghost use Rattle.alf_reader.specs.Reading.{alf};
+ghost use Rattle.alf_text.specs.Grammar.{opens_target, item, function, target};
 
-use crate::fault::Departure;
-use crate::reader::Reader;
-use alf_program::{Alloc, Expr, Func, Init, Item, Num};
+use crate::functions::function;
+use crate::statements::{item, target};
+use alf_program::{Func, Item, Num};
+use alf_reader::{Departure, Reader};
 use flow_base::Name;
 use grammar::Part;
-
-/// Frames.
-#[derive(Clone, Copy)]
-pub struct Allocs;
-
-impl<'a> Part<Reader<'a>> for Allocs {
-    type Value = Alloc;
-
-    type Error = Departure<'a>;
-
-    ghost reading = { alf };
-
-    ghost Seen = { Allocation };
-
-    ghost view = { allocation_of };
-
-    ghost goes_on = { λ _. opens };
-
-    ghost rule = { λ _. alloc };
-
-    fn begins(&self, reader: &Reader<'a>) -> bool {
-        reader.at_open()
-    }
-
-    fn read(&self, reader: &mut Reader<'a>) -> Result<Alloc, Departure<'a>> {
-        reader.alloc()
-    }
-
-    fn memory() -> Departure<'a> {
-        Departure::Memory
-    }
-}
-
-/// Initial values.
-#[derive(Clone, Copy)]
-pub struct Inits;
-
-impl<'a> Part<Reader<'a>> for Inits {
-    type Value = Init;
-
-    type Error = Departure<'a>;
-
-    ghost reading = { alf };
-
-    ghost Seen = { InitialValue };
-
-    ghost view = { initial_of };
-
-    ghost goes_on = { λ _. opens };
-
-    ghost rule = { λ _. init };
-
-    fn begins(&self, reader: &Reader<'a>) -> bool {
-        reader.at_open()
-    }
-
-    fn read(&self, reader: &mut Reader<'a>) -> Result<Init, Departure<'a>> {
-        reader.init()
-    }
-
-    fn memory() -> Departure<'a> {
-        Departure::Memory
-    }
-}
-
-/// Expressions.
-#[derive(Clone, Copy)]
-pub struct Exprs;
-
-impl<'a> Part<Reader<'a>> for Exprs {
-    type Value = Expr;
-
-    type Error = Departure<'a>;
-
-    ghost reading = { alf };
-
-    ghost Seen = { NamedExpression };
-
-    ghost view = { expression_of };
-
-    ghost goes_on = { λ _. opens };
-
-    ghost rule = { λ _. whole_expr };
-
-    fn begins(&self, reader: &Reader<'a>) -> bool {
-        reader.at_open()
-    }
-
-    fn read(&self, reader: &mut Reader<'a>) -> Result<Expr, Departure<'a>> {
-        reader.whole_expr()
-    }
-
-    fn memory() -> Departure<'a> {
-        Departure::Memory
-    }
-}
 
 /// Labels and statements.
 #[derive(Clone, Copy)]
@@ -132,7 +38,7 @@ impl<'a> Part<Reader<'a>> for Items {
     }
 
     fn read(&self, reader: &mut Reader<'a>) -> Result<Item, Departure<'a>> {
-        reader.item()
+        item(reader)
     }
 
     fn memory() -> Departure<'a> {
@@ -164,7 +70,7 @@ impl<'a> Part<Reader<'a>> for Funcs {
     }
 
     fn read(&self, reader: &mut Reader<'a>) -> Result<Func, Departure<'a>> {
-        reader.function()
+        function(reader)
     }
 
     fn memory() -> Departure<'a> {
@@ -192,48 +98,14 @@ impl<'a> Part<Reader<'a>> for Targets {
     ghost rule = { λ _. target };
 
     fn begins(&self, reader: &Reader<'a>) -> bool {
-        reader.at_target()
+        reader.at_word(b"target")
     }
 
     fn read(&self, reader: &mut Reader<'a>) -> Result<(Num, Name), Departure<'a>> {
-        reader.target()
+        target(reader)
     }
 
     fn memory() -> Departure<'a> {
-        Departure::Memory
-    }
-}
-
-/// References of this word.
-#[derive(Clone, Copy)]
-pub struct References<'w>(pub &'w [u8]);
-
-impl<'a, 'w> Part<Reader<'a>> for References<'w> {
-    type Value = Name;
-
-    type Error = Departure<'a>;
-
-    ghost reading = { alf };
-
-    ghost Seen = { List ℕ };
-
-    ghost view = { λ x. x };
-
-    ghost goes_on = { λ _. opens };
-
-    ghost rule = { λ part. reference part.0.now };
-
-    fn begins(&self, reader: &Reader<'a>) -> bool {
-        reader.at_open()
-    }
-
-    fn read(&self, reader: &mut Reader<'a>) -> Result<Name, Departure<'a>> {
-        reader.reference(self.0)
-    }
-
-    fn memory() -> Departure<'a>
-        ensures { fault_of result ≡ None }
-    {
         Departure::Memory
     }
 }

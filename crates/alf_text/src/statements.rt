@@ -2,162 +2,160 @@
 
 ghost use Rattle.grammar.specs.Rule.{many};
 ghost use Rattle.alf_program.specs.Tree.{item_of};
+ghost use Rattle.alf_reader.specs.Reading.{Reads};
 ghost use Rattle.alf_text.specs.Grammar.{opens_target, target, default_arm, switch, with_word, store, label_item, null, leaving, jump, result_word, call, returns, item_tail, item};
-ghost use Rattle.alf_text.specs.Reading.{Reads};
 
-use crate::fault::{Departure, outside};
-use crate::parts::{Exprs, Targets};
-use crate::reader::Reader;
+use crate::parts::Targets;
 use alf_program::{Item, Num, Stmt};
+use alf_reader::{Departure, Reader, outside};
 use flow_base::Name;
 use grammar::many;
 
-impl<'a> Reader<'a> {
-    #[tactic(auto, unfolding(crate::specs::Grammar::target))]
-    pub fn target(&mut self) -> Result<(Num, Name), Departure<'a>>
-        ensures { Reads target (λ x. x) result self.old self.new }
-    {
-        self.begin(b"target")?;
-        let num = self.num()?;
-        let label = self.label()?;
-        self.closing()?;
-        Ok((num, label))
-    }
+/// `{ target NUM LABEL }`.
+#[tactic(auto, unfolding(crate::specs::Grammar::target))]
+pub fn target<'a>(reader: &mut Reader<'a>) -> Result<(Num, Name), Departure<'a>>
+    ensures { Reads target (λ x. x) result reader.old reader.new }
+{
+    reader.begin(b"target")?;
+    let num = reader.num()?;
+    let label = reader.label()?;
+    reader.closing()?;
+    Ok((num, label))
+}
 
-    fn targets(&mut self) -> Result<Vec<(Num, Name)>, Departure<'a>>
-        ensures { Reads (many opens_target target) (λ x. x.items) result self.old self.new }
-    {
-        let targets = many(self.alloc, &Targets, self)?;
-        Ok(targets)
-    }
+fn targets<'a>(reader: &mut Reader<'a>) -> Result<Vec<(Num, Name)>, Departure<'a>>
+    ensures { Reads (many opens_target target) (λ x. x.items) result reader.old reader.new }
+{
+    let targets = many(reader.alloc, &Targets, reader)?;
+    Ok(targets)
+}
 
-    #[tactic(auto, unfolding(crate::specs::Grammar::default_arm))]
-    fn default_arm(&mut self) -> Result<Name, Departure<'a>>
-        ensures { Reads default_arm (λ x. x) result self.old self.new }
-    {
-        self.begin(b"default")?;
-        let label = self.label()?;
-        self.closing()?;
-        Ok(label)
-    }
+#[tactic(auto, unfolding(crate::specs::Grammar::default_arm))]
+fn default_arm<'a>(reader: &mut Reader<'a>) -> Result<Name, Departure<'a>>
+    ensures { Reads default_arm (λ x. x) result reader.old reader.new }
+{
+    reader.begin(b"default")?;
+    let label = reader.label()?;
+    reader.closing()?;
+    Ok(label)
+}
 
-    #[tactic(auto, unfolding(crate::specs::Grammar::switch))]
-    fn switch(&mut self) -> Result<Item, Departure<'a>>
-        ensures { Reads switch item_of result self.old self.new }
-    {
-        let value = self.whole_expr()?;
-        let targets = self.targets()?;
-        let others = self.default_arm()?;
-        self.closing()?;
-        Ok(Item::Stmt(Stmt::Switch(value, targets, others)))
-    }
+#[tactic(auto, unfolding(crate::specs::Grammar::switch))]
+fn switch<'a>(reader: &mut Reader<'a>) -> Result<Item, Departure<'a>>
+    ensures { Reads switch item_of result reader.old reader.new }
+{
+    let value = reader.whole_expr()?;
+    let targets = targets(reader)?;
+    let others = default_arm(reader)?;
+    reader.closing()?;
+    Ok(Item::Stmt(Stmt::Switch(value, targets, others)))
+}
 
-    #[tactic(auto, unfolding(crate::specs::Grammar::with_word))]
-    fn with_word(&mut self) -> Result<(), Departure<'a>>
-        ensures { Reads with_word (λ x. x) result self.old self.new }
-    {
-        self.word(b"with")?;
-        Ok(())
-    }
+#[tactic(auto, unfolding(crate::specs::Grammar::with_word))]
+fn with_word<'a>(reader: &mut Reader<'a>) -> Result<(), Departure<'a>>
+    ensures { Reads with_word (λ x. x) result reader.old reader.new }
+{
+    reader.word(b"with")?;
+    Ok(())
+}
 
-    #[tactic(auto, unfolding(crate::specs::Grammar::store))]
-    fn store(&mut self) -> Result<Item, Departure<'a>>
-        ensures { Reads store item_of result self.old self.new }
-    {
-        let at = self.whole_expr()?;
-        self.with_word()?;
-        let value = self.whole_expr()?;
-        self.closing()?;
-        Ok(Item::Stmt(Stmt::Store(at, value)))
-    }
+#[tactic(auto, unfolding(crate::specs::Grammar::store))]
+fn store<'a>(reader: &mut Reader<'a>) -> Result<Item, Departure<'a>>
+    ensures { Reads store item_of result reader.old reader.new }
+{
+    let at = reader.whole_expr()?;
+    with_word(reader)?;
+    let value = reader.whole_expr()?;
+    reader.closing()?;
+    Ok(Item::Stmt(Stmt::Store(at, value)))
+}
 
-    #[tactic(auto, unfolding(crate::specs::Grammar::label_item))]
-    fn label_item(&mut self) -> Result<Item, Departure<'a>>
-        ensures { Reads label_item item_of result self.old self.new }
-    {
-        let name = self.label_tail()?;
-        Ok(Item::Label(name))
-    }
+#[tactic(auto, unfolding(crate::specs::Grammar::label_item))]
+fn label_item<'a>(reader: &mut Reader<'a>) -> Result<Item, Departure<'a>>
+    ensures { Reads label_item item_of result reader.old reader.new }
+{
+    let name = reader.label_tail()?;
+    Ok(Item::Label(name))
+}
 
-    #[tactic(auto, unfolding(crate::specs::Grammar::null))]
-    fn null(&mut self) -> Result<Item, Departure<'a>>
-        ensures { Reads null item_of result self.old self.new }
-    {
-        self.closing()?;
-        Ok(Item::Stmt(Stmt::Null))
-    }
+#[tactic(auto, unfolding(crate::specs::Grammar::null))]
+fn null<'a>(reader: &mut Reader<'a>) -> Result<Item, Departure<'a>>
+    ensures { Reads null item_of result reader.old reader.new }
+{
+    reader.closing()?;
+    Ok(Item::Stmt(Stmt::Null))
+}
 
-    #[tactic(auto, unfolding(crate::specs::Grammar::leaving))]
-    fn leaving(&mut self) -> Result<(), Departure<'a>>
-        ensures { Reads leaving (λ x. x) result self.old self.new }
-    {
-        self.word(b"leaving")?;
-        Ok(())
-    }
+#[tactic(auto, unfolding(crate::specs::Grammar::leaving))]
+fn leaving<'a>(reader: &mut Reader<'a>) -> Result<(), Departure<'a>>
+    ensures { Reads leaving (λ x. x) result reader.old reader.new }
+{
+    reader.word(b"leaving")?;
+    Ok(())
+}
 
-    #[tactic(auto, unfolding(crate::specs::Grammar::jump))]
-    fn jump(&mut self) -> Result<Item, Departure<'a>>
-        ensures { Reads jump item_of result self.old self.new }
-    {
-        let name = self.label()?;
-        self.leaving()?;
-        self.fixed(0)?;
-        self.closing()?;
-        Ok(Item::Stmt(Stmt::Jump(name)))
-    }
+#[tactic(auto, unfolding(crate::specs::Grammar::jump))]
+fn jump<'a>(reader: &mut Reader<'a>) -> Result<Item, Departure<'a>>
+    ensures { Reads jump item_of result reader.old reader.new }
+{
+    let name = reader.label()?;
+    leaving(reader)?;
+    reader.fixed(0)?;
+    reader.closing()?;
+    Ok(Item::Stmt(Stmt::Jump(name)))
+}
 
-    #[tactic(auto, unfolding(crate::specs::Grammar::result_word))]
-    fn result_word(&mut self) -> Result<(), Departure<'a>>
-        ensures { Reads result_word (λ x. x) result self.old self.new }
-    {
-        self.word(b"result")?;
-        Ok(())
-    }
+#[tactic(auto, unfolding(crate::specs::Grammar::result_word))]
+fn result_word<'a>(reader: &mut Reader<'a>) -> Result<(), Departure<'a>>
+    ensures { Reads result_word (λ x. x) result reader.old reader.new }
+{
+    reader.word(b"result")?;
+    Ok(())
+}
 
-    #[tactic(auto, unfolding(crate::specs::Grammar::call))]
-    fn call(&mut self) -> Result<Item, Departure<'a>>
-        ensures { Reads call item_of result self.old self.new }
-    {
-        let name = self.label()?;
-        let args = many(self.alloc, &Exprs, self)?;
-        self.result_word()?;
-        let to = self.maybe_address()?;
-        self.closing()?;
-        Ok(Item::Stmt(Stmt::Call(name, args, to)))
-    }
+#[tactic(auto, unfolding(crate::specs::Grammar::call))]
+fn call<'a>(reader: &mut Reader<'a>) -> Result<Item, Departure<'a>>
+    ensures { Reads call item_of result reader.old reader.new }
+{
+    let name = reader.label()?;
+    let args = reader.whole_exprs()?;
+    result_word(reader)?;
+    let to = reader.maybe_address()?;
+    reader.closing()?;
+    Ok(Item::Stmt(Stmt::Call(name, args, to)))
+}
 
-    #[tactic(auto, unfolding(crate::specs::Grammar::returns))]
-    fn returns(&mut self) -> Result<Item, Departure<'a>>
-        ensures { Reads returns item_of result self.old self.new }
-    {
-        let value = self.maybe_expr()?;
-        self.closing()?;
-        Ok(Item::Stmt(Stmt::Return(value)))
-    }
+#[tactic(auto, unfolding(crate::specs::Grammar::returns))]
+fn returns<'a>(reader: &mut Reader<'a>) -> Result<Item, Departure<'a>>
+    ensures { Reads returns item_of result reader.old reader.new }
+{
+    let value = reader.maybe_expr()?;
+    reader.closing()?;
+    Ok(Item::Stmt(Stmt::Return(value)))
+}
 
-    /// A label or a statement.
-    #[tactic(auto, unfolding(crate::specs::Grammar::item, crate::specs::Grammar::item_tail, crate::specs::Grammar::unknown))]
-    pub fn item(&mut self) -> Result<Item, Departure<'a>>
-        ensures { Reads item item_of result self.old self.new }
-    {
-        self.opening()?;
-        let word = self.some_word()?;
-        if word.text == b"label".as_slice() {
-            self.label_item()
-        } else if word.text == b"null".as_slice() {
-            self.null()
-        } else if word.text == b"store".as_slice() {
-            self.store()
-        } else if word.text == b"jump".as_slice() {
-            self.jump()
-        } else if word.text == b"switch".as_slice() {
-            self.switch()
-        } else if word.text == b"call".as_slice() {
-            self.call()
-        } else if word.text == b"return".as_slice() {
-            self.returns()
-        } else {
-            Err(outside(word))
-        }
+/// A label or a statement.
+#[tactic(auto, unfolding(crate::specs::Grammar::item, crate::specs::Grammar::item_tail, alf_reader::specs::Grammar::unknown))]
+pub fn item<'a>(reader: &mut Reader<'a>) -> Result<Item, Departure<'a>>
+    ensures { Reads item item_of result reader.old reader.new }
+{
+    reader.opening()?;
+    let word = reader.some_word()?;
+    if word.text == b"label".as_slice() {
+        label_item(reader)
+    } else if word.text == b"null".as_slice() {
+        null(reader)
+    } else if word.text == b"store".as_slice() {
+        store(reader)
+    } else if word.text == b"jump".as_slice() {
+        jump(reader)
+    } else if word.text == b"switch".as_slice() {
+        switch(reader)
+    } else if word.text == b"call".as_slice() {
+        call(reader)
+    } else if word.text == b"return".as_slice() {
+        returns(reader)
+    } else {
+        Err(outside(word))
     }
 }

@@ -2,7 +2,7 @@ use Rattle.std.proofs.Common.{◌≡◌, suc, ◌-◌, List, [], ◌∷◌, leng
 use Rattle.std.specs.List.{slice_get}
 use Rattle.alf_program.specs.declared.program.Item.{Item}
 use Rattle.alf_program.specs.Tree.{item_of}
-use Rattle.alf_text.specs.Grammar.{ends_well, is_ending}
+use Rattle.alf_program.specs.Writable.{ends_well, is_ending}
 use Rattle.alf_text.proofs.functions.ends_well.Goals as goal
 
 last_item : (xs : List Item) (i : Item) → Some i ≡ slice_get xs (length xs - 1) → is_ending (item_of i) ≡ ends_well (map item_of xs)

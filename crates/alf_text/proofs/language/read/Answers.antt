@@ -2,8 +2,9 @@
 use Rattle.std.proofs.Common.{◌≡◌, Ok, Err, Option, Some, None, IfSome, IsSomeAnd, sym, subst}
 use Rattle.grammar.specs.Form.{Fails}
 use Rattle.alf_program.specs.Tree.{program_of}
-use Rattle.alf_text.specs.Grammar.{Fault, Place, program}
-use Rattle.alf_text.specs.Reading.{position, fault_of}
+use Rattle.alf_reader.specs.Grammar.{Fault, Place}
+use Rattle.alf_text.specs.Grammar.{program}
+use Rattle.alf_reader.specs.Reading.{position, fault_of}
 use Rattle.alf_text.specs.Language.{start, Departure, departure_of, placed, Means}
 use Rattle.alf_text.proofs.Meaning.{read_means}
 use Rattle.alf_text.proofs.language.read.Goals as goal
@@ -12,9 +13,9 @@ pub returns-in-Ok : goal.returns-in-Ok
 returns-in-Ok c =
     let bytes = c.args.bytes.now in
     let whole = program_of c.in-Ok.program in
-    let e : program.form.reading (start bytes) ≡ Ok (whole, position c.program.new.self)
-    = subst (λ (p : Place). program.form.reading p ≡ Ok (whole, position c.program.new.self)) c.new-reader.ensures c.in-Ok.ensures in
-    let meant = read_means bytes (Ok (whole, position c.program.new.self)) e in
+    let e : program.form.reading (start bytes) ≡ Ok (whole, position c.program.new.reader)
+    = subst (λ (p : Place). program.form.reading p ≡ Ok (whole, position c.program.new.reader)) c.new-reader.ensures c.in-Ok.ensures in
+    let meant = read_means bytes (Ok (whole, position c.program.new.reader)) e in
     record { spelled = meant; departs = tt; writable = (c.writable_programs_are_spelled.ensures.exactly whole).0 (bytes, meant) }
 
 pub returns-in-Err-clause-departs : goal.returns-in-Err-clause-departs

@@ -1,0 +1,2 @@
+-- Shared lemmas: the reader's.
+pub mod Depths

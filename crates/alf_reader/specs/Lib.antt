@@ -1,0 +1,4 @@
+-- The grammar up to expressions, what the reader stands for, and words of a size.
+pub mod Grammar
+pub mod Reading
+pub mod Signed

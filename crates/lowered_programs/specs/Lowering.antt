@@ -2,7 +2,7 @@
 --   HasOutcomeOfCells      what a start gives are cells of the unit, and both come to one outcome from there
 --   LoweringIsRight        the law for cells of the unit: faults included, in as many turns as steps
 --   EachStartIsOfTheUnit   the law for each start of the program inside the ranges of its input rows: these are cells of the unit
-use Rattle.std.specs.Prelude.{ℕ, List}
+use Rattle.std.specs.Prelude.{◌≡◌, ℕ, List}
 use Rattle.alf_check.specs.declared.rows.InputRow.{InputRow}
 use Rattle.alf_check.specs.CheckedPrograms.{NumberedProgram}
 use Rattle.alf_check.specs.Inputs.{KeepInputs}
@@ -32,6 +32,7 @@ LoweringIsRight = (unit : UnitTree) (name ranks : List ℕ) (program : NumberedP
 pub record HasOutcomeOfCells (unit : UnitTree) (name : List ℕ) (program : NumberedProgram) (rows : List InputRow) (moment : Moment) : Type 0 where
   pub words : List ℕ
   pub cells : List Cell
+  pub starts : moment ≡ start program rows words
   pub same : AreCells unit rows words cells
   pub outcomes : IsSameOutcome program moment (frame_number unit) (λ n. outcome unit name n cells)
 

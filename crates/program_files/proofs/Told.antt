@@ -107,7 +107,7 @@ module _ (p : NumberedProgram) where
   pub unranked_outcomes : (unit : UnitTree) (root : List ℕ) → HasUnitsOutcomes unit root p → HasUnitsOutcomes unit root (unranked p)
   unranked_outcomes unit root h rows moment keep is =
       let cells : HasOutcomeOfCells unit root p rows moment = h rows moment (keep_inputs rows keep) (record { numbers = is.numbers; within = is.within; starts = is.starts }) in
-      record { words = cells.words; cells = cells.cells; same = cells.same; outcomes = same_outcome moment _ _ cells.outcomes }
+      record { words = cells.words; cells = cells.cells; starts = cells.starts; same = cells.same; outcomes = same_outcome moment _ _ cells.outcomes }
 
 -- ---- lowering
 

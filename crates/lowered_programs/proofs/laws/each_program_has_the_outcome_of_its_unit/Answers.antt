@@ -30,6 +30,7 @@ returns c = record { cells = cells; starts = starts }
         record {
           words = words;
           cells = given.0;
+          starts = begins.starts;
           same = given.1;
           outcomes = subst (λ (m : Moment). IsSameOutcome program m (frame_number unit) (λ n. outcome unit name n given.0)) (sym begins.starts)
               (c.lowered_programs_have_the_units_outcome.ensures unit name ranks program rows words given.0 is names plain lowered frames given.1);

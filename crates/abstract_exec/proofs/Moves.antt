@@ -16,7 +16,7 @@ use Rattle.std.proofs.lemmas.Bool.{cases_lt}
 use Rattle.std.proofs.lemmas.List.{length-map, get_or-map}
 use Rattle.std.proofs.lemmas.List.Edits.{length-remove}
 use Rattle.std.proofs.lemmas.Option.{slice_get_within, slice_get-get_or, get_or_from_slice_get, same_Some}
-use Rattle.least_lists.specs.Least.{key_at}
+use Rattle.worklist.specs.Least.{key_at}
 use Rattle.domain_core.specs.declared.event.Event.{Event}
 use Rattle.domain_core.specs.declared.event.Event.TheVariants.{Step, Merge}
 use Rattle.domain_core.specs.declared.fault_set.FaultSet.{FaultSet}
@@ -25,16 +25,16 @@ use Rattle.domain_core.specs.Orders.{Order, IsOrder}
 use Rattle.domain_core.specs.Outlines.{Outlined, shape_of}
 use Rattle.domain_core.specs.Machines.{Machine, IsMachine, IsAlong}
 use Rattle.domain_core.specs.Recordings.{Recording, IsRecording, IsSuited}
-use Rattle.pool_events.specs.declared.policy.Policy.{Policy}
-use Rattle.pool_events.specs.Pools.{Spot, Pooled, positions_of, alarm_at, with_alarm}
-use Rattle.pool_events.specs.Events.{opened, Happens, met, stepped_at, merged_at}
-use Rattle.pool_events.specs.Policies.{IsChoice, merges, steps, IsPolicyRun}
-use Rattle.pool_events.specs.Kept.{IsPlaced, IsKept}
-use Rattle.pool_events.specs.MergeLaws.{alike_at}
-use Rattle.pool_events.specs.EventLaws.{start_kept, event_kept}
-use Rattle.pool_events.specs.EventLaws.{event_one_on}
-use Rattle.pool_events.specs.PolicyLaws.{IsPolicyStart, start_done, start_more}
-use Rattle.pool_places.specs.Points.{AreMergePoints}
+use Rattle.worklist_rules.specs.declared.policy.Policy.{Policy}
+use Rattle.worklist_rules.specs.Pools.{Spot, Pooled, positions_of, alarm_at, with_alarm}
+use Rattle.worklist_rules.specs.Events.{opened, Happens, met, stepped_at, merged_at}
+use Rattle.worklist_rules.specs.Policies.{IsChoice, merges, steps, IsPolicyRun}
+use Rattle.worklist_rules.specs.Kept.{IsPlaced, IsKept}
+use Rattle.worklist_rules.specs.MergeLaws.{alike_at}
+use Rattle.worklist_rules.specs.EventLaws.{start_kept, event_kept}
+use Rattle.worklist_rules.specs.EventLaws.{event_one_on}
+use Rattle.worklist_rules.specs.PolicyLaws.{IsPolicyStart, start_done, start_more}
+use Rattle.abstract_exec.specs.Points.{AreMergePoints}
 use Rattle.domain_core.specs.FaultSets.{either}
 use Rattle.domain_core.specs.declared.outline.NodeRow.{NodeRow}
 use Rattle.abstract_exec.specs.declared.explored.Explored.{Explored}

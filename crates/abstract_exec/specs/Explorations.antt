@@ -11,10 +11,10 @@ use Rattle.domain_core.specs.Orders.{Order}
 use Rattle.domain_core.specs.Outlines.{shape_of}
 use Rattle.domain_core.specs.Machines.{Machine}
 use Rattle.domain_core.specs.Recordings.{Recording}
-use Rattle.pool_events.specs.declared.policy.Policy.{Policy}
-use Rattle.pool_events.specs.Pools.{Spot, Pooled}
-use Rattle.pool_events.specs.Policies.{IsPolicyRun}
-use Rattle.pool_events.specs.Kept.{IsKept}
+use Rattle.worklist_rules.specs.declared.policy.Policy.{Policy}
+use Rattle.worklist_rules.specs.Pools.{Spot, Pooled}
+use Rattle.worklist_rules.specs.Policies.{IsPolicyRun}
+use Rattle.worklist_rules.specs.Kept.{IsKept}
 use Rattle.abstract_exec.specs.declared.explored.Explored.{Explored}
 use Rattle.abstract_exec.specs.declared.explored.Explored.TheVariants.{Closed, Left}
 

@@ -1,2 +1,4 @@
+-- The files of this folder.
 -- The files here, each after those that it cites.
+pub mod Points
 pub mod Explorations

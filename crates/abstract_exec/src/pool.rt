@@ -3,21 +3,23 @@
 ghost use Rattle.std.specs.Prelude.{◌≡◌, ◌<◌, ◌≤◌, ◌-◌, ◌^◌, Err, length, map, slice_get, Some, IfOk, OnOk};
 ghost use Rattle.domain_core.specs.Outlines.{shape_of};
 ghost use Rattle.domain_core.specs.Machines.{IsAlong};
-ghost use Rattle.pool_events.specs.Pools.{Pooled, alarm_at};
-ghost use Rattle.pool_events.specs.Events.{opened, Happens, IsOneOn};
-ghost use Rattle.pool_events.specs.Policies.{IsChoice};
-ghost use Rattle.pool_places.specs.Points.{AreMergePoints};
+ghost use Rattle.worklist_rules.specs.Pools.{Pooled, alarm_at};
+ghost use Rattle.worklist_rules.specs.Events.{opened, Happens, IsOneOn};
+ghost use Rattle.worklist_rules.specs.Policies.{IsChoice};
+ghost use Rattle.abstract_exec.specs.Points.{AreMergePoints};
 ghost use Rattle.abstract_exec.specs.Explorations.{IsPool, IsLater, IsEnded, IsExplored};
 
+use crate::choice::next_event;
+use crate::joins::{are_one_position, merge_places};
+use crate::place::Place;
+use crate::points::merge_points;
+use crate::step::{first_place, step_place};
 use crate::{ExecFault, Explored};
 use domain_core::{Event, FaultSet, Outline, Recorder, Stepper};
-use least_lists::Line;
-use pool_events::Policy;
-use pool_places::{
-    Place, are_one_position, first_place, merge_places, merge_points, next_event, step_place,
-};
 use std::alloc::{AllocError, Global};
 use std::marker::Model;
+use worklist::Line;
+use worklist_rules::Policy;
 
 /// The places of an exploration, with what was collected so far.
 ///
@@ -34,7 +36,7 @@ pub struct Pool<'a, S: Stepper, R: Recorder> {
 }
 
 impl<'a, S: Stepper, R: Recorder> Model for Pool<'a, S, R> {
-    ghost use Rattle.pool_events.specs.Pools.{Pooled};
+    ghost use Rattle.worklist_rules.specs.Pools.{Pooled};
 
     ghost Value = { Pooled S S.State R R.Book };
 

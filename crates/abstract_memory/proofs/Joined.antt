@@ -14,13 +14,13 @@ use Rattle.memory_rules.specs.Covers.{FrameSized}
 use Rattle.memory_rules.specs.Frames.{joined as joined_frame}
 use Rattle.memory_rules.specs.Memories.{Mem, MemSized, both}
 use Rattle.memory_rules.specs.MemoryProofs.{join_sized}
-use Rattle.held_memories.specs.HeldFrames.{frame_of}
-use Rattle.held_memories.specs.HeldMemories.{joined_slot, joined_slots, joined_frames, JoinedHeld}
-use Rattle.seen_memories.specs.Parts.{MemoryParts, memory_in, rows_of, bytes_in, canonical, IsMemory}
-use Rattle.seen_memories.specs.Made.{made}
-use Rattle.seen_memories.specs.ReadOff.{length_off}
-use Rattle.seen_memories.specs.PartsLaws.{canonical_off, parts_are}
-use Rattle.seen_memories.specs.SeenOrders.{AreAlike, joined}
+use Rattle.memory_model.specs.HeldFrames.{frame_of}
+use Rattle.memory_model.specs.HeldMemories.{joined_slot, joined_slots, joined_frames, JoinedHeld}
+use Rattle.memory_model.specs.Parts.{MemoryParts, memory_in, rows_of, bytes_in, canonical, IsMemory}
+use Rattle.memory_model.specs.Made.{made}
+use Rattle.memory_model.specs.ReadOff.{length_off}
+use Rattle.memory_model.specs.PartsLaws.{canonical_off, parts_are}
+use Rattle.memory_model.specs.SeenOrders.{AreAlike, joined}
 use Rattle.abstract_memory.specs.Rows.{AreFrames}
 
 -- the frames of a memory are frames of its rows

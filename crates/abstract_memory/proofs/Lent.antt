@@ -7,8 +7,8 @@ use Rattle.alf_check.specs.declared.rows.FrameRow.{FrameRow}
 use Rattle.memory_pages.specs.Slots.{HeldSlot}
 use Rattle.memory_rules.specs.AbstractSets.{abstract_sets}
 use Rattle.memory_rules.specs.Memories.{Mem}
-use Rattle.held_memories.specs.HeldMemories.{memory_of}
-use Rattle.seen_memories.specs.Parts.{MemoryParts, memory_in, IsMemory}
+use Rattle.memory_model.specs.HeldMemories.{memory_of}
+use Rattle.memory_model.specs.Parts.{MemoryParts, memory_in, IsMemory}
 use Rattle.abstract_memory.specs.Cells.{Changes}
 use Rattle.abstract_memory.proofs.Changing.{changed_kept}
 

@@ -1,3 +1,9 @@
+-- The files of this folder.
+mod Finding
+mod Members
+mod CellLists
+mod ActiveFrames
+mod Faulty
 mod Started
 mod Entered
 mod Joined
@@ -5,4 +11,4 @@ mod Fitting
 mod Changing
 mod Loading
 mod Lent
-mod Lone
+mod MemoryLone

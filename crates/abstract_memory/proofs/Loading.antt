@@ -6,7 +6,7 @@ use Rattle.std.specs.Prelude.{◌↔◌}
 use Rattle.std.proofs.Common.{Bool, ◌≡◌, ◌∙◌, ap, subst, sym, inl, inr, ⊎_elim, ℕ, true, List, [], ◌∷◌, map, length, Contains, None, IfSome}
 use Rattle.alf_ops.specs.declared.history.FrameShape.{FrameShape}
 use Rattle.alf_ops.specs.declared.history.RunFault.{RunFault}
-use Rattle.address_cells.specs.Running.{runs_in}
+use Rattle.abstract_memory.specs.Running.{runs_in}
 use Rattle.domain_core.specs.declared.fault_set.FaultSet.{FaultSet}
 use Rattle.domain_core.specs.FaultSets.{has_fault}
 use Rattle.memory_rules.specs.Addresses.{cells_of, load_at, IsAddressFault, IsLoadFault}
@@ -16,10 +16,10 @@ use Rattle.memory_pages.specs.Slots.{HeldSlot}
 use Rattle.memory_rules.specs.AbstractSets.{abstract_sets}
 use Rattle.memory_rules.specs.Frames.{load_results}
 use Rattle.memory_rules.specs.Memories.{load_all, faults_of}
-use Rattle.held_memories.specs.HeldMemories.{memory_of}
-use Rattle.frame_loads.specs.declared.loaded.Loaded.{Loaded}
-use Rattle.frame_loads.specs.LoadedResults.{onto, with_faults}
-use Rattle.frame_loads.specs.LoadLaws.{onto_more, faults_told}
+use Rattle.memory_model.specs.HeldMemories.{memory_of}
+use Rattle.frame_memory.specs.declared.loaded.Loaded.{Loaded}
+use Rattle.frame_memory.specs.LoadedResults.{onto, with_faults}
+use Rattle.frame_memory.specs.LoadLaws.{onto_more, faults_told}
 use Rattle.abstract_memory.specs.Cells.{AllFit}
 
 -- after loads of some of the possible cells, where those of rest are left

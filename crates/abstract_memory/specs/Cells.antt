@@ -19,9 +19,9 @@ use Rattle.memory_rules.specs.AbstractSets.{abstract_sets}
 use Rattle.memory_rules.specs.Covers.{FrameSized}
 use Rattle.memory_rules.specs.Memories.{Mem, joined_values}
 use Rattle.memory_rules.specs.Addresses.{load_at, IsLoadFault}
-use Rattle.held_memories.specs.HeldFrames.{frame_of}
-use Rattle.held_memories.specs.HeldMemories.{memory_of}
-use Rattle.seen_memories.specs.Parts.{canonical}
+use Rattle.memory_model.specs.HeldFrames.{frame_of}
+use Rattle.memory_model.specs.HeldMemories.{memory_of}
+use Rattle.memory_model.specs.Parts.{canonical}
 
 -- the cell lies in its frame
 pub record IsCellOf (rows : List FrameShape) (frame offset size : ℕ) : Type 0 where

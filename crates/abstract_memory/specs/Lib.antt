@@ -1,4 +1,9 @@
 -- The files of this folder.
+-- The files here, each after those that it cites.
+pub mod Running
+pub mod NextOffsets
+pub mod PlaceFaults
+pub mod OnlyCells
 pub mod Blank
 pub mod Cells
 pub mod Rows

@@ -8,8 +8,8 @@ use Rattle.alf_check.specs.declared.rows.FrameRow.{FrameRow}
 use Rattle.memory_pages.specs.Slots.{HeldSlot}
 use Rattle.memory_rules.specs.AbstractSets.{abstract_sets}
 use Rattle.memory_rules.specs.Covers.{FrameSized}
-use Rattle.held_memories.specs.HeldFrames.{frame_of}
-use Rattle.seen_memories.specs.Parts.{canonical}
+use Rattle.memory_model.specs.HeldFrames.{frame_of}
+use Rattle.memory_model.specs.Parts.{canonical}
 
 -- the frame of this row as runs take it
 abbrev pub shape_of : FrameRow → FrameShape

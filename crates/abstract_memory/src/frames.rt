@@ -3,12 +3,12 @@
 ghost use Rattle.std.specs.Prelude.{◌≡◌, ◌++◌, length, IfOk, OnOk};
 ghost use Rattle.alf_ops.specs.Histories.{is_owner};
 ghost use Rattle.alf_check.specs.Shapes.{shapes_of};
-ghost use Rattle.held_memories.specs.HeldMemories.{entered_frame, entered_frames, joined_slots, joined_frames};
+ghost use Rattle.memory_model.specs.HeldMemories.{entered_frame, entered_frames, joined_slots, joined_frames};
 ghost use Rattle.abstract_memory.specs.Rows.{shape_of, IsSlots, AreFrames};
 
 use crate::start::blank;
 use alf_check::FrameRow;
-use frame_joins::joined_frame;
+use frame_memory::joined_frame;
 use memory_pages::FrameSlots;
 use std::alloc::{AllocError, Global};
 

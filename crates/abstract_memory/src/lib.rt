@@ -1,3 +1,15 @@
+//! The abstract memory of a program, and the cells that an address may mean.
+//!
+//! ## Address cells
+//!
+//! The cells that an abstract address may mean, and its faults.
+//!
+//! `cells` gives the cells one by one in ascending order, in time of the cells and not of the frames that they lie
+//! in. What they are is said by the definitions of `memory_rules`, on which loads and stores through the address
+//! rest. The crate rests on abstract values and on the frames of checked programs.
+//!
+//! ## Abstract memory
+//!
 //! The abstract memory of a program.
 //!
 //! `AMem` keeps which functions run and the slots of each frame. What its calls make of it is said by the
@@ -5,7 +17,18 @@
 //! on the shared pages of `memory_pages`.
 #![tactic(auto)]
 
-// What a memory begins with.
+// Address cells: frames that are active, and the offsets of a pointer one after the other.
+mod active;
+mod offsets;
+
+// The cells of an address, and its faults.
+mod cell;
+mod fault;
+
+// Addresses that mean one cell alone.
+mod lone;
+
+// Abstract memory: what a memory begins with.
 mod start;
 
 // What its frames become, and what loads give.
@@ -16,4 +39,7 @@ mod stores;
 // The memory.
 mod memory;
 
+pub use cell::{cells, has_cell};
+pub use fault::address_faults;
+pub use lone::lone_cell;
 pub use memory::AMem;

@@ -10,19 +10,19 @@ ghost use Rattle.memory_rules.specs.Covers.{IsCellSize};
 ghost use Rattle.memory_rules.specs.Memories.{fresh, entered, left, pinned_at, joined_values};
 ghost use Rattle.memory_rules.specs.Addresses.{tested, cells_of, load_at, stored_at, IsAddressFault, IsLoadFault};
 ghost use Rattle.memory_rules.specs.AbstractSets.{abstract_sets};
-ghost use Rattle.seen_memories.specs.Parts.{memory_in, rows_of, IsMemory};
-ghost use Rattle.address_cells.specs.OnlyCells.{pointer_to};
+ghost use Rattle.memory_model.specs.Parts.{memory_in, rows_of, IsMemory};
+ghost use Rattle.abstract_memory.specs.OnlyCells.{pointer_to};
 ghost use Rattle.abstract_memory.specs.Cells.{IsCellOf};
 
+use crate::cell::has_cell;
 use crate::frames::{copied_frames, empty_frames, frames_joined};
 use crate::loads::{load_from, load_through};
 use crate::start::{blank_frames, idle};
 use crate::stores::{pin_in, store_through, store_to};
-use address_cells::has_cell;
 use alf_check::Checked;
 use domain_core::{FaultSet, Lattice};
-use held_memories::held_memories_are_those_of_the_rules;
 use interval_congruence::Strided;
+use memory_model::held_memories_are_those_of_the_rules;
 use memory_pages::FrameSlots;
 use pointer_domain::AVal;
 use std::alloc::{AllocError, Global};
@@ -42,7 +42,7 @@ pub struct AMem<'a> {
 impl<'a> Model for AMem<'a> {
     ghost use Rattle.std.specs.Coded.{codes};
     ghost use Rattle.alf_check.specs.contracts.rows.Term as e;
-    ghost use Rattle.seen_memories.specs.Parts.{MemoryParts};
+    ghost use Rattle.memory_model.specs.Parts.{MemoryParts};
 
     ghost Value = { MemoryParts };
 
@@ -240,7 +240,7 @@ impl<'a> AMem<'a> {
 }
 
 impl<'a> Lattice for AMem<'a> {
-    ghost use Rattle.seen_memories.specs.SeenOrders.{parts_order, parts_are_order};
+    ghost use Rattle.memory_model.specs.SeenOrders.{parts_order, parts_are_order};
 
     ghost order = { parts_order };
 

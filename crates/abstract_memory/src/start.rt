@@ -2,7 +2,7 @@
 
 ghost use Rattle.std.specs.Prelude.{◌≡◌, map, replicate, false, IfOk};
 ghost use Rattle.abstract_memory.specs.Blank.{blank_frame};
-ghost use Rattle.held_memories.specs.HeldMemories.{held_no_byte};
+ghost use Rattle.memory_model.specs.HeldMemories.{held_no_byte};
 
 use alf_check::FrameRow;
 use memory_pages::{Byte, FrameSlots};

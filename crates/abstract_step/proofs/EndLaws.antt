@@ -38,20 +38,20 @@ use Rattle.pointer_rules.specs.AbstractValues.{AbstractValue}
 use Rattle.pointer_rules.specs.Covering.{IsValue}
 use Rattle.memory_rules.specs.Memories.{Mem, MemSized, left}
 use Rattle.memory_rules.specs.AbstractSets.{abstract_sets}
-use Rattle.seen_memories.specs.Parts.{MemoryParts, memory_in, rows_of}
-use Rattle.step_rules.specs.Remains.{Remains, goes_on}
-use Rattle.step_rules.specs.RemainsLaws.{IfLeft}
-use Rattle.step_rules.specs.Evaluating.{value_at, arguments_at}
-use Rattle.step_rules.specs.EvaluatingLaws.{ArgumentIs, arguments_sized, value_sized, cell_size}
-use Rattle.step_rules.specs.Doing.{after_statements}
-use Rattle.step_rules.specs.Stepping.{Goals, to_goal, arms, arms_of, switched, pointer_fault, goals_left, end_at, block_at, step_at, back_to, leave_to}
-use Rattle.step_rules.specs.SteppingLaws.{words_of_size, back_of, back_gives}
-use Rattle.step_rules.specs.SwitchLaws.{EachGoal, IsArm, arms_kept}
-use Rattle.step_rules.specs.Machines.{goals_from, numbered_goal}
-use Rattle.seen_machines.specs.PartMachines.{IsOwn}
+use Rattle.memory_model.specs.Parts.{MemoryParts, memory_in, rows_of}
+use Rattle.transfer_rules.specs.Remains.{Remains, goes_on}
+use Rattle.transfer_rules.specs.RemainsLaws.{IfLeft}
+use Rattle.transfer_rules.specs.Evaluating.{value_at, arguments_at}
+use Rattle.transfer_rules.specs.EvaluatingLaws.{ArgumentIs, arguments_sized, value_sized, cell_size}
+use Rattle.transfer_rules.specs.Doing.{after_statements}
+use Rattle.transfer_rules.specs.Stepping.{Goals, to_goal, arms, arms_of, switched, pointer_fault, goals_left, end_at, block_at, step_at, back_to, leave_to}
+use Rattle.transfer_rules.specs.SteppingLaws.{words_of_size, back_of, back_gives}
+use Rattle.transfer_rules.specs.SwitchLaws.{EachGoal, IsArm, arms_kept}
+use Rattle.transfer_rules.specs.Machines.{goals_from, numbered_goal}
+use Rattle.transfer_rules.specs.PartMachines.{IsOwn}
 use Rattle.step_statements.specs.Typed.{IsTyped, IsTypedStatement}
 use Rattle.step_statements.specs.Arguments.{FitCall}
-use Rattle.step_arms.specs.Arms.{IsArmOf}
+use Rattle.branch_refinement.specs.Arms.{IsArmOf}
 use Rattle.abstract_step.specs.Standing.{HereParts, place_of, path_at, function_here, StandsAt, IsSwitchAt, IsCallAt, GoesBackTo, IsTaken}
 use Rattle.abstract_step.specs.Turns.{seen_point, numbered_arm, IsTurn}
 

@@ -15,11 +15,11 @@ use Rattle.flow_graph.specs.Nodes.{Node, Leads, function_at, first_node}
 use Rattle.flow_graph.specs.Numbering.{IsGraph}
 use Rattle.flow_graph.specs.Expansions.{IsExpansion, node_number}
 use Rattle.flow_graph.specs.Paths.{IsPlaced}
-use Rattle.run_points.specs.NodeNumbers.{goal_number}
-use Rattle.run_points.specs.NumberLaws.{numbered}
-use Rattle.run_points.specs.PointLaws.{GraphsExpand}
-use Rattle.graph_edges.specs.Edges.{HasEdge}
-use Rattle.graph_edges.specs.EdgeLaws.{edge_to}
+use Rattle.transfer_rules.specs.NodeNumbers.{goal_number}
+use Rattle.transfer_rules.specs.NumberLaws.{numbered}
+use Rattle.transfer_rules.specs.PointLaws.{GraphsExpand}
+use Rattle.flow_graph.specs.Edges.{HasEdge}
+use Rattle.flow_graph.specs.EdgeLaws.{edge_to}
 use Rattle.abstract_step.specs.Standing.{HereParts, IsHere, place_of, function_here}
 
 module _ (here : HereParts) (firsts : List ℕ) (is : IsHere here firsts) where

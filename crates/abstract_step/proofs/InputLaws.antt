@@ -30,12 +30,12 @@ use Rattle.pointer_rules.specs.RuleLaws.{alone_is}
 use Rattle.memory_rules.specs.Covers.{IsCellSize}
 use Rattle.memory_rules.specs.Memories.{Mem, is_on, fresh}
 use Rattle.memory_rules.specs.AbstractSets.{abstract_sets}
-use Rattle.seen_memories.specs.Parts.{MemoryParts, memory_in, rows_of, IsMemory}
-use Rattle.step_rules.specs.Evaluating.{width_of}
-use Rattle.step_rules.specs.Filling.{range_of, with_inits, with_inputs, entered_with, first_memory}
-use Rattle.step_rules.specs.FillingLaws.{args_of, entered_inits_kept}
-use Rattle.step_rules.specs.StartLaws.{range_is}
-use Rattle.step_rules.specs.CellStores.{IsCellAt}
+use Rattle.memory_model.specs.Parts.{MemoryParts, memory_in, rows_of, IsMemory}
+use Rattle.transfer_rules.specs.Evaluating.{width_of}
+use Rattle.transfer_rules.specs.Filling.{range_of, with_inits, with_inputs, entered_with, first_memory}
+use Rattle.transfer_rules.specs.FillingLaws.{args_of, entered_inits_kept}
+use Rattle.transfer_rules.specs.StartLaws.{range_is}
+use Rattle.transfer_rules.specs.CellStores.{IsCellAt}
 use Rattle.step_statements.specs.Typed.{IsStorable}
 use Rattle.step_statements.specs.Rooms.{HaveRoom}
 use Rattle.abstract_step.specs.Inputs.{IsRange, HasInputRoom, HaveInputRoom}

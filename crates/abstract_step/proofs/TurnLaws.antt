@@ -8,17 +8,17 @@ use Rattle.std.proofs.Common.{◌≡◌, ℕ, List, [], ◌∷◌, map, Some, No
 use Rattle.std.proofs.lemmas.List.Elements.{All-nil, All-cons, All-head, All-tail}
 use Rattle.alf_check.specs.CheckedPrograms.{CheckedParts}
 use Rattle.flow_graph.specs.Nodes.{Goal}
-use Rattle.run_points.specs.NodeNumbers.{goal_number}
+use Rattle.transfer_rules.specs.NodeNumbers.{goal_number}
 use Rattle.domain_core.specs.declared.fault_set.FaultSet.{FaultSet}
 use Rattle.domain_core.specs.FaultSets.{no_faults, either}
-use Rattle.seen_memories.specs.Parts.{MemoryParts, memory_in}
-use Rattle.seen_memories.specs.Made.{made}
-use Rattle.seen_memories.specs.PartsLaws.{parts_are}
-use Rattle.step_rules.specs.Remains.{Remains, goes_on}
-use Rattle.step_rules.specs.Stepping.{Goals, to_goal, goals_left}
-use Rattle.step_rules.specs.Machines.{numbered_goal}
-use Rattle.seen_machines.specs.MadeMachines.{made_at}
-use Rattle.seen_machines.specs.PartMachines.{IsOwn}
+use Rattle.memory_model.specs.Parts.{MemoryParts, memory_in}
+use Rattle.memory_model.specs.Made.{made}
+use Rattle.memory_model.specs.PartsLaws.{parts_are}
+use Rattle.transfer_rules.specs.Remains.{Remains, goes_on}
+use Rattle.transfer_rules.specs.Stepping.{Goals, to_goal, goals_left}
+use Rattle.transfer_rules.specs.Machines.{numbered_goal}
+use Rattle.transfer_rules.specs.MadeMachines.{made_at}
+use Rattle.transfer_rules.specs.PartMachines.{IsOwn}
 use Rattle.abstract_step.specs.Standing.{HereParts}
 use Rattle.abstract_step.specs.Turns.{seen_point, IsTurn}
 

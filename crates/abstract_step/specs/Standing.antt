@@ -14,7 +14,7 @@ use Rattle.flow_graph.specs.Nodes.{Node, ending_at, function_at}
 use Rattle.flow_graph.specs.Numbering.{GraphParts, IsGraph}
 use Rattle.flow_graph.specs.Expansions.{node_number}
 use Rattle.flow_graph.specs.Paths.{IsPlaced}
-use Rattle.graph_edges.specs.Edges.{AreFirstEdges}
+use Rattle.flow_graph.specs.Edges.{AreFirstEdges}
 use Rattle.pointer_rules.specs.AbstractValues.{AbstractValue}
 use Rattle.step_statements.specs.Typed.{IsStorable}
 

@@ -9,11 +9,11 @@ use Rattle.alf_check.specs.declared.rows.InputRow.{InputRow}
 use Rattle.alf_check.specs.CheckedPrograms.{CheckedParts, seen}
 use Rattle.alf_check.specs.Inputs.{KeepInputs}
 use Rattle.flow_graph.specs.Numbering.{GraphParts, IsGraph}
-use Rattle.graph_edges.specs.Edges.{AreFirstEdges}
+use Rattle.flow_graph.specs.Edges.{AreFirstEdges}
 use Rattle.domain_core.specs.Machines.{Machine, IsAlong}
 use Rattle.domain_core.specs.Outlines.{Shape}
-use Rattle.seen_memories.specs.Parts.{MemoryParts}
-use Rattle.seen_machines.specs.PartMachines.{part_machine}
+use Rattle.memory_model.specs.Parts.{MemoryParts}
+use Rattle.transfer_rules.specs.PartMachines.{part_machine}
 
 pub record StepperParts : Type 0 where
   pub checked : CheckedParts

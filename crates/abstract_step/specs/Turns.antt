@@ -4,15 +4,15 @@
 --   IsTurn here next faults r     the next nodes with their memories and the faults are what remains
 use Rattle.std.specs.Prelude.{◌≡◌, ℕ, List, map, All, Some}
 use Rattle.flow_graph.specs.Nodes.{block_node}
-use Rattle.run_points.specs.NodeNumbers.{goal_number}
+use Rattle.transfer_rules.specs.NodeNumbers.{goal_number}
 use Rattle.domain_core.specs.declared.fault_set.FaultSet.{FaultSet}
 use Rattle.memory_rules.specs.Memories.{Mem}
 use Rattle.memory_rules.specs.AbstractSets.{abstract_sets}
-use Rattle.seen_memories.specs.Parts.{MemoryParts, memory_in}
-use Rattle.step_rules.specs.Remains.{Remains}
-use Rattle.step_rules.specs.Stepping.{Goals, goals_left}
-use Rattle.step_rules.specs.Machines.{numbered_goal}
-use Rattle.seen_machines.specs.PartMachines.{IsOwn}
+use Rattle.memory_model.specs.Parts.{MemoryParts, memory_in}
+use Rattle.transfer_rules.specs.Remains.{Remains}
+use Rattle.transfer_rules.specs.Stepping.{Goals, goals_left}
+use Rattle.transfer_rules.specs.Machines.{numbered_goal}
+use Rattle.transfer_rules.specs.PartMachines.{IsOwn}
 use Rattle.abstract_step.specs.Standing.{HereParts, path_at}
 
 -- the number of a node, and the memory that the parts stand for

@@ -4,12 +4,12 @@ ghost use Rattle.std.specs.Prelude.{ℕ, List, Option, IfOk, map};
 ghost use Rattle.alf_program.specs.Tree.{NumberedExpression};
 ghost use Rattle.alf_check.specs.CheckedPrograms.{Call, seen, term_of};
 ghost use Rattle.alf_runs.specs.Steps.{frames_of};
-ghost use Rattle.seen_memories.specs.Parts.{memory_in};
-ghost use Rattle.step_rules.specs.Remains.{goes_on};
-ghost use Rattle.step_rules.specs.Evaluating.{arguments_at};
-ghost use Rattle.step_rules.specs.Stepping.{call_to};
+ghost use Rattle.memory_model.specs.Parts.{memory_in};
+ghost use Rattle.transfer_rules.specs.Remains.{goes_on};
+ghost use Rattle.transfer_rules.specs.Evaluating.{arguments_at};
+ghost use Rattle.transfer_rules.specs.Stepping.{call_to};
 ghost use Rattle.step_statements.specs.Arguments.{FitCall};
-ghost use Rattle.seen_machines.specs.PartMachines.{IsOwn};
+ghost use Rattle.transfer_rules.specs.PartMachines.{IsOwn};
 ghost use Rattle.abstract_step.specs.Standing.{path_at, StandsAt, IsCallAt};
 ghost use Rattle.abstract_step.specs.Turns.{IsTurn};
 

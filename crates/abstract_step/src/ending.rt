@@ -3,12 +3,12 @@
 ghost use Rattle.std.specs.Prelude.{◌≡◌, Some, IfOk};
 ghost use Rattle.alf_check.specs.CheckedPrograms.{Return, seen, end_of, term_of};
 ghost use Rattle.alf_runs.specs.Steps.{frames_of};
-ghost use Rattle.seen_memories.specs.Parts.{memory_in};
-ghost use Rattle.step_rules.specs.Remains.{goes_on};
-ghost use Rattle.step_rules.specs.Evaluating.{value_at};
-ghost use Rattle.step_rules.specs.Stepping.{leave_to, end_at};
-ghost use Rattle.step_rules.specs.Machines.{goals_from};
-ghost use Rattle.seen_machines.specs.PartMachines.{IsOwn};
+ghost use Rattle.memory_model.specs.Parts.{memory_in};
+ghost use Rattle.transfer_rules.specs.Remains.{goes_on};
+ghost use Rattle.transfer_rules.specs.Evaluating.{value_at};
+ghost use Rattle.transfer_rules.specs.Stepping.{leave_to, end_at};
+ghost use Rattle.transfer_rules.specs.Machines.{goals_from};
+ghost use Rattle.transfer_rules.specs.PartMachines.{IsOwn};
 ghost use Rattle.abstract_step.specs.Standing.{place_of, path_at, StandsAt};
 ghost use Rattle.abstract_step.specs.Turns.{IsTurn};
 

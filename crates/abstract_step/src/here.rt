@@ -7,13 +7,12 @@ ghost use Rattle.flow_graph.specs.Nodes.{Node, Leads, function_at};
 ghost use Rattle.flow_graph.specs.Numbering.{IsGraph};
 ghost use Rattle.flow_graph.specs.Paths.{IsPlaced};
 ghost use Rattle.flow_graph.specs.Places.{node_at};
-ghost use Rattle.run_points.specs.NodeNumbers.{goal_number};
-ghost use Rattle.graph_edges.specs.Edges.{AreFirstEdges};
+ghost use Rattle.transfer_rules.specs.NodeNumbers.{goal_number};
+ghost use Rattle.flow_graph.specs.Edges.{AreFirstEdges};
 ghost use Rattle.abstract_step.specs.Standing.{place_of, function_here};
 
 use alf_check::Checked;
-use flow_graph::{Graph, NodeRef, graphs_are_expansions};
-use graph_edges::{next_func, next_node};
+use flow_graph::{Graph, NodeRef, graphs_are_expansions, next_func, next_node};
 use std::marker::Model;
 
 /// A node of the graph of a program, and where edges lead.

@@ -4,13 +4,13 @@ ghost use Rattle.std.specs.Prelude.{◌≡◌, ◌∷◌, ℕ, List, Some, IfOk,
 ghost use Rattle.alf_check.specs.CheckedPrograms.{seen};
 ghost use Rattle.flow_graph.specs.Nodes.{Leads, block_node, ending_at, function_at};
 ghost use Rattle.alf_runs.specs.Steps.{frames_of};
-ghost use Rattle.seen_memories.specs.Parts.{memory_in};
-ghost use Rattle.step_rules.specs.Remains.{goes_on};
-ghost use Rattle.step_rules.specs.Evaluating.{pointer_value};
-ghost use Rattle.step_rules.specs.Doing.{stored_through};
-ghost use Rattle.step_rules.specs.Stepping.{to_goal, result_to, back_to, leave_to};
+ghost use Rattle.memory_model.specs.Parts.{memory_in};
+ghost use Rattle.transfer_rules.specs.Remains.{goes_on};
+ghost use Rattle.transfer_rules.specs.Evaluating.{pointer_value};
+ghost use Rattle.transfer_rules.specs.Doing.{stored_through};
+ghost use Rattle.transfer_rules.specs.Stepping.{to_goal, result_to, back_to, leave_to};
 ghost use Rattle.step_statements.specs.Typed.{IsStorable};
-ghost use Rattle.seen_machines.specs.PartMachines.{IsOwn};
+ghost use Rattle.transfer_rules.specs.PartMachines.{IsOwn};
 ghost use Rattle.abstract_step.specs.Standing.{place_of, path_at, IsReturnAt, GoesBackTo, IsTaken};
 ghost use Rattle.abstract_step.specs.Turns.{IsTurn};
 

@@ -3,9 +3,9 @@
 ghost use Rattle.std.specs.Prelude.{◌≡◌, ◌∷◌, [], IfOk, OnOk};
 ghost use Rattle.alf_check.specs.CheckedPrograms.{seen};
 ghost use Rattle.alf_check.specs.Inputs.{KeepInputs};
-ghost use Rattle.seen_memories.specs.Parts.{memory_in, IsMemory};
-ghost use Rattle.step_rules.specs.Filling.{range_of, with_inputs, first_memory};
-ghost use Rattle.seen_machines.specs.PartMachines.{IsOwn};
+ghost use Rattle.memory_model.specs.Parts.{memory_in, IsMemory};
+ghost use Rattle.transfer_rules.specs.Filling.{range_of, with_inputs, first_memory};
+ghost use Rattle.transfer_rules.specs.PartMachines.{IsOwn};
 ghost use Rattle.abstract_step.specs.Inputs.{IsRange, HasInputRoom, HaveInputRoom};
 
 use abstract_memory::AMem;

@@ -17,11 +17,10 @@ use alf_runs::{
     starts_and_calls_store_without_a_fault, values_have_their_size,
 };
 use domain_core::{Lattice, Stepped, Stepper};
-use flow_graph::{Graph, graphs_are_expansions};
-use graph_edges::first_edges;
-use seen_machines::parts_are_a_machine;
+use flow_graph::{Graph, first_edges, graphs_are_expansions};
 use std::alloc::{AllocError, Global};
 use std::marker::Model;
+use transfer_rules::parts_are_a_machine;
 
 /// The transfer of a program: it steps from node to node of the graph with memories that stand for histories of runs,
 /// whose inputs are inside the ranges of their rows.
@@ -90,7 +89,7 @@ impl<'a> AlfStepper<'a> {
 
 impl<'a> Stepper for AlfStepper<'a> {
     ghost use Rattle.abstract_step.specs.Steppers.{stepped_by};
-    ghost use Rattle.seen_machines.specs.PartMachines.{is_part_machine};
+    ghost use Rattle.transfer_rules.specs.PartMachines.{is_part_machine};
 
     type State = AMem<'a>;
 

@@ -4,11 +4,11 @@ ghost use Rattle.std.specs.Prelude.{◌≡◌, Some, IfOk, map, All};
 ghost use Rattle.alf_check.specs.CheckedPrograms.{seen, term_of};
 ghost use Rattle.flow_graph.specs.Nodes.{Leads, block_node};
 ghost use Rattle.alf_runs.specs.Steps.{frames_of};
-ghost use Rattle.seen_memories.specs.Parts.{memory_in};
-ghost use Rattle.step_rules.specs.Remains.{goes_on};
-ghost use Rattle.step_rules.specs.Evaluating.{value_at};
-ghost use Rattle.step_rules.specs.Stepping.{pointer_fault, switched};
-ghost use Rattle.seen_machines.specs.PartMachines.{IsOwn};
+ghost use Rattle.memory_model.specs.Parts.{memory_in};
+ghost use Rattle.transfer_rules.specs.Remains.{goes_on};
+ghost use Rattle.transfer_rules.specs.Evaluating.{value_at};
+ghost use Rattle.transfer_rules.specs.Stepping.{pointer_fault, switched};
+ghost use Rattle.transfer_rules.specs.PartMachines.{IsOwn};
 ghost use Rattle.abstract_step.specs.Standing.{place_of, path_at, IsSwitchAt};
 ghost use Rattle.abstract_step.specs.Turns.{numbered_arm, IsTurn};
 
@@ -17,10 +17,10 @@ use crate::turns::nowhere;
 use abstract_memory::AMem;
 use alf_check::Term;
 use alf_ops::RunFault;
+use branch_refinement::switch_arms;
 use domain_core::{FaultSet, Stepped};
 use interval_congruence::Strided;
 use std::alloc::{AllocError, Global};
-use step_arms::switch_arms;
 use step_statements::evaluate;
 
 /// No switch takes a pointer.

@@ -12,8 +12,8 @@ use Rattle.lists.specs.Tests.{by_test}
 use Rattle.alf_program.specs.declared.program.Item.{Item}
 use Rattle.alf_program.specs.Tree.{BodyItem, Label, item_of}
 use Rattle.alf_program.specs.Writable.{is_ending, ends_well}
-use Rattle.alf_names.specs.Places.{place_of, label_place, is_label_named}
-use Rattle.alf_names.specs.PlaceLaws.{counted}
+use Rattle.alf_faults.specs.Places.{place_of, label_place, is_label_named}
+use Rattle.alf_faults.specs.PlaceLaws.{counted}
 use Rattle.alf_check.specs.Blocks.{begins_between, blocks_of}
 use Rattle.alf_check.specs.Blocks as blocks
 use Rattle.alf_check.specs.Numbers.{has_label, block_number}

@@ -22,7 +22,7 @@ use Rattle.alf_program.specs.Writable.{PartsAreWritable, AllPartsAreWritable, Ex
 use Rattle.std.specs.Str.{bytes_eq}
 use Rattle.lists.specs.Members.{contained, no_member, first_or_further, placed, first_member}
 use Rattle.lists.specs.Tests.{by_test}
-use Rattle.alf_names.specs.Places.{function_place}
+use Rattle.alf_faults.specs.Places.{function_place}
 use Rattle.alf_faults.specs.declared.returns.FirstReturn.{FirstReturn}
 use Rattle.alf_faults.specs.Returns.{return_at, first_return, first_return_from, agrees, is_before, is_breach, function_has_breach, is_breached}
 use Rattle.alf_faults.specs.Sizes.{agrees_behind, breaks_calls, fits_return}
@@ -30,9 +30,9 @@ use Rattle.std.specs.List.{flat_map, AllZip, range_with_len, sum_by}
 use Rattle.std.proofs.lemmas.List.{length-map, length-append}
 use Rattle.std.proofs.lemmas.List.Elements.{Contains-get_or, All-nil, All-cons, All-head, All-tail, All-contains}
 use Rattle.lists.specs.Images.{mapped, from_joined, mapped_at, some_image, all_images, all_joined, joined}
-use Rattle.alf_names.specs.PlaceLaws.{place_within}
-use Rattle.call_cycles.specs.Calls.{CallsWithin, IsRanked}
-use Rattle.call_cycles.specs.CallLaws.{caller_low}
+use Rattle.alf_faults.specs.PlaceLaws.{place_within}
+use Rattle.graph_walks.specs.Calls.{CallsWithin, IsRanked}
+use Rattle.graph_walks.specs.CallLaws.{caller_low}
 use Rattle.alf_check.specs.Numbers.{func_number, Numbers, row_for, frame_rows, frames_before, first_frame, block_number, numbers_in}
 use Rattle.alf_check.specs.Checking.{called_by, calls_among, calls_in, Passes}
 use Rattle.std.specs.Option.{option_map_or}

@@ -16,8 +16,8 @@ use Rattle.std.proofs.lemmas.List.FromFn.{length-range_with_len, get_or-range_wi
 use Rattle.std.proofs.lemmas.List.Quantifiers.{position-Some}
 use Rattle.std.proofs.lemmas.List.Sums.{fails_before_first}
 use Rattle.lists.specs.Members.{contained, all_members}
-use Rattle.alf_names.specs.Places.{place_of, frame_place}
-use Rattle.alf_names.specs.PlaceLaws.{position_place}
+use Rattle.alf_faults.specs.Places.{place_of, frame_place}
+use Rattle.alf_faults.specs.PlaceLaws.{position_place}
 use Rattle.alf_faults.specs.Fault.{is_exactly}
 use Rattle.std.proofs.lemmas.List.{length-map, length-append, map-append}
 use Rattle.lists.specs.Images.{mapped_at, image, all_joined}

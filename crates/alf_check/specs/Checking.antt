@@ -9,10 +9,10 @@ use Rattle.std.specs.Prelude.{◌≡◌, ℕ, List, [], ◌∷◌, ⊤, map, Non
 use Rattle.std.specs.List.{flat_map}
 use Rattle.std.specs.Option.{option_map_or}
 use Rattle.alf_program.specs.Tree.{BodyItem, Function, WholeProgram, call_of}
-use Rattle.alf_names.specs.Places.{function_place}
+use Rattle.alf_faults.specs.Places.{function_place}
 use Rattle.alf_faults.specs.Fault.{Unknown, Duplicate, Size, earliest}
 use Rattle.alf_faults.specs.Faults.{faults_in}
-use Rattle.call_cycles.specs.Calls.{OnCycle, IsFirstCycle}
+use Rattle.graph_walks.specs.Calls.{OnCycle, IsFirstCycle}
 use Rattle.alf_check.specs.declared.fault.CheckFault.{CheckFault}
 use Rattle.alf_check.specs.declared.fault.CheckFault.TheVariants as told
 use Rattle.alf_check.specs.Numbers.{func_number}

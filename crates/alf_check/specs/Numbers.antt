@@ -10,7 +10,7 @@
 use Rattle.std.specs.Prelude.{ℕ, zero, suc, ◌+◌, Bool, List, [], ◌∷◌, ◌++◌, map, length, Option, Some, None, is_some, unwrap_or}
 use Rattle.std.specs.Option.{option_map}
 use Rattle.alf_program.specs.Tree.{BodyItem, Allocation, Function, WholeProgram}
-use Rattle.alf_names.specs.Places.{place_of, frame_place, function_place, label_place}
+use Rattle.alf_faults.specs.Places.{place_of, frame_place, function_place, label_place}
 use Rattle.alf_check.specs.declared.rows.FrameRow.{FrameRow}
 use Rattle.alf_check.specs.Blocks.{blocks_of}
 

@@ -3,7 +3,7 @@
 ghost use Rattle.std.specs.Prelude.{◌≡◌, ◌<◌, ◌^◌, ◌++◌, map, length, IfOk, OnOk};
 ghost use Rattle.std.specs.List.{flat_map};
 ghost use Rattle.alf_program.specs.Tree.{function_of, item_of};
-ghost use Rattle.call_cycles.specs.Calls.{calls_of};
+ghost use Rattle.graph_walks.specs.Calls.{calls_of};
 ghost use Rattle.alf_check.specs.Checking.{called_by, calls_among};
 
 use crate::count::few;

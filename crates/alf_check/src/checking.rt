@@ -4,7 +4,7 @@ ghost use Rattle.std.specs.Prelude.{◌≡◌, ◌<◌, ℕ, List, [], Some, map
 ghost use Rattle.alf_program.specs.Tree.{function_of, program_of};
 ghost use Rattle.alf_program.specs.Writable.{IsWritable};
 ghost use Rattle.alf_faults.specs.Faults.{faults_in};
-ghost use Rattle.call_cycles.specs.Calls.{IsRanked, OnCycle};
+ghost use Rattle.graph_walks.specs.Calls.{IsRanked, OnCycle};
 ghost use Rattle.alf_check.specs.CheckedPrograms.{seen};
 ghost use Rattle.alf_check.specs.Numbered.{numbered};
 ghost use Rattle.alf_check.specs.Checking.{Passes, IsTold, calls_among, calls_in, name_at};
@@ -12,11 +12,10 @@ ghost use Rattle.alf_check.specs.Checking.{Passes, IsTold, calls_among, calls_in
 use crate::calls::calls_among;
 use crate::fault::CheckFault;
 use crate::program::{Checked, numbered};
-use alf_faults::{ItemFault, first_fault};
-use alf_names::function_named;
+use alf_faults::{ItemFault, first_fault, function_named};
 use alf_program::{Func, Program};
-use call_cycles::{CallFault, call_ranks, ranked_calls_have_no_cycle};
 use flow_base::Name;
+use graph_walks::{CallFault, call_ranks, ranked_calls_have_no_cycle};
 use std::alloc::{AllocError, Global};
 
 /// The program with numbers in place of names, which starts with the function of this name.

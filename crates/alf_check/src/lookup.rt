@@ -5,7 +5,7 @@ ghost use Rattle.alf_program.specs.Tree.{allocation_of, item_of, function_of};
 ghost use Rattle.alf_check.specs.Cut.{numbers_along};
 ghost use Rattle.alf_check.specs.Numbers.{placed, func_number, block_number};
 
-use alf_names::{Labels, frame_named, function_named};
+use alf_faults::{Labels, frame_named, function_named};
 use alf_program::{Alloc, Func};
 
 /// What stands for the names in a function: the global frames, its arguments and its declarations

@@ -14,7 +14,7 @@ use crate::cut::numbers_along;
 use crate::lookup::Names;
 use crate::rows::{Block, FuncParts, FuncRow};
 use crate::tables::{init_rows, numbers_from};
-use alf_names::Labels;
+use alf_faults::Labels;
 use alf_program::{Func, Program};
 use flow_base::Name;
 use std::alloc::{AllocError, Global};

@@ -5,7 +5,7 @@ ghost use Rattle.std.specs.Coded.{codes};
 ghost use Rattle.alf_program.specs.Tree.{program_of};
 ghost use Rattle.alf_program.specs.Writable.{IsWritable};
 ghost use Rattle.alf_check.specs.Checking.{calls_in, Passes};
-ghost use Rattle.call_cycles.specs.Calls.{IsRanked};
+ghost use Rattle.graph_walks.specs.Calls.{IsRanked};
 ghost use Rattle.alf_check.specs.Kept.{KeepsBlock, KeepsExport, KeepsFrames, InitFits, IsKept};
 ghost use Rattle.alf_check.specs.Lookups.{AreParts, IsFunction};
 ghost use Rattle.alf_check.specs.Numbered.{numbered};

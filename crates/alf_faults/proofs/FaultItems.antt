@@ -5,7 +5,7 @@ use Rattle.std.proofs.lemmas.Option.{none-some, same_Some}
 use Rattle.lists.specs.Tests.{by_test}
 use Rattle.alf_program.specs.declared.program.Num.{Num}
 use Rattle.alf_program.specs.Tree.{NamedExpression, Null, Store, Jump, Switch, Call, Return, BodyItem, Label, Do, Function, WholeProgram, expressions_of}
-use Rattle.alf_names.specs.Places.{function_place, label_place, is_label_named}
+use Rattle.alf_faults.specs.Places.{function_place, label_place, is_label_named}
 use Rattle.alf_faults.specs.Fault.{Unknown, Duplicate, Size, when, each_from, is_exactly}
 use Rattle.alf_faults.specs.Duplicates.{frame_duplicates, function_duplicates, target_duplicates, label_duplicates, entry_duplicates}
 use Rattle.alf_faults.specs.Unknowns.{unknown_in, unknown_among, unknown_function, unknown_label, unknown_targets, unknown_result, entry_unknowns}

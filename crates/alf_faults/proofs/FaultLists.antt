@@ -7,7 +7,7 @@ use Rattle.std.proofs.lemmas.Slice.Eq.{bytes_eq-Decides}
 use Rattle.lists.specs.Tests.{by_test}
 use Rattle.lists.specs.Members.{no_member, first_member, further_member, first_or_further, contained}
 use Rattle.lists.specs.Images.{some_image}
-use Rattle.alf_names.specs.Places.{place_of}
+use Rattle.alf_faults.specs.Places.{place_of}
 use Rattle.alf_faults.specs.Fault.{Fault, when, each_from, is_exactly}
 
 -- ---- lists of faults

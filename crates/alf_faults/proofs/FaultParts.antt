@@ -10,7 +10,7 @@ use Rattle.lists.specs.Tests.{by_test}
 use Rattle.lists.specs.Members.{no_member, first_member, further_member, first_or_further, contained, placed, all_members}
 use Rattle.alf_program.specs.declared.program.Num.{Num}
 use Rattle.alf_program.specs.Tree.{Number, Address, Load, Apply, Empty, With, NamedExpression, NamedExpressions, BodyItem, Label, Do, Allocation, InitialValue, Function, WholeProgram}
-use Rattle.alf_names.specs.Places.{frame_place, function_place, label_place, is_label_named}
+use Rattle.alf_faults.specs.Places.{frame_place, function_place, label_place, is_label_named}
 use Rattle.alf_faults.specs.Fault.{Fault, Unknown, Duplicate, Size, when, each_from, is_exactly}
 use Rattle.alf_faults.specs.Duplicates.{frame_duplicates, number_twice, target_duplicates}
 use Rattle.alf_faults.specs.Unknowns.{is_frame, unknown_frame, unknown_in, unknown_among, unknown_label, unknown_targets, unknown_result}

@@ -1,3 +1,5 @@
+-- The files of this folder.
+pub mod Standing
 pub mod Operands
 pub mod EarliestFaults
 pub mod Reading

@@ -8,7 +8,7 @@ use Rattle.std.specs.List.{list_any}
 use Rattle.std.specs.Fmt.{decimal}
 use Rattle.alf_program.specs.declared.program.Num.{Num}
 use Rattle.alf_program.specs.Tree.{Null, Store, Jump, Switch, Call, Return, BodyItem, Label, Do, Allocation, Function, WholeProgram}
-use Rattle.alf_names.specs.Places.{frame_place, function_place, label_place}
+use Rattle.alf_faults.specs.Places.{frame_place, function_place, label_place}
 use Rattle.alf_faults.specs.Fault.{Fault, Duplicate, when, is_exactly}
 
 -- a frame whose name is taken, or that one of the others or an earlier frame has

@@ -5,7 +5,7 @@
 use Rattle.std.specs.Prelude.{ℕ, not, List, [], ◌∷◌, ◌++◌, Option, Some, None, slice_get}
 use Rattle.std.specs.List.{flat_map}
 use Rattle.alf_program.specs.Tree.{BodyItem, Allocation, InitialValue, Function, WholeProgram}
-use Rattle.alf_names.specs.Places.{frame_place}
+use Rattle.alf_faults.specs.Places.{frame_place}
 use Rattle.alf_faults.specs.Fault.{Fault, Unknown, Size, when, each_from}
 use Rattle.alf_faults.specs.Duplicates.{frame_duplicates, function_duplicates, entry_duplicates}
 use Rattle.alf_faults.specs.Unknowns.{unknown_function, entry_unknowns}

@@ -1,3 +1,7 @@
+-- The files of this folder.
+pub mod Places
+pub mod PlaceLaws
+pub mod Table
 pub mod Fault
 pub mod TermSizes
 pub mod Returns

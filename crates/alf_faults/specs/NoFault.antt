@@ -16,7 +16,7 @@ use Rattle.std.specs.Prelude.{◌≡◌, ◌≢◌, ◌<◌, ◌⊎◌, ◌↔�
 use Rattle.std.specs.List.{AllZip}
 use Rattle.alf_program.specs.declared.program.Num.{Num}
 use Rattle.alf_program.specs.Tree.{Number, Address, Load, Apply, Empty, With, NamedExpression, NamedExpressions, Null, Store, Jump, Switch, Call, Return, BodyItem, Label, Do, Allocation, InitialValue, Function, WholeProgram, expressions_of}
-use Rattle.alf_names.specs.Places.{frame_place, function_place}
+use Rattle.alf_faults.specs.Places.{frame_place, function_place}
 use Rattle.alf_faults.specs.TermSizes.{term_size, is_bytes}
 use Rattle.alf_faults.specs.Returns.{first_return}
 use Rattle.alf_faults.specs.Sizes.{start_fits, is_export_size, agrees_behind, return_fits}

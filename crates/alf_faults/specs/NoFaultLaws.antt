@@ -6,7 +6,7 @@ use Rattle.std.proofs.lemmas.Slice.Eq.{bytes_eq-Decides}
 use Rattle.lists.specs.Tests.{by_test}
 use Rattle.lists.specs.Members.{first_member, further_member}
 use Rattle.alf_program.specs.Tree.{NamedExpression, Null, Store, Jump, Switch, Call, Return, BodyItem, Label, Do, Function, WholeProgram}
-use Rattle.alf_names.specs.Places.{function_place}
+use Rattle.alf_faults.specs.Places.{function_place}
 use Rattle.alf_faults.specs.declared.returns.FirstReturn.{FirstReturn}
 use Rattle.alf_faults.specs.Fault.{any_from, is_exactly}
 use Rattle.alf_faults.specs.TermSizes.{return_size, same_size}

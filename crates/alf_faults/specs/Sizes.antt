@@ -9,7 +9,7 @@
 use Rattle.std.specs.Prelude.{ℕ, ◌+◌, ◌*◌, ◌%◌, ◌==◌, Bool, true, false, not, ◌&&◌, ◌||◌, nat_le, List, [], ◌∷◌, Option, Some, None, is_some, slice_get}
 use Rattle.alf_program.specs.declared.program.Num.{Num}
 use Rattle.alf_program.specs.Tree.{NamedExpression, Null, Store, Jump, Switch, Call, Return, BodyItem, Label, Do, Allocation, InitialValue, Function, WholeProgram}
-use Rattle.alf_names.specs.Places.{function_place}
+use Rattle.alf_faults.specs.Places.{function_place}
 use Rattle.alf_faults.specs.Fault.{is_exactly}
 use Rattle.alf_faults.specs.TermSizes.{same_size, is_bytes, term_size, return_size}
 use Rattle.alf_faults.specs.Returns.{first_return, agrees, is_before, is_breached}

@@ -8,7 +8,7 @@
 use Rattle.std.specs.Prelude.{ℕ, Bool, not, ◌||◌, List, [], ◌∷◌, ◌++◌, Option, Some, None, is_some}
 use Rattle.alf_program.specs.declared.program.Num.{Num}
 use Rattle.alf_program.specs.Tree.{NamedExpression, NamedExpressions, Number, Address, Load, Apply, Empty, With, Null, Store, Jump, Switch, Call, Return, BodyItem, Label, Do, Function, WholeProgram, expressions_of}
-use Rattle.alf_names.specs.Places.{frame_place, function_place, label_place}
+use Rattle.alf_faults.specs.Places.{frame_place, function_place, label_place}
 use Rattle.alf_faults.specs.Fault.{Fault, Unknown, when}
 
 -- the frame is global, or an argument or a declaration of the function

@@ -11,7 +11,7 @@ ghost use Rattle.alf_faults.specs.Sizes.{is_export_size, start_fits};
 ghost use Rattle.alf_faults.specs.Faults.{export_faults, start_faults};
 
 use crate::findings::{Found, is_exactly};
-use alf_names::frame_named;
+use crate::places::frame_named;
 use alf_program::{Alloc, Init};
 use flow_base::Name;
 

@@ -11,12 +11,12 @@ ghost use Rattle.alf_faults.specs.Faults.{entry_faults, header_faults, function_
 
 use crate::findings::Found;
 use crate::frame_faults::{repeated_frame, start_fault};
+use crate::label_table::Labels;
 use crate::repeated_names::{entry_repeated, repeated_function};
 use crate::returns::{FirstReturn, first_return, first_returns};
 use crate::scopes::Scope;
 use crate::size_rules::entry_fits;
 use crate::unknown_names::entry_unknown;
-use alf_names::Labels;
 use alf_program::{Func, Item, Program};
 use std::alloc::{AllocError, Global};
 

@@ -1,3 +1,14 @@
+//! The first fault of names and sizes of a program of ALF.
+//!
+//! ## Alf names
+//!
+//! Names of a program, and where each stands first.
+//!
+//! A program has at most 256 frames and 256 functions, which are looked through from the front. The
+//! labels of a function may be many: `Labels` keeps them in a table.
+//!
+//! ## Alf faults
+//!
 //! The first fault of a program's names and sizes.
 //!
 //! `first_fault` goes through a program in the order of its text and tells the first name that
@@ -8,7 +19,13 @@
 //! judged here.
 #![tactic(auto)]
 
-// What is found, and what is told of it.
+// Alf names: frames and functions.
+mod places;
+
+// Labels.
+mod label_table;
+
+// Alf faults: what is found, and what is told of it.
 mod findings;
 mod item_faults;
 mod item_places;
@@ -33,4 +50,6 @@ mod laws;
 
 pub use first_faults::first_fault;
 pub use item_faults::ItemFault;
+pub use label_table::Labels;
 pub use laws::no_fault_is_by_parts;
+pub use places::{frame_named, function_named};

@@ -8,7 +8,8 @@ ghost use Rattle.alf_faults.specs.Told.{told};
 ghost use Rattle.alf_faults.specs.Duplicates.{function_duplicates, label_duplicates, target_duplicates, entry_duplicates};
 
 use crate::findings::{Found, is_exactly};
-use alf_names::{Labels, function_named};
+use crate::label_table::Labels;
+use crate::places::function_named;
 use alf_program::{Func, Item, Num, Program, Stmt};
 use flow_base::Name;
 use indexmap::IndexSet;

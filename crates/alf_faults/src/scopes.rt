@@ -1,7 +1,7 @@
 //! What is looked up around an item.
 
+use crate::label_table::Labels;
 use crate::returns::FirstReturn;
-use alf_names::Labels;
 use alf_program::{Func, Program};
 
 /// A function of a program, and what its items are held against.

@@ -8,10 +8,10 @@ ghost use Rattle.alf_faults.specs.Sizes.{targets_have, targets_fit, arguments_fi
 
 use crate::findings::is_exactly;
 use crate::item_places::{ItemPlace, is_before};
+use crate::places::function_named;
 use crate::returns::{FirstReturn, agrees, is_breached};
 use crate::scopes::Scope;
 use crate::term_sizes::{is_bytes, is_size, return_size, same_size, term_size};
-use alf_names::function_named;
 use alf_program::{Alloc, Expr, Item, Num, Program, Stmt};
 use flow_base::Name;
 

@@ -9,7 +9,8 @@ ghost use Rattle.alf_faults.specs.Told.{told};
 ghost use Rattle.alf_faults.specs.Unknowns.{is_frame, unknown_frame, unknown_in, unknown_among, unknown_function, unknown_label, unknown_targets, unknown_result, entry_unknowns};
 
 use crate::findings::Found;
-use alf_names::{Labels, frame_named, function_named};
+use crate::label_table::Labels;
+use crate::places::{frame_named, function_named};
 use alf_program::{Expr, Func, Item, Num, Program, Stmt};
 use flow_base::Name;
 

@@ -23,12 +23,12 @@ use Rattle.alf_runs.specs.Places.{IsPlace}
 use Rattle.alf_runs.specs.PlaceLaws.{IsPlaced, StepKeepsPlace}
 use Rattle.alf_runs.specs.LeadLaws.{LeadsTo, StepsGoAlong}
 use Rattle.alf_interp.specs.declared.moved.Moved.TheVariants as told
-use Rattle.graph_edges.specs.Edges.{HasEdge}
+use Rattle.flow_graph.specs.Edges.{HasEdge}
 use Rattle.alf_interp.specs.Machines.{RunMachine, StandsAt, StandsWith}
 use Rattle.alf_interp.specs.Stepping.{machine_at}
 use Rattle.alf_interp.specs.Telling.{Tells}
 use Rattle.alf_interp.specs.Turns.{GoesOn, IsInstance, IsCaller, IsCallerOf}
-use Rattle.graph_edges.specs.EdgeLaws.{edge_to}
+use Rattle.flow_graph.specs.EdgeLaws.{edge_to}
 
 -- where a machine stands, there is a node
 pub standing_low : (machine : RunMachine) (moment : Moment) → StandsAt machine moment → machine.node < length machine.graph.nodes

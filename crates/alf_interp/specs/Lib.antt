@@ -6,3 +6,5 @@ pub mod Stepping
 pub mod Telling
 pub mod Turns
 pub mod Typed
+pub mod Traces
+pub mod Counts

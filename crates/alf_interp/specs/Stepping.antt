@@ -9,7 +9,7 @@ use Rattle.flow_graph.specs.Numbering.{GraphParts, IsGraph}
 use Rattle.alf_interp.specs.declared.moved.Moved.{Moved}
 use Rattle.alf_interp.specs.declared.moved.Moved.TheVariants as told
 use Rattle.alf_interp.specs.Machines.{RunMachine}
-use Rattle.graph_edges.specs.Edges.{AreFirstEdges}
+use Rattle.flow_graph.specs.Edges.{AreFirstEdges}
 
 -- the parts belong together
 pub record IsMachine (program : NumberedProgram) (graph : GraphParts) (firsts : List ℕ) (node : ℕ) (memory : RunMemory) : Type 0 where

@@ -9,7 +9,7 @@ ghost use Rattle.flow_graph.specs.Numbering.{IsGraph};
 ghost use Rattle.alf_runs.specs.Starts.{start, start_history};
 ghost use Rattle.alf_runs.specs.Places.{AreWords};
 ghost use Rattle.alf_runs.specs.Steps.{Moment, step};
-ghost use Rattle.graph_edges.specs.Edges.{AreFirstEdges};
+ghost use Rattle.flow_graph.specs.Edges.{AreFirstEdges};
 ghost use Rattle.alf_interp.specs.Machines.{StandsAt, IsStanding};
 ghost use Rattle.alf_interp.specs.Telling.{Tells};
 ghost use Rattle.alf_interp.specs.Stepping.{machine_at, next_number};
@@ -20,8 +20,7 @@ use crate::turn::{Instance, Turn, take_turn};
 use alf_check::{Checked, InputRow};
 use alf_runs::{a_step_leads_along_an_edge, active_frames_follow_the_call_path};
 use alf_values::{Frames, ValueFault};
-use flow_graph::Graph;
-use graph_edges::{first_edges, next_func, next_node};
+use flow_graph::{Graph, first_edges, next_func, next_node};
 use std::alloc::{AllocError, Global};
 use std::marker::Model;
 

@@ -1,4 +1,4 @@
-//! Tests of `alf_text`, `alf_names`, `alf_faults` and `alf_check`. Without tests this library is empty.
+//! Tests of `alf_text`, `alf_faults` and `alf_check`. Without tests this library is empty.
 #![tactic(auto)]
 
 // Texts that are read and printed.

@@ -1,6 +1,6 @@
 //! Labels of a few items.
 
-use alf_names::{Labels, frame_named, function_named};
+use alf_faults::{Labels, frame_named, function_named};
 use alf_program::{Alloc, Func, Item, Stmt};
 use flow_base::Name;
 use std::alloc::{AllocError, Global};

@@ -1,3 +1,5 @@
+-- The files of this folder.
+pub mod TextPrinting
 -- Shared lemmas: which programs some text spells.
 pub mod Meaning
 pub mod Decimals

@@ -9,7 +9,7 @@ use Rattle.alf_tokens.specs.Printed.{Mark, token_before, tokens_before}
 use Rattle.alf_tokens.specs.Laws.{EachPrintedTextIsCut}
 use Rattle.alf_program.specs.Tree.{Allocation, Function, WholeProgram}
 use Rattle.alf_program.specs.Writable.{most_functions, most_frames, most_bytes, own_frames, frames_of, frame_bytes, IsWritable}
-use Rattle.alf_printer.specs.Canonical.{program_marks, canonical_text}
+use Rattle.alf_text.specs.Canonical.{program_marks, canonical_text}
 use Rattle.alf_reader.specs.Grammar.{Fault, Room, Place}
 use Rattle.alf_text.specs.Grammar.{program}
 use Rattle.alf_text.specs.Language.{start, SpellsProgram}

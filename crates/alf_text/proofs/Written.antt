@@ -26,8 +26,8 @@ use Rattle.alf_program.specs.Tree.{NamedExpression, NamedExpressions, Number, Ad
 use Rattle.alf_program.specs.Writable.{most_depth, most_frame_bytes, IsName, IsSize, IsFurther, AreSizesOf, NumIsWritable, AddressIsWritable, count, operand_count, PartsAreWritable, AllPartsAreWritable, depth_of, most_deep, ExpressionIsWritable, TargetIsWritable, StatementIsWritable, ItemIsWritable, AllocationIsWritable, InitialIsWritable, ends_well, FunctionIsWritable, IsWritable}
 use Rattle.alf_reader.specs.Grammar.{Fault, Room, Place, Rule, is_first, number_between, opening, closing, end, some_word, word, between, fixed, size, at_most, name, begin, opens, one_function, one_frame, fits_frame, more_bytes, bits, reference, references, offset, zero_offset, label_tail, label, alloc, allocs, address_tail, address, unsigned, minus, signed_bits, signed, num_tail, num, ref_place, init, inits, operator_named, unsigned_term, signed_term, address_term, load, further, sizes, apply, operator, expr_tail, nested, expr, whole_expr}
 use Rattle.alf_text.specs.Grammar.{opens_target, target, default_arm, switch, with_word, store, label_item, null, leaving, jump, result_word, call, returns, item_tail, item, closing_after, stmts, scope, arg_decls, function_tail, function, functions, closing_empty, empty, addr_unit, macro_defs, little_endian, heading, exports, imports, program}
-use Rattle.alf_printer.specs.Canonical.{space, line_feed, closes, a_word, a_number, a_name, listed, if_any, ref_marks, refs_marks, signed_marks, dec_unsigned_marks, num_marks, label_marks, address_marks, frame_marks, decls_marks, start_marks, starts_marks, term_marks, terms_marks, target_marks, default_marks, act_marks, entry_marks, scope_marks, function_marks, names_marks, head_marks, globals_marks, program_marks}
-use Rattle.alf_printer.specs.Canonical as canonical
+use Rattle.alf_text.specs.Canonical.{space, line_feed, closes, a_word, a_number, a_name, listed, if_any, ref_marks, refs_marks, signed_marks, dec_unsigned_marks, num_marks, label_marks, address_marks, frame_marks, decls_marks, start_marks, starts_marks, term_marks, terms_marks, target_marks, default_marks, act_marks, entry_marks, scope_marks, function_marks, names_marks, head_marks, globals_marks, program_marks}
+use Rattle.alf_text.specs.Canonical as canonical
 use Rattle.alf_text.proofs.Decimals.{decimal_within, decimal_text}
 use Rattle.alf_text.proofs.Named.{name_text}
 use Rattle.alf_reader.specs.Signed.{low_power, some_power, half_power, below, not_below, word_back}

@@ -1,7 +1,21 @@
+//! Texts of ALF, read and printed.
+//!
+//! ## Alf printer
+//!
+//! The canonical text of a program of ALF.
+//!
+//! ## Alf text
+//!
 //! The text of ALF: programs, what a text spells, and where it departs from the grammar first.
 #![tactic(auto)]
 
-// Reading by the grammar's rules.
+// Alf printer: tokens, names and numbers.
+mod marks;
+
+// Expressions, statements and programs.
+mod printer;
+
+// Alf text: reading by the grammar's rules.
 mod functions;
 mod parts;
 mod programs;

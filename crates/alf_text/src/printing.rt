@@ -2,7 +2,7 @@
 
 ghost use Rattle.std.specs.Prelude.{◌≡◌, IfOk};
 ghost use Rattle.alf_program.specs.Tree.{program_of};
-ghost use Rattle.alf_printer.specs.Canonical.{canonical_text};
+ghost use Rattle.alf_text.specs.Canonical.{canonical_text};
 ghost use Rattle.alf_text.specs.Language.{SpellsProgram, IsSpelled};
 
 use crate::laws::canonical_texts_are_read_back;
@@ -23,6 +23,6 @@ pub fn print(alloc: Global, program: &Program) -> Result<Vec<u8>, AllocError>
         → IfOk result (λ text. SpellsProgram text.items (program_of program.now)) }
 {
     canonical_texts_are_read_back();
-    let text = alf_printer::print(alloc, program)?;
+    let text = crate::printer::print(alloc, program)?;
     Ok(text)
 }

@@ -3,7 +3,7 @@
 ghost use Rattle.std.specs.Prelude.{◌≡◌, ◌↔◌};
 ghost use Rattle.alf_program.specs.Tree.{WholeProgram};
 ghost use Rattle.alf_program.specs.Writable.{IsWritable};
-ghost use Rattle.alf_printer.specs.Canonical.{canonical_text};
+ghost use Rattle.alf_text.specs.Canonical.{canonical_text};
 ghost use Rattle.alf_text.specs.Language.{IsSpelled, SpellsProgram};
 
 use alf_tokens::printed_texts_are_cut;

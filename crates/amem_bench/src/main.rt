@@ -3,8 +3,8 @@
 
 ghost use Rattle.std.specs.Prelude.{◌<◌, IsTrue, OnOk, IfOk};
 ghost use Rattle.pointer_rules.specs.Covering.{IsValue};
-ghost use Rattle.seen_memories.specs.Parts.{IsMemory};
-ghost use Rattle.seen_memories.specs.SeenOrders.{AreAlike};
+ghost use Rattle.memory_model.specs.Parts.{IsMemory};
+ghost use Rattle.memory_model.specs.SeenOrders.{AreAlike};
 
 use abstract_memory::AMem;
 use alf_check::{Checked, check};

@@ -15,9 +15,9 @@ use Rattle.memory_rules.specs.Covers.{FrameSized, IsCellSize}
 use Rattle.memory_rules.specs.Frames.{strong, weak, pinned}
 use Rattle.memory_rules.specs.Memories.{Mem}
 use Rattle.memory_rules.specs.Updates.{strong_sized, weak_sized, pinned_sized, empty_sized}
-use Rattle.held_memories.specs.HeldFrames.{frame_of}
-use Rattle.held_memories.specs.HeldMemories.{held_no_byte, FreshHeld}
-use Rattle.frame_stores.specs.Places.{AreCanonical}
+use Rattle.memory_model.specs.HeldFrames.{frame_of}
+use Rattle.memory_model.specs.HeldMemories.{held_no_byte, FreshHeld}
+use Rattle.frame_memory.specs.Places.{AreCanonical}
 
 -- so many, which keep cells by size, and values of their sizes
 pub record AreSlots (count : ℕ) (slots : List HeldSlot) : Type 0 where

@@ -20,8 +20,8 @@ use Rattle.alf_check.specs.Lookups.{IsFunction}
 use Rattle.pointer_rules.specs.AbstractValues.{AbstractValue}
 use Rattle.pointer_rules.specs.Covering.{IsValue}
 use Rattle.memory_rules.specs.Covers.{IsCellSize}
-use Rattle.seen_memories.specs.Parts.{MemoryParts, IsMemory}
-use Rattle.step_rules.specs.EvaluatingLaws.{ArgumentIs}
+use Rattle.memory_model.specs.Parts.{MemoryParts, IsMemory}
+use Rattle.transfer_rules.specs.EvaluatingLaws.{ArgumentIs}
 use Rattle.step_statements.specs.Typed.{IsTyped, IsTypedStatement}
 use Rattle.step_statements.specs.Rooms.{HaveRoom}
 use Rattle.step_statements.specs.Arguments.{FitCall}

@@ -2,7 +2,7 @@
 
 use crate::program::checked_text;
 use crate::values::{is_cell, tell_faults, value};
-use address_cells::{address_faults, cells, has_cell};
+use abstract_memory::{address_faults, cells, has_cell};
 use alf_check::Checked;
 use std::alloc::{AllocError, Global};
 use std::test::Fail;

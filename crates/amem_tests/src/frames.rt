@@ -1,17 +1,17 @@
 //! The calls on the slots of one frame, one by one.
 
 ghost use Rattle.std.specs.Prelude.{◌≡◌, ◌≤◌, ◌+◌, ◌/◌, true, IsTrue, IfOk, OnOk};
-ghost use Rattle.held_memories.specs.HeldFrames.{is_cell_size};
+ghost use Rattle.memory_model.specs.HeldFrames.{is_cell_size};
 ghost use Rattle.amem_tests.specs.Slots.{AreSlots};
 
 use crate::values::{is_cell, is_value, told, value};
 use domain_core::FaultSet;
-use frame_cells::{byte_of, cell_of_bytes, kept_cell, standing_cell};
-use frame_joins::joined_frame;
-use frame_loads::{Loaded, load_onto};
-use frame_stores::{pin, store_strongly, store_weakly};
-use held_memories::held_memories_are_those_of_the_rules;
+use frame_memory::{
+    Loaded, byte_of, cell_of_bytes, joined_frame, kept_cell, load_onto, pin, standing_cell,
+    store_strongly, store_weakly,
+};
 use interval_congruence::Strided;
+use memory_model::held_memories_are_those_of_the_rules;
 use memory_pages::{Byte, FrameSlots};
 use pointer_domain::AVal;
 use std::alloc::{AllocError, Global};

@@ -2,7 +2,7 @@
 
 ghost use Rattle.std.specs.Prelude.{IsTrue, IfOk, OnOk};
 ghost use Rattle.std.specs.List.{AllZip};
-ghost use Rattle.step_rules.specs.EvaluatingLaws.{ArgumentIs};
+ghost use Rattle.transfer_rules.specs.EvaluatingLaws.{ArgumentIs};
 ghost use Rattle.amem_tests.specs.Statements.{IsMemoryOf};
 
 use crate::program::checked_text;

@@ -1,11 +1,10 @@
 //! Cycles and ranks, worked out by hand.
 
 use crate::values::part;
-use call_cycles::{CallFault, call_ranks, ranked_calls_have_no_cycle};
+use graph_walks::{CallFault, call_ranks, is_closed, ranked_calls_have_no_cycle};
 use std::alloc::{AllocError, Global};
 use std::process::Abort;
 use std::test::Fail;
-use walks::is_closed;
 
 /// The numbers of the words. A dash is none.
 pub fn numbers(alloc: Global, words: &str) -> Result<Vec<u32>, AllocError> {

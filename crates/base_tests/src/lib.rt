@@ -1,4 +1,4 @@
-//! Tests of `flow_base`, `alf_ops`, `walks`, `call_cycles` and `sweet_words`. Without tests this library is empty.
+//! Tests of `flow_base`, `alf_ops`, `graph_walks` and `sweet_words`. Without tests this library is empty.
 #![tactic(auto)]
 
 // Files and sinks, names and digits.

@@ -2,10 +2,10 @@
 
 use crate::cycles::{lists, numbers};
 use crate::values::part;
+use graph_walks::{find_walk, is_closed, mark_reached};
 use std::alloc::{AllocError, Global};
 use std::process::Abort;
 use std::test::Fail;
-use walks::{find_walk, is_closed, mark_reached};
 
 /// The rows of a table, which nodes are marked, the ends of the walk, the walk, and what is told of them. In each
 /// there is one such walk at most.

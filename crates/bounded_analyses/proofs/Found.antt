@@ -2,9 +2,9 @@
 use Rattle.std.proofs.Common.{◌≡◌, ℕ, IfOk, Result, Ok, Err, refl, sym, subst}
 use Rattle.domain_core.specs.Outlines.{Outlined}
 use Rattle.flow_facts.specs.Reports.{Reported}
-use Rattle.pool_events.specs.declared.policy.Policy.{Policy}
+use Rattle.worklist_rules.specs.declared.policy.Policy.{Policy}
 use Rattle.abstract_step.specs.Steppers.{StepperParts}
-use Rattle.bounded_reports.specs.Bounded.{bounded}
+use Rattle.report_soundness.specs.Bounded.{bounded}
 use Rattle.program_analysis.specs.declared.analysed.Analysed.{Analysed}
 use Rattle.program_analysis.specs.Answers.{Answer, Told, answer_of}
 use Rattle.program_analysis.specs.Analyses.{IsClosed}

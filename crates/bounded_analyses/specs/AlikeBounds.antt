@@ -12,16 +12,16 @@ use Rattle.cost_table.specs.CostTables.{CostTable}
 use Rattle.domain_core.specs.Outlines.{Outlined, Shape, shape_of}
 use Rattle.flow_facts.specs.declared.fact.Fact.{Fact}
 use Rattle.flow_facts.specs.Reports.{Reported}
-use Rattle.path_rows.specs.Columns.{columns_of}
-use Rattle.path_rows.specs.Rows.{program_of}
+use Rattle.ipet_rows.specs.Columns.{columns_of}
+use Rattle.ipet_rows.specs.Rows.{program_of}
 use Rattle.dual_check.specs.Systems.{System}
 use Rattle.dual_check.specs.Constraints.{constraints_of}
 use Rattle.dual_check.specs.Openings.{costs_of, openings_of, system_of}
-use Rattle.pivot_rules.specs.OpeningPlaces.{ended}
-use Rattle.pool_events.specs.declared.policy.Policy.{Policy}
-use Rattle.path_bounds.specs.Bounding.{bound_of}
-use Rattle.path_bounds.specs.Holding.{ToldBoundsAreRight}
-use Rattle.bounded_reports.specs.Bounded.{with_path_bound, bounded}
+use Rattle.simplex_rules.specs.OpeningPlaces.{ended}
+use Rattle.worklist_rules.specs.declared.policy.Policy.{Policy}
+use Rattle.path_lp.specs.Bounding.{bound_of}
+use Rattle.path_lp.specs.Holding.{ToldBoundsAreRight}
+use Rattle.report_soundness.specs.Bounded.{with_path_bound, bounded}
 use Rattle.program_analysis.specs.Answers.{Answer, Told, Unbounded}
 use Rattle.program_analysis.specs.AnalysisLaws.{AreAlike, HasOneAlike}
 use Rattle.program_analysis.specs.FourTwins.{by_shape}

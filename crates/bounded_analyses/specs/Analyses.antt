@@ -12,9 +12,9 @@ use Rattle.flow_graph.specs.Numbering.{GraphParts}
 use Rattle.cost_table.specs.CostTables.{CostTable}
 use Rattle.domain_core.specs.Outlines.{Outlined}
 use Rattle.flow_facts.specs.Reports.{Reported}
-use Rattle.pool_events.specs.declared.policy.Policy.{Policy}
+use Rattle.worklist_rules.specs.declared.policy.Policy.{Policy}
 use Rattle.abstract_step.specs.Steppers.{StepperParts}
-use Rattle.bounded_reports.specs.Bounded.{bounded}
+use Rattle.report_soundness.specs.Bounded.{bounded}
 use Rattle.program_analysis.specs.Answers.{Answer, Told, Unbounded}
 use Rattle.program_analysis.specs.Analyses.{IsClosed, IsLeft}
 use Rattle.unranked_analyses.specs.Analyses.{IsAnalysis}

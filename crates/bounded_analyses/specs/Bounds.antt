@@ -14,27 +14,27 @@ use Rattle.alf_check.specs.Inputs.{KeepsInput}
 use Rattle.alf_runs.specs.Outcomes.{Outcome}
 use Rattle.alf_runs.specs.Steps.{Moment}
 use Rattle.alf_runs.specs.Starts.{AreWithin, IsStart}
-use Rattle.run_counts.specs.Traces.{Runs}
+use Rattle.alf_interp.specs.Traces.{Runs}
 use Rattle.cost_table.specs.CostTables.{CostTable}
 use Rattle.domain_core.specs.Outlines.{Outlined, shape_of}
 use Rattle.flow_facts.specs.declared.fact.Fact.{Fact}
 use Rattle.flow_facts.specs.Reports.{Reported}
-use Rattle.pool_events.specs.declared.policy.Policy.{Policy}
-use Rattle.pool_events.specs.Events.{HappenAll}
-use Rattle.pool_events.specs.PolicyLaws.{run_happens}
-use Rattle.run_points.specs.Points.{points, moment_at}
-use Rattle.seen_memories.specs.SeenOrders.{parts_order, parts_are_order}
-use Rattle.seen_machines.specs.PartMachines.{is_part_machine}
+use Rattle.worklist_rules.specs.declared.policy.Policy.{Policy}
+use Rattle.worklist_rules.specs.Events.{HappenAll}
+use Rattle.worklist_rules.specs.PolicyLaws.{run_happens}
+use Rattle.transfer_rules.specs.Points.{points, moment_at}
+use Rattle.memory_model.specs.SeenOrders.{parts_order, parts_are_order}
+use Rattle.transfer_rules.specs.PartMachines.{is_part_machine}
 use Rattle.abstract_step.specs.Steppers.{StepperParts, stepped_by}
-use Rattle.told_reports.specs.Told.{four_order, four_recording, found_of, told_report}
-use Rattle.told_reports.specs.Runs.{HasAlarm as HasFaultAlarm, IsSound as IsSoundSystem}
-use Rattle.told_reports.specs.Exact.{LoneRun}
-use Rattle.told_reports.specs.EventLaws.{sound_events}
-use Rattle.told_reports.specs.LoneLaws.{lone_report}
-use Rattle.path_bounds.specs.Bounding.{told_path_bound}
-use Rattle.path_bounds.specs.Holding.{IsRight, ToldBoundsAreRight}
-use Rattle.bounded_reports.specs.Bounded.{IsTold, HasRun, bounded, HasPathBound, IsPathSound, IsWithinCount}
-use Rattle.bounded_reports.specs.BoundedLaws.{facts_limited, bound_most, bounded_sound, sound_runs, events_told, run_at_bound}
+use Rattle.report_soundness.specs.ReportTold.{four_order, four_recording, found_of, told_report}
+use Rattle.report_soundness.specs.Runs.{HasAlarm as HasFaultAlarm, IsSound as IsSoundSystem}
+use Rattle.report_soundness.specs.Exact.{LoneRun}
+use Rattle.report_soundness.specs.EventLaws.{sound_events}
+use Rattle.report_soundness.specs.LoneLaws.{lone_report}
+use Rattle.path_lp.specs.Bounding.{told_path_bound}
+use Rattle.path_lp.specs.Holding.{IsRight, ToldBoundsAreRight}
+use Rattle.report_soundness.specs.Bounded.{IsTold, HasRun, bounded, HasPathBound, IsPathSound, IsWithinCount}
+use Rattle.report_soundness.specs.BoundedLaws.{facts_limited, bound_most, bounded_sound, sound_runs, events_told, run_at_bound}
 use Rattle.program_machines.specs.NodeCosts.{HasCosts}
 use Rattle.program_machines.specs.ProgramRunLaws.{program_run, stands_there}
 use Rattle.program_machines.specs.Starts.{AreLone, lows, lone_start, one_history}

@@ -8,8 +8,8 @@ use Rattle.flow_graph.specs.Numbering.{IsGraph}
 use Rattle.domain_core.specs.Outlines.{Outlined, IsOutline, shape_of}
 use Rattle.domain_core.specs.OutlineOf.{IsOutlineOf}
 use Rattle.scope_graph.specs.Placing.{plan_of}
-use Rattle.step_rules.specs.Machines.{StepPromises}
-use Rattle.seen_machines.specs.RunsInside.{StorePromises}
+use Rattle.transfer_rules.specs.Machines.{StepPromises}
+use Rattle.transfer_rules.specs.RunsInside.{StorePromises}
 use Rattle.abstract_step.specs.Steppers.{StepperParts}
 use Rattle.program_analysis.specs.LoneLaws.{AreFit}
 

@@ -16,18 +16,18 @@ use Rattle.alf_runs.specs.Outcomes.{Outcome}
 use Rattle.alf_runs.specs.Steps.{Moment}
 use Rattle.alf_runs.specs.Starts.{IsStart}
 use Rattle.alf_runs.specs.Runs.{cost_of}
-use Rattle.run_counts.specs.Traces.{Runs}
+use Rattle.alf_interp.specs.Traces.{Runs}
 use Rattle.cost_table.specs.CostTables.{CostTable}
 use Rattle.domain_core.specs.Outlines.{Outlined, Shape, IsOutline, shape_of}
 use Rattle.domain_core.specs.OutlineOf.{IsOutlineOf}
 use Rattle.scope_graph.specs.Placing.{plan_of}
 use Rattle.flow_facts.specs.Facts.{Meets}
 use Rattle.flow_facts.specs.Reports.{Reported}
-use Rattle.pool_events.specs.declared.policy.Policy.{Policy}
+use Rattle.worklist_rules.specs.declared.policy.Policy.{Policy}
 use Rattle.abstract_step.specs.Steppers.{StepperParts}
 use Rattle.program_machines.specs.NodeCosts.{node_cost, HasCosts}
 use Rattle.program_machines.specs.Starts.{AreLone}
-use Rattle.bounded_reports.specs.Bounded.{HasPathBound, IsWithinCount, IsLeastOf}
+use Rattle.report_soundness.specs.Bounded.{HasPathBound, IsWithinCount, IsLeastOf}
 use Rattle.program_analysis.specs.Sound.{HasAlarm}
 use Rattle.bounded_analyses.specs.Analyses.{IsClosedWith, IsBoundedReport}
 

@@ -9,7 +9,7 @@ ghost use Rattle.flow_facts.specs.Reports.{reported};
 ghost use Rattle.flow_facts.specs.Writable.{IsWritable};
 ghost use Rattle.flow_graph.specs.Numbering.{IsGraph};
 ghost use Rattle.scope_graph.specs.Placing.{plan_of};
-ghost use Rattle.bounded_reports.specs.Bounded.{IsTold, bounded};
+ghost use Rattle.report_soundness.specs.Bounded.{IsTold, bounded};
 ghost use Rattle.program_analysis.specs.Answers.{Told, answer_of, IfTold};
 ghost use Rattle.program_analysis.specs.AnalysisLaws.{names_of};
 ghost use Rattle.program_analysis.specs.Bounds.{most_turns};
@@ -17,13 +17,13 @@ ghost use Rattle.bounded_analyses.specs.Analyses.{IsFoundWith};
 
 use crate::laws::parts_fit;
 use alf_check::{Checked, InputRow};
-use bounded_reports::bounded_report;
 use domain_core::Outline;
 use flow_facts::Report;
 use flow_graph::Graph;
-use pool_events::Policy;
 use program_analysis::Analysed;
+use report_soundness::bounded_report;
 use std::alloc::{AllocError, Global};
+use worklist_rules::Policy;
 
 /// Explores a program's graph along its outline, for runs with inputs inside the ranges of the rows, and tells what
 /// each run does, with the path bound of the facts after so many pivots at most, or the scope in which the turns were

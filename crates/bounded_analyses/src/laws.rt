@@ -9,7 +9,7 @@ use alf_runs::{
     starts_and_calls_store_without_a_fault, values_have_their_size,
 };
 use flow_graph::graphs_are_expansions;
-use path_bounds::told_bounds_are_right;
+use path_lp::told_bounds_are_right;
 use program_analysis::a_program_has_one_analysis;
 use unranked_analyses::ranks_have_no_part;
 

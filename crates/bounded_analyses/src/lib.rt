@@ -1,6 +1,6 @@
 //! The analysis of a program with its path bound.
 //!
-//! `analyse` is the analysis of `program_analysis`, whose report it gives the path bound of `bounded_reports`. What it
+//! `analyse` is the analysis of `program_analysis`, whose report it gives the path bound of `report_soundness`. What it
 //! finds is one answer for each program, whatever ranks its functions have. The laws say what such a report promises of
 //! the program's runs, and what its path bound is.
 #![tactic(auto)]

@@ -6,10 +6,10 @@ use Rattle.std.specs.List.{list_any}
 use Rattle.std.specs.Str.{bytes_eq}
 use Rattle.lists.specs.Tests.{by_test}
 use Rattle.c_unit.specs.Units.{Word, UnitTree}
-use Rattle.c_checks.specs.Names.{text_at}
-use Rattle.c_checks.specs.Units.{definitions}
-use Rattle.c_checks.specs.Programs.{has_root}
-use Rattle.c_definitions.specs.Numbers.{Made, number_named}
+use Rattle.c_rules.specs.Names.{text_at}
+use Rattle.c_rules.specs.Units.{definitions}
+use Rattle.c_rules.specs.Programs.{has_root}
+use Rattle.c_scopes.specs.Numbers.{Made, number_named}
 
 some_mapped : (number : Option ℕ) → is_some (option_map (λ n. n + 1) number) ≡ is_some number
 some_mapped None = refl

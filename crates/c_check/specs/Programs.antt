@@ -5,8 +5,8 @@
 use Rattle.std.specs.Prelude.{ℕ, List, ⊤}
 use Rattle.c_unit.specs.declared.unit.CUnit.{CUnit}
 use Rattle.c_unit.specs.Units.{UnitTree, unit_of}
-use Rattle.c_checks.specs.Programs as checks
-use Rattle.c_checks.specs.Programs.{IsProgram, Refuses}
+use Rattle.c_rules.specs.Programs as checks
+use Rattle.c_rules.specs.Programs.{IsProgram, Refuses}
 use Rattle.c_text.specs.Language.{IsSpelled}
 use Rattle.c_check.specs.declared.fault.CFault.{CFault}
 use Rattle.c_check.specs.declared.fault.CFault.TheVariants as faults

@@ -2,23 +2,23 @@
 
 ghost use Rattle.std.specs.Prelude.{◌≡◌, ℕ, List, [], true, IfOk, IfErr, OnOk};
 ghost use Rattle.c_unit.specs.Units.{unit_of};
-ghost use Rattle.c_checks.specs.Units.{definitions, faults_in};
-ghost use Rattle.c_checks.specs.Recursion.{calls_of};
-ghost use Rattle.c_checks.specs.Programs.{HasNoCycle, has_root, IsProgram};
+ghost use Rattle.c_rules.specs.Units.{definitions, faults_in};
+ghost use Rattle.c_rules.specs.Recursion.{calls_of};
+ghost use Rattle.c_rules.specs.Programs.{HasNoCycle, has_root, IsProgram};
 ghost use Rattle.c_text.specs.Language.{IsSpelled};
-ghost use Rattle.call_cycles.specs.Calls.{IsRanked};
+ghost use Rattle.graph_walks.specs.Calls.{IsRanked};
 ghost use Rattle.c_check.specs.Programs.{IsTold};
 
+use crate::externals::check_unit;
 use crate::fault::CFault;
 use crate::program::CProgram;
+use crate::ranks::{function_ranks, names_along};
 use crate::telling::told;
-use c_calls::{function_ranks, names_along};
-use c_definitions::Definitions;
-use c_files::check_unit;
-use c_locals::Stop;
+use c_faults::Stop;
+use c_scopes::Definitions;
 use c_unit::CUnit;
-use call_cycles::{CallFault, ranked_calls_have_no_cycle};
 use flow_base::Name;
+use graph_walks::{CallFault, ranked_calls_have_no_cycle};
 use std::alloc::Global;
 
 /// The unit, which some text spells, as a program whose root has this name, or why it is none. The unit is given up. Takes memory for the

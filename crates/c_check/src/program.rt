@@ -4,7 +4,7 @@ ghost use Rattle.std.specs.Prelude.{◌≡◌};
 ghost use Rattle.std.specs.Coded.{codes};
 ghost use Rattle.c_unit.specs.Units.{unit_of};
 ghost use Rattle.c_unit.specs.contracts.unit.CUnit as e;
-ghost use Rattle.c_checks.specs.Programs.{IsProgram};
+ghost use Rattle.c_rules.specs.Programs.{IsProgram};
 ghost use Rattle.c_text.specs.Language.{IsSpelled};
 ghost use Rattle.c_check.specs.Programs.{Keeps, ProgramParts};
 

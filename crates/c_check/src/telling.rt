@@ -2,17 +2,16 @@
 
 ghost use Rattle.std.specs.Prelude.{◌≡◌, ℕ, List, Some};
 ghost use Rattle.c_unit.specs.Units.{unit_of, word_of_span};
-ghost use Rattle.c_checks.specs.Faults.{earliest};
-ghost use Rattle.c_checks.specs.Names.{text_at};
-ghost use Rattle.c_checks.specs.Units.{faults_in};
-ghost use Rattle.c_checks.specs.Programs.{place_at};
-ghost use Rattle.c_types.specs.Told.{fault_of};
+ghost use Rattle.c_rules.specs.Faults.{earliest};
+ghost use Rattle.c_rules.specs.Names.{text_at};
+ghost use Rattle.c_rules.specs.Units.{faults_in};
+ghost use Rattle.c_rules.specs.Programs.{place_at};
+ghost use Rattle.c_scopes.specs.Told.{fault_of};
 ghost use Rattle.c_check.specs.Programs.{IsTold};
 
 use crate::fault::CFault;
-use c_names::Words;
+use c_scopes::{Fault, Words};
 use c_tokens::place_of;
-use c_types::Fault;
 use c_unit::{CUnit, Span};
 use flow_base::{Name, Place};
 use std::alloc::Global;

@@ -1,7 +1,7 @@
 //! Expressions. Reading one goes as deep as operators and parentheses may be nested.
 
 ghost use Rattle.std.specs.Prelude.{◌≡◌, Result};
-ghost use Rattle.grammar_chains.specs.Chain.{grow};
+ghost use Rattle.grammar.specs.Chain.{grow};
 ghost use Rattle.c_unit.specs.Tree.{expression_of};
 ghost use Rattle.c_grammar.specs.Expressions.{at_operation, operator, shallow, some_depth, one_paren, operation, at_index, index, indexed, open_bracket, close_bracket, close_paren, parenthesised, after_cast_type, cast_type, cast, bracketed, bracketed_indexed, prefixed, lead, operand_after, operand, expr, inner_of, deeper_of, whole_expr, condition, target};
 ghost use Rattle.c_reader.specs.Reading.{position, Reads};

@@ -1,2 +1,7 @@
+-- The files of this folder.
 -- Conditions in pairs.
 mod Pairs
+-- Assignments with an operator.
+mod Updates
+mod LocalUnderWay
+mod GlobalUnderWay

@@ -9,11 +9,11 @@ use Rattle.c_unit.specs.declared.expression.Binary.TheVariants as binary
 use Rattle.c_unit.specs.Tree.{Expression, WithBinary}
 use Rattle.c_unit.specs.Measures.{first_of}
 use Rattle.c_unit.specs.Units.{Word}
-use Rattle.c_checks.specs.Faults.{Fault, earliest}
-use Rattle.c_checks.specs.Names.{Scope}
-use Rattle.c_checks.specs.Types.{binary_type}
-use Rattle.c_checks.specs.Expressions.{type_of, misfit, part_faults, pair_faults, faults_of}
-use Rattle.c_types.specs.ToldLaws.{after_none}
+use Rattle.c_rules.specs.Faults.{Fault, earliest}
+use Rattle.c_rules.specs.Names.{Scope}
+use Rattle.c_rules.specs.Types.{binary_type}
+use Rattle.c_rules.specs.Expressions.{type_of, misfit, part_faults, pair_faults, faults_of}
+use Rattle.c_scopes.specs.ToldLaws.{after_none}
 
 -- the first fault of a pair whose parts have none
 pub pair_told : (op : Binary) (l r : Scalar) (a b : ℕ) → earliest (part_faults op (Some l) a) ≡ None → earliest (part_faults op (Some r) b) ≡ None → earliest (misfit true (binary_type op l r) a) ≡ earliest (pair_faults op (Some l) (Some r) a)

@@ -2,14 +2,13 @@
 
 ghost use Rattle.std.specs.Prelude.{◌≡◌, Some, IfOk};
 ghost use Rattle.c_unit.specs.Tree.{expression_of};
-ghost use Rattle.c_checks.specs.Faults.{earliest};
-ghost use Rattle.c_checks.specs.Expressions.{type_of, faults_of};
-ghost use Rattle.c_types.specs.Told.{told};
+ghost use Rattle.c_rules.specs.Faults.{earliest};
+ghost use Rattle.c_rules.specs.Expressions.{type_of, faults_of};
+ghost use Rattle.c_scopes.specs.Told.{told};
 
 use crate::leaves::{constant_type, designates, name_type};
 use crate::operators::{check_part, fitting, fitting_from};
-use c_names::Scopes;
-use c_types::{Fault, binary_type, cast_type, index_type, unary_type};
+use c_scopes::{Fault, Scopes, binary_type, cast_type, index_type, unary_type};
 use c_unit::{Expr, Scalar};
 
 /// The type of an expression, or the first of its faults. Each part is seen once.

@@ -2,15 +2,14 @@
 
 ghost use Rattle.std.specs.Prelude.{◌≡◌, Some, IfOk};
 ghost use Rattle.c_unit.specs.Tree.{expression_of};
-ghost use Rattle.c_checks.specs.Faults.{earliest};
-ghost use Rattle.c_checks.specs.Names as names;
-ghost use Rattle.c_checks.specs.Expressions as laws;
-ghost use Rattle.c_types.specs.Told.{told};
-ghost use Rattle.c_names.specs.Views.{bound_of};
+ghost use Rattle.c_rules.specs.Faults.{earliest};
+ghost use Rattle.c_rules.specs.Names as names;
+ghost use Rattle.c_rules.specs.Expressions as laws;
+ghost use Rattle.c_scopes.specs.Told.{told};
+ghost use Rattle.c_scopes.specs.Views.{bound_of};
 
-use c_constants::Worth;
-use c_names::{Bound, Scopes};
-use c_types::Fault;
+use c_scopes::{Bound, Fault, Scopes};
+use c_tokens::Worth;
 use c_unit::{Expr, Integer, Scalar, Unary};
 
 /// The type of a constant.

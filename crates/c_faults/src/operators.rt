@@ -3,11 +3,11 @@
 ghost use Rattle.std.specs.Prelude.{◌≡◌, true, Some, IfOk};
 ghost use Rattle.c_unit.specs.Tree.{expression_of};
 ghost use Rattle.c_unit.specs.Measures.{first_of};
-ghost use Rattle.c_checks.specs.Faults.{earliest};
-ghost use Rattle.c_checks.specs.Expressions.{misfit, unsuited, is_of_conditions as of_conditions, part_faults};
-ghost use Rattle.c_types.specs.Told.{told};
+ghost use Rattle.c_rules.specs.Faults.{earliest};
+ghost use Rattle.c_rules.specs.Expressions.{misfit, unsuited, is_of_conditions as of_conditions, part_faults};
+ghost use Rattle.c_scopes.specs.Told.{told};
 
-use c_types::{Fault, suits};
+use c_scopes::{Fault, suits};
 use c_unit::{Binary, Expr, Integer, Scalar};
 
 /// The type that an operator gives; where its operands do not fit, the token is wrong.

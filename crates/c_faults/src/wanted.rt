@@ -2,15 +2,14 @@
 
 ghost use Rattle.std.specs.Prelude.{◌≡◌, Some, IfOk};
 ghost use Rattle.c_unit.specs.Tree.{expression_of};
-ghost use Rattle.c_checks.specs.Faults.{earliest};
-ghost use Rattle.c_checks.specs.Expressions as laws;
-ghost use Rattle.c_types.specs.Told.{told};
+ghost use Rattle.c_rules.specs.Faults.{earliest};
+ghost use Rattle.c_rules.specs.Expressions as laws;
+ghost use Rattle.c_scopes.specs.Told.{told};
 
 use crate::expressions::expression_type;
 use crate::leaves::designates;
 use crate::operators::check_suits;
-use c_names::Scopes;
-use c_types::Fault;
+use c_scopes::{Fault, Scopes};
 use c_unit::{Expr, Integer, Scalar};
 
 /// The first fault of an expression where such a type is wanted, if one is. Where its type does not suit, it is

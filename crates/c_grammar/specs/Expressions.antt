@@ -9,7 +9,7 @@ use Rattle.std.specs.Prelude.{ℕ, zero, suc, ◌+◌, ◌-◌, List, [], ◌∷
 use Rattle.flow_base.specs.declared.place.Which.TheVariants as which
 use Rattle.grammar.specs.Form.{after}
 use Rattle.grammar.specs.Rule.{judge, value, weaken, ◌>>=◌, ◌>>◌, many}
-use Rattle.grammar_chains.specs.Chain.{grow}
+use Rattle.grammar.specs.Chain.{grow}
 use Rattle.c_unit.specs.declared.types.Scalar.{Scalar}
 use Rattle.c_unit.specs.declared.expression.Unary.{Unary}
 use Rattle.c_unit.specs.declared.expression.Unary.TheVariants as unaries

@@ -10,9 +10,9 @@ use Rattle.std.specs.Str.{bytes_eq}
 use Rattle.c_tokens.specs.declared.token.Kind.{Kind}
 use Rattle.c_tokens.specs.declared.token.Kind.TheVariants as kinds
 use Rattle.c_tokens.specs.Keywords.{is_keyword}
-use Rattle.c_constants.specs.declared.worth.Worth.{Worth}
-use Rattle.c_constants.specs.declared.worth.Worth.TheVariants as worths
-use Rattle.c_constants.specs.Worth.{worth_of}
+use Rattle.c_tokens.specs.declared.worth.Worth.{Worth}
+use Rattle.c_tokens.specs.declared.worth.Worth.TheVariants as worths
+use Rattle.c_tokens.specs.Worth.{worth_of}
 use Rattle.c_unit.specs.declared.expression.Unary.TheVariants as unaries
 use Rattle.c_unit.specs.declared.expression.Binary.{Binary}
 use Rattle.c_unit.specs.declared.expression.Binary.TheVariants as binaries

@@ -5,8 +5,7 @@ ghost use Rattle.c_grammar.specs.Symbols.{constant_symbol, symbol_of, lead_of, s
 
 use crate::marks::mark_symbol;
 use crate::words::word_symbol;
-use c_constants::{Worth, worth_of};
-use c_tokens::Kind;
+use c_tokens::{Kind, Worth, worth_of};
 use c_unit::{Binary, Unary};
 
 /// A word of a type.

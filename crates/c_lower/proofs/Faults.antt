@@ -6,7 +6,7 @@ use Rattle.alf_faults.specs.Fault.{Fault, Unknown, Duplicate, Size, earliest}
 use Rattle.alf_faults.specs.Faults.{faults_in}
 use Rattle.alf_check.specs.declared.fault.CheckFault.{CheckFault}
 use Rattle.alf_check.specs.declared.fault.CheckFault.TheVariants as told
-use Rattle.alf_names.specs.Places.{function_place}
+use Rattle.alf_faults.specs.Places.{function_place}
 use Rattle.alf_check.specs.Checking.{Passes, IsTold}
 use Rattle.c_lower.proofs.Roots.{nowhere}
 

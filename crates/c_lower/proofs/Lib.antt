@@ -1,3 +1,8 @@
+-- The files of this folder.
+pub mod Walking
+pub mod KnownHeads
+mod Labels
+mod Plain
 pub mod Roots
 pub mod Faults
 pub mod Made

@@ -11,8 +11,8 @@ use Rattle.alf_check.specs.Kept.{IsKept}
 use Rattle.c_unit.specs.declared.unit.CUnit.{CUnit}
 use Rattle.c_unit.specs.Units.{UnitTree, word_of_span, unit_of}
 use Rattle.c_lowered.specs.Programs.{lowered}
-use Rattle.lowered_leaves.specs.Correct.{IsLowered}
-use Rattle.spelled_texts.specs.Passing.{TextHasFewTokens}
+use Rattle.lowering_simulation.specs.Correct.{IsLowered}
+use Rattle.c_lower.specs.Passing.{TextHasFewTokens}
 
 pub few_tokens : (unit : CUnit) → length unit.tokens.items ≤ 4294967296 → TextHasFewTokens (unit_of unit)
 few_tokens unit low = subst (λ (n : ℕ). n ≤ 4294967296) (sym (length-map unit.tokens.items (word_of_span unit.text.items))) low

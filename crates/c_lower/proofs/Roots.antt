@@ -11,7 +11,7 @@ use Rattle.std.proofs.lemmas.Str.Ascii.{IsAscii-nil, IsAscii-cons}
 use Rattle.lists.specs.Tests.{by_test}
 use Rattle.alf_program.specs.Tree.{Function, WholeProgram}
 use Rattle.alf_program.specs.Writable.{IsNameByte, IsName, FunctionIsWritable, IsWritable}
-use Rattle.alf_names.specs.Places.{function_place}
+use Rattle.alf_faults.specs.Places.{function_place}
 use Rattle.alf_check.specs.Checking.{Passes}
 
 ascii_bytes : (name : List ℕ) → AllByRecursion IsNameByte name → IsAscii name

@@ -8,8 +8,8 @@ use Rattle.alf_check.specs.Inputs.{KeepInputs}
 use Rattle.alf_runs.specs.Starts.{IsStart}
 use Rattle.alf_runs.specs.Steps.{Moment}
 use Rattle.c_unit.specs.Units.{UnitTree}
-use Rattle.lowered_leaves.specs.Correct.{IsLowered}
-use Rattle.lowered_programs.specs.Lowering.{HasOutcomeOfCells}
+use Rattle.lowering_simulation.specs.Correct.{IsLowered}
+use Rattle.lowering_simulation.specs.Lowering.{HasOutcomeOfCells}
 
 -- each run from a start inside the ranges of input rows has the outcome of the unit from the same cells: a fault where
 -- the unit has that fault, and no end where the unit has none

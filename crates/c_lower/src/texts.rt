@@ -8,12 +8,12 @@ ghost use Rattle.c_unit.specs.Units.{unit_of};
 ghost use Rattle.c_lowered.specs.Programs.{lowered};
 ghost use Rattle.c_lower.specs.Outcomes.{HaveUnitsOutcomes};
 
+use crate::lowering::lower_unit;
+use crate::program_laws::spelled_programs_have_the_outcome_of_their_unit;
+use crate::text_laws::spelled_programs_pass;
 use alf_program::Program;
 use c_check::CProgram;
-use spelled_programs::spelled_programs_have_the_outcome_of_their_unit;
-use spelled_texts::spelled_programs_pass;
 use std::alloc::{AllocError, Global};
-use unit_writer::lower_unit;
 
 // As many as 32 bits can number.
 const MOST_TOKENS: u64 = 4_294_967_296;

@@ -11,7 +11,7 @@ use Rattle.c_unit.specs.declared.expression.Unary.TheVariants as unary
 use Rattle.c_unit.specs.declared.expression.Binary.{Binary}
 use Rattle.c_unit.specs.declared.expression.Binary.TheVariants as binary
 use Rattle.c_unit.specs.Tree.{Expression, OfConstant, OfName, InParentheses, WithUnary, WithCast, AtIndex, WithBinary}
-use Rattle.c_checks.specs.Names.{Scope}
+use Rattle.c_rules.specs.Names.{Scope}
 use Rattle.c_meaning.specs.Objects.{Program}
 use Rattle.c_meaning.specs.Expressions.{kind_of}
 use Rattle.c_lowered.specs.Names.{label_name}

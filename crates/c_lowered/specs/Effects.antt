@@ -19,8 +19,8 @@ use Rattle.c_unit.specs.declared.types.Constant.{Constant}
 use Rattle.c_unit.specs.declared.expression.Binary.{Binary}
 use Rattle.c_unit.specs.declared.external.Parameter.{Parameter}
 use Rattle.c_unit.specs.Tree.{Expression, CallTree, ValueTree, OfExpression, OfCall, EffectTree, Assigns, Updates, Steps, Calls, LocalShapeTree, LocalInteger, LocalPointer, LocalArray, LocalTree}
-use Rattle.c_checks.specs.Names.{Scope, text_at, worth_at}
-use Rattle.c_checks.specs.Statements.{with_local}
+use Rattle.c_rules.specs.Names.{Scope, text_at, worth_at}
+use Rattle.c_rules.specs.Statements.{with_local}
 use Rattle.c_meaning.specs.Values.{bits_of_type, bytes_of_type}
 use Rattle.c_meaning.specs.Objects.{Program, function_at, count_at}
 use Rattle.c_meaning.specs.Expressions.{kind_of}

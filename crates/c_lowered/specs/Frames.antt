@@ -17,7 +17,7 @@ use Rattle.c_unit.specs.declared.types.Outcome.TheVariants as outcomes
 use Rattle.c_unit.specs.declared.types.Constant.{Constant}
 use Rattle.c_unit.specs.declared.external.Parameter.{Parameter}
 use Rattle.c_unit.specs.Tree.{CallTree, ValueTree, OfExpression, OfCall, EffectTree, Assigns, Updates, Steps, Calls, LocalShapeTree, LocalInteger, LocalPointer, LocalArray, LocalTree, Statement, Empty, Declares, Block, If, IfElse, While, Do, For, ForAfter, Switch, Case, Default, Break, Continue, Returns, Does, Statements, Nothing, Then, ShapeTree, GlobalInteger, GlobalArray, FunctionOf, DeclaratorTree, ExternalTree, Declaration, Definition}
-use Rattle.c_checks.specs.Units.{element_of}
+use Rattle.c_rules.specs.Units.{element_of}
 use Rattle.c_meaning.specs.Values.{bits_of_type, bytes_of_type, is_signed}
 use Rattle.c_meaning.specs.Objects.{Program, Object, bits_of_scalar, bits_of_local, token_of_parameter, count_at}
 use Rattle.c_meaning.specs.Statements.{constant_number, further_elements}

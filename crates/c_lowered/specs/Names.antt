@@ -10,7 +10,7 @@ use Rattle.std.specs.Prelude.{ℕ, zero, suc, ◌==◌, ◌&&◌, ◌++◌, Bool
 use Rattle.std.specs.Option.{option_map_or}
 use Rattle.std.specs.Str.{bytes_eq}
 use Rattle.c_unit.specs.Units.{Word}
-use Rattle.c_checks.specs.Names.{text_at}
+use Rattle.c_rules.specs.Names.{text_at}
 use Rattle.c_meaning.specs.Objects.{Object, Program, function_at, object_at}
 
 -- ---- functions, labels, calls

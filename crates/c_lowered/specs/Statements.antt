@@ -17,8 +17,8 @@ use Rattle.c_unit.specs.declared.types.Integer.{Integer}
 use Rattle.c_unit.specs.declared.types.Outcome.{Outcome}
 use Rattle.c_unit.specs.declared.types.Outcome.TheVariants as outcomes
 use Rattle.c_unit.specs.Tree.{Expression, ValueTree, EffectTree, Statement, Empty, Declares, Block, If, IfElse, While, Do as DoWhile, For, ForAfter, Switch as SwitchOn, Case, Default, Break, Continue, Returns, Does, Statements, Nothing, Then}
-use Rattle.c_checks.specs.Names.{Scope}
-use Rattle.c_checks.specs.Statements.{scopes_after, label_of}
+use Rattle.c_rules.specs.Names.{Scope}
+use Rattle.c_rules.specs.Statements.{scopes_after, label_of}
 use Rattle.c_meaning.specs.Values.{is_signed, left_type}
 use Rattle.c_meaning.specs.Objects.{Program, function_at}
 use Rattle.c_meaning.specs.Expressions.{kind_of}

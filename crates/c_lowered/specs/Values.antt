@@ -24,9 +24,9 @@ use Rattle.c_unit.specs.declared.expression.Unary.TheVariants as unary
 use Rattle.c_unit.specs.declared.expression.Binary.{Binary}
 use Rattle.c_unit.specs.declared.expression.Binary.TheVariants as binary
 use Rattle.c_unit.specs.Tree.{Expression, OfConstant, OfName, InParentheses, WithUnary, WithCast, AtIndex, WithBinary}
-use Rattle.c_constants.specs.declared.worth.Worth.{Worth}
-use Rattle.c_constants.specs.declared.worth.Worth.TheVariants as worth
-use Rattle.c_checks.specs.Names.{Bound, Variable, Array, Function, Entry, Scope, worth_at, look_up}
+use Rattle.c_tokens.specs.declared.worth.Worth.{Worth}
+use Rattle.c_tokens.specs.declared.worth.Worth.TheVariants as worth
+use Rattle.c_rules.specs.Names.{Bound, Variable, Array, Function, Entry, Scope, worth_at, look_up}
 use Rattle.c_meaning.specs.Values.{bits_of_type, bytes_of_type, is_signed, shared, left_type}
 use Rattle.c_meaning.specs.Objects.{Program}
 use Rattle.c_meaning.specs.Expressions.{kind_of, pointee, declared_at}

@@ -15,7 +15,7 @@ use Rattle.c_unit.specs.declared.expression.Unary.TheVariants as unary
 use Rattle.c_unit.specs.declared.expression.Binary.TheVariants as binary
 use Rattle.c_unit.specs.Tree.{OfConstant, OfName, InParentheses, WithUnary, WithCast, AtIndex, WithBinary, OfExpression, OfCall, Assigns, Updates, Calls, LocalInteger, LocalPointer, LocalArray, Empty, Declares, Block, IfElse, While, For, Break, Continue, Returns, Does, GlobalArray, ExternalTree, Declaration, Definition, statements_of}
 use Rattle.c_unit.specs.Units.{Word, UnitTree}
-use Rattle.c_checks.specs.Worked.{unit_in, returns}
+use Rattle.c_rules.specs.Worked.{unit_in, returns}
 
 -- ---- words for parts of ALF
 

@@ -12,13 +12,13 @@ use Rattle.std.specs.Option.{option_map, option_map_or}
 use Rattle.std.proofs.lemmas.Bool.{cases_lt}
 use Rattle.std.proofs.lemmas.Option.{slice_get_past}
 use Rattle.lists.specs.Members.{first_member, further_member}
-use Rattle.call_cycles.specs.Calls.{IsRanked}
+use Rattle.graph_walks.specs.Calls.{IsRanked}
 use Rattle.alf_ops.specs.declared.history.Value.{Value}
 use Rattle.c_unit.specs.Tree.{ExternalTree, Declaration, Definition}
 use Rattle.c_unit.specs.Units.{Word, UnitTree}
-use Rattle.c_checks.specs.Names.{text_at}
-use Rattle.c_checks.specs.Units.{File, definitions, external_after}
-use Rattle.c_checks.specs.Recursion.{called_in, number_at, with_number, numbers_at, rows_of, calls_of}
+use Rattle.c_rules.specs.Names.{text_at}
+use Rattle.c_rules.specs.Units.{File, definitions, external_after}
+use Rattle.c_rules.specs.Recursion.{called_in, number_at, with_number, numbers_at, rows_of, calls_of}
 use Rattle.c_meaning.specs.Objects.{Program, Function, no_function, functions_in, functions_of, program_of, function_at}
 use Rattle.c_meaning.specs.Endings.{History, Ending}
 use Rattle.c_meaning.specs.Statements.{Callees, number_named}

@@ -21,8 +21,8 @@ use Rattle.c_unit.specs.declared.expression.Unary.{Unary}
 use Rattle.c_unit.specs.declared.expression.Unary.TheVariants as unary
 use Rattle.c_unit.specs.Tree.{Expression, OfConstant, OfName, InParentheses, WithUnary, WithCast, AtIndex, WithBinary}
 use Rattle.c_unit.specs.Units.{Word}
-use Rattle.c_checks.specs.Names.{Bound, Variable, Array, Function, Entry, Scope, worth_at, number_of, look_up}
-use Rattle.c_checks.specs.Expressions.{type_of}
+use Rattle.c_rules.specs.Names.{Bound, Variable, Array, Function, Entry, Scope, worth_at, number_of, look_up}
+use Rattle.c_rules.specs.Expressions.{type_of}
 use Rattle.c_meaning.specs.Values.{Valued, on_value, on_both, widened, cast_to, negation, complement, opposite, sum, scaled, truth_of, binary_value, bits_of_type}
 use Rattle.c_meaning.specs.Objects.{Program, object_at, shapes_of}
 

@@ -18,9 +18,9 @@ use Rattle.c_unit.specs.declared.types.Scalar.{Scalar}
 use Rattle.c_unit.specs.declared.types.Scalar.TheVariants as scalars
 use Rattle.c_unit.specs.declared.types.Outcome.{Outcome}
 use Rattle.c_unit.specs.Tree.{CallTree, ValueTree, OfExpression, OfCall, EffectTree, Assigns, Updates, Steps, Calls, LocalShapeTree, LocalInteger, LocalPointer, LocalArray, LocalTree, Statement, Empty, Declares, Block, If, IfElse, While, Do, For, ForAfter, Switch, Case, Default, Break, Continue, Returns, Does, Statements, Nothing, Then}
-use Rattle.c_checks.specs.Names.{Scope, text_at}
-use Rattle.c_checks.specs.Statements.{with_local, scopes_after}
-use Rattle.c_checks.specs.Recursion.{calls_in_value, calls_if_valued, calls_in_effect, calls_if_done, calls_in_shape, calls_in_locals, calls_in, called_in}
+use Rattle.c_rules.specs.Names.{Scope, text_at}
+use Rattle.c_rules.specs.Statements.{with_local, scopes_after}
+use Rattle.c_rules.specs.Recursion.{calls_in_value, calls_if_valued, calls_in_effect, calls_if_done, calls_in_shape, calls_in_locals, calls_in, called_in}
 use Rattle.c_meaning.specs.Values.{Valued}
 use Rattle.c_meaning.specs.Objects.{Program, object_at, function_at}
 use Rattle.c_meaning.specs.Expressions.{kind_of, value_of, address_of, condition_of}

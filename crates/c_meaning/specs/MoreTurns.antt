@@ -5,7 +5,7 @@ use Rattle.std.proofs.Common.{◌≡◌, ◌≢◌, ℕ, zero, suc, ◌+◌, ◌
 use Rattle.std.specs.Prelude.{⊤}
 use Rattle.alf_ops.specs.declared.history.Value.{Value}
 use Rattle.c_unit.specs.Units.{UnitTree}
-use Rattle.c_checks.specs.Recursion.{called_in}
+use Rattle.c_rules.specs.Recursion.{called_in}
 use Rattle.c_meaning.specs.Objects.{Program, program_of, function_at}
 use Rattle.c_meaning.specs.Endings.{History, Ending}
 use Rattle.c_meaning.specs.Statements.{Callees}

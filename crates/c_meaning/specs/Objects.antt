@@ -17,8 +17,8 @@ use Rattle.c_unit.specs.declared.types.Outcome.TheVariants as outcomes
 use Rattle.c_unit.specs.declared.external.Parameter.{Parameter}
 use Rattle.c_unit.specs.Tree.{LocalShapeTree, LocalInteger, LocalPointer, LocalArray, LocalTree, Statement, Empty, Declares, Block, If, IfElse, While, Do, For, ForAfter, Switch, Case, Default, Break, Continue, Returns, Does, Statements, Nothing, Then, ShapeTree, GlobalInteger, GlobalArray, FunctionOf, DeclaratorTree, ExternalTree, Declaration, Definition, statements_of}
 use Rattle.c_unit.specs.Units.{Word, UnitTree}
-use Rattle.c_checks.specs.Names.{Scope, worth_at, number_of}
-use Rattle.c_checks.specs.Units.{File, element_of, with_parameters, external_after}
+use Rattle.c_rules.specs.Names.{Scope, worth_at, number_of}
+use Rattle.c_rules.specs.Units.{File, element_of, with_parameters, external_after}
 use Rattle.c_meaning.specs.Values.{bits_of_type}
 
 -- ---- objects

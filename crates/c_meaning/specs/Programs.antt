@@ -25,7 +25,7 @@ use Rattle.c_unit.specs.declared.types.Constant.{Constant}
 use Rattle.c_unit.specs.declared.external.Parameter.{Parameter}
 use Rattle.c_unit.specs.Tree.{ShapeTree, GlobalInteger, GlobalArray, FunctionOf, DeclaratorTree, ExternalTree, Declaration, Definition}
 use Rattle.c_unit.specs.Units.{UnitTree}
-use Rattle.c_checks.specs.Units.{element_of}
+use Rattle.c_rules.specs.Units.{element_of}
 use Rattle.c_meaning.specs.Values.{bits_of_type, bytes_of_type}
 use Rattle.c_meaning.specs.Objects.{Program, program_of, object_at, shapes_of, function_at, count_at, token_of_parameter, integers_of}
 use Rattle.c_meaning.specs.Endings.{History, Ending, Normal, Broke, Continued, Returned, Faulted, UsedUp}

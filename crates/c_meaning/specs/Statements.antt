@@ -26,8 +26,8 @@ use Rattle.c_unit.specs.declared.expression.Binary.TheVariants as binary
 use Rattle.c_unit.specs.declared.external.Parameter.{Parameter}
 use Rattle.c_unit.specs.Tree.{Expression, CallTree, ValueTree, OfExpression, OfCall, EffectTree, Assigns, Updates, Steps, Calls, LocalShapeTree, LocalInteger, LocalPointer, LocalArray, LocalTree, Statement, Empty, Declares, Block, If, IfElse, While, Do, For, ForAfter, Switch, Case, Default, Break, Continue, Returns, Does, Statements, Nothing, Then}
 use Rattle.c_unit.specs.Units.{Word}
-use Rattle.c_checks.specs.Names.{Scope, worth_at, number_of, text_at}
-use Rattle.c_checks.specs.Statements.{with_local, scopes_after, label_of}
+use Rattle.c_rules.specs.Names.{Scope, worth_at, number_of, text_at}
+use Rattle.c_rules.specs.Statements.{with_local, scopes_after, label_of}
 use Rattle.c_meaning.specs.Values.{Valued, on_value, widened, cut_to, binary_value, bits_of_type, bytes_of_type}
 use Rattle.c_meaning.specs.Objects.{Program, Function, object_at, shapes_of, function_at, count_at}
 use Rattle.c_meaning.specs.Expressions.{kind_of, value_of, address_of, condition_of}

@@ -27,7 +27,7 @@ use Rattle.c_unit.specs.declared.types.Scalar.{Scalar}
 use Rattle.c_unit.specs.declared.types.Scalar.TheVariants as scalars
 use Rattle.c_unit.specs.declared.expression.Binary.{Binary}
 use Rattle.c_unit.specs.declared.expression.Binary.TheVariants as binary
-use Rattle.c_checks.specs.Types.{promoted, common}
+use Rattle.c_rules.specs.Types.{promoted, common}
 
 -- ---- types
 

@@ -9,7 +9,7 @@ use Rattle.c_unit.specs.declared.expression.Unary.TheVariants.{Address, Load, Mi
 use Rattle.c_unit.specs.declared.expression.Binary.TheVariants.{Multiply, Divide, Remainder, Add, Subtract, ShiftRight, Greater, AtMost, Unequal, Both}
 use Rattle.c_unit.specs.Tree.{Expression, OfConstant, OfName, WithUnary, WithCast, AtIndex, WithBinary, OfExpression, OfCall, Assigns, Updates, Steps, LocalInteger, LocalPointer, Empty, Declares, If, While, ForAfter, Statement, Switch, Case, Default, Break, Does, GlobalInteger, ExternalTree, Declaration, Definition, statements_of, InParentheses, LocalArray, Block, Do, GlobalArray}
 use Rattle.c_unit.specs.Units.{UnitTree}
-use Rattle.c_checks.specs.Worked.{unit_in, int_main, returns}
+use Rattle.c_rules.specs.Worked.{unit_in, int_main, returns}
 use Rattle.c_meaning.specs.Programs.{Cell}
 
 abbrev pub main : List ℕ

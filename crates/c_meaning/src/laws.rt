@@ -2,7 +2,7 @@
 
 ghost use Rattle.std.specs.Prelude.{◌≡◌, ◌≢◌, ◌≤◌, ℕ, List, length};
 ghost use Rattle.c_unit.specs.Units.{UnitTree};
-ghost use Rattle.c_checks.specs.Programs.{IsProgram};
+ghost use Rattle.c_rules.specs.Programs.{IsProgram};
 ghost use Rattle.c_meaning.specs.Objects.{functions_of};
 ghost use Rattle.c_meaning.specs.Programs.{Cell, Unfinished, ending_within, ending, outcome};
 

@@ -1,4 +1,4 @@
-//! What stands in lists and chains. Their loops are `grammar::many` and `grammar_chains::grow`.
+//! What stands in lists and chains. Their loops are `grammar::many` and `grammar::grow`.
 
 ghost use Rattle.std.specs.Prelude.{◌≡◌, None};
 ghost use Rattle.c_unit.specs.declared.types.Constant.{Constant};
@@ -10,8 +10,7 @@ use crate::fault::Departure;
 use crate::reader::Reader;
 use c_grammar::{Setting, Specifiers};
 use c_unit::Constant;
-use grammar::Part;
-use grammar_chains::Link;
+use grammar::{Link, Part};
 
 /// The words of a type.
 #[derive(Clone, Copy)]

@@ -11,8 +11,7 @@ use crate::parts::{Consts, Elements, Words};
 use crate::reader::{Reader, begins_with};
 use c_grammar::{Base, NextWord, Others, Setting, Sign, Specifiers, outcome_of, with_word};
 use c_unit::{Constant, Integer, Outcome, Scalar, range};
-use grammar::many;
-use grammar_chains::grow;
+use grammar::{grow, many};
 use std::alloc::{AllocError, Global};
 
 /// What might stand after a constant.

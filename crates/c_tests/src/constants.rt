@@ -1,8 +1,7 @@
 //! Constants and their worth, from the ranges of `int` and `unsigned int`.
 
 use crate::answers::field;
-use c_constants::{Worth, worth_of};
-use c_tokens::Cursor;
+use c_tokens::{Cursor, Worth, worth_of};
 use std::alloc::{AllocError, Global};
 use std::test::Fail;
 

@@ -1,4 +1,4 @@
-//! Tests of `c_tokens`, `c_constants`, `c_unit`, `c_printer` and `c_text`. Without tests this library is
+//! Tests of `c_tokens`, `c_unit` and `c_text`. Without tests this library is
 //! empty.
 #![tactic(auto)]
 

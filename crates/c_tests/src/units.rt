@@ -1,7 +1,6 @@
 //! Ranges of tokens, and what is asked of expressions.
 
-use c_printer::print;
-use c_unit::{Binary, CUnit, Expr, Span, Unary, range, spans};
+use c_unit::{Binary, CUnit, Expr, Span, Unary, print, range, spans};
 use std::test::Fail;
 
 /// A text, and where its tokens begin and end.

@@ -5,10 +5,10 @@ use Rattle.c_tokens.specs.Tokens.{Lexeme, tokens_of}
 use Rattle.c_tokens.specs.Printed.{can_print, printed_text}
 use Rattle.c_tokens.specs.Laws.{EachTokenIsOfItsKind, EachPrintedTextIsCut}
 use Rattle.c_unit.specs.Units.{Word, word_of, UnitTree}
-use Rattle.c_printer.specs.Texts.{texts_of}
+use Rattle.c_unit.specs.Texts.{texts_of}
 use Rattle.c_grammar.specs.Tokens.{Seen, Place}
 use Rattle.c_grammar.specs.Units.{unit}
-use Rattle.c_spellings.specs.Laws.{text_of, EachSpelledTokenCanBePrinted, NumberedByTheirTexts}
+use Rattle.c_text.specs.SpellingLaws.{text_of, EachSpelledTokenCanBePrinted, NumberedByTheirTexts}
 use Rattle.c_text.specs.Language.{full_room, start, words_of, SpellsUnit}
 use Rattle.c_text.specs.Laws.{SameButPlaces, IsReadBack, start_of_texts, IsReadable, EachSpelledUnitCanBePrinted, PrintedUnitsAreReadBack, SpelledWhereReadable}
 

@@ -9,10 +9,10 @@ use Rattle.std.specs.Prelude.{◌≡◌, ◌↔◌, ℕ, List, true}
 use Rattle.std.specs.List.{list_all}
 use Rattle.c_tokens.specs.Printed.{can_print, printed_text}
 use Rattle.c_unit.specs.Units.{UnitTree}
-use Rattle.c_printer.specs.Texts.{texts_of}
+use Rattle.c_unit.specs.Texts.{texts_of}
 use Rattle.c_grammar.specs.Tokens.{Place}
 use Rattle.c_grammar.specs.Units.{unit}
-use Rattle.c_spellings.specs.Laws.{numbered_texts}
+use Rattle.c_text.specs.SpellingLaws.{numbered_texts}
 use Rattle.c_text.specs.Language.{full_room, SpellsUnit, IsSpelled}
 
 -- the units have the same tokens and trees, wherever the tokens stand

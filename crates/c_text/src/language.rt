@@ -5,16 +5,16 @@ ghost use Rattle.std.specs.List.{list_all};
 ghost use Rattle.c_tokens.specs.Printed.{can_print};
 ghost use Rattle.c_unit.specs.Tree.{external_of};
 ghost use Rattle.c_unit.specs.Units.{word_of_span, unit_of};
-ghost use Rattle.c_printer.specs.Texts.{texts_of};
+ghost use Rattle.c_unit.specs.Texts.{texts_of};
 ghost use Rattle.c_grammar.specs.Units.{unit};
 ghost use Rattle.c_reader.specs.Reading.{fault_of};
 ghost use Rattle.grammar.specs.Form.{Fails};
 ghost use Rattle.c_text.specs.Language.{start, SpellsTrees, Means, HasOneMeaning, departure_of};
 
 use crate::departures::told;
+use crate::externals::read_unit;
 use crate::fault::TextFault;
 use crate::laws::spelled_units_are_read_back;
-use c_externals::read_unit;
 use c_reader::{Departure, Names, Reader, cut};
 use c_unit::{CUnit, External, Span, spans};
 use std::alloc::Global;

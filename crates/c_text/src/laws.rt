@@ -2,7 +2,7 @@
 
 ghost use Rattle.c_text.specs.Laws.{EachSpelledUnitCanBePrinted, PrintedUnitsAreReadBack, SpelledWhereReadable};
 
-use c_spellings::{spelled_tokens_can_be_printed, tokens_are_numbered_by_their_texts};
+use crate::spelling_laws::{spelled_tokens_can_be_printed, tokens_are_numbered_by_their_texts};
 use c_tokens::{printed_texts_are_cut, tokens_are_known_by_their_texts};
 
 /// Each token of a unit that some text spells can be printed, and what is printed spells the unit

@@ -1,3 +1,22 @@
+//! Texts of C, read and printed.
+//!
+//! ## C spellings
+//!
+//! What tokens that spell a unit of C promise, as functions that do nothing when they are called.
+//!
+//! Each rule of the grammar takes tokens that can be printed: none takes a byte that is in no token, nor
+//! a literal or a comment that is not closed. And what a token is to the grammar hangs on its bytes
+//! alone. So the tokens of a unit can be printed, and are then read as the same trees.
+//!
+//! ## C externals
+//!
+//! Reading what stands at file level of a C text: declarations, functions, and the whole unit.
+//!
+//! Each function that reads has the clause that it gives what reading by its rule of `c_grammar`
+//! gives.
+//!
+//! ## C text
+//!
 //! The text of a unit of C, and what it means.
 //!
 //! The grammar is that of `c_grammar`, rule by rule; each rule is exact by its type, so a text spells
@@ -6,7 +25,21 @@
 //! spells is a condition on units alone. The rules stand in words in `docs/formats/c.md`.
 #![tactic(auto)]
 
-// Why no unit was read.
+// C spellings.
+mod spelling_laws;
+
+// C externals: parameters of functions.
+mod parameters;
+
+// Objects, functions, and lists of them.
+mod declarators;
+mod objects;
+mod parts;
+
+// Declarations and functions.
+mod externals;
+
+// C text: why no unit was read.
 mod fault;
 
 // Texts and what they mean.
@@ -18,7 +51,9 @@ mod laws;
 mod printing;
 
 pub use c_unit::CUnit;
+pub use externals::read_unit;
 pub use fault::TextFault;
 pub use language::{one_meaning, read};
 pub use laws::spelled_units_are_read_back;
 pub use printing::print;
+pub use spelling_laws::{spelled_tokens_can_be_printed, tokens_are_numbered_by_their_texts};

@@ -3,7 +3,7 @@
 ghost use Rattle.std.specs.Prelude.{◌≡◌, IfOk};
 ghost use Rattle.c_tokens.specs.Printed.{printed_text};
 ghost use Rattle.c_unit.specs.Units.{unit_of};
-ghost use Rattle.c_printer.specs.Texts.{texts_of};
+ghost use Rattle.c_unit.specs.Texts.{texts_of};
 ghost use Rattle.c_text.specs.Language.{IsSpelled};
 ghost use Rattle.c_text.specs.Laws.{IsReadBack};
 
@@ -23,6 +23,6 @@ pub fn print(alloc: Global, unit: &CUnit) -> Result<Vec<u8>, AllocError>
         → IfOk result (λ text. IsReadBack (unit_of unit.now) text.items) }
 {
     spelled_units_are_read_back();
-    let text = c_printer::print(alloc, unit)?;
+    let text = c_unit::print(alloc, unit)?;
     Ok(text)
 }

@@ -1,3 +1,4 @@
+-- The files of this folder.
 pub mod Ending
 pub mod Fitting
 pub mod Longest
@@ -6,3 +7,5 @@ pub mod Pieces
 pub mod Prefixes
 pub mod Printing
 pub mod Spaced
+-- Large numbers.
+pub mod Large

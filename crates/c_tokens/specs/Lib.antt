@@ -1,3 +1,4 @@
+-- The files of this folder.
 -- Bytes, what texts are as wholes, tokens, and what these promise.
 pub mod Bytes
 pub mod Ends
@@ -11,3 +12,5 @@ pub mod Places
 pub mod Ahead
 pub mod Printed
 pub mod Laws
+-- What constants are worth.
+pub mod Worth

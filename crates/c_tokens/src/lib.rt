@@ -1,12 +1,23 @@
+//! Tokens of C, and what constants are worth.
+//!
+//! ## C tokens
+//!
 //! The tokens of C: the preprocessing tokens of C99, each the longest that begins at its place.
 //!
 //! Cutting a text is total. White space is a kind of piece, a byte that is in no other token is a
 //! token of its own, and so is a comment that is not closed, which no grammar takes. A `Cursor`
 //! cuts tokens as they are asked for and takes no memory. Each token tells how many bytes of the text
 //! are left where it begins.
+//!
+//! ## C constants
+//!
+//! Constants of C: what a token is worth, if it is a constant of the profile.
+//!
+//! Constants are decimal, octal and hexadecimal numbers of at most 32 bits, with `u` or `U` at the
+//! end or without, and characters: printable bytes of ASCII and five escapes.
 #![tactic(auto)]
 
-// What is cut.
+// C tokens: what is cut.
 mod token;
 
 // Where single pieces end.
@@ -27,6 +38,11 @@ mod places;
 // What the definitions promise.
 mod laws;
 
+// C constants.
+mod characters;
+mod constant_numbers;
+mod worth;
+
 pub use cursor::Cursor;
 pub use keywords::is_keyword;
 pub use laws::{
@@ -35,3 +51,4 @@ pub use laws::{
 };
 pub use places::place_of;
 pub use token::{Kind, Token};
+pub use worth::{Worth, worth_of};

@@ -1,2 +1,5 @@
+-- The files of this folder.
 -- Ranges.
 pub mod Ranges
+-- Texts of ranges.
+pub mod Texts

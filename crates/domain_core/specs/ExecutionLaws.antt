@@ -8,7 +8,7 @@ use Rattle.std.proofs.Common.{◌≡◌, ℕ, zero, suc, ◌+◌, ◌<◌, cond,
 use Rattle.std.proofs.lemmas.Bool.{cases_Bool}
 use Rattle.std.proofs.lemmas.List.{length-replicate, get_or-replicate, append_assoc, reverse-append, reverse-reverse}
 use Rattle.std.proofs.lemmas.List.Elements.{Contains-push}
-use Rattle.walks.specs.Walks.{Walk, stays, goes_on}
+use Rattle.graph_walks.specs.Walks.{Walk, stays, goes_on}
 use Rattle.domain_core.specs.Reducible.{IsEdge}
 use Rattle.domain_core.specs.Outlines.{Shape, Holds, is_held, header_of, IsOutline}
 use Rattle.domain_core.specs.OutlineLaws.{held_is, is_holder, holder_low}

@@ -6,7 +6,7 @@ use Rattle.std.proofs.lemmas.List.{append_assoc, reverse-append, reverse-reverse
 use Rattle.std.proofs.lemmas.List.Elements.{Contains-append_left, Contains-append_right, Contains-append_cases}
 use Rattle.lists.specs.Members.{no_member, first_member, further_member}
 use Rattle.lists.specs.Tests.{by_test}
-use Rattle.walks.specs.ListLaws.{contains_cases}
+use Rattle.graph_walks.specs.ListLaws.{contains_cases}
 use Rattle.domain_core.specs.Outlines.{Shape, Holds, is_held, header_of, IsOutline}
 use Rattle.domain_core.specs.OutlineLaws.{held_is, is_holder, of_reverse}
 use Rattle.domain_core.specs.Stretches.{Passes, open_stretch}

@@ -20,8 +20,8 @@ use Rattle.std.proofs.lemmas.List.Elements.{Contains-append_left, Contains-push}
 use Rattle.std.proofs.lemmas.Map.Steps.{length-le_from_distinct_below}
 use Rattle.lists.specs.Members.{no_member, first_member, further_member}
 use Rattle.lists.specs.Tests.{by_test}
-use Rattle.walks.specs.Walks.{Walk, stays, goes_on}
-use Rattle.walks.specs.ListLaws.{contains_cases}
+use Rattle.graph_walks.specs.Walks.{Walk, stays, goes_on}
+use Rattle.graph_walks.specs.ListLaws.{contains_cases}
 use Rattle.domain_core.specs.declared.outline.ScopeRow.{ScopeRow}
 use Rattle.domain_core.specs.Reducible.{IsEdge, Dominates, IsForwardEdge}
 use Rattle.domain_core.specs.Outlines.{Shape, LeadsTo, here, up, Holds, IsChain, outermost, inner, scopes_from, scopes_around, is_held, parent_of, header_of, IsOutline}

@@ -8,8 +8,8 @@ use Rattle.std.proofs.lemmas.List.{append-nil}
 use Rattle.domain_core.specs.declared.scope_kind.ScopeKind.{ScopeKind}
 use Rattle.domain_core.specs.declared.scope_kind.ScopeKind.TheVariants.{Call, Loop}
 use Rattle.domain_core.specs.Reducible.{Dominates, IsEdge}
-use Rattle.walks.specs.Walks.{stays}
-use Rattle.walks.specs.ListLaws.{same_or_not, contains_cases}
+use Rattle.graph_walks.specs.Walks.{stays}
+use Rattle.graph_walks.specs.ListLaws.{same_or_not, contains_cases}
 use Rattle.lists.specs.Members.{no_member}
 use Rattle.domain_core.specs.Scopes.{Plan, leads, path_at, IsPlan, InScope}
 use Rattle.domain_core.specs.ScopeLaws.{scope_entered, scope_first, header_dominates, header_low, header_held, dominator_lower}

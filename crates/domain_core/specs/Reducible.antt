@@ -11,7 +11,7 @@
 --   IsReady Leads rank r n           each edge to n that is no back edge comes from a node of a rank below r
 --   IsRanking Leads nodes ranks      the next rank goes to the least node that is ready and has none
 use Rattle.std.specs.Prelude.{◌≡◌, ◌≢◌, ◌<◌, ℕ, List, [], ◌∷◌, ◌++◌, ◌⊎◌, Contains, length, slice_index}
-use Rattle.walks.specs.Walks.{Walk, IsDistinct}
+use Rattle.graph_walks.specs.Walks.{Walk, IsDistinct}
 
 -- an edge leads from u to v
 abbrev pub IsEdge : List (ℕ × ℕ) → ℕ → ℕ → Type 0

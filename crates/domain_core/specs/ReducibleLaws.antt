@@ -9,9 +9,9 @@ use Rattle.std.proofs.lemmas.List.{append_assoc}
 use Rattle.std.proofs.lemmas.List.Elements.{Contains-append_left, Contains-append_right, Contains-push, Contains-push_cases}
 use Rattle.std.proofs.lemmas.Bool.{cases_lt}
 use Rattle.lists.specs.Members.{no_member, first_member, further_member}
-use Rattle.walks.specs.Walks.{Walk, stays, goes_on, IsDistinct}
-use Rattle.walks.specs.ListLaws.{same_or_not, contains_cases, cut_at}
-use Rattle.walks.specs.WalkLaws.{walk_begins, walk_ends, split, walk_same}
+use Rattle.graph_walks.specs.Walks.{Walk, stays, goes_on, IsDistinct}
+use Rattle.graph_walks.specs.ListLaws.{same_or_not, contains_cases, cut_at}
+use Rattle.graph_walks.specs.WalkLaws.{walk_begins, walk_ends, split, walk_same}
 use Rattle.domain_core.specs.Reducible.{Dominates, IsReducible, IsCrossing, IsFalling}
 
 -- ---- dominance

@@ -10,9 +10,9 @@ use Rattle.std.proofs.Common.{◌≡◌, ◌≢◌, ◌<◌, ℕ, zero, suc, Lis
 use Rattle.std.proofs.lemmas.List.{append_assoc}
 use Rattle.std.proofs.lemmas.List.Elements.{Contains-append_left, Contains-append_right, Contains-push, Contains-push_cases}
 use Rattle.lists.specs.Members.{no_member, first_member, further_member}
-use Rattle.walks.specs.Walks.{Walk, stays, goes_on}
-use Rattle.walks.specs.ListLaws.{same_or_not, contains_cases, cut_at}
-use Rattle.walks.specs.WalkLaws.{walk_cons, walk_ends, split}
+use Rattle.graph_walks.specs.Walks.{Walk, stays, goes_on}
+use Rattle.graph_walks.specs.ListLaws.{same_or_not, contains_cases, cut_at}
+use Rattle.graph_walks.specs.WalkLaws.{walk_cons, walk_ends, split}
 use Rattle.domain_core.specs.declared.scope_kind.ScopeKind.{ScopeKind}
 use Rattle.domain_core.specs.declared.scope_kind.ScopeKind.TheVariants.{Call, Loop}
 use Rattle.domain_core.specs.Reducible.{Dominates, IsForwardEdge, IsRanking}

@@ -2,7 +2,7 @@
 --   deeper_inside   of two scopes with a common node, the one of the later header lies in the other
 --   latest_smallest the scope of the latest header is the smallest that holds the node
 use Rattle.std.proofs.Common.{◌≢◌, ◌<◌, ◌≤◌, ℕ, suc, List, inl, inr, length, get_or, sym, subst, arith}
-use Rattle.walks.specs.ListLaws.{same_or_not}
+use Rattle.graph_walks.specs.ListLaws.{same_or_not}
 use Rattle.domain_core.specs.declared.scope_kind.ScopeKind.{ScopeKind}
 use Rattle.domain_core.specs.declared.scope_kind.ScopeKind.TheVariants.{Call, Loop}
 use Rattle.domain_core.specs.Reducible.{IsRanking}

@@ -14,7 +14,7 @@
 --   IsInside plan k g l h       the scope of kind k and header g lies in that of kind l and header h
 --   IsSmallest plan kind h n    no smaller scope holds the node
 use Rattle.std.specs.Prelude.{◌≡◌, ◌≢◌, ◌<◌, ◌≤◌, ℕ, List, [], ◌∷◌, ◌++◌, ◌⊎◌, Option, None, Some, Contains, length, slice_index_or}
-use Rattle.walks.specs.Walks.{Walk}
+use Rattle.graph_walks.specs.Walks.{Walk}
 use Rattle.domain_core.specs.Reducible.{IsEdge, IsBackEdge}
 use Rattle.domain_core.specs.declared.scope_kind.ScopeKind.{ScopeKind}
 use Rattle.domain_core.specs.declared.scope_kind.ScopeKind.TheVariants.{Call, Loop}

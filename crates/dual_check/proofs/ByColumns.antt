@@ -2,14 +2,14 @@
 use Rattle.std.proofs.Common.{◌≡◌, ◌<◌, ◌+◌, ℕ, ℤ, zero, suc, List, [], ◌∷◌, length, get_or, refl, ap, sym, ◌∙◌, subst, arith, Ok, Err, Some, None, pos}
 use Rattle.std.specs.Prelude.{Result, ◌*ℤ◌}
 use Rattle.whole_numbers.specs.MultipleLaws.{by_test}
-use Rattle.path_rows.specs.Sums.{coefficient}
-use Rattle.path_rows.specs.Programs.{Row, Program, IsWithin, cost_at}
-use Rattle.path_rows.specs.Rows.{vanishes}
-use Rattle.dual_rules.specs.Duals.{column_part, column_sum}
-use Rattle.dual_rules.specs.Verdicts.{column_test, column_at, first_wide}
-use Rattle.dual_rules.specs.declared.verdict.Verdict.TheVariants.{Wide}
-use Rattle.dual_rules.specs.Sparse.{column_terms, summed_terms}
-use Rattle.dual_rules.specs.SparseLaws.{Sums, column_summed}
+use Rattle.ipet_rows.specs.Sums.{coefficient}
+use Rattle.ipet_rows.specs.Programs.{Row, Program, IsWithin, cost_at}
+use Rattle.ipet_rows.specs.Rows.{vanishes}
+use Rattle.ipet_rows.specs.Duals.{column_part, column_sum}
+use Rattle.ipet_rows.specs.Verdicts.{column_test, column_at, first_wide}
+use Rattle.ipet_rows.specs.declared.verdict.Verdict.TheVariants.{Wide}
+use Rattle.ipet_rows.specs.Sparse.{column_terms, summed_terms}
+use Rattle.ipet_rows.specs.DualSparseLaws.{Sums, column_summed}
 use Rattle.dual_check.specs.Systems.{columns_from, AreColumns}
 
 column_from : (n e b : ℕ) (rows : List Row) (j : ℕ) (d : List (ℕ × ℤ)) → j < n → e ≡ b + j → get_or (columns_from n b rows) j d ≡ column_terms e 0 rows

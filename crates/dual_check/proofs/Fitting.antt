@@ -5,7 +5,7 @@ use Rattle.std.specs.Int.{w128}
 use Rattle.std.specs.Int.RustNames.{FitsSigned}
 use Rattle.std.proofs.lemmas.Int.{ints}
 use Rattle.std.proofs.lemmas.Bool.{cases_Bool, lt-ltb, ltb-true}
-use Rattle.dual_rules.specs.Firsts.{fits}
+use Rattle.ipet_rows.specs.Firsts.{fits}
 use Rattle.dual_check.specs.Fitting.{fitting}
 
 fits_true : (z : ℤ) → FitsSigned w128 z → fits z ≡ true

@@ -4,12 +4,12 @@ use Rattle.std.specs.List.{flat_map, range_with_len}
 use Rattle.std.proofs.lemmas.List.{length-map, length-append}
 use Rattle.std.proofs.lemmas.List.FromFn.{length-range_with_len}
 use Rattle.domain_core.specs.Outlines.{Shape, Outlined, shape_of}
-use Rattle.path_rows.specs.Sums.{IsAscending}
-use Rattle.path_rows.specs.Programs.{Row, IsWithin, row_at}
-use Rattle.path_rows.specs.Columns.{Column}
-use Rattle.path_rows.specs.Weights.{Weighing}
-use Rattle.path_rows.specs.Rows.{row_of, cost_of}
-use Rattle.path_rows.specs.SparseLaws.{terms_within, terms_ascend, terms_count}
+use Rattle.ipet_rows.specs.Sums.{IsAscending}
+use Rattle.ipet_rows.specs.Programs.{Row, IsWithin, row_at}
+use Rattle.ipet_rows.specs.Columns.{Column}
+use Rattle.ipet_rows.specs.Weights.{Weighing}
+use Rattle.ipet_rows.specs.Rows.{row_of, cost_of}
+use Rattle.ipet_rows.specs.PathSparseLaws.{terms_within, terms_ascend, terms_count}
 use Rattle.dual_check.specs.declared.constraint.Constraint.{Constraint}
 use Rattle.dual_check.specs.Systems.{System, IsSystem, AreColumns, AreOf}
 use Rattle.dual_check.specs.Constraints.{weighing_of, is_limit_of}

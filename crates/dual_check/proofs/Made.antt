@@ -15,9 +15,9 @@ use Rattle.domain_core.specs.declared.outline.NodeRow.{NodeRow}
 use Rattle.domain_core.specs.Outlines.{Shape, Outlined, shape_of, IsOutline}
 use Rattle.flow_facts.specs.declared.fact.Fact.{Fact}
 use Rattle.flow_facts.specs.declared.fact.Fact.TheVariants.{Loop, Count, Dead, Total, Pair, Alarm}
-use Rattle.path_rows.specs.Columns.{Column, edge_column, fault_column, has_alarm, nodes_of, columns_of}
-use Rattle.path_rows.specs.Weights.{Weighing, flow_row, loop_rows, dead_rows, total_rows, pair_rows, count_rows, most_pairs, weighings}
-use Rattle.path_rows.specs.Rows.{row_of, cost_of}
+use Rattle.ipet_rows.specs.Columns.{Column, edge_column, fault_column, has_alarm, nodes_of, columns_of}
+use Rattle.ipet_rows.specs.Weights.{Weighing, flow_row, loop_rows, dead_rows, total_rows, pair_rows, count_rows, most_pairs, weighings}
+use Rattle.ipet_rows.specs.Rows.{row_of, cost_of}
 use Rattle.dual_check.specs.declared.constraint.Constraint.{Constraint}
 use Rattle.dual_check.specs.declared.constraint.Constraint.TheVariants.{Flow}
 use Rattle.dual_check.specs.declared.group.Group.TheVariants.{Loops, Deads, Totals, Pairs, Counts}

@@ -4,11 +4,11 @@ use Rattle.std.specs.Prelude.{◌<ℤ◌, ◌*ℤ◌, ◌≤ℤ◌}
 use Rattle.std.proofs.lemmas.Int.{ints}
 use Rattle.domain_core.specs.Outlines.{Outlined, IsOutline, shape_of}
 use Rattle.flow_facts.specs.declared.fact.Fact.{Fact}
-use Rattle.path_rows.specs.Columns.{columns_of}
-use Rattle.path_rows.specs.Uses.{IsEnded, steps_of, column_counts, run_cost}
-use Rattle.path_rows.specs.Shaped.{FitOutline}
-use Rattle.path_rows.specs.Feasible.{MeetFacts, feasible, worth_cost}
-use Rattle.dual_rules.specs.Bounds.{BoundsAll}
+use Rattle.ipet_rows.specs.Columns.{columns_of}
+use Rattle.ipet_rows.specs.Uses.{IsEnded, steps_of, column_counts, run_cost}
+use Rattle.ipet_rows.specs.Shaped.{FitOutline}
+use Rattle.ipet_rows.specs.Feasible.{MeetFacts, feasible, worth_cost}
+use Rattle.ipet_rows.specs.Bounds.{BoundsAll}
 use Rattle.dual_check.specs.Openings.{costs_of, system_of}
 
 below_next : (cost v : ℕ) (z : ℤ) → z <ℤ (pos (suc v) *ℤ pos 1) → z ≡ pos cost → cost ≤ v

@@ -8,9 +8,9 @@ use Rattle.std.proofs.lemmas.List.{append-nil, append_assoc}
 use Rattle.std.proofs.lemmas.Bool.{eq-eqb, ne_eqb, cases_eq, ltb-true, ltb-false}
 use Rattle.lists.specs.Tests.{by_test}
 use Rattle.domain_core.specs.Outlines.{Shape}
-use Rattle.path_rows.specs.Columns.{Column}
-use Rattle.path_rows.specs.Rows.{vanishes, terms_from}
-use Rattle.path_rows.specs.SparseLaws.{weight_at}
+use Rattle.ipet_rows.specs.Columns.{Column}
+use Rattle.ipet_rows.specs.Rows.{vanishes, terms_from}
+use Rattle.ipet_rows.specs.PathSparseLaws.{weight_at}
 use Rattle.dual_check.specs.declared.constraint.Constraint.{Constraint}
 use Rattle.dual_check.specs.declared.constraint.Constraint.TheVariants.{Flow, Most, Least, Limit, Demand, Apart}
 use Rattle.dual_check.specs.Constraints.{weighing_of, node_of, second_node_of, third_node_of}

@@ -5,13 +5,13 @@ use Rattle.std.proofs.lemmas.Int.{ints}
 use Rattle.std.proofs.lemmas.List.{append-nil, append_assoc, get_or-set_same, get_or-set_other, length-set}
 use Rattle.std.proofs.lemmas.Bool.{cases_eq}
 use Rattle.lists.specs.Tests.{by_test}
-use Rattle.path_rows.specs.Sums.{coefficient, StartsAbove, IsAscending}
-use Rattle.path_rows.specs.Programs.{Row, IsWithin}
-use Rattle.path_rows.specs.Rows.{vanishes}
-use Rattle.path_rows.specs.SparseLaws.{AreSome}
-use Rattle.path_rows.specs.UseLaws.{vanish_is}
-use Rattle.dual_rules.specs.Sparse.{column_terms}
-use Rattle.dual_rules.specs.SumLaws.{term_here, term_elsewhere}
+use Rattle.ipet_rows.specs.Sums.{coefficient, StartsAbove, IsAscending}
+use Rattle.ipet_rows.specs.Programs.{Row, IsWithin}
+use Rattle.ipet_rows.specs.Rows.{vanishes}
+use Rattle.ipet_rows.specs.PathSparseLaws.{AreSome}
+use Rattle.ipet_rows.specs.UseLaws.{vanish_is}
+use Rattle.ipet_rows.specs.Sparse.{column_terms}
+use Rattle.ipet_rows.specs.SumLaws.{term_here, term_elsewhere}
 use Rattle.dual_check.specs.Terms.{term_if}
 use Rattle.dual_check.specs.Systems.{columns_from, AreColumns}
 

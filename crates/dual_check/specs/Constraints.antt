@@ -9,8 +9,8 @@ use Rattle.std.specs.List.{flat_map}
 use Rattle.domain_core.specs.Outlines.{Shape, header_of, is_held}
 use Rattle.flow_facts.specs.declared.fact.Fact.{Fact}
 use Rattle.flow_facts.specs.declared.fact.Fact.TheVariants.{Loop, Count, Dead, Total, Pair}
-use Rattle.path_rows.specs.Columns.{Column, nodes_of}
-use Rattle.path_rows.specs.Weights.{Weighing, one_if, leaves, enters, equal_to, at_most, most_pairs}
+use Rattle.ipet_rows.specs.Columns.{Column, nodes_of}
+use Rattle.ipet_rows.specs.Weights.{Weighing, one_if, leaves, enters, equal_to, at_most, most_pairs}
 use Rattle.dual_check.specs.declared.constraint.Constraint.{Constraint}
 use Rattle.dual_check.specs.declared.constraint.Constraint.TheVariants.{Flow, Most, Least, Limit, Demand, Apart}
 use Rattle.dual_check.specs.declared.group.Group.{Group}

@@ -10,8 +10,8 @@ use Rattle.std.specs.List.{flat_map, range_with_len}
 use Rattle.domain_core.specs.declared.outline.NodeRow.{NodeRow}
 use Rattle.domain_core.specs.Outlines.{Outlined, shape_of}
 use Rattle.flow_facts.specs.declared.fact.Fact.{Fact}
-use Rattle.path_rows.specs.Columns.{Column, columns_of}
-use Rattle.path_rows.specs.Rows.{row_of, cost_of, program_of}
+use Rattle.ipet_rows.specs.Columns.{Column, columns_of}
+use Rattle.ipet_rows.specs.Rows.{row_of, cost_of, program_of}
 use Rattle.dual_check.specs.declared.constraint.Constraint.{Constraint}
 use Rattle.dual_check.specs.Systems.{System}
 use Rattle.dual_check.specs.Constraints.{weighing_of, constraints_of, is_limit_of}

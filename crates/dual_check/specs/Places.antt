@@ -8,7 +8,7 @@
 --   AreTouching cs lists  the lists have them, by node
 --   terms_upto g n        what g has at 0 to n - 1, where that is not 0
 use Rattle.std.specs.Prelude.{◌≡◌, ◌==◌, ◌||◌, ◌+◌, ◌≤◌, nat_lt, ℕ, zero, suc, ℤ, Bool, false, List, [], ◌∷◌, ◌++◌, get_or, if◌then◌else◌}
-use Rattle.path_rows.specs.Columns.{Column}
+use Rattle.ipet_rows.specs.Columns.{Column}
 use Rattle.dual_check.specs.Terms.{term_if}
 
 -- the first number, or the limit if that is less

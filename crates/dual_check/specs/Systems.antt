@@ -5,10 +5,10 @@
 --   columns_from n e rows     the terms of columns e to e + n - 1, by column
 --   AreColumns n rows columns   the lists are the terms of columns 0 to n - 1
 use Rattle.std.specs.Prelude.{◌≡◌, ◌<◌, ◌^◌, ◌+◌, ℕ, zero, suc, ℤ, List, [], ◌∷◌, length}
-use Rattle.path_rows.specs.Sums.{IsAscending}
-use Rattle.path_rows.specs.Programs.{Row, Program, IsProgram, IsWithin, row_at}
-use Rattle.path_rows.specs.SparseLaws.{AreSome}
-use Rattle.dual_rules.specs.Sparse.{column_terms}
+use Rattle.ipet_rows.specs.Sums.{IsAscending}
+use Rattle.ipet_rows.specs.Programs.{Row, Program, IsProgram, IsWithin, row_at}
+use Rattle.ipet_rows.specs.PathSparseLaws.{AreSome}
+use Rattle.ipet_rows.specs.Sparse.{column_terms}
 
 -- the program, and for each opening a row and a column
 pub record System : Type 0 where

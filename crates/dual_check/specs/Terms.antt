@@ -3,8 +3,8 @@
 --   fault_if o n is      the fault column, if there is one
 --   AreFrom n columns    the columns lead from the first n nodes, and into them or to the end
 use Rattle.std.specs.Prelude.{◌<◌, ◌≤◌, ℕ, ℤ, Bool, true, List, [], ◌∷◌, if◌then◌else◌}
-use Rattle.path_rows.specs.Columns.{Column}
-use Rattle.path_rows.specs.Rows.{vanishes}
+use Rattle.ipet_rows.specs.Columns.{Column}
+use Rattle.ipet_rows.specs.Rows.{vanishes}
 
 -- the term of a number that is not 0
 abbrev pub term_if : ℕ → ℤ → List (ℕ × ℤ)

@@ -1,9 +1,9 @@
 //! The terms of rows, by columns.
 
 ghost use Rattle.std.specs.Prelude.{◌≡◌, ◌<◌, ◌++◌, ◌∷◌, ◌^◌, [], ℕ, OnOk, IfOk, length, get_or, slice_set};
-ghost use Rattle.path_rows.specs.Programs.{IsWithin};
-ghost use Rattle.path_rows.specs.Sums.{coefficient, IsAscending};
-ghost use Rattle.path_rows.specs.SparseLaws.{AreSome};
+ghost use Rattle.ipet_rows.specs.Programs.{IsWithin};
+ghost use Rattle.ipet_rows.specs.Sums.{coefficient, IsAscending};
+ghost use Rattle.ipet_rows.specs.PathSparseLaws.{AreSome};
 ghost use Rattle.dual_check.specs.Systems.{AreColumns, AreOf};
 ghost use Rattle.dual_check.specs.Terms.{term_if};
 

@@ -13,7 +13,7 @@ pub struct Column {
 }
 
 impl Model for Column {
-    ghost use Rattle.path_rows.specs.Columns.{Column};
+    ghost use Rattle.ipet_rows.specs.Columns.{Column};
 
     ghost Value = { Column };
 

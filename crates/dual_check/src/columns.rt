@@ -1,18 +1,18 @@
 //! The sums of the columns.
 
 ghost use Rattle.std.specs.Prelude.{◌≡◌, ◌<◌, ◌*ℤ◌, pos, length};
-ghost use Rattle.path_rows.specs.Programs.{IsWithin};
-ghost use Rattle.dual_rules.specs.Firsts.{first};
-ghost use Rattle.dual_rules.specs.Sparse.{summed_terms};
-ghost use Rattle.dual_rules.specs.Verdicts.{column_test as column_test_of, column_at};
+ghost use Rattle.ipet_rows.specs.Programs.{IsWithin};
+ghost use Rattle.ipet_rows.specs.Firsts.{first};
+ghost use Rattle.ipet_rows.specs.Sparse.{summed_terms};
+ghost use Rattle.ipet_rows.specs.Verdicts.{column_test as column_test_of, column_at};
 
 use crate::products::{multiplied, with_product};
 use crate::system::Rows;
-use dual_rules::Verdict;
+use ipet_rows::Verdict;
 use whole_numbers::Whole;
 
 /// The sum of the terms' products by their multipliers, or the first row at which it is wide.
-#[tactic(auto, using(dual_rules::specs::RowLaws::entry_there))]
+#[tactic(auto, using(ipet_rows::specs::DualRowLaws::entry_there))]
 fn column_sum(terms: &[(u32, i128)], multipliers: &[i128]) -> Result<Whole, u32>
     requires { IsWithin (length multipliers.now) terms.now }
     ensures { result ≡ summed_terms multipliers.now terms.now (pos 0) }

@@ -1,14 +1,14 @@
 //! Multipliers, and the test of them.
 
 ghost use Rattle.std.specs.Prelude.{◌≡◌, ◌<ℤ◌, pos, length};
-ghost use Rattle.dual_rules.specs.Verdicts.{verdict as verdict_of};
-ghost use Rattle.dual_rules.specs.Bounds.{BoundsAll, OnHolds};
+ghost use Rattle.ipet_rows.specs.Verdicts.{verdict as verdict_of};
+ghost use Rattle.ipet_rows.specs.Bounds.{BoundsAll, OnHolds};
 
 use crate::columns::wrong_column;
 use crate::right_sides::bound_verdict;
 use crate::signs::negative_row;
 use crate::system::Rows;
-use dual_rules::Verdict;
+use ipet_rows::Verdict;
 use whole_numbers::Whole;
 
 /// A scale, and a multiplier for each row.
@@ -21,7 +21,7 @@ pub struct Duals {
 }
 
 /// The first of the tests, in their order.
-#[tactic(auto, using(dual_rules::specs::VerdictLaws::verdict_first, dual_rules::specs::VerdictLaws::verdict_second, dual_rules::specs::VerdictLaws::verdict_last))]
+#[tactic(auto, using(ipet_rows::specs::VerdictLaws::verdict_first, ipet_rows::specs::VerdictLaws::verdict_second, ipet_rows::specs::VerdictLaws::verdict_last))]
 fn verdict_on(rows: &Rows, scale: Whole, multipliers: &[i128], bound: u64) -> Verdict
     requires multipliers { length multipliers.now ≡ length rows.now.program.rows }
     requires scale { pos 0 <ℤ scale }

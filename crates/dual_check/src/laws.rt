@@ -3,10 +3,10 @@
 ghost use Rattle.std.specs.Prelude.{◌≤◌, ℕ, Bool, List, ◌∷◌, reverse};
 ghost use Rattle.domain_core.specs.Outlines.{Outlined, IsOutline, shape_of};
 ghost use Rattle.flow_facts.specs.declared.fact.Fact.{Fact};
-ghost use Rattle.path_rows.specs.Uses.{IsEnded, run_cost};
-ghost use Rattle.path_rows.specs.Shaped.{FitOutline};
-ghost use Rattle.path_rows.specs.Feasible.{MeetFacts};
-ghost use Rattle.dual_rules.specs.Bounds.{BoundsAll};
+ghost use Rattle.ipet_rows.specs.Uses.{IsEnded, run_cost};
+ghost use Rattle.ipet_rows.specs.Shaped.{FitOutline};
+ghost use Rattle.ipet_rows.specs.Feasible.{MeetFacts};
+ghost use Rattle.ipet_rows.specs.Bounds.{BoundsAll};
 ghost use Rattle.dual_check.specs.Openings.{costs_of, system_of};
 
 /// Where the verdict on multipliers is `Holds`, each run that meets the facts costs at most the number

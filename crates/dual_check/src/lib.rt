@@ -1,6 +1,6 @@
 //! The linear program of an outline and a report's facts, by terms, and the test of multipliers on it.
 //!
-//! `rows` makes the program that `path_rows` defines; `verify` gives the verdict that `dual_rules`
+//! `rows` makes the program that `ipet_rows` defines; `verify` gives the verdict that `ipet_rows`
 //! defines. What a verdict promises, and that a run's counts are a point of the program, are laws of
 //! those two crates.
 #![tactic(auto)]
@@ -36,8 +36,8 @@ mod laws;
 
 pub use column::Column;
 pub use constraint::Constraint;
-pub use dual_rules::Verdict;
 pub use duals::{Duals, verify};
+pub use ipet_rows::Verdict;
 pub use laws::verdicts_bound_each_run;
 pub use system::Rows;
 pub use system_made::rows;

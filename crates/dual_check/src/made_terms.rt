@@ -2,7 +2,7 @@
 
 ghost use Rattle.std.specs.Prelude.{◌≡◌, ◌<◌, ◌++◌, ◌^◌, OnOk, IfOk, length};
 ghost use Rattle.domain_core.specs.Outlines.{shape_of};
-ghost use Rattle.path_rows.specs.Rows.{terms_from};
+ghost use Rattle.ipet_rows.specs.Rows.{terms_from};
 ghost use Rattle.dual_check.specs.Constraints.{weighing_of};
 ghost use Rattle.dual_check.specs.Places.{least_of, AreTouching};
 ghost use Rattle.dual_check.specs.Terms.{term_if, AreFrom};

@@ -3,7 +3,7 @@
 ghost use Rattle.std.specs.Prelude.{◌≡◌, ◌++◌, ◌==◌, map, OnOk, IfOk};
 ghost use Rattle.std.specs.List.{flat_map, range_with_len};
 ghost use Rattle.domain_core.specs.Outlines.{shape_of};
-ghost use Rattle.path_rows.specs.Columns.{edge_column, is_alarm_at as is_alarm_at_of, has_alarm as has_alarm_of, columns_of};
+ghost use Rattle.ipet_rows.specs.Columns.{edge_column, is_alarm_at as is_alarm_at_of, has_alarm as has_alarm_of, columns_of};
 ghost use Rattle.dual_check.specs.Terms.{fault_if};
 
 use crate::column::Column;

@@ -1,14 +1,14 @@
 //! Sums and products, each tested at 128 bits.
 
 ghost use Rattle.std.specs.Prelude.{◌≡◌, ◌<◌, ◌+ℤ◌, ◌*ℤ◌, length};
-ghost use Rattle.dual_rules.specs.Firsts.{entry};
-ghost use Rattle.dual_rules.specs.Verdicts.{summed};
+ghost use Rattle.ipet_rows.specs.Firsts.{entry};
+ghost use Rattle.ipet_rows.specs.Verdicts.{summed};
 ghost use Rattle.dual_check.specs.Fitting.{fitting};
 
 use whole_numbers::Whole;
 
 /// The multiplier of a row.
-#[tactic(auto, using(dual_rules::specs::RowLaws::entry_there))]
+#[tactic(auto, using(ipet_rows::specs::DualRowLaws::entry_there))]
 pub fn multiplier_of(multipliers: &[i128], row: u32) -> Whole
     requires { row < length multipliers.now }
     ensures { result ≡ entry multipliers.now row }

@@ -1,14 +1,14 @@
 //! The sum of the right sides.
 
 ghost use Rattle.std.specs.Prelude.{◌≡◌, ◌<◌, ◌<ℤ◌, pos, length, Some, None, MatchResult};
-ghost use Rattle.path_rows.specs.Sums.{total};
-ghost use Rattle.path_rows.specs.Programs.{row_at};
-ghost use Rattle.dual_rules.specs.Duals.{right_part};
-ghost use Rattle.dual_rules.specs.Verdicts.{first_wide, floor_of, bound_test as bound_test_of, right_verdict};
+ghost use Rattle.ipet_rows.specs.Sums.{total};
+ghost use Rattle.ipet_rows.specs.Programs.{row_at};
+ghost use Rattle.ipet_rows.specs.Duals.{right_part};
+ghost use Rattle.ipet_rows.specs.Verdicts.{first_wide, floor_of, bound_test as bound_test_of, right_verdict};
 
 use crate::products::{multiplier_of, with_product};
 use crate::system::Rows;
-use dual_rules::Verdict;
+use ipet_rows::Verdict;
 use whole_numbers::Whole;
 
 /// The right side of a row.

@@ -1,8 +1,8 @@
 //! A row by its terms.
 
 ghost use Rattle.std.specs.Prelude.{◌≡◌, ◌++◌, ◌∷◌, [], ℕ, ℤ, List, OnOk};
-ghost use Rattle.path_rows.specs.Programs.{Row};
-ghost use Rattle.path_rows.specs.Sums.{coefficient, IsAscending};
+ghost use Rattle.ipet_rows.specs.Programs.{Row};
+ghost use Rattle.ipet_rows.specs.Sums.{coefficient, IsAscending};
 
 use std::alloc::{AllocError, Global};
 use std::marker::Model;
@@ -63,7 +63,7 @@ impl ColumnTerms {
 }
 
 /// What the terms have at the column. Takes time linear in the terms.
-#[tactic(auto, using(dual_rules::specs::RowLaws::found_here, dual_rules::specs::RowLaws::found_later))]
+#[tactic(auto, using(ipet_rows::specs::DualRowLaws::found_here, ipet_rows::specs::DualRowLaws::found_later))]
 pub fn coefficient_in(terms: &[(u32, i128)], column: u32) -> i128
     requires { IsAscending terms.now }
     ensures { result ≡ coefficient terms.now column }

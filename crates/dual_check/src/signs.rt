@@ -1,11 +1,11 @@
 //! The signs of multipliers.
 
 ghost use Rattle.std.specs.Prelude.{◌≡◌, ◌<◌, length};
-ghost use Rattle.dual_rules.specs.Firsts.{first};
-ghost use Rattle.dual_rules.specs.Verdicts.{sign_test as sign_test_of, sign_at};
+ghost use Rattle.ipet_rows.specs.Firsts.{first};
+ghost use Rattle.ipet_rows.specs.Verdicts.{sign_test as sign_test_of, sign_at};
 
 use crate::system::Rows;
-use dual_rules::Verdict;
+use ipet_rows::Verdict;
 
 /// The test of one multiplier.
 fn sign_test(row: u32, equation: bool, multiplier: i128) -> Option<Verdict>
@@ -19,7 +19,7 @@ fn sign_test(row: u32, equation: bool, multiplier: i128) -> Option<Verdict>
 }
 
 /// The verdict on the multiplier of a row.
-#[tactic(auto, using(dual_rules::specs::RowLaws::entry_there))]
+#[tactic(auto, using(ipet_rows::specs::DualRowLaws::entry_there))]
 fn sign_verdict(rows: &Rows, multipliers: &[i128], row: u32) -> Option<Verdict>
     requires multipliers { length multipliers.now ≡ length rows.now.program.rows }
     requires row { row < length rows.now.program.rows }

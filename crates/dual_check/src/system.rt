@@ -1,9 +1,9 @@
 //! A linear program as a cost for each column and rows by terms, and the same terms by columns.
 
 ghost use Rattle.std.specs.Prelude.{◌≡◌, ◌<◌, length, slice_get, Some};
-ghost use Rattle.path_rows.specs.Programs.{row_at, cost_at};
-ghost use Rattle.path_rows.specs.Sums.{coefficient, IsAscending};
-ghost use Rattle.dual_rules.specs.Sparse.{column_terms};
+ghost use Rattle.ipet_rows.specs.Programs.{row_at, cost_at};
+ghost use Rattle.ipet_rows.specs.Sums.{coefficient, IsAscending};
+ghost use Rattle.ipet_rows.specs.Sparse.{column_terms};
 ghost use Rattle.dual_check.specs.Systems.{IsSystem};
 
 use crate::row::{ColumnTerms, RowTerms, coefficient_in};
@@ -52,7 +52,7 @@ impl Rows {
     }
 
     /// The cost of a column.
-    #[tactic(auto, using(dual_rules::specs::RowLaws::cost_there))]
+    #[tactic(auto, using(ipet_rows::specs::DualRowLaws::cost_there))]
     pub fn cost(&self, column: u32) -> u32
         requires { column < length self.now.program.costs }
         ensures { result ≡ cost_at self.now.program.costs column }
@@ -61,7 +61,7 @@ impl Rows {
     }
 
     /// A row.
-    #[tactic(auto, using(dual_rules::specs::RowLaws::row_there))]
+    #[tactic(auto, using(ipet_rows::specs::DualRowLaws::row_there))]
     pub(crate) fn row(&self, row: u32) -> &RowTerms
         requires { row < length self.now.program.rows }
         ensures value { result.now ≡ row_at self.now.program.rows row }

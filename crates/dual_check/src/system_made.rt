@@ -3,7 +3,7 @@
 ghost use Rattle.std.specs.Prelude.{◌≡◌, ◌==◌, ◌<◌, ◌++◌, ◌^◌, ◌↔◌, IsTrue, map, All, OnOk, IfOk, length};
 ghost use Rattle.domain_core.specs.Outlines.{shape_of};
 ghost use Rattle.flow_facts.specs.Facts.{IsAbout};
-ghost use Rattle.path_rows.specs.Rows.{row_of, cost_of};
+ghost use Rattle.ipet_rows.specs.Rows.{row_of, cost_of};
 ghost use Rattle.dual_check.specs.Constraints.{weighing_of, is_limit_of};
 ghost use Rattle.dual_check.specs.Places.{AreTouching};
 ghost use Rattle.dual_check.specs.Terms.{AreFrom};

@@ -12,11 +12,11 @@ use exec_toys::{Chart, Fork, Silent, Span, Way};
 use flow_base::{Sink, StdSink};
 use flow_graph::Graph;
 use flow_recorders::{Both, Loops, Totals};
-use pool_events::Policy;
 use scope_graph::outline;
 use std::alloc::{AllocError, Global};
 use std::env;
 use std::process::ExitCode;
+use worklist_rules::Policy;
 
 // A program with a loop. Node 2 is its test, node 3 its body, and node 4 stands after it.
 const LOOP: &str =

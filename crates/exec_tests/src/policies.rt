@@ -12,9 +12,9 @@ use crate::told::{Numbers, add_book, add_explored, add_nodes};
 use abstract_exec::Pool;
 use domain_core::Outline;
 use exec_toys::{Chart, Silent};
-use pool_events::Policy;
 use std::alloc::Global;
 use std::test::Fail;
+use worklist_rules::Policy;
 
 // The items of a program, its flow chart, the numbers at the start, the policy and the turns; and then how
 // the exploration ends, what the books tell of nodes and of scopes, and which nodes were stepped.

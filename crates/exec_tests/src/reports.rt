@@ -12,12 +12,12 @@ use crate::sketch::outline_of;
 use abstract_exec::{Explored, Pool};
 use domain_core::Outline;
 use exec_toys::Chart;
-use fact_printer::print;
+use fact_words::print;
 use flow_reports::{FourRecorders, report};
-use pool_events::{Policy, a_pool_has_one_policy_run};
+use report_soundness::numbers_are_at_most_the_steps;
 use std::alloc::Global;
 use std::test::Fail;
-use told_reports::numbers_are_at_most_the_steps;
+use worklist_rules::{Policy, a_pool_has_one_policy_run};
 
 // The items of a program, its flow chart, the numbers at the start, the policy and the turns.
 const LOOP_APART: &str = "; @A ?C |B @B ; ^A @C . | 1 2 1?4:3 2-1 5 | 0..10 | none | 34";

@@ -1,7 +1,7 @@
 //! What a pool and its books tell, as text.
 
 ghost use Rattle.std.specs.Prelude.{◌≡◌, length};
-ghost use Rattle.run_recordings.specs.LoopRules.{loop_tally};
+ghost use Rattle.recorder_rules.specs.LoopRules.{loop_tally};
 ghost use Rattle.abstract_exec.specs.Explorations.{IsPool};
 
 use abstract_exec::{Explored, Pool};

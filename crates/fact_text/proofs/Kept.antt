@@ -16,14 +16,14 @@ use Rattle.grammar.specs.Exact.{ok_is, ok_no_err}
 use Rattle.grammar.specs.Each.{Each}
 use Rattle.grammar.specs.Keeping.{Any, ◌>>-◌, done, stays, keeps, weakened, one_passes, judged_stays, refused_stays, row_stays, maybe_stays}
 use Rattle.grammar.specs.Keeping
-use Rattle.grammar_chains.specs.Chain.{InTurn, grow}
+use Rattle.grammar.specs.Chain.{InTurn, grow}
 use Rattle.domain_core.specs.declared.outline.ScopeRow.{ScopeRow}
 use Rattle.flow_facts.specs.declared.fact.Fact.{Fact}
 use Rattle.flow_facts.specs.declared.fact.Fact.TheVariants.{Loop, Count, Dead, Total, Pair, Alarm}
 use Rattle.flow_facts.specs.declared.report.BoundWord.{BoundWord}
 use Rattle.flow_facts.specs.Reports.{NamedNode, Certificate, Reported}
 use Rattle.flow_facts.specs.Writable.{IsNumber, IsNodeName, kind_place, numbers_of, IsBefore, NodeIsWritable, ScopeIsWritable, EventIsWritable, FactIsWritable, IsLong, IsScale, CertificateIsWritable, IsWritable}
-use Rattle.fact_tokens.specs.Tokens.{Lexeme}
+use Rattle.fact_words.specs.Tokens.{Lexeme}
 use Rattle.fact_words.specs.Numbers.{Fault, Syntax, number_within, whole_within, is_positive}
 use Rattle.fact_words.specs.DigitLaws.{within_bounds, whole_bounds}
 use Rattle.fact_words.specs.NameLaws.{node_name_is}

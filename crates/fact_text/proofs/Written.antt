@@ -18,7 +18,7 @@ use Rattle.grammar.specs.Form.{bound}
 use Rattle.grammar.specs.Exact.{ok_is}
 use Rattle.grammar.specs.Rule.{maybe}
 use Rattle.grammar.specs.Writing.{Printing, tokens, place, never, Writes, reads_spells, ◌then◌, until, as_value, grouped, same_row}
-use Rattle.grammar_chains.specs.Chain.{InTurn, grow}
+use Rattle.grammar.specs.Chain.{InTurn, grow}
 use Rattle.alf_ops.specs.declared.history.RunFault.{RunFault}
 use Rattle.alf_ops.specs.declared.history.RunFault.TheVariants as causes
 use Rattle.domain_core.specs.declared.event.Event.{Event}
@@ -33,11 +33,11 @@ use Rattle.flow_facts.specs.declared.report.BoundWord.TheVariants.{Least, Stoppe
 use Rattle.flow_facts.specs.Reports.{NamedNode, Certificate, Reported}
 use Rattle.flow_facts.specs.Writable.{IsNumber, IsNodeName, kind_place, numbers_of, IsBefore, NodeIsWritable, ScopeIsWritable, EventIsWritable, FactIsWritable, IsLong, IsScale, CertificateIsWritable, IsWritable}
 use Rattle.lists.specs.Tests.{by_test}
-use Rattle.fact_tokens.specs.Tokens.{Lexeme, tokens_of}
-use Rattle.fact_tokens.specs.Laws.{EachPrintedTextIsCut}
-use Rattle.fact_tokens.specs.Printed.{Mark, is_word, is_mark, token_before, tokens_before}
-use Rattle.fact_printer.specs.Canonical.{a_word, a_number, a_whole, node_marks, nodes_marks, parent_mark, scope_word, scope_marks, scopes_marks, fault_word, fact_marks, count_bound_marks, path_bound_marks, event_marks, scale_marks, multiplier_marks, cert_marks, if_any, heading_marks, lists_marks, ending_marks, tail_marks, report_marks, report_text}
-use Rattle.fact_printer.specs.Canonical as marks
+use Rattle.fact_words.specs.Tokens.{Lexeme, tokens_of}
+use Rattle.fact_words.specs.Laws.{EachPrintedTextIsCut}
+use Rattle.fact_words.specs.Printed.{Mark, is_word, is_mark, token_before, tokens_before}
+use Rattle.fact_words.specs.Canonical.{a_word, a_number, a_whole, node_marks, nodes_marks, parent_mark, scope_word, scope_marks, scopes_marks, fault_word, fact_marks, count_bound_marks, path_bound_marks, event_marks, scale_marks, multiplier_marks, cert_marks, if_any, heading_marks, lists_marks, ending_marks, tail_marks, report_marks, report_text}
+use Rattle.fact_words.specs.Canonical as marks
 use Rattle.fact_words.specs.Numbers.{Fault, number_within, whole_within, is_positive}
 use Rattle.fact_text.specs.Grammar.{Place, Rule, line_word, next_word, told, begins, number, count, whole, line_is, heading, numbered, name, node, next_node, node_begins, parent, scope_kind, scope, next_scope, scope_begins, place_of_word, fact_begins, last_place, bounds, loop_fact, count_fact, dead_fact, total_fact, pair_fact, cause, alarm_fact, fact_tail, follows, fact, stands_before, last_of, next_fact, count_bound, path_bound, event_begins, step, merge, event_tail, event, scale, multiplier, cert, ending, lists, tail, report}
 use Rattle.fact_words.specs.DigitLaws.{decimal_within, decimal_word, positive_within, negative_within, negative_word, decimal_one, decimal_two, decimal_is}

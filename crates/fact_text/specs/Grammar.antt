@@ -10,7 +10,7 @@ use Rattle.std.specs.Ordering.{nat_cmp, is_lt}
 use Rattle.grammar.specs.Form.{At, first, and_then}
 use Rattle.grammar.specs.Rule.{token, judge, refuse, value, ◌>>=◌, ◌>>◌, many, maybe}
 use Rattle.grammar.specs.Rule as rules
-use Rattle.grammar_chains.specs.Chain.{grow}
+use Rattle.grammar.specs.Chain.{grow}
 use Rattle.alf_ops.specs.declared.history.RunFault.{RunFault}
 use Rattle.alf_ops.specs.declared.history.RunFault.TheVariants as causes
 use Rattle.domain_core.specs.declared.event.Event.{Event}
@@ -24,7 +24,7 @@ use Rattle.flow_facts.specs.declared.report.BoundWord.{BoundWord}
 use Rattle.flow_facts.specs.declared.report.BoundWord.TheVariants.{Least, Stopped}
 use Rattle.flow_facts.specs.Reports.{NamedNode, Certificate, Reported}
 use Rattle.flow_facts.specs.Writable.{kind_place, numbers_of}
-use Rattle.fact_tokens.specs.Tokens.{Lexeme}
+use Rattle.fact_words.specs.Tokens.{Lexeme}
 use Rattle.fact_words.specs.Numbers.{Fault, Syntax, number_within, whole_within, is_positive}
 use Rattle.fact_words.specs.Names.{is_node_name}
 

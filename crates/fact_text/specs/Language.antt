@@ -11,7 +11,7 @@ use Rattle.std.specs.Prelude.{◌≡◌, ◌+◌, ◌-◌, ◌==◌, ℕ, not, B
 use Rattle.std.specs.List.{prefix_len}
 use Rattle.flow_base.specs.declared.place.Place.{Place}
 use Rattle.flow_facts.specs.Reports.{Reported}
-use Rattle.fact_tokens.specs.Tokens.{tokens_of}
+use Rattle.fact_words.specs.Tokens.{tokens_of}
 use Rattle.fact_words.specs.declared.fault.FaultAt.{FaultAt}
 use Rattle.fact_words.specs.Numbers.{DepartureAt, Fault, Syntax, Number}
 use Rattle.fact_words.specs.Answers.{departure_in}

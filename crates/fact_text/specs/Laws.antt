@@ -5,7 +5,7 @@
 use Rattle.std.specs.Prelude.{◌≡◌, ◌↔◌}
 use Rattle.flow_facts.specs.Reports.{Reported}
 use Rattle.flow_facts.specs.Writable.{IsWritable}
-use Rattle.fact_printer.specs.Canonical.{report_text}
+use Rattle.fact_words.specs.Canonical.{report_text}
 use Rattle.fact_text.specs.Language.{SpellsReport, IsSpelled}
 
 abbrev pub SpelledWhereWritable : Type 0

@@ -5,8 +5,8 @@
 use Rattle.std.specs.Prelude.{ℕ, Bool, Result}
 use Rattle.grammar.specs.Reading.{Reading}
 use Rattle.grammar.specs.Reading as reading
-use Rattle.fact_tokens.specs.Tokens.{Lexeme}
-use Rattle.fact_tokens.specs.Ahead.{ahead}
+use Rattle.fact_words.specs.Tokens.{Lexeme}
+use Rattle.fact_words.specs.Ahead.{ahead}
 use Rattle.fact_words.specs.declared.fault.FaultAt.{FaultAt}
 use Rattle.fact_text.specs.declared.reader.Reader.{Reader}
 use Rattle.fact_words.specs.Numbers.{Fault}

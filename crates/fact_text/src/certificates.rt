@@ -3,15 +3,14 @@
 ghost use Rattle.std.specs.Prelude.{◌≡◌, codes};
 ghost use Rattle.grammar.specs.Rule.{many};
 ghost use Rattle.flow_facts.specs.Reports.{certificate_of};
-ghost use Rattle.fact_tokens.specs.Ahead.{lexeme};
+ghost use Rattle.fact_words.specs.Ahead.{lexeme};
 ghost use Rattle.fact_text.specs.Grammar.{event_begins, step, merge, event_tail, event, scale, line_is, multiplier, cert};
 ghost use Rattle.fact_text.specs.Reading.{position, Reads};
 
 use crate::parts::{Events, Multipliers};
 use crate::reader::Reader;
 use domain_core::Event;
-use fact_tokens::Token;
-use fact_words::{Departure, is_positive, whole_within};
+use fact_words::{Departure, Token, is_positive, whole_within};
 use flow_facts::Cert;
 use grammar::many;
 

@@ -2,7 +2,7 @@
 
 ghost use Rattle.fact_text.specs.Laws.{SpelledWhereWritable, ReportTextsSpell, ReportsHaveOwnTexts};
 
-use fact_tokens::printed_texts_are_cut;
+use fact_words::printed_texts_are_cut;
 
 /// Some text spells a report exactly where the report is writable, a condition on reports alone.
 /// Then its own text does.

@@ -3,7 +3,7 @@
 ghost use Rattle.std.specs.Prelude.{◌≡◌, IfOk};
 ghost use Rattle.flow_facts.specs.Reports.{reported};
 ghost use Rattle.flow_facts.specs.Writable.{IsWritable};
-ghost use Rattle.fact_printer.specs.Canonical.{report_text};
+ghost use Rattle.fact_words.specs.Canonical.{report_text};
 ghost use Rattle.fact_text.specs.Language.{SpellsReport};
 
 use crate::laws::writable_reports_are_spelled;
@@ -22,6 +22,6 @@ pub fn print(alloc: Global, report: &Report) -> Result<Vec<u8>, AllocError>
         → IfOk result (λ text. SpellsReport text.items (reported report.now)) }
 {
     writable_reports_are_spelled();
-    let text = fact_printer::print(alloc, report)?;
+    let text = fact_words::print(alloc, report)?;
     Ok(text)
 }

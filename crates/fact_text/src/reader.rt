@@ -3,14 +3,13 @@
 ghost use Rattle.std.specs.Prelude.{◌≡◌, ◌≤◌, ◌<◌, ◌-◌, None, Some, IfOk, IfErr};
 ghost use Rattle.std.specs.Option.{option_map};
 ghost use Rattle.grammar.specs.Form.{first, after};
-ghost use Rattle.fact_tokens.specs.Ahead.{lexeme};
+ghost use Rattle.fact_words.specs.Ahead.{lexeme};
 ghost use Rattle.fact_words.specs.declared.fault.FaultAt.TheVariants.{Syntax};
 ghost use Rattle.fact_text.specs.Language.{start};
 ghost use Rattle.fact_text.specs.Grammar.{line_is, line_word, next_word, begins, number, count, whole};
 ghost use Rattle.fact_text.specs.Reading.{position, Reads};
 
-use fact_tokens::{Cursor, Token};
-use fact_words::{Departure, number_within, whole_within};
+use fact_words::{Cursor, Departure, Token, number_within, whole_within};
 use std::alloc::Global;
 
 /// A place in a text.

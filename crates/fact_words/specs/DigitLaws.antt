@@ -12,7 +12,7 @@ use Rattle.flow_base.specs.Digits.{prefix_digits, number_after, number_of}
 use Rattle.grammar.specs.Form.{and_then}
 use Rattle.grammar.specs.Exact.{ok_is, ok_no_err}
 use Rattle.flow_facts.specs.Writable.{IsLong}
-use Rattle.fact_tokens.specs.Printed.{goes_through, is_word}
+use Rattle.fact_words.specs.Printed.{goes_through, is_word}
 use Rattle.fact_words.specs.Numbers.{Fault, Syntax, Number, is_numeral, has_zeros, number_within, is_below, after_minus, negative, whole_within}
 
 -- all of them are the longest list of digits

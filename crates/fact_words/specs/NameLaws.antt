@@ -11,7 +11,7 @@ use Rattle.std.proofs.lemmas.List.Elements.{All-head, All-tail, All-nil, All-con
 use Rattle.lists.specs.Tests.{by_test}
 use Rattle.flow_base.specs.Digits.{number_of}
 use Rattle.flow_facts.specs.Writable.{IsNumber, IsNameByte, IsName, quoted, IsPathName, of_root, of_call, IsNodeName, of_entry, of_block}
-use Rattle.fact_tokens.specs.Printed.{goes_through, is_word}
+use Rattle.fact_words.specs.Printed.{goes_through, is_word}
 use Rattle.fact_words.specs.Numbers.{is_numeral, has_zeros}
 use Rattle.fact_words.specs.Names.{with_first, parts_of, is_name_byte, is_name, is_block, is_call, is_end, is_over, fits_parts, begins_quoted, is_node_name}
 use Rattle.fact_words.specs.DigitLaws.{decimal_of, decimal_is, decimal_goes}

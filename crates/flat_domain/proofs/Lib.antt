@@ -1,1 +1,4 @@
+-- The files of this folder.
 mod Operands
+mod Fitting
+mod Written

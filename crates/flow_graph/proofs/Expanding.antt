@@ -12,7 +12,7 @@ use Rattle.std.proofs.lemmas.Bool.{cases_lt}
 use Rattle.std.proofs.lemmas.List.Elements.{All-contains}
 use Rattle.std.proofs.lemmas.Option.{same_Some, slice_get-get_or, slice_get_within, get_or_from_slice_get, slice_get-map}
 use Rattle.lists.specs.Members.{placed}
-use Rattle.walks.specs.Walks.{Reaches, stays, goes_on}
+use Rattle.graph_walks.specs.Walks.{Reaches, stays, goes_on}
 use Rattle.alf_check.specs.CheckedPrograms.{NumberedProgram, BlockEnding, Fall, Jump, Switch, Call, Return}
 use Rattle.alf_check.specs.Kept.{IsKept}
 use Rattle.flow_graph.specs.Nodes.{Node, Goal, IsKeptNode, first, entry_node, block_node, first_node, ending_at, function_at, Leads, PlaceLeads, EndLeads, ReturnLeads, BackLeads}

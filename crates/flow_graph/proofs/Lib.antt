@@ -1,3 +1,4 @@
+-- The files of this folder.
 pub mod Order
 pub mod Among
 pub mod Targets

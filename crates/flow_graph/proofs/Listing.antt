@@ -18,7 +18,7 @@ use Rattle.std.proofs.lemmas.List.{length-take-le, get_or-take}
 use Rattle.std.proofs.lemmas.List.Elements.{Contains-append_left, Contains-push, Contains-push_cases, Contains-get_or, All-contains}
 use Rattle.std.proofs.lemmas.List.Quantifiers.{all_pairs_push}
 use Rattle.lists.specs.Members.{no_member, all_members}
-use Rattle.walks.specs.ListLaws.{same_default}
+use Rattle.graph_walks.specs.ListLaws.{same_default}
 use Rattle.alf_check.specs.CheckedPrograms.{NumberedProgram}
 use Rattle.flow_graph.specs.Nodes.{Node, Goal, Leads}
 use Rattle.flow_graph.specs.Numbering.{block_rank, IsBefore, IsNumberOf, IsStep, IsEdgeBefore, IsEdges}

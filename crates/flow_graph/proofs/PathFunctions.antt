@@ -6,7 +6,7 @@ use Rattle.std.proofs.lemmas.List.Elements.{All-nil, All-cons}
 use Rattle.std.proofs.lemmas.List.Kept.{AllPairs-cons}
 use Rattle.alf_check.specs.CheckedPrograms.{NumberedProgram, Call, rank_of}
 use Rattle.alf_check.specs.Kept.{IsKept}
-use Rattle.walks.specs.Walks.{IsDistinct}
+use Rattle.graph_walks.specs.Walks.{IsDistinct}
 use Rattle.flow_graph.specs.Nodes.{callee_of, function_at}
 use Rattle.flow_graph.specs.Paths.{IsCallPath, functions_on}
 use Rattle.flow_graph.specs.PathLaws.{ending_keeps, path_low}

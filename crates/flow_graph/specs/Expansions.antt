@@ -6,7 +6,7 @@
 --   HasPlace program node      its path is one of calls, its block is there, and the functions on the path differ
 --   IsExpansion program graph  what the graph of a program keeps
 use Rattle.std.specs.Prelude.{◌≡◌, ◌≢◌, ◌<◌, ◌≤◌, ℕ, [], ◌∷◌, length, Option, None, Some, Contains, AllPairs, slice_get, slice_index_or}
-use Rattle.walks.specs.Walks.{Reaches, IsDistinct}
+use Rattle.graph_walks.specs.Walks.{Reaches, IsDistinct}
 use Rattle.alf_program.specs.Tree.{NumberedExpression}
 use Rattle.alf_check.specs.CheckedPrograms.{NumberedProgram, Return}
 use Rattle.flow_graph.specs.Nodes.{Node, Leads, ending_at, function_at, first_node}

@@ -1,3 +1,4 @@
+-- The files of this folder.
 pub mod Nodes
 pub mod Names
 pub mod Numbering
@@ -10,3 +11,6 @@ pub mod Growing
 pub mod Listing
 pub mod Graphs
 pub mod Expansions
+-- The files here, each after those that it cites.
+pub mod Edges
+pub mod EdgeLaws

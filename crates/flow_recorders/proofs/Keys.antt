@@ -4,9 +4,9 @@
 --   counted_own, counted_self   a counted node's keys are its own scope and itself
 use Rattle.std.proofs.Common.{◌≡◌, ◌<◌, ℕ, List, Option, None, Some, Bool, true, false, cond, length, sym, ap, ◌∙◌}
 use Rattle.domain_core.specs.Outlines.{Shape}
-use Rattle.run_recordings.specs.Generated.{generated, length-generated}
-use Rattle.run_recordings.specs.TallyRules.{key_at, is_at}
-use Rattle.run_recordings.specs.LoopRules.{key_low, is_counted, own_of, counted_scope, counted_node}
+use Rattle.recorder_rules.specs.Generated.{generated, length-generated}
+use Rattle.recorder_rules.specs.TallyRules.{key_at, is_at}
+use Rattle.recorder_rules.specs.LoopRules.{key_low, is_counted, own_of, counted_scope, counted_node}
 use Rattle.flow_recorders.specs.Chained.{KeysBelow}
 
 -- keys that are given one by one

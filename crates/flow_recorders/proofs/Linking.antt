@@ -6,8 +6,8 @@ use Rattle.std.proofs.Common.{◌≡◌, ◌≢◌, ◌<◌, ◌≤◌, ◌+◌,
 use Rattle.std.proofs.Math.ListN.{length-set}
 use Rattle.std.proofs.lemmas.List.{get_or-set_same, get_or-set_other}
 use Rattle.std.proofs.lemmas.Bool.{ne_eqb, eqb-true, eq-eqb}
-use Rattle.run_recordings.specs.SpanLaws.{same_or_not}
-use Rattle.run_recordings.specs.TallyRules.{key_at, is_at}
+use Rattle.recorder_rules.specs.SpanLaws.{same_or_not}
+use Rattle.recorder_rules.specs.TallyRules.{key_at, is_at}
 use Rattle.flow_recorders.specs.Chained.{IsNext, KeysBelow, IsChainedFrom, linked_first, linked_next}
 
 -- the next number of a key, from one number further down whose key is another

@@ -1,7 +1,7 @@
 -- Turns of the loops over spans.
 use Rattle.std.proofs.Common.{◌≡◌, ℕ, ◌+◌, List, [], ◌∷◌, ◌++◌, get_or, sym, ap, ◌∙◌, add-one}
-use Rattle.run_recordings.specs.Generated.{generated, generated-suc}
-use Rattle.run_recordings.specs.Spans.{span_of}
+use Rattle.recorder_rules.specs.Generated.{generated, generated-suc}
+use Rattle.recorder_rules.specs.Spans.{span_of}
 
 -- the spans around those of both, one more
 pub spans_more : (found a b : List (ℕ × ℕ)) (i : ℕ) → found ≡ generated i (λ j. span_of (get_or a j (0, 0)) (get_or b j (0, 0)))

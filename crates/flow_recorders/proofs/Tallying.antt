@@ -8,11 +8,11 @@ use Rattle.std.specs.List.{list_any}
 use Rattle.lists.specs.Tests.{by_test}
 use Rattle.domain_core.specs.Outlines.{Shape, scopes_from, scopes_around}
 use Rattle.domain_core.specs.OutlineLaws.{member_found, found_member, in_reverse, of_reverse}
-use Rattle.run_recordings.specs.Generated.{generated_is}
-use Rattle.run_recordings.specs.Spans.{one_more, greatest}
-use Rattle.run_recordings.specs.SpanLaws.{below_greatest, greatest_least}
-use Rattle.run_recordings.specs.TotalRules.{span_at, spread_at}
-use Rattle.run_recordings.specs.TallyRules.{Tally, Ledger, key_at, is_at, is_left, leaves, is_within, span_after, spread_after, spans_gone, spreads_gone, spreads_ended}
+use Rattle.recorder_rules.specs.Generated.{generated_is}
+use Rattle.recorder_rules.specs.Spans.{one_more, greatest}
+use Rattle.recorder_rules.specs.SpanLaws.{below_greatest, greatest_least}
+use Rattle.recorder_rules.specs.TotalRules.{span_at, spread_at}
+use Rattle.recorder_rules.specs.TallyRules.{Tally, Ledger, key_at, is_at, is_left, leaves, is_within, span_after, spread_after, spans_gone, spreads_gone, spreads_ended}
 use Rattle.flow_recorders.specs.Walked.{AreChanged}
 use Rattle.flow_recorders.specs.Ledgers.{IsLedger}
 

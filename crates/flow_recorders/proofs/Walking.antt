@@ -7,8 +7,8 @@ use Rattle.std.proofs.Common.{◌≡◌, ◌≢◌, ◌<◌, ◌≤◌, ◌+◌,
 use Rattle.std.specs.List.{list_any}
 use Rattle.std.proofs.Math.ListN.{length-set}
 use Rattle.std.proofs.lemmas.List.{get_or-set_same, get_or-set_other}
-use Rattle.run_recordings.specs.SpanLaws.{same_or_not, low_or_over, collected_twice}
-use Rattle.run_recordings.specs.TallyRules.{key_at, is_at, spread_after}
+use Rattle.recorder_rules.specs.SpanLaws.{same_or_not, low_or_over, collected_twice}
+use Rattle.recorder_rules.specs.TallyRules.{key_at, is_at, spread_after}
 use Rattle.flow_recorders.specs.Chained.{IsNext}
 use Rattle.flow_recorders.specs.Walked.{IsWalked, AreChanged}
 

@@ -5,7 +5,7 @@
 --   IsChained keys first next         all numbers
 --   linked_first, linked_next         the number i put before the others of its key
 use Rattle.std.specs.Prelude.{◌≡◌, ◌<◌, ◌≤◌, ◌+◌, ℕ, List, Option, None, Some, true, false, length, slice_index, slice_set}
-use Rattle.run_recordings.specs.TallyRules.{key_at, is_at}
+use Rattle.recorder_rules.specs.TallyRules.{key_at, is_at}
 
 -- the least number from one on that has the key, or the length
 pub record IsNext (keys : List (Option ℕ)) (k start j : ℕ) : Type 0 where

@@ -1,3 +1,5 @@
+-- The files of this folder.
+pub mod Climbs
 pub mod BothRules
 pub mod BothLaws
 pub mod Chained

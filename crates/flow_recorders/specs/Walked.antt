@@ -2,7 +2,7 @@
 --   IsWalked keys k f d old now i    below i each number with the key has its new value, and all others are as they were
 --   AreChanged keys k f d old now    all numbers with the key have theirs
 use Rattle.std.specs.Prelude.{◌≡◌, ◌<◌, ◌≤◌, ℕ, List, Option, true, length, slice_index_or, if◌then◌else◌}
-use Rattle.run_recordings.specs.TallyRules.{key_at, is_at}
+use Rattle.recorder_rules.specs.TallyRules.{key_at, is_at}
 
 pub record IsWalked {A : Type 0} (keys : List (Option ℕ)) (k : ℕ) (f : ℕ → A) (d : A) (old new : List A) (i : ℕ) : Type 0 where
   pub same_length : length new ≡ length old

@@ -2,9 +2,9 @@
 
 ghost use Rattle.std.specs.Prelude.{◌≡◌, ◌<◌, length, IfOk, Some, Option, if◌then◌else◌};
 ghost use Rattle.domain_core.specs.Outlines.{shape_of, header_of};
-ghost use Rattle.run_recordings.specs.Generated.{generated};
-ghost use Rattle.run_recordings.specs.TallyRules.{key_at, is_at};
-ghost use Rattle.run_recordings.specs.LoopRules.{is_counted, counted_node, counted_scope, own_of};
+ghost use Rattle.recorder_rules.specs.Generated.{generated};
+ghost use Rattle.recorder_rules.specs.TallyRules.{key_at, is_at};
+ghost use Rattle.recorder_rules.specs.LoopRules.{is_counted, counted_node, counted_scope, own_of};
 
 use domain_core::{Outline, ScopeKind};
 use std::alloc::{AllocError, Global};

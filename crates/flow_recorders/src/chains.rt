@@ -1,7 +1,7 @@
 //! The numbers that have a key, from one to the next.
 
 ghost use Rattle.std.specs.Prelude.{◌≡◌, ℕ, ◌+◌, ◌-◌, ◌^◌, ◌<◌, length, Some, IfOk, true, slice_index};
-ghost use Rattle.run_recordings.specs.TallyRules.{key_at, is_at};
+ghost use Rattle.recorder_rules.specs.TallyRules.{key_at, is_at};
 ghost use Rattle.flow_recorders.specs.Chained.{IsNext, KeysBelow, IsChainedFrom, linked_first, linked_next};
 
 use std::alloc::{AllocError, Global};

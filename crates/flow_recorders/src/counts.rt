@@ -32,7 +32,7 @@ pub struct CountsBook {
 }
 
 impl Model for CountsBook {
-    ghost use Rattle.run_recordings.specs.TallyRules.{Ledger};
+    ghost use Rattle.recorder_rules.specs.TallyRules.{Ledger};
 
     ghost Value = { Ledger };
 
@@ -52,8 +52,8 @@ impl CountsBook {
 }
 
 impl Lattice for Counts {
-    ghost use Rattle.run_recordings.specs.TotalRules.{span_order};
-    ghost use Rattle.run_recordings.specs.TotalLaws.{span_is_order};
+    ghost use Rattle.recorder_rules.specs.TotalRules.{span_order};
+    ghost use Rattle.recorder_rules.specs.TotalLaws.{span_is_order};
 
     ghost order = { span_order };
 
@@ -73,7 +73,7 @@ impl Lattice for Counts {
 }
 
 impl Recorder for Counts {
-    ghost use Rattle.run_recordings.specs.LoopRules.{count_recording, count_is_recording};
+    ghost use Rattle.recorder_rules.specs.LoopRules.{count_recording, count_is_recording};
 
     type Book = CountsBook;
 

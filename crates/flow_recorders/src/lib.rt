@@ -1,7 +1,18 @@
+//! What is counted along runs: totals, loops and counts.
+//!
+//! ## Scope steps
+//!
+//! The scopes that a step of a run leaves, for recorders of what is over where a scope is left.
+//!
+//! ## Flow recorders
+//!
 //! Recorders of totals, loops, counts and pairs.
 #![tactic(auto)]
 
-// Counts.
+// Scope steps.
+mod leaving;
+
+// Flow recorders: counts.
 mod spans;
 mod totals;
 
@@ -18,5 +29,6 @@ mod both;
 
 pub use both::{Both, BothBook};
 pub use counts::{Counts, CountsBook};
+pub use leaving::left_scopes;
 pub use loops::{Loops, LoopsBook};
 pub use totals::{Totals, TotalsBook};

@@ -32,7 +32,7 @@ pub struct LoopsBook {
 }
 
 impl Model for LoopsBook {
-    ghost use Rattle.run_recordings.specs.TallyRules.{Ledger};
+    ghost use Rattle.recorder_rules.specs.TallyRules.{Ledger};
 
     ghost Value = { Ledger };
 
@@ -51,8 +51,8 @@ impl LoopsBook {
 }
 
 impl Lattice for Loops {
-    ghost use Rattle.run_recordings.specs.TotalRules.{span_order};
-    ghost use Rattle.run_recordings.specs.TotalLaws.{span_is_order};
+    ghost use Rattle.recorder_rules.specs.TotalRules.{span_order};
+    ghost use Rattle.recorder_rules.specs.TotalLaws.{span_is_order};
 
     ghost order = { span_order };
 
@@ -72,7 +72,7 @@ impl Lattice for Loops {
 }
 
 impl Recorder for Loops {
-    ghost use Rattle.run_recordings.specs.LoopRules.{loop_recording, loop_is_recording};
+    ghost use Rattle.recorder_rules.specs.LoopRules.{loop_recording, loop_is_recording};
 
     type Book = LoopsBook;
 

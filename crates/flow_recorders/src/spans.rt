@@ -1,9 +1,9 @@
 //! Spans of counts: the least and the greatest.
 
 ghost use Rattle.std.specs.Prelude.{◌≡◌, ◌<◌, length, IfOk, Option};
-ghost use Rattle.run_recordings.specs.Spans.{span_of, collected};
-ghost use Rattle.run_recordings.specs.SpanLaws.{spans_of};
-ghost use Rattle.run_recordings.specs.TotalRules.{all_collected};
+ghost use Rattle.recorder_rules.specs.Spans.{span_of, collected};
+ghost use Rattle.recorder_rules.specs.SpanLaws.{spans_of};
+ghost use Rattle.recorder_rules.specs.TotalRules.{all_collected};
 
 use std::alloc::{AllocError, Global};
 

@@ -2,15 +2,15 @@
 
 ghost use Rattle.std.specs.Prelude.{◌≡◌, ◌-◌, ◌^◌, ◌<◌, length, slice_get, replicate, Option, Some, None, IfOk, OnOk};
 ghost use Rattle.domain_core.specs.Outlines.{shape_of};
-ghost use Rattle.run_recordings.specs.Spans.{greatest};
-ghost use Rattle.run_recordings.specs.TallyRules.{Ledger, spans_gone, spreads_gone, spreads_ended};
+ghost use Rattle.recorder_rules.specs.Spans.{greatest};
+ghost use Rattle.recorder_rules.specs.TallyRules.{Ledger, spans_gone, spreads_gone, spreads_ended};
 ghost use Rattle.flow_recorders.specs.Chained.{KeysBelow};
 ghost use Rattle.flow_recorders.specs.Ledgers.{IsLedger};
 
 use crate::chains::{Chains, chained};
+use crate::leaving::left_scopes;
 use crate::walked::{collect_scopes, enter, reset_scopes};
 use domain_core::Outline;
-use scope_steps::left_scopes;
 use std::alloc::{AllocError, Global};
 use std::marker::Model;
 
@@ -23,7 +23,7 @@ pub struct Tallies {
 }
 
 impl Model for Tallies {
-    ghost use Rattle.run_recordings.specs.TallyRules.{Ledger};
+    ghost use Rattle.recorder_rules.specs.TallyRules.{Ledger};
 
     ghost Value = { Ledger };
 

@@ -1,8 +1,8 @@
 //! How often a run visits each node.
 
 ghost use Rattle.std.specs.Prelude.{◌≡◌, ℕ, ◌-◌, ◌^◌, ◌<◌, length, slice_set, slice_get, Option, Some};
-ghost use Rattle.run_recordings.specs.Spans.{one_more, greatest};
-ghost use Rattle.run_recordings.specs.TotalRules.{span_at};
+ghost use Rattle.recorder_rules.specs.Spans.{one_more, greatest};
+ghost use Rattle.recorder_rules.specs.TotalRules.{span_at};
 
 use crate::spans::{collect_all, spans};
 use domain_core::{Lattice, Outline, Recorder};
@@ -59,8 +59,8 @@ fn visit(counts: &mut [(u32, u32)], node: usize)
 }
 
 impl Lattice for Totals {
-    ghost use Rattle.run_recordings.specs.TotalRules.{span_order};
-    ghost use Rattle.run_recordings.specs.TotalLaws.{span_is_order};
+    ghost use Rattle.recorder_rules.specs.TotalRules.{span_order};
+    ghost use Rattle.recorder_rules.specs.TotalLaws.{span_is_order};
 
     ghost order = { span_order };
 
@@ -80,8 +80,8 @@ impl Lattice for Totals {
 }
 
 impl Recorder for Totals {
-    ghost use Rattle.run_recordings.specs.TotalRules.{total_recording};
-    ghost use Rattle.run_recordings.specs.TotalLaws.{total_is_recording};
+    ghost use Rattle.recorder_rules.specs.TotalRules.{total_recording};
+    ghost use Rattle.recorder_rules.specs.TotalLaws.{total_is_recording};
 
     type Book = TotalsBook;
 

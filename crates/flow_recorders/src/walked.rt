@@ -2,9 +2,9 @@
 
 ghost use Rattle.std.specs.Prelude.{◌≡◌, ℕ, ◌+◌, ◌-◌, ◌^◌, ◌<◌, length, Option, None, if◌then◌else◌};
 ghost use Rattle.std.specs.List.{list_any};
-ghost use Rattle.run_recordings.specs.Spans.{one_more, collected, greatest};
-ghost use Rattle.run_recordings.specs.TotalRules.{span_at, spread_at};
-ghost use Rattle.run_recordings.specs.TallyRules.{key_at, is_at, spread_after};
+ghost use Rattle.recorder_rules.specs.Spans.{one_more, collected, greatest};
+ghost use Rattle.recorder_rules.specs.TotalRules.{span_at, spread_at};
+ghost use Rattle.recorder_rules.specs.TallyRules.{key_at, is_at, spread_after};
 ghost use Rattle.flow_recorders.specs.Walked.{AreChanged};
 
 use crate::chains::Chains;

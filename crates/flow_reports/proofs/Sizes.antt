@@ -3,11 +3,11 @@
 use Rattle.std.proofs.Common.{◌≡◌, length, Some, sym, ◌∙◌, subst}
 use Rattle.domain_core.specs.Outlines.{Outlined, shape_of}
 use Rattle.domain_core.specs.Machines.{Machine}
-use Rattle.run_recordings.specs.Generated.{length-generated}
-use Rattle.run_recordings.specs.LoopRules.{counted_scope}
-use Rattle.pool_events.specs.Pools.{Pooled}
-use Rattle.pool_events.specs.Kept.{IsKept}
-use Rattle.told_reports.specs.Told.{FourRecorders, FourBooks, four_recording, Found, found_of}
+use Rattle.recorder_rules.specs.Generated.{length-generated}
+use Rattle.recorder_rules.specs.LoopRules.{counted_scope}
+use Rattle.worklist_rules.specs.Pools.{Pooled}
+use Rattle.worklist_rules.specs.Kept.{IsKept}
+use Rattle.report_soundness.specs.ReportTold.{FourRecorders, FourBooks, four_recording, Found, found_of}
 use Rattle.flow_reports.specs.declared.collected.Collected.{Collected}
 use Rattle.flow_reports.specs.Gathering.{found_in, IsSized}
 

@@ -11,13 +11,13 @@ use Rattle.std.proofs.Common.{◌≡◌, ◌<◌, ◌≤◌, ◌^◌, ℕ, zero,
 use Rattle.std.specs.Prelude.{slice_get, slice_index}
 use Rattle.std.proofs.lemmas.Option.{get_or_from_slice_get, slice_get_within}
 use Rattle.std.proofs.lemmas.List.{append-nil, append_assoc, map-append, take_more}
-use Rattle.walks.specs.ListLaws.{same_or_not}
+use Rattle.graph_walks.specs.ListLaws.{same_or_not}
 use Rattle.domain_core.specs.declared.outline.NodeRow.{NodeRow}
 use Rattle.flow_facts.specs.declared.report.NodeLine.{NodeLine}
 use Rattle.flow_facts.specs.Reports.{NamedNode, node_of}
-use Rattle.run_recordings.specs.TotalRules.{spread_at}
+use Rattle.recorder_rules.specs.TotalRules.{spread_at}
 use Rattle.flow_facts.specs.declared.fact.Fact.{Fact}
-use Rattle.told_reports.specs.Told.{below, sum_below, span_lines}
+use Rattle.report_soundness.specs.ReportTold.{below, sum_below, span_lines}
 use Rattle.flow_reports.specs.Gathering.{named_node}
 
 -- before the first turn nothing is told

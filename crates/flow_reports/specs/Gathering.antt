@@ -6,7 +6,7 @@ use Rattle.std.specs.Prelude.{◌≡◌, length}
 use Rattle.domain_core.specs.declared.outline.NodeRow.{NodeRow}
 use Rattle.domain_core.specs.Outlines.{Outlined}
 use Rattle.flow_facts.specs.Reports.{NamedNode}
-use Rattle.told_reports.specs.Told.{Found, books_of}
+use Rattle.report_soundness.specs.ReportTold.{Found, books_of}
 use Rattle.flow_reports.specs.declared.collected.Collected.{Collected}
 
 -- what it stands for

@@ -1,7 +1,7 @@
 //! The lines of alarms.
 
 ghost use Rattle.std.specs.Prelude.{◌≡◌, ◌<◌, ◌++◌, length, OnOk};
-ghost use Rattle.told_reports.specs.Told.{below, alarm_line, alarm_lines};
+ghost use Rattle.report_soundness.specs.ReportTold.{below, alarm_line, alarm_lines};
 ghost use Rattle.flow_reports.specs.Gathering.{found_in, IsSized};
 
 use crate::collected::Collected;

@@ -1,8 +1,8 @@
 //! The count bound.
 
 ghost use Rattle.std.specs.Prelude.{◌≡◌, ◌<◌, ◌^◌, ◌*◌, length, slice_index};
-ghost use Rattle.told_reports.specs.Told.{greatest_total, costs_of, count_bound};
-ghost use Rattle.told_reports.specs.Numbers.{CostsFit};
+ghost use Rattle.report_soundness.specs.ReportTold.{greatest_total, costs_of, count_bound};
+ghost use Rattle.report_soundness.specs.Numbers.{CostsFit};
 ghost use Rattle.flow_reports.specs.Gathering.{found_in, IsSized};
 
 use crate::collected::Collected;

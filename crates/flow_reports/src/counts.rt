@@ -2,8 +2,8 @@
 
 ghost use Rattle.std.specs.Prelude.{◌≡◌, ◌<◌, ◌++◌, ◌&&◌, ◌==◌, length, OnOk};
 ghost use Rattle.domain_core.specs.Outlines.{shape_of};
-ghost use Rattle.run_recordings.specs.LoopRules.{own_of, is_counted};
-ghost use Rattle.told_reports.specs.Told.{below, is_stepped, count_line, count_lines};
+ghost use Rattle.recorder_rules.specs.LoopRules.{own_of, is_counted};
+ghost use Rattle.report_soundness.specs.ReportTold.{below, is_stepped, count_line, count_lines};
 ghost use Rattle.flow_reports.specs.Gathering.{found_in, IsSized};
 
 use crate::collected::Collected;

@@ -2,7 +2,7 @@
 
 ghost use Rattle.std.specs.Prelude.{◌≡◌, length, IfOk};
 ghost use Rattle.abstract_exec.specs.Explorations.{IsPool};
-ghost use Rattle.told_reports.specs.Told.{four_recording, found_of};
+ghost use Rattle.report_soundness.specs.ReportTold.{four_recording, found_of};
 ghost use Rattle.flow_reports.specs.Gathering.{found_in};
 
 use crate::collected::{Collected, FourRecorders};

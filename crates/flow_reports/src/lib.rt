@@ -1,6 +1,6 @@
 //! The report of an exploration, made from its pool.
 //!
-//! `report` answers the report that `told_reports` defines: the lines of nodes and scopes, the facts that
+//! `report` answers the report that `report_soundness` defines: the lines of nodes and scopes, the facts that
 //! the books, the alarms and the stepped nodes tell, and the count bound. What the report promises of
 //! runs is proved there.
 #![tactic(auto)]

@@ -1,7 +1,7 @@
 //! The lines of loops.
 
 ghost use Rattle.std.specs.Prelude.{◌≡◌, ◌<◌, ◌++◌, length, OnOk};
-ghost use Rattle.told_reports.specs.Told.{below, loop_lines};
+ghost use Rattle.report_soundness.specs.ReportTold.{below, loop_lines};
 ghost use Rattle.flow_reports.specs.Gathering.{found_in, IsSized};
 
 use crate::collected::Collected;

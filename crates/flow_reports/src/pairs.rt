@@ -1,8 +1,8 @@
 //! The lines of pairs.
 
 ghost use Rattle.std.specs.Prelude.{◌≡◌, ◌<◌, ◌++◌, ◌&&◌, not, nat_lt, length, OnOk};
-ghost use Rattle.pair_recordings.specs.PairRules.{together};
-ghost use Rattle.told_reports.specs.Told.{below, may_pair, pair_line, pairs_with, pair_lines};
+ghost use Rattle.recorder_rules.specs.PairRules.{together};
+ghost use Rattle.report_soundness.specs.ReportTold.{below, may_pair, pair_line, pairs_with, pair_lines};
 ghost use Rattle.flow_reports.specs.Gathering.{found_in, IsSized};
 
 use crate::collected::Collected;

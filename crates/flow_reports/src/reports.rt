@@ -4,9 +4,9 @@ ghost use Rattle.std.specs.Prelude.{◌≡◌, ◌<◌, ◌≤◌, ◌*◌, ◌^
 ghost use Rattle.flow_facts.specs.Reports.{reported};
 ghost use Rattle.flow_facts.specs.Writable.{IsNodeName, IsWritable};
 ghost use Rattle.abstract_exec.specs.Explorations.{IsPool};
-ghost use Rattle.told_reports.specs.Told.{four_recording, books_of, found_of, told_facts, count_bound, told_report};
-ghost use Rattle.told_reports.specs.Numbers.{AreOrderly};
-ghost use Rattle.told_reports.specs.Runs.{IsSound};
+ghost use Rattle.report_soundness.specs.ReportTold.{four_recording, books_of, found_of, told_facts, count_bound, told_report};
+ghost use Rattle.report_soundness.specs.Numbers.{AreOrderly};
+ghost use Rattle.report_soundness.specs.Runs.{IsSound};
 ghost use Rattle.flow_reports.specs.Gathering.{found_in, IsSized};
 
 use crate::alarms::tell_alarms;
@@ -21,8 +21,8 @@ use crate::totals::{tell_deads, tell_totals};
 use abstract_exec::Pool;
 use domain_core::{Outline, Stepper};
 use flow_facts::{Fact, Report};
+use report_soundness::{closed_explorations_are_sound, told_reports_are_writable};
 use std::alloc::{AllocError, Global};
-use told_reports::{closed_explorations_are_sound, told_reports_are_writable};
 
 // The facts, in the order of lines.
 fn facts_of(alloc: Global, outline: &Outline, found: &Collected) -> Result<Vec<Fact>, AllocError>

@@ -2,7 +2,7 @@
 
 ghost use Rattle.std.specs.Prelude.{◌≡◌, ◌<◌, ◌++◌, ◌∷◌, [], length, OnOk};
 ghost use Rattle.domain_core.specs.Outlines.{shape_of, kind_of, header_of};
-ghost use Rattle.run_recordings.specs.LoopRules.{is_loop, own_of, is_counted};
+ghost use Rattle.recorder_rules.specs.LoopRules.{is_loop, own_of, is_counted};
 
 use domain_core::{Outline, ScopeKind};
 use flow_facts::Fact;

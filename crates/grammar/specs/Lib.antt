@@ -1,3 +1,4 @@
+-- The files of this folder.
 -- Forms, their exactness, rules, loops, and the ways between trees and tokens.
 pub mod Form
 pub mod Exact
@@ -7,3 +8,6 @@ pub mod Rows
 pub mod Each
 pub mod Writing
 pub mod Keeping
+-- Chains, and how they are read.
+pub mod Chain
+pub mod Turns

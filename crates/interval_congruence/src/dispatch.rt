@@ -9,7 +9,7 @@ ghost use Rattle.interval_congruence.specs.Divisors.{IsDivisor};
 
 use crate::value::Strided;
 use alf_ops::Op;
-use operands::{places, size_of};
+use flat_domain::{places, size_of};
 
 /// What the operator gives by its rule.
 pub(crate) fn ruled(op: Op, sizes: &[u32], a: Strided, b: Strided, c: Strided) -> Strided

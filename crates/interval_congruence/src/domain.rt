@@ -12,7 +12,7 @@ use crate::dispatch::ruled;
 use crate::value::Strided;
 use alf_ops::{Op, apply};
 use domain_core::{Applied, Domain, Rel};
-use operands::{HasSize, divides, size_of};
+use flat_domain::{HasSize, divides, size_of};
 
 /// The operand at this place; one word after the last.
 fn operand(args: &[Strided], place: usize) -> Strided

@@ -9,15 +9,15 @@ use Rattle.lists.specs.Images.{mapped}
 use Rattle.alf_ops.specs.declared.history.FrameShape.{FrameShape}
 use Rattle.alf_program.specs.declared.program.Num.{Num}
 use Rattle.alf_program.specs.Tree.{Null, Store, Jump, Switch, Call, Return, BodyItem, Label, Do, Function, WholeProgram}
-use Rattle.alf_names.specs.Places.{place_of, is_label_named}
+use Rattle.alf_faults.specs.Places.{place_of, is_label_named}
 use Rattle.alf_faults.specs.NoFault.{HasLabel, ItemHasNoFault, HasNoFault, IsByParts}
 use Rattle.alf_check.specs.CheckedPrograms.{NumberedProgram, NumberedFunction, NumberedBlock, blocks_at}
 use Rattle.alf_check.specs.Numbers.{has_label, frames_before, first_frame, numbers_in}
 use Rattle.alf_check.specs.Numbered.{numbered_function, functions_from, numbered}
 use Rattle.alf_check.specs.Kept.{IsKept}
 use Rattle.alf_runs.specs.Steps.{frames_of}
-use Rattle.alf_items.specs.Stretches.{Names, IsNamed}
-use Rattle.alf_items.specs.Cuts.{IsCut, BlocksAreCut}
+use Rattle.item_runs.specs.Stretches.{Names, IsNamed}
+use Rattle.item_runs.specs.Cuts.{IsCut, BlocksAreCut}
 use Rattle.item_runs.specs.Following.{AreCut}
 use Rattle.item_runs.specs.CheckedItems.{items_of, no_numbers, numbers_of, with_items}
 

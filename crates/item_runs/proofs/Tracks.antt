@@ -22,8 +22,8 @@ use Rattle.alf_runs.specs.Outcomes.{Outcome, Faulted, Lost}
 use Rattle.alf_runs.specs.Steps.{Moment, At, Over, frames_of, target_of, step, switch_step, call_step, move_on, result_step, go_back, leave, return_step, ending_step, then_ending, block_step}
 use Rattle.alf_runs.specs.Runs.{after}
 use Rattle.alf_runs.specs.RunLaws.{AfterMore}
-use Rattle.alf_items.specs.Stretches.{End, Falls, Goes, Enters, Leaves, Stops, IsNamed, GoesToNamed}
-use Rattle.alf_items.specs.Cuts.{Leads, SwitchDoes, CallDoes, ReturnDoes, EndDoes, ThenDoes, BlockDoes}
+use Rattle.item_runs.specs.Stretches.{End, Falls, Goes, Enters, Leaves, Stops, IsNamed, GoesToNamed}
+use Rattle.item_runs.specs.Cuts.{Leads, SwitchDoes, CallDoes, ReturnDoes, EndDoes, ThenDoes, BlockDoes}
 use Rattle.item_runs.specs.ItemRuns.{Waiting, Standing, Run, Done, ItemProgram, ahead, resumed, result_stored, back, after_end, tick, ticks, at_start}
 use Rattle.item_runs.specs.Following.{AreCut, FollowEachOther, RunsFollowItems}
 

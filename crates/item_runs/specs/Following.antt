@@ -11,8 +11,8 @@ use Rattle.flow_graph.specs.Nodes.{first_node}
 use Rattle.alf_runs.specs.Outcomes.{Outcome}
 use Rattle.alf_runs.specs.Steps.{At, Over, frames_of}
 use Rattle.alf_runs.specs.Runs.{after}
-use Rattle.alf_items.specs.Stretches.{IsNamed}
-use Rattle.alf_items.specs.Cuts.{IsCut}
+use Rattle.item_runs.specs.Stretches.{IsNamed}
+use Rattle.item_runs.specs.Cuts.{IsCut}
 use Rattle.item_runs.specs.ItemRuns.{ItemProgram, Done, ticks, at_start}
 
 -- the blocks of each function do what its items do, and each label that is named stands

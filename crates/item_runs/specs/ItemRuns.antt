@@ -18,7 +18,7 @@ use Rattle.alf_check.specs.Numbers.{Numbers}
 use Rattle.alf_runs.specs.Entering.{entered}
 use Rattle.alf_runs.specs.Outcomes.{Outcome, Ended, Faulted, Lost, outputs}
 use Rattle.alf_runs.specs.Steps.{frames_of}
-use Rattle.alf_items.specs.Stretches.{End, Falls, Goes, Enters, Leaves, Stops, stretch, items_after}
+use Rattle.item_runs.specs.Stretches.{End, Falls, Goes, Enters, Leaves, Stops, stretch, items_after}
 
 -- a call that waits
 pub record Waiting : Type 0 where

@@ -1,4 +1,6 @@
 -- The files of this folder.
+pub mod Stretches
+pub mod Cuts
 pub mod ItemRuns
 pub mod Following
 pub mod CheckedItems

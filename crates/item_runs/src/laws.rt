@@ -3,8 +3,8 @@
 ghost use Rattle.item_runs.specs.Following.{RunsFollowItems};
 ghost use Rattle.item_runs.specs.CheckedItems.{EachIsCut, EachFollowsItems};
 
+use crate::alf_item_laws::{blocks_do_what_their_items_do, stretches_go_to_named_labels};
 use alf_faults::no_fault_is_by_parts;
-use alf_items::{blocks_do_what_their_items_do, stretches_go_to_named_labels};
 use alf_runs::a_run_has_one_continuation;
 
 /// Where blocks do what items do and labels that are named stand, a run by nodes that is over has the

@@ -1,3 +1,4 @@
+-- The files of this folder.
 -- The files here, each after those that it cites.
 pub mod ValueSets
 pub mod Frames
@@ -23,3 +24,5 @@ pub mod Addresses
 pub mod AddressLaws
 pub mod AddressSharp
 pub mod Worked
+pub mod SelfStrides
+pub mod SelfValues

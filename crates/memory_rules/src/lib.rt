@@ -1,3 +1,7 @@
+//! The rules of an abstract memory.
+//!
+//! ## Memory rules
+//!
 //! The abstract memory of a run, as definitions, and its laws.
 //!
 //! A memory keeps bytes and cells of frames. A byte knows the words that its newest store may have left in it;
@@ -6,14 +10,26 @@
 //! memory covers what a run's memory holds, and that it is exact where one run is followed. Here is no code
 //! but functions that do nothing, whose clauses are the laws. The crate rests on the histories of runs and on
 //! the laws of abstract values.
+//!
+//! ## Self joins
+//!
+//! Values joined with themselves.
+//!
+//! The join of a strided value, or of an abstract value, with itself is the value. Here is no code but a function
+//! that does nothing, whose clauses are the laws. The crate rests on the rules of joins in `strided_rules` and
+//! `pointer_rules`.
 #![tactic(auto)]
 
-// What the memory promises.
+// Memory rules: what the memory promises.
 mod laws;
 
 // Stores and loads, worked out.
 mod worked;
 
+// Self joins: what the rules promise.
+mod join_laws;
+
+pub use join_laws::a_join_with_itself_changes_nothing;
 pub use laws::{
     a_fresh_memory_is_sharp, a_join_covers_both_sides, a_load_from_a_sharp_frame_is_exact,
     a_load_gathers_its_results, a_load_is_among_the_results, a_pin_covers,

@@ -3,13 +3,13 @@
 ghost use Rattle.std.specs.Prelude.{◌≡◌, ℕ, ◌*◌, ◌<◌, ◌≤◌, ◌==◌, ◌||◌, ◌&&◌, length, IfOk, OnOk, All};
 ghost use Rattle.std.specs.List.{list_any};
 ghost use Rattle.domain_core.specs.Outlines.{shape_of, is_held, header_of};
-ghost use Rattle.run_recordings.specs.LoopRules.{own_of};
-ghost use Rattle.pair_recordings.specs.PairRules.{ends};
-ghost use Rattle.pair_bits.specs.Marks.{is_marked, AreOwned};
+ghost use Rattle.recorder_rules.specs.LoopRules.{own_of};
+ghost use Rattle.recorder_rules.specs.PairRules.{ends};
+ghost use Rattle.recorder_rules.specs.Marks.{is_marked, AreOwned};
 
 use crate::words::add_words;
 use domain_core::Outline;
-use scope_steps::left_scopes;
+use flow_recorders::left_scopes;
 use std::alloc::{AllocError, Global};
 
 /// Adds the scope where the node is its header.

@@ -1,7 +1,7 @@
 //! Which two nodes of a scope a run visits in one iteration of it.
 
 ghost use Rattle.std.specs.Prelude.{◌≡◌, ◌<◌, length};
-ghost use Rattle.pair_recordings.specs.PairRules.{together};
+ghost use Rattle.recorder_rules.specs.PairRules.{together};
 
 use crate::advance::advance;
 use crate::marked::add_marked;
@@ -21,8 +21,8 @@ pub struct Pairs {
 }
 
 impl Model for Pairs {
-    ghost use Rattle.pair_recordings.specs.PairRules.{Sightings};
-    ghost use Rattle.pair_bits.specs.Seen.{sightings, AreSized};
+    ghost use Rattle.recorder_rules.specs.PairRules.{Sightings};
+    ghost use Rattle.recorder_rules.specs.Seen.{sightings, AreSized};
 
     ghost Value = { Sightings };
 
@@ -41,8 +41,8 @@ pub struct PairsBook {
 }
 
 impl Model for PairsBook {
-    ghost use Rattle.pair_recordings.specs.PairRules.{PairBook};
-    ghost use Rattle.pair_bits.specs.Seen.{pair_book, IsSizedBook};
+    ghost use Rattle.recorder_rules.specs.PairRules.{PairBook};
+    ghost use Rattle.recorder_rules.specs.Seen.{pair_book, IsSizedBook};
 
     ghost Value = { PairBook };
 
@@ -66,8 +66,8 @@ impl PairsBook {
 }
 
 impl Lattice for Pairs {
-    ghost use Rattle.pair_recordings.specs.PairRules.{pair_order};
-    ghost use Rattle.pair_recordings.specs.PairLaws.{pair_is_order};
+    ghost use Rattle.recorder_rules.specs.PairRules.{pair_order};
+    ghost use Rattle.recorder_rules.specs.PairLaws.{pair_is_order};
 
     ghost order = { pair_order };
 
@@ -90,8 +90,8 @@ impl Lattice for Pairs {
 }
 
 impl Recorder for Pairs {
-    ghost use Rattle.pair_recordings.specs.PairRules.{pair_recording};
-    ghost use Rattle.pair_recordings.specs.PairLaws.{pair_is_recording};
+    ghost use Rattle.recorder_rules.specs.PairRules.{pair_recording};
+    ghost use Rattle.recorder_rules.specs.PairLaws.{pair_is_recording};
 
     type Book = PairsBook;
 

@@ -2,8 +2,8 @@
 
 ghost use Rattle.std.specs.Prelude.{◌≡◌, ◌*◌, ◌<◌, ◌≤◌, ◌^◌, length, OnOk};
 ghost use Rattle.domain_core.specs.Outlines.{shape_of};
-ghost use Rattle.pair_bits.specs.Marks.{AreOwned};
-ghost use Rattle.pair_bits.specs.Seen.{AreLeft, AreLeftRows, AreCollectedRows, AreEntered, AreEnteredRows};
+ghost use Rattle.recorder_rules.specs.Marks.{AreOwned};
+ghost use Rattle.recorder_rules.specs.Seen.{AreLeft, AreLeftRows, AreCollectedRows, AreEntered, AreEnteredRows};
 
 use crate::ending::ended_nodes;
 use crate::marked::{add_marked, clear_marked};

@@ -2,8 +2,8 @@
 
 ghost use Rattle.std.specs.Prelude.{◌≡◌, ◌*◌, ◌<◌, ◌||◌, ℕ, length, IfOk};
 ghost use Rattle.domain_core.specs.Outlines.{shape_of};
-ghost use Rattle.run_recordings.specs.LoopRules.{own_of};
-ghost use Rattle.pair_bits.specs.Marks.{words_for, is_marked, AreOwned};
+ghost use Rattle.recorder_rules.specs.LoopRules.{own_of};
+ghost use Rattle.recorder_rules.specs.Marks.{words_for, is_marked, AreOwned};
 
 use crate::words::{add_words, mark, words};
 use domain_core::Outline;

@@ -3,17 +3,17 @@ use Rattle.std.proofs.Common.{◌≡◌, ℕ, ℤ, pos, zero, suc, ◌+◌, ◌<
 use Rattle.std.specs.Prelude.{◌-ℤ◌, ◌≤ℤ◌}
 use Rattle.std.proofs.lemmas.Int.{ints}
 use Rattle.std.proofs.lemmas.Bool.{cases_lt}
-use Rattle.path_rows.specs.Sums.{coefficient, IsAscending}
-use Rattle.path_rows.specs.Programs.{Row, Program, IsWithin, row_at}
-use Rattle.dual_rules.specs.Firsts.{entry}
-use Rattle.pivot_rules.specs.Lines.{spread}
-use Rattle.pivot_rules.specs.Tableaus.{next_slack, multiplier, multipliers, slacks_from, width_of, width_from}
-use Rattle.pivot_rules.specs.FirstTableau.{beyond, spread_is}
-use Rattle.pivot_rules.specs.HandedOut.{width_above}
-use Rattle.pivot_steps.specs.Sparse.{Seen, IsKept}
-use Rattle.pivot_steps.specs.Choosing.{dropped}
-use Rattle.pivot_steps.specs.TermsFrom.{dropped_rises, dropped_same}
-use Rattle.first_tableaus.specs.RowSteps.{row_next, drop_more, slack_below, next_past}
+use Rattle.ipet_rows.specs.Sums.{coefficient, IsAscending}
+use Rattle.ipet_rows.specs.Programs.{Row, Program, IsWithin, row_at}
+use Rattle.ipet_rows.specs.Firsts.{entry}
+use Rattle.simplex_rules.specs.Lines.{spread}
+use Rattle.simplex_rules.specs.Tableaus.{next_slack, multiplier, multipliers, slacks_from, width_of, width_from}
+use Rattle.simplex_rules.specs.FirstTableau.{beyond, spread_is}
+use Rattle.simplex_rules.specs.HandedOut.{width_above}
+use Rattle.simplex_tableau.specs.Sparse.{Seen, IsKept}
+use Rattle.simplex_tableau.specs.Choosing.{dropped}
+use Rattle.simplex_tableau.specs.TermsFrom.{dropped_rises, dropped_same}
+use Rattle.simplex_tableau.specs.RowSteps.{row_next, drop_more, slack_below, next_past}
 use Rattle.path_lp.specs.Handing.{multiplier_by, multipliers_by, IsHanded}
 use Rattle.path_lp.specs.Stepping.{Stands}
 

@@ -1,5 +1,10 @@
+-- The files of this folder.
 pub mod HandingLaws
 pub mod StepLaws
 pub mod FractionLaws
 pub mod RunLaws
 pub mod SmallLaws
+pub mod Fitting
+pub mod Floors
+pub mod BoundLaws
+pub mod RightLaws

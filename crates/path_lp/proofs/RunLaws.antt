@@ -2,19 +2,19 @@
 use Rattle.std.proofs.Common.{◌≡◌, ℕ, ℤ, zero, suc, ◌+◌, ◌-◌, ◌<◌, ◌≤◌, arith, refl, sym, ap, ◌∙◌, subst, List, Option, Some, None}
 use Rattle.std.specs.Prelude.{◌*ℤ◌, ◌≤ℤ◌, if◌then◌else◌}
 use Rattle.lists.specs.Tests.{by_test}
-use Rattle.path_rows.specs.Programs.{Program}
-use Rattle.dual_rules.specs.Firsts.{entry}
-use Rattle.dual_rules.specs.Duals.{IsDual, dual_sum}
-use Rattle.dual_rules.specs.Fractions.{part_of, whole_of}
-use Rattle.path_rows.specs.Points.{worth}
-use Rattle.pivot_rules.specs.Tableaus.{Tableau, held_at}
-use Rattle.pivot_rules.specs.PivotRule.{leaving, entering, entering_wide, pivot_wide, RunEnd, TooWide, Ended, variables_of, after_place, after_row, at_limit, run}
-use Rattle.pivot_rules.specs.Promise.{handed, Answers}
-use Rattle.pivot_rules.specs.Runs.{IsRight, IsRight}
-use Rattle.pivot_rules.specs.ReadOff.{IsReadOff, IsLeastPoint}
-use Rattle.pivot_rules.specs.OpeningPlaces.{started, ended}
-use Rattle.pivot_steps.specs.Sparse.{Seen}
-use Rattle.first_tableaus.specs.Started.{IsStarted}
+use Rattle.ipet_rows.specs.Programs.{Program}
+use Rattle.ipet_rows.specs.Firsts.{entry}
+use Rattle.ipet_rows.specs.Duals.{IsDual, dual_sum}
+use Rattle.ipet_rows.specs.Fractions.{part_of, whole_of}
+use Rattle.ipet_rows.specs.Points.{worth}
+use Rattle.simplex_rules.specs.Tableaus.{Tableau, held_at}
+use Rattle.simplex_rules.specs.PivotRule.{leaving, entering, entering_wide, pivot_wide, RunEnd, TooWide, Ended, variables_of, after_place, after_row, at_limit, run}
+use Rattle.simplex_rules.specs.Promise.{handed, Answers}
+use Rattle.simplex_rules.specs.Runs.{IsRight, IsRight}
+use Rattle.simplex_rules.specs.ReadOff.{IsReadOff, IsLeastPoint}
+use Rattle.simplex_rules.specs.OpeningPlaces.{started, ended}
+use Rattle.simplex_tableau.specs.Sparse.{Seen}
+use Rattle.simplex_tableau.specs.Started.{IsStarted}
 use Rattle.path_lp.specs.declared.solved.SolveEnd.{SolveEnd}
 use Rattle.path_lp.specs.declared.solved.SolveEnd.TheVariants.{Wide}
 use Rattle.path_lp.specs.Handing.{IsHanded}

@@ -2,11 +2,11 @@
 use Rattle.std.proofs.Common.{◌≡◌, ℕ, ℤ, zero, suc, ◌<◌, ◌≤◌, arith, subst, List, [], ◌∷◌, length, ⊎_elim}
 use Rattle.std.proofs.lemmas.Int.{ints}
 use Rattle.std.proofs.lemmas.Bool.{cases_eq, cases_lt}
-use Rattle.path_rows.specs.Sums.{coefficient, IsAscending}
-use Rattle.path_rows.specs.Programs.{Row, Program, row_at, cost_at}
-use Rattle.dual_rules.specs.RowLaws.{found_here, found_later}
-use Rattle.pivot_rules.specs.NarrowOpening.{IsUpTo, IsSmall}
-use Rattle.first_tableaus.specs.FirstTerms.{AreSmall}
+use Rattle.ipet_rows.specs.Sums.{coefficient, IsAscending}
+use Rattle.ipet_rows.specs.Programs.{Row, Program, row_at, cost_at}
+use Rattle.ipet_rows.specs.DualRowLaws.{found_here, found_later}
+use Rattle.simplex_rules.specs.NarrowOpening.{IsUpTo, IsSmall}
+use Rattle.simplex_tableau.specs.FirstTerms.{AreSmall}
 use Rattle.path_lp.specs.Small.{IsSmallRow}
 
 small_number : (ts : List (ℕ × ℤ)) (e : ℕ) → IsAscending ts → AreSmall ts → IsUpTo 8589934592 (coefficient ts e)

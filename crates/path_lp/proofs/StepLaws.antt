@@ -5,18 +5,18 @@ use Rattle.std.proofs.lemmas.Int.{ints}
 use Rattle.std.proofs.lemmas.Bool.{or_left, or_right, or_from}
 use Rattle.std.proofs.lemmas.Option.{none-some, same_Some}
 use Rattle.lists.specs.Tests.{by_test}
-use Rattle.path_rows.specs.Programs.{Row, Program}
-use Rattle.dual_rules.specs.Firsts.{entry}
-use Rattle.dual_rules.specs.Verdicts.{verdict}
-use Rattle.pivot_rules.specs.Lines.{times_line}
-use Rattle.pivot_rules.specs.Tableaus.{Tableau, held_at, number_at, next_slack, multipliers, slacks_from}
-use Rattle.pivot_rules.specs.PivotRule.{entering, entering_wide, pivot_wide, handed_wide, is_wide, line_wide, rows_wide, cleared_wide, pivoted, variables_of}
-use Rattle.pivot_rules.specs.Choices.{IsEntering, EnteringIs, entering_is}
-use Rattle.pivot_rules.specs.Runs.{IsRight, right_pivot}
-use Rattle.pivot_rules.specs.Promise.{handed}
-use Rattle.pivot_steps.specs.Sparse.{Seen}
-use Rattle.pivot_steps.specs.Stepped.{CanPivot, step_wide, IsPivoted}
-use Rattle.pivot_steps.specs.Choosing.{entering_answer}
+use Rattle.ipet_rows.specs.Programs.{Row, Program}
+use Rattle.ipet_rows.specs.Firsts.{entry}
+use Rattle.ipet_rows.specs.Verdicts.{verdict}
+use Rattle.simplex_rules.specs.Lines.{times_line}
+use Rattle.simplex_rules.specs.Tableaus.{Tableau, held_at, number_at, next_slack, multipliers, slacks_from}
+use Rattle.simplex_rules.specs.PivotRule.{entering, entering_wide, pivot_wide, handed_wide, is_wide, line_wide, rows_wide, cleared_wide, pivoted, variables_of}
+use Rattle.simplex_rules.specs.Choices.{IsEntering, EnteringIs, entering_is}
+use Rattle.simplex_rules.specs.Runs.{IsRight, right_pivot}
+use Rattle.simplex_rules.specs.Promise.{handed}
+use Rattle.simplex_tableau.specs.Sparse.{Seen}
+use Rattle.simplex_tableau.specs.Stepped.{CanPivot, step_wide, IsPivoted}
+use Rattle.simplex_tableau.specs.Choosing.{entering_answer}
 use Rattle.path_lp.specs.Handing.{IsHanded}
 use Rattle.path_lp.specs.Stepping.{Stands, stepped_to, stepped, IsNext}
 

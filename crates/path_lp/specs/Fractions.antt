@@ -2,9 +2,9 @@
 --   fraction_of hs j      the right side over the number at the place, of the row whose basic place is j; else 0
 --   fractions hs n j      those of the places j to j + n - 1
 use Rattle.std.specs.Prelude.{ℕ, zero, suc, ℤ, pos, ◌==◌, if◌then◌else◌, List, [], ◌∷◌}
-use Rattle.dual_rules.specs.Firsts.{entry}
-use Rattle.pivot_rules.specs.Tableaus.{Held}
-use Rattle.pivot_rules.specs.Promise.{own_of}
+use Rattle.ipet_rows.specs.Firsts.{entry}
+use Rattle.simplex_rules.specs.Tableaus.{Held}
+use Rattle.simplex_rules.specs.Promise.{own_of}
 
 -- the right side over the number at the place, of the row whose basic place is j; else 0
 abbrev pub fraction_of : List Held → ℕ → ℤ × ℤ

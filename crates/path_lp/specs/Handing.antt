@@ -3,11 +3,11 @@
 --   multipliers_by rs s ts        those of the rows
 --   IsHanded p t scale y          the scale and the multipliers are those that the tableau hands out
 use Rattle.std.specs.Prelude.{◌≡◌, ℕ, suc, ℤ, ◌-ℤ◌, Bool, true, false, List, [], ◌∷◌}
-use Rattle.path_rows.specs.Sums.{coefficient}
-use Rattle.path_rows.specs.Programs.{Row, Program}
-use Rattle.dual_rules.specs.Firsts.{entry}
-use Rattle.pivot_rules.specs.Tableaus.{Tableau, next_slack}
-use Rattle.pivot_rules.specs.Promise.{handed}
+use Rattle.ipet_rows.specs.Sums.{coefficient}
+use Rattle.ipet_rows.specs.Programs.{Row, Program}
+use Rattle.ipet_rows.specs.Firsts.{entry}
+use Rattle.simplex_rules.specs.Tableaus.{Tableau, next_slack}
+use Rattle.simplex_rules.specs.Promise.{handed}
 
 -- the multiplier of a row whose first slack is s
 abbrev pub multiplier_by : Bool → ℕ → List (ℕ × ℤ) → ℤ

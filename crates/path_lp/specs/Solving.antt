@@ -6,16 +6,16 @@
 --   OnLeast e P             it holds of the point, where one is told
 --   IsOptimal p scale y point   the point is feasible, and its cost is the dual value
 use Rattle.std.specs.Prelude.{◌≡◌, ◌≤◌, ℕ, ℤ, pos, ◌*ℤ◌, List, length}
-use Rattle.path_rows.specs.Sums.{total}
-use Rattle.path_rows.specs.Programs.{Program, row_at, cost_at}
-use Rattle.path_rows.specs.Points.{worth}
-use Rattle.dual_rules.specs.Duals.{dual_sum}
-use Rattle.dual_rules.specs.Verdicts.{floor_of, verdict}
-use Rattle.dual_rules.specs.declared.verdict.Verdict.TheVariants.{Holds}
-use Rattle.dual_rules.specs.Fractions.{IsPoint, IsFeasible, part_of, whole_of}
-use Rattle.pivot_rules.specs.Tableaus.{Tableau}
-use Rattle.pivot_rules.specs.PivotRule.{RunEnd, TooWide, Ended, opening_at}
-use Rattle.pivot_rules.specs.ReadOff.{IsReadOff}
+use Rattle.ipet_rows.specs.Sums.{total}
+use Rattle.ipet_rows.specs.Programs.{Program, row_at, cost_at}
+use Rattle.ipet_rows.specs.Points.{worth}
+use Rattle.ipet_rows.specs.Duals.{dual_sum}
+use Rattle.ipet_rows.specs.Verdicts.{floor_of, verdict}
+use Rattle.ipet_rows.specs.declared.verdict.Verdict.TheVariants.{Holds}
+use Rattle.ipet_rows.specs.Fractions.{IsPoint, IsFeasible, part_of, whole_of}
+use Rattle.simplex_rules.specs.Tableaus.{Tableau}
+use Rattle.simplex_rules.specs.PivotRule.{RunEnd, TooWide, Ended, opening_at}
+use Rattle.simplex_rules.specs.ReadOff.{IsReadOff}
 use Rattle.path_lp.specs.declared.solved.SolveEnd.{SolveEnd}
 use Rattle.path_lp.specs.declared.solved.SolveEnd.TheVariants.{Wide}
 use Rattle.path_lp.specs.Handing.{IsHanded}

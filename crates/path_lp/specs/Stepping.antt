@@ -3,11 +3,11 @@
 --   stepped p r t        the tableau after the pivot of row r, or none where some number of it is wide
 --   IsNext p r t new scale y   the next tableau, and what it hands out
 use Rattle.std.specs.Prelude.{◌≡◌, ℕ, ℤ, pos, neg_ℤ, List, Option, None, Some, if◌then◌else◌}
-use Rattle.path_rows.specs.Programs.{Program}
-use Rattle.pivot_rules.specs.Tableaus.{Tableau, held_at, width_of}
-use Rattle.pivot_rules.specs.PivotRule.{entering, entering_wide, pivot_wide, pivoted, variables_of}
-use Rattle.pivot_rules.specs.Runs.{IsRight}
-use Rattle.pivot_steps.specs.Sparse.{Seen}
+use Rattle.ipet_rows.specs.Programs.{Program}
+use Rattle.simplex_rules.specs.Tableaus.{Tableau, held_at, width_of}
+use Rattle.simplex_rules.specs.PivotRule.{entering, entering_wide, pivot_wide, pivoted, variables_of}
+use Rattle.simplex_rules.specs.Runs.{IsRight}
+use Rattle.simplex_tableau.specs.Sparse.{Seen}
 use Rattle.path_lp.specs.Handing.{IsHanded}
 
 -- the tableau is one that the rule comes to

@@ -1,18 +1,18 @@
 //! The multipliers that a tableau hands out.
 
 ghost use Rattle.std.specs.Prelude.{◌≡◌, ◌<◌, ◌≤◌, ◌+◌, ◌^◌, ℕ, pos, ◌≤ℤ◌, ◌-ℤ◌, IfOk};
-ghost use Rattle.path_rows.specs.Sums.{coefficient, IsAscending};
-ghost use Rattle.pivot_rules.specs.Tableaus.{next_slack, slacks_from, width_of};
+ghost use Rattle.ipet_rows.specs.Sums.{coefficient, IsAscending};
+ghost use Rattle.simplex_rules.specs.Tableaus.{next_slack, slacks_from, width_of};
 ghost use Rattle.path_lp.specs.Handing.{multiplier_by, multipliers_by, IsHanded};
 ghost use Rattle.path_lp.specs.Stepping.{Stands};
 
 use dual_check::{Duals, Rows};
-use pivot_steps::{SparseTableau, first_number, from_place};
+use simplex_tableau::{SparseTableau, first_number, from_place};
 use std::alloc::{AllocError, Global};
 use whole_numbers::Whole;
 
 /// The number at the place, whose terms begin not long before it.
-#[tactic(auto, using(pivot_steps::specs::TermsFrom::cost_is))]
+#[tactic(auto, using(simplex_tableau::specs::TermsFrom::cost_is))]
 fn number_from(terms: &[(u32, Whole)], place: u32) -> i128
     requires { IsAscending terms.now }
     ensures { result ≡ coefficient terms.now place }

@@ -5,7 +5,7 @@ ghost use Rattle.path_lp.specs.Fractions.{fraction_of, fractions};
 ghost use Rattle.path_lp.specs.Stepping.{Stands};
 
 use dual_check::Rows;
-use pivot_steps::SparseTableau;
+use simplex_tableau::SparseTableau;
 use std::alloc::{AllocError, Global};
 
 /// The fraction at a place.

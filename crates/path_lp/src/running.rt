@@ -1,9 +1,9 @@
 //! The run of the rule.
 
 ghost use Rattle.std.specs.Prelude.{◌≡◌, ◌*ℤ◌, ◌≤ℤ◌, None, IfOk};
-ghost use Rattle.dual_rules.specs.Duals.{IsDual, dual_sum};
-ghost use Rattle.pivot_rules.specs.PivotRule.{leaving, at_limit, run as run_of};
-ghost use Rattle.pivot_rules.specs.OpeningPlaces.{OpensRows, ended};
+ghost use Rattle.ipet_rows.specs.Duals.{IsDual, dual_sum};
+ghost use Rattle.simplex_rules.specs.PivotRule.{leaving, at_limit, run as run_of};
+ghost use Rattle.simplex_rules.specs.OpeningPlaces.{OpensRows, ended};
 ghost use Rattle.path_lp.specs.Handing.{IsHanded};
 ghost use Rattle.path_lp.specs.Stepping.{Stands};
 ghost use Rattle.path_lp.specs.Solving.{IsSolved, HoldFrom, OnLeast, IsOptimal, opening_worth};
@@ -14,9 +14,8 @@ use crate::small::is_small;
 use crate::solved::{SolveEnd, Solved};
 use crate::stepping::{Standing, next};
 use dual_check::{Duals, Rows};
-use first_tableaus::started;
-use pivot_rules::{handed_duals_hold, opening_fits, points_of_rule, rule_answers};
-use pivot_steps::SparseTableau;
+use simplex_rules::{handed_duals_hold, opening_fits, points_of_rule, rule_answers};
+use simplex_tableau::{SparseTableau, started};
 use std::alloc::{AllocError, Global};
 
 /// No right side is negative: the point is read off.

@@ -1,9 +1,9 @@
 //! Whether a program's numbers are small.
 
 ghost use Rattle.std.specs.Prelude.{◌≡◌, ◌<◌, ◌^◌, ℕ, true, length};
-ghost use Rattle.path_rows.specs.Programs.{row_at, cost_at};
-ghost use Rattle.pivot_rules.specs.NarrowOpening.{IsUpTo, IsSmall};
-ghost use Rattle.first_tableaus.specs.FirstTerms.{AreSmall};
+ghost use Rattle.ipet_rows.specs.Programs.{row_at, cost_at};
+ghost use Rattle.simplex_rules.specs.NarrowOpening.{IsUpTo, IsSmall};
+ghost use Rattle.simplex_tableau.specs.FirstTerms.{AreSmall};
 ghost use Rattle.path_lp.specs.Small.{IsSmallRow};
 
 use dual_check::Rows;

@@ -1,14 +1,14 @@
 //! One pivot of the rule.
 
 ghost use Rattle.std.specs.Prelude.{◌≡◌, ◌<◌, ◌-◌, None, Some, IfOk, MatchOption, length};
-ghost use Rattle.pivot_rules.specs.PivotRule.{is_wide as is_wide_of};
-ghost use Rattle.pivot_rules.specs.Tableaus.{held_at};
-ghost use Rattle.pivot_steps.specs.Choosing.{entering_answer};
+ghost use Rattle.simplex_rules.specs.PivotRule.{is_wide as is_wide_of};
+ghost use Rattle.simplex_rules.specs.Tableaus.{held_at};
+ghost use Rattle.simplex_tableau.specs.Choosing.{entering_answer};
 ghost use Rattle.path_lp.specs.Stepping.{Stands, stepped, IsNext};
 
 use crate::handing::handed;
 use dual_check::{Duals, Rows, Verdict, verify};
-use pivot_steps::SparseTableau;
+use simplex_tableau::SparseTableau;
 use std::alloc::{AllocError, Global};
 
 /// A tableau, and what it hands out.

@@ -9,11 +9,11 @@ use Rattle.std.proofs.lemmas.List.Elements.{All-contains}
 use Rattle.domain_core.specs.Outlines.{Outlined}
 use Rattle.flow_facts.specs.declared.fact.Fact.{Fact}
 use Rattle.flow_facts.specs.declared.fact.Fact.TheVariants.{Total}
-use Rattle.path_rows.specs.Sums.{total}
+use Rattle.ipet_rows.specs.Sums.{total}
 use Rattle.dual_check.specs.Openings.{costs_of}
-use Rattle.pivot_rules.specs.OutlineOpenings.{IsLimited}
-use Rattle.path_bounds.specs.Bounding.{opening_sum}
-use Rattle.path_bounds.specs.OpeningCosts.{openings_within}
+use Rattle.simplex_rules.specs.OutlineOpenings.{IsLimited}
+use Rattle.path_lp.specs.Bounding.{opening_sum}
+use Rattle.path_lp.specs.OpeningCosts.{openings_within}
 use Rattle.path_tests.specs.Low.{IsLow, AreCheap}
 
 -- ---- the sum

@@ -1,4 +1,4 @@
-//! Tests of `path_bounds`. Without tests this library has `ready_bound` alone.
+//! Tests of `path_lp`. Without tests this library has `ready_bound` alone.
 #![tactic(auto)]
 
 // Path bounds, where they may be asked for.

@@ -4,13 +4,13 @@ ghost use Rattle.std.specs.Prelude.{◌≡◌, ◌<◌, ◌<ℤ◌, ◌^◌, IsT
 ghost use Rattle.domain_core.specs.Outlines.{shape_of};
 ghost use Rattle.flow_facts.specs.Facts.{IsAbout};
 ghost use Rattle.dual_check.specs.Openings.{costs_of};
-ghost use Rattle.pivot_rules.specs.OutlineOpenings.{AreLimited, IsLimited};
-ghost use Rattle.path_bounds.specs.Bounding.{opening_sum, told_path_bound};
+ghost use Rattle.simplex_rules.specs.OutlineOpenings.{AreLimited, IsLimited};
+ghost use Rattle.path_lp.specs.Bounding.{opening_sum, told_path_bound};
 ghost use Rattle.path_tests.specs.Low.{IsLow, AreCheap, Limits};
 
 use domain_core::Outline;
 use flow_facts::{BoundWord, Fact, Report, is_about};
-use path_bounds::path_bound;
+use path_lp::path_bound;
 use std::alloc::{AllocError, Global};
 
 // As great as a cost and a number of visits may be.

@@ -9,15 +9,15 @@ use Rattle.std.specs.Prelude.{◌≡◌, ℕ, List, []}
 use Rattle.domain_core.specs.declared.event.Event.{Event}
 use Rattle.domain_core.specs.Outlines.{Outlined}
 use Rattle.flow_facts.specs.Reports.{Reported}
-use Rattle.pool_events.specs.declared.policy.Policy.{Policy}
-use Rattle.pool_events.specs.Pools.{Pooled}
-use Rattle.pool_events.specs.Events.{opened}
-use Rattle.pool_events.specs.Policies.{IsPolicyRun}
-use Rattle.seen_memories.specs.Parts.{MemoryParts}
-use Rattle.seen_memories.specs.SeenOrders.{parts_order}
+use Rattle.worklist_rules.specs.declared.policy.Policy.{Policy}
+use Rattle.worklist_rules.specs.Pools.{Pooled}
+use Rattle.worklist_rules.specs.Events.{opened}
+use Rattle.worklist_rules.specs.Policies.{IsPolicyRun}
+use Rattle.memory_model.specs.Parts.{MemoryParts}
+use Rattle.memory_model.specs.SeenOrders.{parts_order}
 use Rattle.abstract_exec.specs.Explorations.{IsLeftIn}
 use Rattle.abstract_step.specs.Steppers.{StepperParts, stepped_by}
-use Rattle.told_reports.specs.Told.{FourRecorders, FourBooks, four_order, four_recording, found_of, told_report}
+use Rattle.report_soundness.specs.ReportTold.{FourRecorders, FourBooks, four_order, four_recording, found_of, told_report}
 use Rattle.program_analysis.specs.Answers.{Answer, Told, Unbounded}
 
 -- the pools of explorations with totals, loops, counts and pairs

@@ -20,18 +20,18 @@ use Rattle.scope_graph.specs.Placing.{plan_of}
 use Rattle.flow_facts.specs.declared.fact.Fact.{Fact}
 use Rattle.flow_facts.specs.declared.fact.Fact.TheVariants.{Loop, Count, Pair}
 use Rattle.flow_facts.specs.Reports.{NamedNode, Reported}
-use Rattle.run_recordings.specs.TotalRules.{spread_at}
-use Rattle.run_recordings.specs.LoopRules.{is_loop, own_of, is_counted}
-use Rattle.pair_recordings.specs.PairRules.{together}
-use Rattle.pool_events.specs.declared.policy.Policy.{Policy}
-use Rattle.pool_events.specs.Pools.{Spot}
-use Rattle.pool_events.specs.Policies.{IsPolicyRun}
-use Rattle.pool_events.specs.PolicyLaws.{run_unique, closed_longer}
+use Rattle.recorder_rules.specs.TotalRules.{spread_at}
+use Rattle.recorder_rules.specs.LoopRules.{is_loop, own_of, is_counted}
+use Rattle.recorder_rules.specs.PairRules.{together}
+use Rattle.worklist_rules.specs.declared.policy.Policy.{Policy}
+use Rattle.worklist_rules.specs.Pools.{Spot}
+use Rattle.worklist_rules.specs.Policies.{IsPolicyRun}
+use Rattle.worklist_rules.specs.PolicyLaws.{run_unique, closed_longer}
 use Rattle.abstract_exec.specs.Explorations.{IsLeftIn}
-use Rattle.seen_memories.specs.Parts.{MemoryParts}
-use Rattle.seen_memories.specs.SeenOrders.{parts_order}
+use Rattle.memory_model.specs.Parts.{MemoryParts}
+use Rattle.memory_model.specs.SeenOrders.{parts_order}
 use Rattle.abstract_step.specs.Steppers.{StepperParts, stepped_by}
-use Rattle.told_reports.specs.Told.{FourRecorders, four_order, four_recording, Found, found_of, is_stepped, below, sum_below, span_lines, dead_lines, total_lines, alarm_lines, greatest_total, told_facts, costs_of, count_bound, named_nodes, told_report}
+use Rattle.report_soundness.specs.ReportTold.{FourRecorders, four_order, four_recording, Found, found_of, is_stepped, below, sum_below, span_lines, dead_lines, total_lines, alarm_lines, greatest_total, told_facts, costs_of, count_bound, named_nodes, told_report}
 use Rattle.program_machines.specs.NodeCosts.{HasCosts}
 use Rattle.program_machines.specs.Rankings.{HasOneShape}
 use Rattle.program_analysis.specs.Answers.{Answer, Told, Unbounded}

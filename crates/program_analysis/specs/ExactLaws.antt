@@ -12,21 +12,21 @@ use Rattle.alf_runs.specs.Outcomes.{Outcome}
 use Rattle.alf_runs.specs.Steps.{Moment, At}
 use Rattle.alf_runs.specs.Runs.{cost_of}
 use Rattle.alf_runs.specs.RunLaws.{HasOneEnd}
-use Rattle.run_counts.specs.Traces.{Runs, AreNumbersOf}
-use Rattle.run_points.specs.Points.{moment_at}
+use Rattle.alf_interp.specs.Traces.{Runs, AreNumbersOf}
+use Rattle.transfer_rules.specs.Points.{moment_at}
 use Rattle.cost_table.specs.CostTables.{CostTable}
 use Rattle.domain_core.specs.Outlines.{Outlined}
 use Rattle.flow_facts.specs.Reports.{Reported}
-use Rattle.pool_events.specs.declared.policy.Policy.{Policy}
-use Rattle.pool_events.specs.Events.{HappenAll}
-use Rattle.seen_memories.specs.SeenOrders.{parts_order, parts_are_order}
-use Rattle.seen_machines.specs.PartMachines.{is_part_machine}
+use Rattle.worklist_rules.specs.declared.policy.Policy.{Policy}
+use Rattle.worklist_rules.specs.Events.{HappenAll}
+use Rattle.memory_model.specs.SeenOrders.{parts_order, parts_are_order}
+use Rattle.transfer_rules.specs.PartMachines.{is_part_machine}
 use Rattle.abstract_step.specs.Steppers.{StepperParts, stepped_by}
-use Rattle.told_reports.specs.Told.{four_order, four_recording, found_of, told_report}
-use Rattle.told_reports.specs.Runs.{Passes, IsSound as IsSoundSystem}
-use Rattle.told_reports.specs.Exact.{IsExact, LoneRun}
-use Rattle.told_reports.specs.EventLaws.{sound_events}
-use Rattle.told_reports.specs.LoneLaws.{lone_report}
+use Rattle.report_soundness.specs.ReportTold.{four_order, four_recording, found_of, told_report}
+use Rattle.report_soundness.specs.Runs.{Passes, IsSound as IsSoundSystem}
+use Rattle.report_soundness.specs.Exact.{IsExact, LoneRun}
+use Rattle.report_soundness.specs.EventLaws.{sound_events}
+use Rattle.report_soundness.specs.LoneLaws.{lone_report}
 use Rattle.program_machines.specs.NodeCosts.{node_cost, HasCosts}
 use Rattle.program_machines.specs.Starts.{AreLone, lone_start, alone, one_history}
 use Rattle.program_analysis.specs.Answers.{Answer, Told, Unbounded}

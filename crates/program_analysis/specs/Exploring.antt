@@ -12,12 +12,12 @@ use Rattle.domain_core.specs.declared.event.Event.{Event}
 use Rattle.domain_core.specs.Outlines.{Outlined}
 use Rattle.flow_facts.specs.Reports.{Reported}
 use Rattle.flow_facts.specs.Writable.{IsNodeName, IsWritable}
-use Rattle.pool_events.specs.declared.policy.Policy.{Policy}
-use Rattle.pool_events.specs.PolicyLaws.{run_happens}
-use Rattle.pool_events.specs.Events.{HappenAll}
-use Rattle.seen_memories.specs.SeenOrders.{parts_order}
+use Rattle.worklist_rules.specs.declared.policy.Policy.{Policy}
+use Rattle.worklist_rules.specs.PolicyLaws.{run_happens}
+use Rattle.worklist_rules.specs.Events.{HappenAll}
+use Rattle.memory_model.specs.SeenOrders.{parts_order}
 use Rattle.abstract_step.specs.Steppers.{stepped_by}
-use Rattle.told_reports.specs.Told.{four_order, four_recording, found_of, told_report}
+use Rattle.report_soundness.specs.ReportTold.{four_order, four_recording, found_of, told_report}
 use Rattle.program_analysis.specs.Analyses.{PoolOf, first_pool, IsExploration, IsClosed}
 use Rattle.program_analysis.specs.Twins.{run_same}
 use Rattle.program_analysis.specs.Bounds.{most_turns, has_room}

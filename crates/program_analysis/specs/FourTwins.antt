@@ -9,12 +9,12 @@ use Rattle.domain_core.specs.Recordings.{Recording}
 use Rattle.flow_recorders.specs.declared.both.Both.{Both}
 use Rattle.flow_recorders.specs.declared.both.BothBook.{BothBook}
 use Rattle.flow_recorders.specs.BothRules.{both_recording}
-use Rattle.run_recordings.specs.Generated.{generated}
-use Rattle.run_recordings.specs.TotalRules.{total_recording}
-use Rattle.run_recordings.specs.TallyRules.{Tally, key_at, is_at, spans_gone, spreads_gone, spreads_ended, tally_recording}
-use Rattle.run_recordings.specs.LoopRules.{loop_tally, count_tally, counted_scope, counted_node, own_of, loop_recording, count_recording}
-use Rattle.pair_recordings.specs.Tables.{tabled}
-use Rattle.pair_recordings.specs.PairRules.{seen_after, pair_after, book_after, book_ended, pair_recording}
+use Rattle.recorder_rules.specs.Generated.{generated}
+use Rattle.recorder_rules.specs.TotalRules.{total_recording}
+use Rattle.recorder_rules.specs.TallyRules.{Tally, key_at, is_at, spans_gone, spreads_gone, spreads_ended, tally_recording}
+use Rattle.recorder_rules.specs.LoopRules.{loop_tally, count_tally, counted_scope, counted_node, own_of, loop_recording, count_recording}
+use Rattle.recorder_rules.specs.Tables.{tabled}
+use Rattle.recorder_rules.specs.PairRules.{seen_after, pair_after, book_after, book_ended, pair_recording}
 use Rattle.program_analysis.specs.Twins.{AreTwins}
 
 module _ (o other : Outlined) (same : shape_of o ≡ shape_of other) where

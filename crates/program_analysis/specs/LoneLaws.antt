@@ -20,28 +20,28 @@ use Rattle.domain_core.specs.Outlines.{Outlined, IsOutline, shape_of}
 use Rattle.domain_core.specs.OutlineOf.{IsOutlineOf}
 use Rattle.domain_core.specs.Machines.{Machine, IsMachine, IsAlong}
 use Rattle.domain_core.specs.Recordings.{Recording}
-use Rattle.run_counts.specs.Traces.{Runs, IsPast}
-use Rattle.run_points.specs.NodeNumbers.{number_of}
-use Rattle.run_points.specs.Points.{points}
-use Rattle.run_points.specs.TraceLaws.{trace_is_trace}
+use Rattle.alf_interp.specs.Traces.{Runs, IsPast}
+use Rattle.transfer_rules.specs.NodeNumbers.{number_of}
+use Rattle.transfer_rules.specs.Points.{points}
+use Rattle.transfer_rules.specs.TraceLaws.{trace_is_trace}
 use Rattle.scope_graph.specs.Placing.{place_of, plan_of}
-use Rattle.seen_memories.specs.Parts.{MemoryParts}
-use Rattle.seen_memories.specs.SeenOrders.{parts_order, parts_are_order}
-use Rattle.seen_machines.specs.PartMachines.{is_part_machine, is_part_along}
-use Rattle.pool_events.specs.declared.policy.Policy.{Policy}
-use Rattle.pool_events.specs.Pools.{Spot, Pooled}
-use Rattle.pool_events.specs.Events.{HappenAll, IsOneOn}
-use Rattle.pool_events.specs.EventLaws.{event_one_on}
-use Rattle.pool_events.specs.Policies.{IsPolicyRun}
-use Rattle.pool_events.specs.PolicyLaws.{run_happens}
-use Rattle.pool_events.specs.Runs.{IsRun, GoesOn, trace_to}
-use Rattle.pool_events.specs.Sharp.{IsSharp, IsSharpAt, IsSharpOver}
-use Rattle.pool_events.specs.SharpLaws.{sharp_start, sharp_events}
-use Rattle.pool_events.specs.EventLaws.{start_kept}
+use Rattle.memory_model.specs.Parts.{MemoryParts}
+use Rattle.memory_model.specs.SeenOrders.{parts_order, parts_are_order}
+use Rattle.transfer_rules.specs.PartMachines.{is_part_machine, is_part_along}
+use Rattle.worklist_rules.specs.declared.policy.Policy.{Policy}
+use Rattle.worklist_rules.specs.Pools.{Spot, Pooled}
+use Rattle.worklist_rules.specs.Events.{HappenAll, IsOneOn}
+use Rattle.worklist_rules.specs.EventLaws.{event_one_on}
+use Rattle.worklist_rules.specs.Policies.{IsPolicyRun}
+use Rattle.worklist_rules.specs.PolicyLaws.{run_happens}
+use Rattle.worklist_rules.specs.Runs.{IsRun, GoesOn, trace_to}
+use Rattle.worklist_rules.specs.Sharp.{IsSharp, IsSharpAt, IsSharpOver}
+use Rattle.worklist_rules.specs.SharpLaws.{sharp_start, sharp_events}
+use Rattle.worklist_rules.specs.EventLaws.{start_kept}
 use Rattle.abstract_exec.specs.Explorations.{IsLeftIn}
 use Rattle.abstract_step.specs.Steppers.{StepperParts, stepped_by}
-use Rattle.told_reports.specs.Told.{FourRecorders, four_order, four_recording}
-use Rattle.told_reports.specs.EventLaws.{four_is_order, four_is_recording, four_suited}
+use Rattle.report_soundness.specs.ReportTold.{FourRecorders, four_order, four_recording}
+use Rattle.report_soundness.specs.EventLaws.{four_is_order, four_is_recording, four_suited}
 use Rattle.program_machines.specs.ProgramRunLaws.{program_run, stands_there, over_is_over}
 use Rattle.program_machines.specs.Starts.{AreLone, lone_start, IsAlone, alone, one_history}
 use Rattle.program_analysis.specs.Answers.{Answer, Told, Unbounded}

@@ -11,7 +11,7 @@ use Rattle.std.proofs.Common.{◌≡◌, ◌≢◌, ◌<◌, ◌+◌, inl, inr, 
 use Rattle.std.proofs.lemmas.Bool.{cases_eq}
 use Rattle.std.proofs.lemmas.List.{length-map, same_lists}
 use Rattle.std.proofs.lemmas.Option.{slice_get-get_or, slice_get-map, get_or_from_slice_get}
-use Rattle.walks.specs.ListLaws.{same_default}
+use Rattle.graph_walks.specs.ListLaws.{same_default}
 use Rattle.alf_check.specs.CheckedPrograms.{NumberedProgram}
 use Rattle.flow_graph.specs.Nodes.{Node, first_node}
 use Rattle.flow_graph.specs.Numbering.{GraphParts, IsGraph}

@@ -11,13 +11,13 @@ use Rattle.alf_runs.specs.Outcomes.{Outcome, Ended, Faulted, Lost}
 use Rattle.alf_runs.specs.Steps.{Moment}
 use Rattle.alf_runs.specs.Starts.{IsStart}
 use Rattle.alf_runs.specs.Runs.{cost_of}
-use Rattle.run_counts.specs.Traces.{Runs}
+use Rattle.alf_interp.specs.Traces.{Runs}
 use Rattle.cost_table.specs.CostTables.{CostTable}
 use Rattle.domain_core.specs.Outlines.{Shape}
 use Rattle.flow_facts.specs.declared.fact.Fact.{Fact}
 use Rattle.flow_facts.specs.Facts.{Meets}
 use Rattle.flow_facts.specs.Reports.{Reported}
-use Rattle.told_reports.specs.Runs.{HasAlarmOf}
+use Rattle.report_soundness.specs.Runs.{HasAlarmOf}
 use Rattle.program_machines.specs.NodeCosts.{node_cost}
 
 -- where the run faults, the facts have an alarm for the fault at its last node

@@ -20,17 +20,17 @@ use Rattle.flow_graph.specs.Expansions.{node_number}
 use Rattle.alf_runs.specs.Outcomes.{Outcome, Outputs, Ended, Faulted}
 use Rattle.alf_runs.specs.Steps.{Moment, Over, step}
 use Rattle.alf_runs.specs.Runs.{after, trace, cost_of}
-use Rattle.run_counts.specs.Traces.{Runs, IsNodeAt, AreNumbersOf}
+use Rattle.alf_interp.specs.Traces.{Runs, IsNodeAt, AreNumbersOf}
 use Rattle.cost_table.specs.CostTables.{CostTable}
 use Rattle.domain_core.specs.Outlines.{Outlined, shape_of}
 use Rattle.flow_facts.specs.declared.fact.Fact.{Fact}
 use Rattle.flow_facts.specs.Reports.{Reported}
-use Rattle.path_rows.specs.Uses.{run_cost}
-use Rattle.run_points.specs.Points.{run_system, moment_at, points}
-use Rattle.run_points.specs.PointLaws.{Promises}
+use Rattle.ipet_rows.specs.Uses.{run_cost}
+use Rattle.transfer_rules.specs.Points.{run_system, moment_at, points}
+use Rattle.transfer_rules.specs.PointLaws.{Promises}
 use Rattle.abstract_step.specs.Steppers.{StepperParts, stepped_by}
-use Rattle.told_reports.specs.Told.{costs_of}
-use Rattle.told_reports.specs.Runs.{EndsWith, Passes, stops, moves, HasAlarm as HasFaultAlarm, IsSound as IsSoundSystem}
+use Rattle.report_soundness.specs.ReportTold.{costs_of}
+use Rattle.report_soundness.specs.Runs.{EndsWith, Passes, stops, moves, HasAlarm as HasFaultAlarm, IsSound as IsSoundSystem}
 use Rattle.program_machines.specs.NodeCosts.{node_cost, HasCosts}
 use Rattle.program_machines.specs.ProgramRunLaws.{program_run, stands_there}
 use Rattle.program_analysis.specs.Sound.{HasAlarm, IsSound}

@@ -14,12 +14,12 @@ use Rattle.domain_core.specs.Orders.{Order}
 use Rattle.domain_core.specs.Outlines.{Outlined, Shape, shape_of}
 use Rattle.domain_core.specs.Machines.{Machine}
 use Rattle.domain_core.specs.Recordings.{Recording}
-use Rattle.pool_events.specs.declared.policy.Policy.{Policy}
-use Rattle.pool_events.specs.Positions.{position_of, moved_position}
-use Rattle.pool_events.specs.Pools.{Spot, Pooled, with_alarm, may_fault}
-use Rattle.pool_events.specs.Events.{opened, Happens, IsOneOn, next_spot, book_after, spots_after, spread_book, spread_spots, book_at_faults, stepped_at}
-use Rattle.pool_events.specs.EventLaws.{event_one_on}
-use Rattle.pool_events.specs.Policies.{IsChoice, IsPolicyRun}
+use Rattle.worklist_rules.specs.declared.policy.Policy.{Policy}
+use Rattle.worklist_rules.specs.Positions.{position_of, moved_position}
+use Rattle.worklist_rules.specs.Pools.{Spot, Pooled, with_alarm, may_fault}
+use Rattle.worklist_rules.specs.Events.{opened, Happens, IsOneOn, next_spot, book_after, spots_after, spread_book, spread_spots, book_at_faults, stepped_at}
+use Rattle.worklist_rules.specs.EventLaws.{event_one_on}
+use Rattle.worklist_rules.specs.Policies.{IsChoice, IsPolicyRun}
 
 -- the outlines have one shape, and the recorder answers the same along both
 pub record AreTwins {R B : Type 0} (z : Recording R B) (o other : Outlined) : Type 0 where

@@ -14,8 +14,8 @@ ghost use Rattle.program_analysis.specs.Answers.{answer_of, IfTold};
 ghost use Rattle.program_analysis.specs.Sound.{IsSound};
 ghost use Rattle.abstract_exec.specs.Explorations.{IsPool};
 ghost use Rattle.abstract_step.specs.Steppers.{stepped_by};
-ghost use Rattle.told_reports.specs.Told.{four_recording};
-ghost use Rattle.told_reports.specs.Runs.{IsSound as IsSoundSystem};
+ghost use Rattle.report_soundness.specs.ReportTold.{four_recording};
+ghost use Rattle.report_soundness.specs.Runs.{IsSound as IsSoundSystem};
 ghost use Rattle.program_analysis.specs.Analyses.{IsFound};
 ghost use Rattle.program_analysis.specs.Exploring.{IsEnded, IsWritableOf};
 ghost use Rattle.program_analysis.specs.AnalysisLaws.{names_of};
@@ -29,9 +29,9 @@ use alf_check::{Checked, InputRow};
 use domain_core::Outline;
 use flow_graph::{Graph, names_tell_nodes_apart};
 use flow_reports::{FourRecorders, report};
-use pool_events::Policy;
+use report_soundness::numbers_are_at_most_the_steps;
 use std::alloc::{AllocError, Global};
-use told_reports::numbers_are_at_most_the_steps;
+use worklist_rules::Policy;
 
 /// Explores a program's graph along its outline, for runs with inputs inside the ranges of the rows, and tells what
 /// each run does, or the scope in which the turns were used up.

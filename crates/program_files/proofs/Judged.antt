@@ -2,16 +2,16 @@
 use Rattle.std.proofs.Common.{◌≡◌, ℕ, List, [], Result, Ok, Err, Option, None, Some, IfSome, IsSomeAnd, IsSome, codes, ap, sym, ◌∙◌, subst}
 use Rattle.alf_program.specs.Tree.{WholeProgram}
 use Rattle.alf_text.specs.Language.{Departure, Means, HasOneMeaning}
-use Rattle.alf_names.specs.Places.{function_place}
+use Rattle.alf_faults.specs.Places.{function_place}
 use Rattle.alf_faults.specs.Fault.{Fault, Unknown, Duplicate, Size, earliest}
 use Rattle.alf_faults.specs.Faults.{faults_in}
 use Rattle.alf_check.specs.CheckedPrograms.{NumberedProgram}
 use Rattle.alf_check.specs.Checking.{Passes, IsTold, calls_in}
 use Rattle.alf_check.specs.declared.fault.CheckFault.{CheckFault}
 use Rattle.alf_check.specs.declared.fault.CheckFault.TheVariants as told
-use Rattle.call_cycles.specs.Calls.{OnCycle}
-use Rattle.work.specs.Outcome.{Outcome, Cause, Source, Example, LinesAgree, AreAlike, AreAlikeResults, unread_of, refused}
-use Rattle.work.specs.Work.{IsOnly, alike}
+use Rattle.graph_walks.specs.Calls.{OnCycle}
+use Rattle.command_plans.specs.Outcome.{Outcome, Cause, Source, Example, LinesAgree, AreAlike, AreAlikeResults, unread_of, refused}
+use Rattle.command_plans.specs.Work.{IsOnly, alike}
 use Rattle.program_files.specs.FaultLines.{fault_line}
 use Rattle.program_files.specs.CheckLines.{name_line, size_line, check_line, check_cause}
 use Rattle.program_files.specs.Programs.{ProgramMeans, CheckMeans, meant}

@@ -7,8 +7,8 @@ use Rattle.flow_graph.specs.Numbering.{GraphParts, IsGraph, HasMoreNodes, HasMor
 use Rattle.flow_graph.specs.Faults.{FaultTells, LimitTells}
 use Rattle.flow_graph.specs.declared.fault.GraphFault.{GraphFault}
 use Rattle.flow_graph.specs.declared.fault.GraphFault.TheVariants as faults
-use Rattle.work.specs.Outcome.{Outcome, Source, AreAlikeResults, refused}
-use Rattle.work.specs.Work.{IsOnly, alike}
+use Rattle.command_plans.specs.Outcome.{Outcome, Source, AreAlikeResults, refused}
+use Rattle.command_plans.specs.Work.{IsOnly, alike}
 use Rattle.program_files.specs.FaultLines.{limit_line}
 use Rattle.program_files.specs.CheckLines.{graph_line}
 use Rattle.unranked_runs.specs.Ranking.{unranked}

@@ -1,17 +1,17 @@
 -- The unit that bytes spell, or the line of their first departure, is their only meaning; and so is what the checks answer of it.
 use Rattle.std.proofs.Common.{◌≡◌, ℕ, true, false, List, [], Result, Ok, Err, Option, None, Some, IfSome, IsSomeAnd, refl, ap, sym, ◌∙◌, subst}
-use Rattle.call_cycles.specs.Calls.{RanksRuleOutCycles}
+use Rattle.graph_walks.specs.Calls.{RanksRuleOutCycles}
 use Rattle.c_unit.specs.Units.{UnitTree}
 use Rattle.c_text.specs.Language.{Departure, Means, HasOneMeaning}
-use Rattle.c_checks.specs.Faults.{Fault, earliest}
-use Rattle.c_checks.specs.Units.{faults_in}
-use Rattle.c_checks.specs.Recursion.{calls_of}
-use Rattle.c_checks.specs.Programs.{Refusal, UnknownName, DuplicateName, MistypedAt, Recursion, NoRoot, told, first_refusal, has_root, Refuses, by_text, by_cycle, by_root}
+use Rattle.c_rules.specs.Faults.{Fault, earliest}
+use Rattle.c_rules.specs.Units.{faults_in}
+use Rattle.c_rules.specs.Recursion.{calls_of}
+use Rattle.c_rules.specs.Programs.{Refusal, UnknownName, DuplicateName, MistypedAt, Recursion, NoRoot, told, first_refusal, has_root, Refuses, by_text, by_cycle, by_root}
 use Rattle.c_check.specs.Programs.{IsTold}
 use Rattle.c_check.specs.declared.fault.CFault.{CFault}
 use Rattle.c_check.specs.declared.fault.CFault.TheVariants as faults
-use Rattle.work.specs.Outcome.{Cause, Outcome, AreAlike, AreAlikeResults, unread_of, refused}
-use Rattle.work.specs.Work.{IsOnly, alike}
+use Rattle.command_plans.specs.Outcome.{Cause, Outcome, AreAlike, AreAlikeResults, unread_of, refused}
+use Rattle.command_plans.specs.Work.{IsOnly, alike}
 use Rattle.program_files.specs.UnitLines.{unit_line}
 use Rattle.program_files.specs.RefusalLines.{refusal_line, refusal_cause, refusal_told, refusal_of}
 use Rattle.program_files.specs.Units.{UnitMeans, PassesChecks, UnitCheckMeans}

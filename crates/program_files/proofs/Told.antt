@@ -15,12 +15,12 @@ use Rattle.c_text.specs.Language.{SpellsUnit}
 use Rattle.c_check.specs.Programs.{ProgramParts}
 use Rattle.c_lowered.specs.Programs.{lowered}
 use Rattle.c_meaning.specs.Programs.{ProgramOutcome}
-use Rattle.lowered_runs.specs.Outcomes.{IsSameOutcome}
-use Rattle.lowered_programs.specs.Lowering.{HasOutcomeOfCells}
+use Rattle.lowering_simulation.specs.Outcomes.{IsSameOutcome}
+use Rattle.lowering_simulation.specs.Lowering.{HasOutcomeOfCells}
 use Rattle.c_lower.specs.Outcomes.{HasUnitsOutcomes}
-use Rattle.work.specs.Log.{Log}
-use Rattle.work.specs.declared.stop.Stop.{Stop}
-use Rattle.work.specs.Works.{Judges}
+use Rattle.command_plans.specs.Log.{Log}
+use Rattle.command_plans.specs.declared.stop.Stop.{Stop}
+use Rattle.command_plans.specs.Works.{Judges}
 use Rattle.unranked_runs.specs.Ranking.{unranked}
 use Rattle.unranked_runs.specs.RankedRuns.{after_same}
 use Rattle.program_files.specs.Programs.{program_in, CheckMeans, meant}

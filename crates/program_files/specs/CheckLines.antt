@@ -11,7 +11,7 @@ use Rattle.alf_check.specs.declared.fault.CheckFault.TheVariants as checks
 use Rattle.flow_graph.specs.declared.fault.GraphFault.{GraphFault}
 use Rattle.flow_graph.specs.declared.fault.GraphFault.TheVariants as graphs
 use Rattle.flow_graph.specs.Names.{quoted}
-use Rattle.work.specs.Outcome.{Cause, Source, Example}
+use Rattle.command_plans.specs.Outcome.{Cause, Source, Example}
 use Rattle.program_files.specs.FaultLines.{limit_line}
 
 -- the number, or a dash where there is none

@@ -11,8 +11,8 @@ use Rattle.flow_graph.specs.Numbering.{GraphParts, IsGraph, HasMoreNodes, HasMor
 use Rattle.flow_graph.specs.Faults.{FaultTells}
 use Rattle.flow_graph.specs.declared.fault.GraphFault.{GraphFault}
 use Rattle.sweet_words.specs.Files.{ProgramFile, Alf, C}
-use Rattle.work.specs.Outcome.{Outcome, Source}
-use Rattle.work.specs.Work.{Work, judged, done, ◌>>=◌}
+use Rattle.command_plans.specs.Outcome.{Outcome, Source}
+use Rattle.command_plans.specs.Work.{Work, judged, done, ◌>>=◌}
 use Rattle.program_files.specs.CheckLines.{graph_line}
 use Rattle.program_files.specs.Programs.{meant, numbered_in}
 use Rattle.program_files.specs.Units.{checked_unit_in}

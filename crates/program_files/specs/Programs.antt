@@ -12,9 +12,9 @@ use Rattle.alf_check.specs.CheckedPrograms.{NumberedProgram}
 use Rattle.alf_check.specs.Numbered.{numbered}
 use Rattle.alf_check.specs.Checking.{Passes, IsTold}
 use Rattle.alf_check.specs.declared.fault.CheckFault.{CheckFault}
-use Rattle.work.specs.declared.reading.Role.TheVariants.{Program}
-use Rattle.work.specs.Outcome.{Outcome, refused}
-use Rattle.work.specs.Work.{Work, reads, judged, ◌>>=◌}
+use Rattle.command_plans.specs.declared.reading.Role.TheVariants.{Program}
+use Rattle.command_plans.specs.Outcome.{Outcome, refused}
+use Rattle.command_plans.specs.Work.{Work, reads, judged, ◌>>=◌}
 use Rattle.program_files.specs.FaultLines.{fault_line}
 use Rattle.program_files.specs.CheckLines.{check_line, check_cause}
 

@@ -4,10 +4,10 @@
 --   refusal_told refusal    both
 --   refusal_of fault        what the code tells, unless memory ran out
 use Rattle.std.specs.Prelude.{ℕ, List, [], ◌∷◌, ◌++◌, Option, None, Some, codes}
-use Rattle.c_checks.specs.Programs.{Refusal, UnknownName, DuplicateName, MistypedAt, Recursion, NoRoot}
+use Rattle.c_rules.specs.Programs.{Refusal, UnknownName, DuplicateName, MistypedAt, Recursion, NoRoot}
 use Rattle.c_check.specs.declared.fault.CFault.{CFault}
 use Rattle.c_check.specs.declared.fault.CFault.TheVariants as faults
-use Rattle.work.specs.Outcome.{Cause, Source, Example, Outcome}
+use Rattle.command_plans.specs.Outcome.{Cause, Source, Example, Outcome}
 use Rattle.program_files.specs.FaultLines.{place_text}
 use Rattle.program_files.specs.CheckLines.{name_line, names_line}
 

@@ -8,10 +8,10 @@
 use Rattle.std.specs.Prelude.{◌≡◌, ℕ, List, Result, Ok, Err, codes}
 use Rattle.c_unit.specs.Units.{UnitTree}
 use Rattle.c_text.specs.Language.{Departure, Means}
-use Rattle.c_checks.specs.Programs.{Refusal, Refuses, IsProgram}
-use Rattle.work.specs.declared.reading.Role.TheVariants.{Program}
-use Rattle.work.specs.Outcome.{Outcome, refused}
-use Rattle.work.specs.Work.{Work, reads, judged, ◌>>=◌}
+use Rattle.c_rules.specs.Programs.{Refusal, Refuses, IsProgram}
+use Rattle.command_plans.specs.declared.reading.Role.TheVariants.{Program}
+use Rattle.command_plans.specs.Outcome.{Outcome, refused}
+use Rattle.command_plans.specs.Work.{Work, reads, judged, ◌>>=◌}
 use Rattle.program_files.specs.Programs.{most_bytes}
 use Rattle.program_files.specs.UnitLines.{unit_line}
 use Rattle.program_files.specs.RefusalLines.{refusal_told}

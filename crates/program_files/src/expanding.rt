@@ -4,7 +4,7 @@ ghost use Rattle.std.specs.Prelude.{IfOk, IfSome};
 ghost use Rattle.alf_check.specs.CheckedPrograms.{seen};
 ghost use Rattle.flow_graph.specs.Numbering.{IsGraph};
 ghost use Rattle.sweet_words.specs.Meant.{file_meant};
-ghost use Rattle.work.specs.Works.{Works, Judges};
+ghost use Rattle.command_plans.specs.Works.{Works, Judges};
 ghost use Rattle.program_files.specs.Expanding.{lowered_in, checked_in, GraphMeans, expanded_in};
 ghost use Rattle.program_files.specs.Seen.{program_of_checked, expanded_of};
 ghost use Rattle.program_files.specs.Told.{IsProgramOfUnit, IsToldProgram};
@@ -14,11 +14,11 @@ use crate::programs::numbered_in;
 use crate::units::checked_unit_in;
 use alf_check::Checked;
 use c_lower::lower;
+use command_plans::{Stop, Why};
 use flow_base::Shelf;
 use flow_graph::{Graph, a_program_has_one_graph, limits_exclude_each_other};
 use std::alloc::Global;
 use sweet_words::ProgramFile;
-use work::{Stop, Why};
 
 /// A checked program and its graph.
 #[derive(Drop)]

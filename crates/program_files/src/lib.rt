@@ -2,7 +2,7 @@
 //!
 //! A file of ALF is read, its program checked and expanded to its graph. A file of C is read, its unit
 //! checked and lowered to a program of ALF, which is expanded in the same way. What stops a file on its
-//! way has one line. The clauses say which order of work this is, in the words of the crate `work`, and
+//! way has one line. The clauses say which order of work this is, in the words of the crate `command_plans`, and
 //! what told files say of the program that comes of it: of C that each run has the outcome of the unit.
 #![tactic(auto)]
 

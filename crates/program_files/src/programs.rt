@@ -3,7 +3,7 @@
 ghost use Rattle.std.specs.Prelude.{IfOk, IfSome};
 ghost use Rattle.alf_program.specs.Tree.{program_of};
 ghost use Rattle.alf_program.specs.Writable.{IsWritable};
-ghost use Rattle.work.specs.Works.{Works, Judges};
+ghost use Rattle.command_plans.specs.Works.{Works, Judges};
 ghost use Rattle.program_files.specs.Programs.{ProgramMeans, program_in, CheckMeans, numbered_in};
 ghost use Rattle.program_files.specs.Seen.{program_of_checked};
 ghost use Rattle.program_files.specs.Told.{IsProgramOfText};
@@ -12,9 +12,9 @@ use crate::lines::{check_line, check_why, fault_line};
 use alf_check::{Checked, check};
 use alf_program::Program;
 use alf_text::{one_meaning, read};
+use command_plans::{Role, Stop, Why, read_file};
 use flow_base::Shelf;
 use std::alloc::Global;
-use work::{Role, Stop, Why, read_file};
 
 /// The most bytes of a file.
 pub const MOST_BYTES: u64 = 1_048_576;

@@ -3,7 +3,7 @@
 ghost use Rattle.std.specs.Prelude.{◌≡◌, IfOk, IfSome};
 ghost use Rattle.c_unit.specs.Units.{unit_of};
 ghost use Rattle.c_text.specs.Language.{IsSpelled};
-ghost use Rattle.work.specs.Works.{Works, Judges};
+ghost use Rattle.command_plans.specs.Works.{Works, Judges};
 ghost use Rattle.program_files.specs.Units.{UnitMeans, unit_in, UnitCheckMeans, checked_unit_in};
 ghost use Rattle.program_files.specs.Told.{IsToldUnit};
 
@@ -11,10 +11,10 @@ use crate::lines::{refusal_line, refusal_why, unit_line};
 use crate::programs::MOST_BYTES;
 use c_check::{CProgram, check};
 use c_text::{CUnit, one_meaning, read};
-use call_cycles::ranked_calls_have_no_cycle;
+use command_plans::{Role, Stop, Why, read_file};
 use flow_base::Shelf;
+use graph_walks::ranked_calls_have_no_cycle;
 use std::alloc::Global;
-use work::{Role, Stop, Why, read_file};
 
 // The line of a file that has more bytes than a file may have.
 const TOO_LONG: &str = "fault 93 limit bytes 1048577\n";

@@ -18,13 +18,13 @@ use Rattle.alf_runs.specs.Outcomes.{Outcome, Ended, Faulted}
 use Rattle.alf_runs.specs.Steps.{Moment, At, Over, step}
 use Rattle.alf_runs.specs.Runs.{after, trace}
 use Rattle.alf_runs.specs.Starts.{IsStart, start_history, words_of}
-use Rattle.run_counts.specs.Traces.{Runs, IsNodeAt, AreNumbersOf}
+use Rattle.alf_interp.specs.Traces.{Runs, IsNodeAt, AreNumbersOf}
 use Rattle.domain_core.specs.Machines.{System}
-use Rattle.pool_events.specs.Runs.{IsRun, GoesOn, trace_to, with_node}
-use Rattle.run_points.specs.NodeNumbers.{number_of}
-use Rattle.run_points.specs.Points.{run_system, moment_at, point_of, points, IsOneWay}
-use Rattle.run_points.specs.PointLaws.{Promises, point_run, has_one_way, stands_at}
-use Rattle.run_points.specs.TraceLaws.{trace_is_trace}
+use Rattle.worklist_rules.specs.Runs.{IsRun, GoesOn, trace_to, with_node}
+use Rattle.transfer_rules.specs.NodeNumbers.{number_of}
+use Rattle.transfer_rules.specs.Points.{run_system, moment_at, point_of, points, IsOneWay}
+use Rattle.transfer_rules.specs.PointLaws.{Promises, point_run, has_one_way, stands_at}
+use Rattle.transfer_rules.specs.TraceLaws.{trace_is_trace}
 use Rattle.program_machines.specs.ProgramRuns.{IsAliveTo, IsProgramRun, IsOverAs, IsLastPoint}
 
 -- one step more

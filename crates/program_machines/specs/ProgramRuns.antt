@@ -13,11 +13,11 @@ use Rattle.flow_graph.specs.Numbering.{GraphParts, IsGraph}
 use Rattle.alf_runs.specs.Outcomes.{Outcome, Ended, Faulted, Lost}
 use Rattle.alf_runs.specs.Steps.{Moment}
 use Rattle.alf_runs.specs.Starts.{IsStart}
-use Rattle.run_counts.specs.Traces.{Runs}
+use Rattle.alf_interp.specs.Traces.{Runs}
 use Rattle.domain_core.specs.Machines.{System}
-use Rattle.pool_events.specs.Runs.{IsRun, trace_to}
-use Rattle.run_points.specs.Points.{run_system, points}
-use Rattle.seen_machines.specs.PartMachines.{part_machine}
+use Rattle.worklist_rules.specs.Runs.{IsRun, trace_to}
+use Rattle.transfer_rules.specs.Points.{run_system, points}
+use Rattle.transfer_rules.specs.PartMachines.{part_machine}
 
 -- the run is not over before its moment k
 abbrev pub IsAliveTo : {C : Type 0} → (ℕ → Option (ℕ × C)) → ℕ → Type 0

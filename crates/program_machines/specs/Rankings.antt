@@ -5,7 +5,7 @@ use Rattle.std.specs.Prelude.{slice_index, if◌then◌else◌}
 use Rattle.std.proofs.Common.{◌≡◌, ◌≢◌, ◌<◌, ◌≤◌, inl, inr, ℕ, zero, suc, List, length, refl, sym, ap, ◌∙◌, ◌==◌, arith}
 use Rattle.std.proofs.lemmas.Bool.{cases_lt, cases_order, cases_eq, eq-eqb, ne_eqb}
 use Rattle.std.proofs.lemmas.List.{same_lists, length-map}
-use Rattle.walks.specs.ListLaws.{same_default}
+use Rattle.graph_walks.specs.ListLaws.{same_default}
 use Rattle.domain_core.specs.Reducible.{IsRanking}
 use Rattle.domain_core.specs.Outlines.{Shape}
 use Rattle.domain_core.specs.OutlineOf.{IsOutlineOf}

@@ -4,15 +4,15 @@ use Rattle.std.proofs.lemmas.Bool.{cases_lt}
 use Rattle.std.proofs.lemmas.List.{length-replicate, get_or_default}
 use Rattle.std.proofs.lemmas.List.Elements.{Contains-append_left, Contains-push, Contains-push_cases}
 use Rattle.lists.specs.Members.{no_member}
-use Rattle.walks.specs.Walks.{Walk, stays, goes_on}
-use Rattle.walks.specs.WalkLaws.{walk_cons, walk_ends}
-use Rattle.walks.specs.ListLaws.{contains_cases}
+use Rattle.graph_walks.specs.Walks.{Walk, stays, goes_on}
+use Rattle.graph_walks.specs.WalkLaws.{walk_cons, walk_ends}
+use Rattle.graph_walks.specs.ListLaws.{contains_cases}
 use Rattle.domain_core.specs.Scopes.{Plan, leads, IsBody}
-use Rattle.walks.specs.Tables.{HasEdge}
-use Rattle.walks.specs.Marks.{IsMarked, KeepsMarks, ReachesPast}
+use Rattle.graph_walks.specs.Tables.{HasEdge}
+use Rattle.graph_walks.specs.Marks.{IsMarked, KeepsMarks, ReachesPast}
 use Rattle.scope_graph.specs.Descending.{IsBackList}
 use Rattle.scope_graph.specs.LoopBodies.{ReturnsBack, IsBackward}
-use Rattle.walks.specs.MarkLaws.{by_mark, none_marked, marked_either, marked_new}
+use Rattle.graph_walks.specs.MarkLaws.{by_mark, none_marked, marked_either, marked_new}
 
 -- what is kept while the sources below k are looked at
 pub record IsMarking (table : List (List ℕ)) (back : List (ℕ × ℕ)) (h : ℕ) (seen : List Bool) (k : ℕ) : Type 0 where

@@ -3,17 +3,17 @@ use Rattle.std.proofs.Common.{◌≡◌, ◌≢◌, ◌<◌, ◌≤◌, ◌+◌,
 use Rattle.std.proofs.lemmas.List.{take-append-drop, take_more, drop_more, length-replicate}
 use Rattle.std.proofs.lemmas.List.Elements.{Contains-push_cases, Contains-append_left, Contains-push}
 use Rattle.std.proofs.lemmas.Bool.{eqb-true, ne_eqb}
-use Rattle.walks.specs.Walks.{Walk, stays, goes_on, IsDistinct}
+use Rattle.graph_walks.specs.Walks.{Walk, stays, goes_on, IsDistinct}
 use Rattle.domain_core.specs.Reducible.{Dominates, IsBackEdge, IsCrossing, IsFalling}
-use Rattle.walks.specs.WalkLaws.{walk_ends, split}
-use Rattle.walks.specs.ListLaws.{contains_cases, distinct_push, distinct_front}
+use Rattle.graph_walks.specs.WalkLaws.{walk_ends, split}
+use Rattle.graph_walks.specs.ListLaws.{contains_cases, distinct_push, distinct_front}
 use Rattle.lists.specs.Members.{first_member, further_member, no_member}
-use Rattle.walks.specs.Tables.{HasEdge}
-use Rattle.walks.specs.Marks.{IsMarked, IsBarred, IsPathPast}
+use Rattle.graph_walks.specs.Tables.{HasEdge}
+use Rattle.graph_walks.specs.Marks.{IsMarked, IsBarred, IsPathPast}
 use Rattle.scope_graph.specs.Tables.{IsAround}
 use Rattle.scope_graph.specs.Descending.{IsLooked, IsSettled, IsDescent, IsVisited, IsChecked, IsBackList}
 use Rattle.lists.specs.Tests.{by_test}
-use Rattle.walks.specs.MarkLaws.{both, none_marked, marked_kept, marked_either, marked_new, barred_by_one}
+use Rattle.graph_walks.specs.MarkLaws.{both, none_marked, marked_kept, marked_either, marked_new, barred_by_one}
 
 -- ---- what is noted and left stays so
 

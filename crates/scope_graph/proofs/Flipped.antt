@@ -1,7 +1,7 @@
 -- Edges read from their ends.
 use Rattle.std.proofs.Common.{◌≡◌, ℕ, List, [], ◌∷◌, inl, inr, map, Contains, ap}
 use Rattle.domain_core.specs.Reducible.{IsEdge}
-use Rattle.walks.specs.ListLaws.{contains_cases}
+use Rattle.graph_walks.specs.ListLaws.{contains_cases}
 use Rattle.lists.specs.Members.{first_member, further_member, no_member}
 use Rattle.scope_graph.specs.Assembled.{flip}
 use Rattle.std.proofs.Common.{subst, sym}

@@ -5,10 +5,10 @@ use Rattle.std.proofs.lemmas.List.{get_or_append_left, get_or_push, length_push}
 use Rattle.domain_core.specs.declared.scope_kind.ScopeKind.{ScopeKind}
 use Rattle.domain_core.specs.declared.scope_kind.ScopeKind.TheVariants.{Call, Loop}
 use Rattle.domain_core.specs.declared.outline.ScopeRow.{ScopeRow}
-use Rattle.walks.specs.Walks.{Walk, stays, goes_on}
+use Rattle.graph_walks.specs.Walks.{Walk, stays, goes_on}
 use Rattle.domain_core.specs.Scopes.{Plan}
 use Rattle.domain_core.specs.Outlines.{no_scope, header_of, kind_of}
-use Rattle.walks.specs.Tables.{HasEdge}
+use Rattle.graph_walks.specs.Tables.{HasEdge}
 use Rattle.scope_graph.specs.LoopBodies.{ReturnsBack, IsBackward}
 use Rattle.scope_graph.specs.Members.{MarksExactly, IsTaken}
 use Rattle.scope_graph.specs.Found.{IsKindAt, IsMember, IsFound}

@@ -12,8 +12,8 @@ use Rattle.domain_core.specs.Scopes.{Place, leads, path_at, block_at, IsPlan, Is
 use Rattle.domain_core.specs.Outlines.{Outlined, IsOutline, shape_of}
 use Rattle.domain_core.specs.OutlineOf.{IsOutlineOf}
 use Rattle.domain_core.specs.OutlineMade.{outline_kept}
-use Rattle.walks.specs.Walks.{Walk}
-use Rattle.walks.specs.Tables.{HasEdge}
+use Rattle.graph_walks.specs.Walks.{Walk}
+use Rattle.graph_walks.specs.Tables.{HasEdge}
 use Rattle.flow_graph.specs.Nodes.{Node}
 use Rattle.flow_graph.specs.Numbering.{GraphParts, IsEdgeBefore}
 use Rattle.flow_graph.specs.Graphs.{HasProgram}

@@ -3,9 +3,9 @@ use Rattle.std.proofs.Common.{◌≡◌, ◌<◌, ◌≤◌, ℕ, suc, true, fal
 use Rattle.std.proofs.lemmas.Bool.{eqb-true, cases_lt}
 use Rattle.std.proofs.lemmas.List.{length-map, get_or_past}
 use Rattle.domain_core.specs.Reducible.{IsEdge}
-use Rattle.walks.specs.ListLaws.{contains_cases}
+use Rattle.graph_walks.specs.ListLaws.{contains_cases}
 use Rattle.lists.specs.Members.{first_member, further_member, no_member}
-use Rattle.walks.specs.Tables.{HasEdge, rows_of}
+use Rattle.graph_walks.specs.Tables.{HasEdge, rows_of}
 use Rattle.scope_graph.specs.Tables.{IsTable, targets}
 use Rattle.lists.specs.Tests.{by_test}
 

@@ -1,10 +1,10 @@
 -- From the table to the edges.
 use Rattle.std.proofs.Common.{◌<◌, ℕ, List, arith}
 use Rattle.domain_core.specs.Reducible.{IsEdge, IsFalling}
-use Rattle.walks.specs.Walks.{Walk}
-use Rattle.walks.specs.WalkLaws.{walk_same}
+use Rattle.graph_walks.specs.Walks.{Walk}
+use Rattle.graph_walks.specs.WalkLaws.{walk_same}
 use Rattle.domain_core.specs.ReducibleLaws.{dominates_same, falling_same}
-use Rattle.walks.specs.Tables.{HasEdge, IsClosed}
+use Rattle.graph_walks.specs.Tables.{HasEdge, IsClosed}
 use Rattle.scope_graph.specs.Tables.{IsTable}
 use Rattle.scope_graph.specs.Descending.{IsBackList}
 use Rattle.scope_graph.specs.Ranking.{IsWithin}

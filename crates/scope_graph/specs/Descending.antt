@@ -9,12 +9,12 @@
 --   IsDescentAnswer table answer             the answer is the back edges of a graph in which all other edges fall, or walks that cross
 use Rattle.std.specs.Prelude.{◌≡◌, ℕ, Bool, List, [], ◌∷◌, ◌++◌, ◌⊎◌, Contains}
 use Rattle.domain_core.specs.Reducible.{Dominates, IsBackEdge, IsCrossing, IsFalling}
-use Rattle.walks.specs.Walks.{IsDistinct}
+use Rattle.graph_walks.specs.Walks.{IsDistinct}
 use Rattle.scope_graph.specs.declared.crossing.Crossing.{Crossing}
 use Rattle.scope_graph.specs.declared.descend.Descent.{Descent}
 use Rattle.scope_graph.specs.declared.descend.Descent.TheVariants.{Back, Crosses}
-use Rattle.walks.specs.Tables.{HasEdge}
-use Rattle.walks.specs.Marks.{IsMarked}
+use Rattle.graph_walks.specs.Tables.{HasEdge}
+use Rattle.graph_walks.specs.Marks.{IsMarked}
 
 -- the edge is noted, or v was left before u; and it is noted where v lies on every walk to u
 abbrev pub IsLooked : List (List ℕ) → List (ℕ × ℕ) → List ℕ → ℕ → ℕ → Type 0

@@ -2,9 +2,9 @@
 --   ReturnsBack table back h n      against the edges the node is reached from a source of a back edge to h, without h
 --   IsBackward table back h seen    h and exactly such nodes are marked
 use Rattle.std.specs.Prelude.{◌≡◌, ℕ, Bool, List, ◌⊎◌, Contains, length}
-use Rattle.walks.specs.Walks.{Walk}
-use Rattle.walks.specs.Tables.{HasEdge}
-use Rattle.walks.specs.Marks.{IsMarked}
+use Rattle.graph_walks.specs.Walks.{Walk}
+use Rattle.graph_walks.specs.Tables.{HasEdge}
+use Rattle.graph_walks.specs.Marks.{IsMarked}
 
 -- against the edges the node is reached from a source of a back edge to h, without h
 pub record ReturnsBack (table : List (List ℕ)) (back : List (ℕ × ℕ)) (h n : ℕ) : Type 0 where

@@ -9,7 +9,7 @@
 --   is_forward back edge                     it is none
 use Rattle.std.specs.Prelude.{◌≡◌, ◌≢◌, ◌<◌, ◌≤◌, ◌+◌, ◌==◌, ◌&&◌, not, ℕ, suc, Bool, List, [], ◌∷◌, ◌⊎◌, length, slice_index, if◌then◌else◌}
 use Rattle.std.specs.List.{list_any}
-use Rattle.walks.specs.Tables.{HasEdge}
+use Rattle.graph_walks.specs.Tables.{HasEdge}
 use Rattle.domain_core.specs.Reducible.{IsEdge}
 
 -- the row of n has u

@@ -3,8 +3,8 @@
 --   targets edges u              the nodes to which edges lead from u, in order
 --   IsAround table to without path   the path is a walk from node 0 to a node, without another
 use Rattle.std.specs.Prelude.{◌≡◌, ◌==◌, ℕ, suc, List, map, filter, length, Contains}
-use Rattle.walks.specs.Walks.{Walk}
-use Rattle.walks.specs.Tables.{HasEdge}
+use Rattle.graph_walks.specs.Walks.{Walk}
+use Rattle.graph_walks.specs.Tables.{HasEdge}
 use Rattle.domain_core.specs.Reducible.{IsEdge}
 
 -- the table has the edges, and a row for each node and for the end

@@ -1,11 +1,11 @@
 //! The bodies of loops, by searches against the edges.
 
 ghost use Rattle.std.specs.Prelude.{◌≡◌, ◌<◌, ℕ, true, false, length, replicate, IfOk, OnOk, Contains, slice_set};
-ghost use Rattle.walks.specs.Tables.{IsClosed, rows_of};
+ghost use Rattle.graph_walks.specs.Tables.{IsClosed, rows_of};
 ghost use Rattle.scope_graph.specs.LoopBodies.{IsBackward};
 
+use graph_walks::mark_reached;
 use std::alloc::{AllocError, Global};
-use walks::mark_reached;
 
 /// Marks the header, and each node that reaches a source of a back edge to it without passing it.
 ///

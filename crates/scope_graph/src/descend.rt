@@ -1,15 +1,15 @@
 //! The depth-first walk from node 0.
 
 ghost use Rattle.std.specs.Prelude.{◌≡◌, ◌<◌, ◌++◌, ◌∷◌, [], ◌+◌, ℕ, List, false, length, take, drop, slice_index, slice_index_or, IfOk, MatchOption, Contains};
-ghost use Rattle.walks.specs.Walks.{Walk, IsDistinct};
+ghost use Rattle.graph_walks.specs.Walks.{Walk, IsDistinct};
 ghost use Rattle.domain_core.specs.Reducible.{Dominates};
-ghost use Rattle.walks.specs.Tables.{IsClosed, HasEdge, rows_of};
+ghost use Rattle.graph_walks.specs.Tables.{IsClosed, HasEdge, rows_of};
 ghost use Rattle.scope_graph.specs.Tables.{IsAround};
 ghost use Rattle.scope_graph.specs.Descending.{IsDescent, IsVisited, IsChecked, IsDescentAnswer, Crosses_in};
 
 use crate::crossing::Crossing;
+use graph_walks::find_walk;
 use std::alloc::{AllocError, Global};
-use walks::find_walk;
 
 /// What the depth-first walk shows.
 #[derive(Drop)]

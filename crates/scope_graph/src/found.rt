@@ -1,7 +1,7 @@
 //! The scopes of a graph.
 
 ghost use Rattle.std.specs.Prelude.{◌≡◌, ◌<◌, ◌∷◌, ◌-◌, [], ℕ, true, false, length, IfOk, Contains};
-ghost use Rattle.walks.specs.Tables.{HasEdge, rows_of};
+ghost use Rattle.graph_walks.specs.Tables.{HasEdge, rows_of};
 ghost use Rattle.scope_graph.specs.Placing.{plan_of};
 ghost use Rattle.scope_graph.specs.Members.{MarksExactly};
 ghost use Rattle.scope_graph.specs.Inner.{lists_of};

@@ -2,7 +2,7 @@
 
 ghost use Rattle.std.specs.Prelude.{◌≡◌, ◌<◌, ◌-◌, ◌^◌, ℕ, List, IfOk, IfErr};
 ghost use Rattle.domain_core.specs.Reducible.{IsEdge, IsReducible, IsFalling};
-ghost use Rattle.walks.specs.Walks.{Walk};
+ghost use Rattle.graph_walks.specs.Walks.{Walk};
 ghost use Rattle.scope_graph.specs.Descending.{IsBackList};
 ghost use Rattle.scope_graph.specs.Ranking.{IsWithin};
 ghost use Rattle.scope_graph.specs.Reducing.{IsFaultOf};

@@ -4,7 +4,7 @@ ghost use Rattle.std.specs.Prelude.{◌≡◌, ◌<◌, ◌≤◌, ◌-◌, ◌^
 ghost use Rattle.domain_core.specs.Reducible.{IsEdge};
 ghost use Rattle.scope_graph.specs.Assembled.{flip};
 ghost use Rattle.scope_graph.specs.Tables.{IsTable, targets};
-ghost use Rattle.walks.specs.Tables.{rows_of};
+ghost use Rattle.graph_walks.specs.Tables.{rows_of};
 
 use std::alloc::{AllocError, Global};
 

@@ -24,13 +24,13 @@ use Rattle.alf_runs.specs.Steps.{frames_of}
 use Rattle.pointer_rules.specs.AbstractValues.{AbstractValue}
 use Rattle.memory_rules.specs.Memories.{Mem, is_on, entered}
 use Rattle.memory_rules.specs.AbstractSets.{abstract_sets}
-use Rattle.seen_memories.specs.Parts.{MemoryParts, memory_in}
-use Rattle.step_rules.specs.Evaluating.{width_of}
-use Rattle.step_rules.specs.EvaluatingLaws.{ArgumentIs, cell_size}
-use Rattle.step_rules.specs.DoingLaws.{width_is}
-use Rattle.step_rules.specs.Filling.{filled, with_arguments, with_inits, entered_with}
-use Rattle.step_rules.specs.FillingLaws.{args_of}
-use Rattle.step_rules.specs.CellStores.{IsCellAt}
+use Rattle.memory_model.specs.Parts.{MemoryParts, memory_in}
+use Rattle.transfer_rules.specs.Evaluating.{width_of}
+use Rattle.transfer_rules.specs.EvaluatingLaws.{ArgumentIs, cell_size}
+use Rattle.transfer_rules.specs.DoingLaws.{width_is}
+use Rattle.transfer_rules.specs.Filling.{filled, with_arguments, with_inits, entered_with}
+use Rattle.transfer_rules.specs.FillingLaws.{args_of}
+use Rattle.transfer_rules.specs.CellStores.{IsCellAt}
 use Rattle.step_statements.specs.Typed.{IsStorable}
 use Rattle.step_statements.specs.Rooms.{HaveRoom}
 use Rattle.step_statements.specs.Arguments.{IsArgument, HaveFrames, FitCall}

@@ -20,10 +20,10 @@ use Rattle.pointer_rules.specs.Covering.{IsValue}
 use Rattle.memory_rules.specs.Memories.{Mem, joined_values}
 use Rattle.memory_rules.specs.Addresses.{cells_of, load_at, stored_at, IsAddressFault, IsLoadFault}
 use Rattle.memory_rules.specs.AbstractSets.{abstract_sets}
-use Rattle.step_rules.specs.Remains.{Remains, all_left, with_faults, goes_on}
-use Rattle.step_rules.specs.Evaluating.{loaded, before, width_of}
-use Rattle.step_rules.specs.Doing.{where_possible, stored_by, stored_through, after_statement, after_statements}
-use Rattle.step_rules.specs.FaultForms.{loaded_faults, stored_faults}
+use Rattle.transfer_rules.specs.Remains.{Remains, all_left, with_faults, goes_on}
+use Rattle.transfer_rules.specs.Evaluating.{loaded, before, width_of}
+use Rattle.transfer_rules.specs.Doing.{where_possible, stored_by, stored_through, after_statement, after_statements}
+use Rattle.transfer_rules.specs.FaultForms.{loaded_faults, stored_faults}
 use Rattle.step_statements.specs.Found.{done, found, two_operands, three_operands}
 
 or_false : (a : Bool) → (a || false) ≡ a

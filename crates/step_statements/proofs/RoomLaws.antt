@@ -20,15 +20,15 @@ use Rattle.pointer_rules.specs.AbstractValues.{AbstractValue}
 use Rattle.memory_rules.specs.Covers.{IsCellSize}
 use Rattle.memory_rules.specs.Memories.{Mem, is_on}
 use Rattle.memory_rules.specs.AbstractSets.{abstract_sets}
-use Rattle.seen_memories.specs.Parts.{MemoryParts, memory_in, rows_of}
-use Rattle.step_rules.specs.Remains.{Remains, all_left}
-use Rattle.step_rules.specs.Evaluating.{word_value, pointer_value, width_of}
-use Rattle.step_rules.specs.Doing.{stored_through}
-use Rattle.step_rules.specs.Filling.{filled}
-use Rattle.step_rules.specs.CellStores.{IsCellAt, stored_in_cell}
-use Rattle.step_rules.specs.Standing.{word_is}
-use Rattle.step_rules.specs.EvaluatingLaws.{cell_size, word_size}
-use Rattle.step_rules.specs.DoingLaws.{width_is}
+use Rattle.memory_model.specs.Parts.{MemoryParts, memory_in, rows_of}
+use Rattle.transfer_rules.specs.Remains.{Remains, all_left}
+use Rattle.transfer_rules.specs.Evaluating.{word_value, pointer_value, width_of}
+use Rattle.transfer_rules.specs.Doing.{stored_through}
+use Rattle.transfer_rules.specs.Filling.{filled}
+use Rattle.transfer_rules.specs.CellStores.{IsCellAt, stored_in_cell}
+use Rattle.transfer_rules.specs.Standing.{word_is}
+use Rattle.transfer_rules.specs.EvaluatingLaws.{cell_size, word_size}
+use Rattle.transfer_rules.specs.DoingLaws.{width_is}
 use Rattle.step_statements.specs.Typed.{IsStorable}
 use Rattle.step_statements.specs.Found.{done}
 use Rattle.step_statements.specs.Rooms.{HasRoom, HaveRoom}

@@ -26,11 +26,11 @@ use Rattle.alf_check.specs.Kept.{HasSize as HasWritten, HaveSizes}
 use Rattle.domain_core.specs.declared.fault_set.FaultSet.{FaultSet}
 use Rattle.pointer_rules.specs.AbstractValues.{AbstractValue, HasSize}
 use Rattle.pointer_rules.specs.Covering.{IsValue}
-use Rattle.seen_memories.specs.Parts.{MemoryParts, memory_in, rows_of, IsMemory}
-use Rattle.step_rules.specs.Remains.{Remains}
-use Rattle.step_rules.specs.Evaluating.{value_at, values_at}
-use Rattle.step_rules.specs.RemainsLaws.{IfLeft}
-use Rattle.step_rules.specs.EvaluatingLaws.{value_sized, values_sized}
+use Rattle.memory_model.specs.Parts.{MemoryParts, memory_in, rows_of, IsMemory}
+use Rattle.transfer_rules.specs.Remains.{Remains}
+use Rattle.transfer_rules.specs.Evaluating.{value_at, values_at}
+use Rattle.transfer_rules.specs.RemainsLaws.{IfLeft}
+use Rattle.transfer_rules.specs.EvaluatingLaws.{value_sized, values_sized}
 use Rattle.step_statements.specs.Typed.{IsTyped, AreTyped}
 use Rattle.step_statements.specs.Found.{found, one_operand, two_operands, three_operands}
 

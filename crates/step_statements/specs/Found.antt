@@ -10,8 +10,8 @@ use Rattle.domain_core.specs.declared.fault_set.FaultSet.{FaultSet}
 use Rattle.pointer_rules.specs.AbstractValues.{AbstractValue}
 use Rattle.memory_rules.specs.Memories.{Mem}
 use Rattle.memory_rules.specs.AbstractSets.{abstract_sets}
-use Rattle.step_rules.specs.Remains.{Remains, all_left, goes_on}
-use Rattle.step_rules.specs.Evaluating.{before}
+use Rattle.transfer_rules.specs.Remains.{Remains, all_left, goes_on}
+use Rattle.transfer_rules.specs.Evaluating.{before}
 
 -- a value, if there is one, and the faults
 abbrev pub found : Option AbstractValue × FaultSet → Remains AbstractValue

@@ -2,8 +2,8 @@
 
 ghost use Rattle.std.specs.Prelude.{◌≡◌, ◌<◌, [], OnOk, length};
 ghost use Rattle.alf_check.specs.CheckedPrograms.{seen};
-ghost use Rattle.seen_memories.specs.Parts.{memory_in, IsMemory};
-ghost use Rattle.step_rules.specs.Filling.{with_arguments, entered_with};
+ghost use Rattle.memory_model.specs.Parts.{memory_in, IsMemory};
+ghost use Rattle.transfer_rules.specs.Filling.{with_arguments, entered_with};
 ghost use Rattle.step_statements.specs.Arguments.{HaveFrames, FitCall};
 
 use crate::filling::{fill, put_inits};

@@ -1,10 +1,10 @@
 //! Cells filled, and what frames hold at first.
 
 ghost use Rattle.std.specs.Prelude.{◌≡◌, OnOk, ◌∷◌, []};
-ghost use Rattle.seen_memories.specs.Parts.{memory_in, rows_of, IsMemory};
-ghost use Rattle.step_rules.specs.CellStores.{IsCellAt};
-ghost use Rattle.step_rules.specs.Evaluating.{width_of};
-ghost use Rattle.step_rules.specs.Filling.{filled, with_inits};
+ghost use Rattle.memory_model.specs.Parts.{memory_in, rows_of, IsMemory};
+ghost use Rattle.transfer_rules.specs.CellStores.{IsCellAt};
+ghost use Rattle.transfer_rules.specs.Evaluating.{width_of};
+ghost use Rattle.transfer_rules.specs.Filling.{filled, with_inits};
 ghost use Rattle.step_statements.specs.Typed.{IsStorable};
 ghost use Rattle.step_statements.specs.Rooms.{HasRoom, HaveRoom};
 

@@ -4,8 +4,8 @@ ghost use Rattle.std.specs.Prelude.{◌≡◌, ◌∷◌, [], IfOk, IfSome, IsSo
 ghost use Rattle.std.specs.List.{AllZip};
 ghost use Rattle.alf_ops.specs.Table.{result_size, operand_sizes};
 ghost use Rattle.pointer_rules.specs.AbstractValues.{HasSize};
-ghost use Rattle.step_rules.specs.Remains.{all_left, goes_on, with_faults};
-ghost use Rattle.step_rules.specs.Evaluating.{before as before_rest, operated};
+ghost use Rattle.transfer_rules.specs.Remains.{all_left, goes_on, with_faults};
+ghost use Rattle.transfer_rules.specs.Evaluating.{before as before_rest, operated};
 ghost use Rattle.step_statements.specs.Found.{found, founds, one_operand, two_operands, three_operands};
 
 use alf_ops::Op;

@@ -5,10 +5,10 @@ use Rattle.alf_check.specs.CheckedPrograms.{NumberedProgram}
 use Rattle.alf_check.specs.declared.rows.InputRow.{InputRow}
 use Rattle.flow_graph.specs.Numbering.{GraphParts}
 use Rattle.alf_runs.specs.Starts.{start}
-use Rattle.run_counts.specs.Traces.{Runs, cost_of}
-use Rattle.run_counts.specs.Counts.{Tells, outcome_of}
-use Rattle.run_counts.specs.declared.tally.Counted.{Counted}
-use Rattle.run_counts.specs.declared.tally.Counted.TheVariants as told
+use Rattle.alf_interp.specs.Traces.{Runs, cost_of}
+use Rattle.alf_interp.specs.Counts.{Tells, outcome_of}
+use Rattle.alf_interp.specs.declared.tally.Counted.{Counted}
+use Rattle.alf_interp.specs.declared.tally.Counted.TheVariants as told
 use Rattle.cost_table.specs.CostTables.{CostTable}
 use Rattle.program_machines.specs.NodeCosts.{node_cost}
 use Rattle.unranked_runs.specs.Ranking.{unranked}

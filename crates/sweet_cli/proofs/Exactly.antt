@@ -7,24 +7,24 @@ use Rattle.flow_graph.specs.Nodes.{Node}
 use Rattle.flow_graph.specs.Graphs.{HasProgram}
 use Rattle.alf_runs.specs.Outcomes.{Outcome as RunOutcome}
 use Rattle.alf_runs.specs.Runs.{Ends, cost_of}
-use Rattle.run_counts.specs.Traces.{IsPast}
+use Rattle.alf_interp.specs.Traces.{IsPast}
 use Rattle.cost_table.specs.CostTables.{CostTable}
 use Rattle.domain_core.specs.Outlines.{Outlined, Shape, shape_of}
 use Rattle.scope_graph.specs.Laws.{HasOneOutline}
 use Rattle.flow_facts.specs.declared.report.BoundWord.{BoundWord}
 use Rattle.flow_facts.specs.Reports.{Reported}
-use Rattle.pool_events.specs.declared.policy.Policy.{Policy}
-use Rattle.path_bounds.specs.Bounding.{told_path_bound}
-use Rattle.told_reports.specs.Exact.{IsExact}
+use Rattle.worklist_rules.specs.declared.policy.Policy.{Policy}
+use Rattle.path_lp.specs.Bounding.{told_path_bound}
+use Rattle.report_soundness.specs.Exact.{IsExact}
 use Rattle.program_machines.specs.NodeCosts.{node_cost}
 use Rattle.program_machines.specs.Starts.{AreLone}
 use Rattle.program_analysis.specs.Answers.{Told, Unbounded as LeftIn}
-use Rattle.bounded_reports.specs.Bounded.{with_path_bound, bounded}
+use Rattle.report_soundness.specs.Bounded.{with_path_bound, bounded}
 use Rattle.unranked_analyses.specs.UnrankedMachines.{IsProgramOf}
 use Rattle.unranked_analyses.specs.Lone.{LoneAnalysisIsExact}
 use Rattle.bounded_analyses.specs.Analyses.{IsBoundedReport}
 use Rattle.bounded_analyses.specs.Sound.{LoneBoundsAgree}
-use Rattle.work.specs.Outcome.{Outcome, Unbounded}
+use Rattle.command_plans.specs.Outcome.{Outcome, Unbounded}
 use Rattle.sweet_cli.specs.Scopes.{ScopedProgram, IsScoped}
 use Rattle.sweet_cli.specs.LeftLines.{left_line}
 use Rattle.sweet_cli.specs.Run.{IsLeft, low_start}

@@ -10,15 +10,15 @@ use Rattle.cost_table.specs.CostTables.{CostTable}
 use Rattle.domain_core.specs.declared.outline.NodeRow.{NodeRow}
 use Rattle.domain_core.specs.Outlines.{Outlined, IsOutline, shape_of}
 use Rattle.flow_facts.specs.Reports.{Reported}
-use Rattle.pool_events.specs.declared.policy.Policy.{Policy}
+use Rattle.worklist_rules.specs.declared.policy.Policy.{Policy}
 use Rattle.program_machines.specs.NodeCosts.{HasCosts}
 use Rattle.program_analysis.specs.Pricing.{IsPricedAs}
 use Rattle.program_analysis.specs.Answers.{Answer, Told, Unbounded as LeftIn}
 use Rattle.program_analysis.specs.Analyses.{IsFound}
 use Rattle.unranked_analyses.specs.Analyses.{IsAnalysis}
 use Rattle.bounded_analyses.specs.Analyses.{IsFoundWith, IsBoundedAnalysis, HasOneBoundedAnalysis}
-use Rattle.work.specs.Outcome.{Outcome, Unbounded, AreAlikeResults}
-use Rattle.work.specs.Work.{IsOnly, alike}
+use Rattle.command_plans.specs.Outcome.{Outcome, Unbounded, AreAlikeResults}
+use Rattle.command_plans.specs.Work.{IsOnly, alike}
 use Rattle.unranked_runs.specs.Ranking.{unranked}
 use Rattle.sweet_cli.specs.Scopes.{ScopedProgram}
 use Rattle.sweet_cli.specs.Seen.{IsOutlined}

@@ -5,13 +5,13 @@ use Rattle.alf_runs.specs.Outcomes.{Outcome as RunOutcome}
 use Rattle.alf_runs.specs.Steps.{Moment}
 use Rattle.alf_runs.specs.Runs.{cost_of}
 use Rattle.alf_runs.specs.RunLaws.{HasOneEnd, EndsAtItsLength}
-use Rattle.run_counts.specs.Traces.{Runs, IsPast, last_of}
-use Rattle.run_counts.specs.Counts.{outcome_of}
-use Rattle.run_counts.specs.declared.tally.Tally.{Tally}
+use Rattle.alf_interp.specs.Traces.{Runs, IsPast, last_of}
+use Rattle.alf_interp.specs.Counts.{outcome_of}
+use Rattle.alf_interp.specs.declared.tally.Tally.{Tally}
 use Rattle.cost_table.specs.CostTables.{CostTable}
 use Rattle.program_machines.specs.NodeCosts.{node_cost}
-use Rattle.work.specs.Outcome.{Outcome, Unbounded, AreAlike, AreAlikeResults}
-use Rattle.work.specs.Work.{IsOnly, alike}
+use Rattle.command_plans.specs.Outcome.{Outcome, Unbounded, AreAlike, AreAlikeResults}
+use Rattle.command_plans.specs.Work.{IsOnly, alike}
 use Rattle.program_files.specs.Expanding.{Expanded}
 use Rattle.sweet_cli.specs.RunText.{run_text}
 use Rattle.sweet_cli.specs.Scopes.{ScopedProgram}

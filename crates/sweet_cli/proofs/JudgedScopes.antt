@@ -7,8 +7,8 @@ use Rattle.flow_graph.specs.Numbering.{GraphParts}
 use Rattle.flow_graph.specs.Graphs.{HasProgram}
 use Rattle.scope_graph.specs.Placing.{plan_of}
 use Rattle.scope_graph.specs.Laws.{HasOneOutline}
-use Rattle.work.specs.Outcome.{Outcome, AreAlikeResults}
-use Rattle.work.specs.Work.{IsOnly}
+use Rattle.command_plans.specs.Outcome.{Outcome, AreAlikeResults}
+use Rattle.command_plans.specs.Work.{IsOnly}
 use Rattle.sweet_cli.specs.Scopes.{Scoped, IsScoped, ScopesMean}
 use Rattle.sweet_cli.specs.Seen.{scopes_seen}
 

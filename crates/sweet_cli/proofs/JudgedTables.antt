@@ -8,8 +8,8 @@ use Rattle.cost_table.specs.CostTables.{CostTable}
 use Rattle.cost_table.specs.Costs.{MeansCosts, RefusesCosts}
 use Rattle.cost_table.specs.Inputs.{MeansInputs, RefusesInputs}
 use Rattle.cost_table.specs.Laws.{IsOne, AnswersInputs, AnswersCosts}
-use Rattle.work.specs.Outcome.{Outcome, Source, AreAlikeResults, refused}
-use Rattle.work.specs.Work.{IsOnly, alike}
+use Rattle.command_plans.specs.Outcome.{Outcome, Source, AreAlikeResults, refused}
+use Rattle.command_plans.specs.Work.{IsOnly, alike}
 use Rattle.sweet_cli.specs.Tables.{table_line, InputsMean, CostsMean}
 
 -- a fault with a line is no want of memory

@@ -15,13 +15,13 @@ use Rattle.alf_text.specs.CanonicalLaws.{CanonicalTextsSpell}
 use Rattle.c_unit.specs.Units.{UnitTree}
 use Rattle.c_lowered.specs.Programs.{lowered}
 use Rattle.c_lower.specs.Outcomes.{HaveUnitsOutcomes}
-use Rattle.work.specs.declared.status.Status.{Status}
-use Rattle.work.specs.declared.status.Status.TheVariants as statuses
-use Rattle.work.specs.Outcome.{Cause, Usage, Source, Example, Unbounded, No, Unread, Ending, Finished, Stopped, status_of, ending_status, ending_text, ending_unread}
-use Rattle.work.specs.Log.{Log, log_of}
-use Rattle.work.specs.Work.{Work, IsOnly, EndsSo}
-use Rattle.work.specs.Works.{Tells, Works}
-use Rattle.work.specs.Run.{Wrote, IsAnswerOf}
+use Rattle.command_plans.specs.declared.status.Status.{Status}
+use Rattle.command_plans.specs.declared.status.Status.TheVariants as statuses
+use Rattle.command_plans.specs.Outcome.{Cause, Usage, Source, Example, Unbounded, No, Unread, Ending, Finished, Stopped, status_of, ending_status, ending_text, ending_unread}
+use Rattle.command_plans.specs.Log.{Log, log_of}
+use Rattle.command_plans.specs.Work.{Work, IsOnly, EndsSo}
+use Rattle.command_plans.specs.Works.{Tells, Works}
+use Rattle.command_plans.specs.Run.{Wrote, IsAnswerOf}
 use Rattle.program_files.specs.Programs.{program_in}
 use Rattle.program_files.specs.Units.{unit_in}
 use Rattle.program_files.specs.Expanding.{Expanded, expanded_in}
@@ -32,7 +32,7 @@ use Rattle.sweet_cli.specs.Tables.{inputs_in, inputs_told, costs_in, costs_told,
 use Rattle.sweet_cli.specs.Scopes.{ScopedProgram, scoped_in}
 use Rattle.sweet_cli.specs.Analyse.{policy_of, ReportMeans, analysing, IsSoundOf, IsSoundReport}
 use Rattle.flow_facts.specs.Reports.{Reported}
-use Rattle.fact_printer.specs.Canonical.{report_text}
+use Rattle.fact_words.specs.Canonical.{report_text}
 use Rattle.fact_text.specs.Language.{SpellsReport}
 use Rattle.c_text.specs.Laws.{PrintedUnitsAreReadBack}
 use Rattle.sweet_cli.specs.Print.{printing, IsSameProgram}

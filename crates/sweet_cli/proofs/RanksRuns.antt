@@ -4,7 +4,7 @@ use Rattle.alf_check.specs.CheckedPrograms.{NumberedProgram}
 use Rattle.flow_graph.specs.Nodes.{Node}
 use Rattle.alf_runs.specs.Outcomes.{Outcome}
 use Rattle.alf_runs.specs.Steps.{Moment}
-use Rattle.run_counts.specs.Traces.{Runs, IsPast}
+use Rattle.alf_interp.specs.Traces.{Runs, IsPast}
 use Rattle.unranked_runs.specs.Ranking.{with_ranks}
 use Rattle.unranked_runs.specs.RankedRuns.{after_same, ends}
 

@@ -11,9 +11,9 @@ use Rattle.alf_runs.specs.Runs.{cost_of}
 use Rattle.cost_table.specs.CostTables.{CostTable}
 use Rattle.domain_core.specs.Outlines.{Shape, shape_of}
 use Rattle.flow_facts.specs.Reports.{Reported}
-use Rattle.pool_events.specs.declared.policy.Policy.{Policy}
+use Rattle.worklist_rules.specs.declared.policy.Policy.{Policy}
 use Rattle.program_machines.specs.NodeCosts.{place_cost, node_cost}
-use Rattle.bounded_reports.specs.Bounded.{HasPathBound}
+use Rattle.report_soundness.specs.Bounded.{HasPathBound}
 use Rattle.unranked_runs.specs.Ranking.{with_ranks, function_same}
 use Rattle.unranked_analyses.specs.UnrankedMachines.{IsProgramOf}
 use Rattle.bounded_analyses.specs.Analyses.{IsBoundedReport}

@@ -1,6 +1,6 @@
 -- A report that is printed in so many turns is printed in more.
 use Rattle.std.proofs.Common.{Ok}
-use Rattle.work.specs.Work.{IsOnly}
+use Rattle.command_plans.specs.Work.{IsOnly}
 use Rattle.bounded_analyses.specs.Analyses.{HasOneBoundedAnalysis, StaysBounded}
 use Rattle.sweet_cli.specs.Analyse.{analysing, policy_of, ReportMeans}
 use Rattle.sweet_cli.specs.Laws.{ReportsStay}

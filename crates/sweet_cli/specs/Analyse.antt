@@ -16,18 +16,18 @@ use Rattle.domain_core.specs.Outlines.{Outlined, shape_of}
 use Rattle.domain_core.specs.OutlineOf.{IsOutlineOf}
 use Rattle.scope_graph.specs.Placing.{plan_of}
 use Rattle.flow_facts.specs.Reports.{Reported}
-use Rattle.fact_printer.specs.Canonical.{report_text}
+use Rattle.fact_words.specs.Canonical.{report_text}
 use Rattle.fact_text.specs.Language.{SpellsReport}
-use Rattle.pool_events.specs.declared.policy.Policy.{Policy}
-use Rattle.pool_events.specs.declared.policy.Policy.TheVariants as policies
+use Rattle.worklist_rules.specs.declared.policy.Policy.{Policy}
+use Rattle.worklist_rules.specs.declared.policy.Policy.TheVariants as policies
 use Rattle.program_machines.specs.NodeCosts.{HasCosts}
 use Rattle.program_analysis.specs.Answers.{Unbounded as LeftIn}
-use Rattle.bounded_reports.specs.Bounded.{IsWithinCount, IsLeastOf}
+use Rattle.report_soundness.specs.Bounded.{IsWithinCount, IsLeastOf}
 use Rattle.unranked_analyses.specs.Analyses.{IsAnalysis}
 use Rattle.bounded_analyses.specs.Analyses.{IsBoundedReport}
 use Rattle.bounded_analyses.specs.Sound.{IsSound}
-use Rattle.work.specs.Outcome.{Outcome, Unbounded}
-use Rattle.work.specs.Work.{Work, judged, done, ◌>>=◌}
+use Rattle.command_plans.specs.Outcome.{Outcome, Unbounded}
+use Rattle.command_plans.specs.Work.{Work, judged, done, ◌>>=◌}
 use Rattle.program_files.specs.Told.{IsToldProgram}
 use Rattle.sweet_cli.specs.Words.{AnalyseWords, Merging, Never, Exits, Joins}
 use Rattle.sweet_cli.specs.Scopes.{ScopedProgram, scoped_in}

@@ -6,11 +6,11 @@ use Rattle.alf_check.specs.declared.rows.InputRow.{InputRow}
 use Rattle.alf_runs.specs.Steps.{Moment}
 use Rattle.alf_runs.specs.Starts.{start}
 use Rattle.alf_runs.specs.Runs.{cost_of}
-use Rattle.run_counts.specs.Traces.{Runs, IsPast, last_of}
-use Rattle.run_counts.specs.Counts.{AreCounts, outcome_of}
-use Rattle.run_counts.specs.declared.tally.Tally.{Tally}
-use Rattle.run_counts.specs.declared.tally.Counted.{Counted}
-use Rattle.run_counts.specs.declared.tally.Counted.TheVariants as told
+use Rattle.alf_interp.specs.Traces.{Runs, IsPast, last_of}
+use Rattle.alf_interp.specs.Counts.{AreCounts, outcome_of}
+use Rattle.alf_interp.specs.declared.tally.Tally.{Tally}
+use Rattle.alf_interp.specs.declared.tally.Counted.{Counted}
+use Rattle.alf_interp.specs.declared.tally.Counted.TheVariants as told
 use Rattle.cost_table.specs.CostTables.{CostTable}
 use Rattle.program_machines.specs.NodeCosts.{node_cost}
 use Rattle.program_files.specs.Expanding.{Expanded}

@@ -9,19 +9,19 @@ use Rattle.alf_check.specs.CheckedPrograms.{NumberedProgram}
 use Rattle.flow_graph.specs.Numbering.{GraphParts}
 use Rattle.alf_runs.specs.Outcomes.{Outcome as RunOutcome}
 use Rattle.alf_runs.specs.Runs.{cost_of}
-use Rattle.run_counts.specs.Traces.{Runs}
+use Rattle.alf_interp.specs.Traces.{Runs}
 use Rattle.cost_table.specs.CostTables.{CostTable}
 use Rattle.domain_core.specs.Outlines.{Outlined, shape_of}
 use Rattle.domain_core.specs.OutlineOf.{IsOutlineOf}
 use Rattle.scope_graph.specs.Placing.{plan_of}
 use Rattle.flow_facts.specs.Reports.{Reported}
-use Rattle.pool_events.specs.declared.policy.Policy.{Policy}
-use Rattle.told_reports.specs.Exact.{IsExact}
-use Rattle.bounded_reports.specs.Bounded.{HasPathBound}
+use Rattle.worklist_rules.specs.declared.policy.Policy.{Policy}
+use Rattle.report_soundness.specs.Exact.{IsExact}
+use Rattle.report_soundness.specs.Bounded.{HasPathBound}
 use Rattle.program_machines.specs.NodeCosts.{node_cost}
 use Rattle.program_machines.specs.Starts.{AreLone}
 use Rattle.program_analysis.specs.SoundLaws.{IsOutcomeOf}
-use Rattle.work.specs.Outcome.{Outcome}
+use Rattle.command_plans.specs.Outcome.{Outcome}
 use Rattle.sweet_cli.specs.Scopes.{ScopedProgram, IsScoped}
 use Rattle.sweet_cli.specs.Run.{IsLeft, low_start}
 use Rattle.sweet_cli.specs.Analyse.{ReportMeans}

@@ -3,8 +3,8 @@
 --   HaveOneAnswer   told files have one answer to the words, and one list of names read, but for failed reads
 use Rattle.std.specs.Prelude.{◌≤◌, ℕ, List, Some}
 use Rattle.flow_base.specs.Outside.{Files}
-use Rattle.work.specs.Log.{Log}
-use Rattle.work.specs.Work.{HasOneEnding}
+use Rattle.command_plans.specs.Log.{Log}
+use Rattle.command_plans.specs.Work.{HasOneEnding}
 use Rattle.sweet_cli.specs.Words.{AnalyseWords}
 use Rattle.sweet_cli.specs.Analyse.{analysing}
 use Rattle.sweet_cli.specs.Table.{task_of}

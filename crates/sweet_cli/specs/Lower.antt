@@ -10,7 +10,7 @@ use Rattle.alf_check.specs.Checking.{Passes}
 use Rattle.c_unit.specs.Units.{UnitTree}
 use Rattle.c_lowered.specs.Programs.{lowered}
 use Rattle.c_lower.specs.Outcomes.{HaveUnitsOutcomes}
-use Rattle.work.specs.Work.{Work, done, ◌>>=◌}
+use Rattle.command_plans.specs.Work.{Work, done, ◌>>=◌}
 use Rattle.program_files.specs.Told.{IsToldUnit}
 use Rattle.program_files.specs.Units.{checked_unit_in}
 use Rattle.sweet_cli.specs.Words.{LowerWords}

@@ -7,7 +7,7 @@ use Rattle.flow_base.specs.Outside.{Files}
 use Rattle.alf_program.specs.Tree.{WholeProgram}
 use Rattle.alf_text.specs.Language.{SpellsProgram}
 use Rattle.alf_text.specs.Canonical.{canonical_text}
-use Rattle.work.specs.Work.{Work, done, ◌>>=◌}
+use Rattle.command_plans.specs.Work.{Work, done, ◌>>=◌}
 use Rattle.program_files.specs.Programs.{program_in}
 use Rattle.sweet_cli.specs.Task.{Task}
 

@@ -6,10 +6,10 @@ use Rattle.std.specs.Prelude.{◌≡◌, ℕ, List, Some}
 use Rattle.flow_base.specs.Outside.{Files}
 use Rattle.c_tokens.specs.Printed.{printed_text}
 use Rattle.c_unit.specs.Units.{UnitTree}
-use Rattle.c_printer.specs.Texts.{texts_of}
+use Rattle.c_unit.specs.Texts.{texts_of}
 use Rattle.c_text.specs.Language.{SpellsUnit}
 use Rattle.c_text.specs.Laws.{IsReadBack}
-use Rattle.work.specs.Work.{Work, done, ◌>>=◌}
+use Rattle.command_plans.specs.Work.{Work, done, ◌>>=◌}
 use Rattle.program_files.specs.Units.{unit_in}
 use Rattle.sweet_cli.specs.Task.{Task}
 

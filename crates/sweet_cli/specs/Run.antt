@@ -15,11 +15,11 @@ use Rattle.alf_runs.specs.Outcomes.{Outcome as RunOutcome}
 use Rattle.alf_runs.specs.Steps.{Moment}
 use Rattle.alf_runs.specs.Starts.{start, words_of}
 use Rattle.alf_runs.specs.Runs.{cost_of}
-use Rattle.run_counts.specs.Traces.{Runs, IsPast, last_of}
+use Rattle.alf_interp.specs.Traces.{Runs, IsPast, last_of}
 use Rattle.cost_table.specs.CostTables.{CostTable}
 use Rattle.program_machines.specs.NodeCosts.{node_cost}
-use Rattle.work.specs.Outcome.{Outcome, Unbounded}
-use Rattle.work.specs.Work.{Work, judged, done, ◌>>=◌}
+use Rattle.command_plans.specs.Outcome.{Outcome, Unbounded}
+use Rattle.command_plans.specs.Work.{Work, judged, done, ◌>>=◌}
 use Rattle.program_files.specs.Expanding.{Expanded}
 use Rattle.program_files.specs.Told.{IsToldProgram}
 use Rattle.sweet_cli.specs.Words.{RunWords}

@@ -12,8 +12,8 @@ use Rattle.domain_core.specs.Reducible.{IsEdge, IsReducible, IsCrossing}
 use Rattle.domain_core.specs.OutlineOf.{IsOutlineOf}
 use Rattle.flow_graph.specs.Numbering.{GraphParts}
 use Rattle.scope_graph.specs.Placing.{plan_of}
-use Rattle.work.specs.Outcome.{Outcome, Example}
-use Rattle.work.specs.Work.{Work, judged, done, ◌>>=◌}
+use Rattle.command_plans.specs.Outcome.{Outcome, Example}
+use Rattle.command_plans.specs.Work.{Work, judged, done, ◌>>=◌}
 use Rattle.program_files.specs.Expanding.{Expanded, expanded_in}
 use Rattle.sweet_cli.specs.Words.{ProgramFile}
 use Rattle.sweet_cli.specs.RunText.{name_of}

@@ -15,9 +15,9 @@ use Rattle.cost_table.specs.declared.fault.TableFault.TheVariants as faults
 use Rattle.cost_table.specs.CostTables.{CostTable, one_each}
 use Rattle.cost_table.specs.Costs.{MeansCosts, RefusesCosts}
 use Rattle.cost_table.specs.Inputs.{MeansInputs, RefusesInputs}
-use Rattle.work.specs.declared.reading.Role.TheVariants.{Inputs, Costs}
-use Rattle.work.specs.Outcome.{Outcome, Source}
-use Rattle.work.specs.Work.{Work, reads, judged, done, ◌>>=◌}
+use Rattle.command_plans.specs.declared.reading.Role.TheVariants.{Inputs, Costs}
+use Rattle.command_plans.specs.Outcome.{Outcome, Source}
+use Rattle.command_plans.specs.Work.{Work, reads, judged, done, ◌>>=◌}
 use Rattle.program_files.specs.Programs.{most_bytes, too_long}
 use Rattle.program_files.specs.CheckLines.{number_or_dash}
 

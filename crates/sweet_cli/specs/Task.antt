@@ -6,9 +6,9 @@
 use Rattle.std.specs.Prelude.{ℕ, List, codes}
 use Rattle.flow_base.specs.Outside.{Files}
 use Rattle.flow_base.specs.Sinks.{SinkState}
-use Rattle.work.specs.Outcome.{Usage, Ending, Finished, Stopped}
-use Rattle.work.specs.Work.{Work, stop}
-use Rattle.work.specs.Run.{Wrote}
+use Rattle.command_plans.specs.Outcome.{Usage, Ending, Finished, Stopped}
+use Rattle.command_plans.specs.Work.{Work, stop}
+use Rattle.command_plans.specs.Run.{Wrote}
 
 pub record Task : Type 1 where
   -- the order of work

@@ -23,6 +23,6 @@ mod top;
 // Laws of answers.
 mod laws;
 
+pub use command_plans::Status;
 pub use laws::{one_answer, one_input_is_told_exactly, reports_stay};
 pub use top::{run, run_in_memory};
-pub use work::Status;

@@ -3,15 +3,15 @@
 ghost use Rattle.std.specs.Prelude.{◌≡◌, ◌++◌, ◌⊎◌, List, ℕ, Some, map, string_bytes, IfSome};
 ghost use Rattle.flow_base.specs.Outside.{Rose};
 ghost use Rattle.flow_base.specs.Held.{content_of};
-ghost use Rattle.work.specs.Outcome.{Ending, ending_status, ending_text};
-ghost use Rattle.work.specs.Run.{Answers, IsAnswered, Wrote, CutShort, WroteNothing, IsAnswerOf};
+ghost use Rattle.command_plans.specs.Outcome.{Ending, ending_status, ending_text};
+ghost use Rattle.command_plans.specs.Run.{Answers, IsAnswered, Wrote, CutShort, WroteNothing, IsAnswerOf};
 ghost use Rattle.sweet_cli.specs.Table.{task_of};
 ghost use Rattle.sweet_cli.specs.Task.{Promised};
 
 use crate::commands::words_answer;
+use command_plans::Status;
 use flow_base::{Shelf, Sink, SureShelf, SureSink, WriteError};
 use std::alloc::Global;
-use work::Status;
 
 /// Answers the words: reads the files that they name, each in its turn, makes one text and writes it
 /// once.

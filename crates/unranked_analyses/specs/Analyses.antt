@@ -19,12 +19,12 @@ use Rattle.domain_core.specs.Outlines.{Outlined, IsOutline, shape_of}
 use Rattle.domain_core.specs.OutlineOf.{IsOutlineOf}
 use Rattle.scope_graph.specs.Placing.{plan_of}
 use Rattle.flow_facts.specs.Reports.{Reported}
-use Rattle.pool_events.specs.declared.policy.Policy.{Policy}
-use Rattle.pool_events.specs.Pools.{Spot}
-use Rattle.seen_memories.specs.Parts.{MemoryParts}
-use Rattle.seen_memories.specs.SeenOrders.{parts_order}
+use Rattle.worklist_rules.specs.declared.policy.Policy.{Policy}
+use Rattle.worklist_rules.specs.Pools.{Spot}
+use Rattle.memory_model.specs.Parts.{MemoryParts}
+use Rattle.memory_model.specs.SeenOrders.{parts_order}
 use Rattle.abstract_step.specs.Steppers.{StepperParts, stepped_by}
-use Rattle.told_reports.specs.Told.{FourRecorders, four_order, four_recording}
+use Rattle.report_soundness.specs.ReportTold.{FourRecorders, four_order, four_recording}
 use Rattle.program_machines.specs.NodeCosts.{HasCosts}
 use Rattle.program_analysis.specs.Answers.{Answer, Told, Unbounded}
 use Rattle.program_analysis.specs.Analyses.{PoolOf, first_pool, IsExploration, IsFound}

@@ -6,9 +6,9 @@ use Rattle.alf_check.specs.declared.rows.InputRow.{InputRow}
 use Rattle.alf_check.specs.CheckedPrograms.{NumberedProgram}
 use Rattle.flow_graph.specs.Numbering.{GraphParts}
 use Rattle.cost_table.specs.CostTables.{CostTable}
-use Rattle.pool_events.specs.declared.policy.Policy.{Policy}
-use Rattle.step_rules.specs.Machines.{StepPromises}
-use Rattle.seen_machines.specs.RunsInside.{StorePromises}
+use Rattle.worklist_rules.specs.declared.policy.Policy.{Policy}
+use Rattle.transfer_rules.specs.Machines.{StepPromises}
+use Rattle.transfer_rules.specs.RunsInside.{StorePromises}
 use Rattle.program_machines.specs.Starts.{AreLone}
 use Rattle.program_analysis.specs.Answers.{Answer}
 use Rattle.program_analysis.specs.ExactLaws.{IsOneAnswer, LoneInputIsToldExactly}

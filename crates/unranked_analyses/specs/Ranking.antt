@@ -10,11 +10,11 @@ use Rattle.unranked_runs.specs.Ranking.{with_ranks, function_same}
 use Rattle.pointer_rules.specs.AbstractValues.{AbstractValue}
 use Rattle.memory_rules.specs.Memories.{Mem, left}
 use Rattle.memory_rules.specs.AbstractSets.{abstract_sets}
-use Rattle.step_rules.specs.Remains.{goes_on}
-use Rattle.step_rules.specs.Evaluating.{value_at}
-use Rattle.step_rules.specs.Doing.{after_statements}
-use Rattle.step_rules.specs.Filling.{first_memory}
-use Rattle.step_rules.specs.Stepping.{back_to, leave_to, end_at, block_at, step_at}
+use Rattle.transfer_rules.specs.Remains.{goes_on}
+use Rattle.transfer_rules.specs.Evaluating.{value_at}
+use Rattle.transfer_rules.specs.Doing.{after_statements}
+use Rattle.transfer_rules.specs.Filling.{first_memory}
+use Rattle.transfer_rules.specs.Stepping.{back_to, leave_to, end_at, block_at, step_at}
 
 module _ (p : NumberedProgram) (r s : List ℕ) where
   leave_same : (path : List ℕ) (v : Option AbstractValue) (m : Mem abstract_sets) → leave_to (with_ranks p s) path v m ≡ leave_to (with_ranks p r) path v m

@@ -6,7 +6,7 @@
 use Rattle.std.proofs.Common.{◌≡◌, ◌<◌, ◌+◌, ℕ, suc, true, List, [], ◌∷◌, ◌++◌, inl, inr, if◌then◌else◌, length, take, drop, Some, slice_get, slice_set, ◌==◌, refl, sym, ap, subst, ◌∙◌}
 use Rattle.std.specs.List.{AllZip, remove}
 use Rattle.lists.specs.Tests.{by_test}
-use Rattle.least_lists.specs.Least.{IsFirstLeast, IsNextSame}
+use Rattle.worklist.specs.Least.{IsFirstLeast, IsNextSame}
 use Rattle.domain_core.specs.declared.event.Event.{Event}
 use Rattle.domain_core.specs.declared.event.Event.TheVariants.{Step, Merge}
 use Rattle.domain_core.specs.declared.fault_set.FaultSet.{FaultSet}
@@ -14,11 +14,11 @@ use Rattle.domain_core.specs.Orders.{Order}
 use Rattle.domain_core.specs.Outlines.{Outlined, Shape, shape_of}
 use Rattle.domain_core.specs.Machines.{Machine}
 use Rattle.domain_core.specs.Recordings.{Recording}
-use Rattle.pool_events.specs.declared.policy.Policy.{Policy}
-use Rattle.pool_events.specs.Pools.{Spot, Pooled, positions_of, with_alarm}
-use Rattle.pool_events.specs.Events.{Happens, IsOneOn, book_after, spots_after, spread_book, spread_spots, book_at_faults, stepped_at, merged_at, met}
-use Rattle.pool_events.specs.EventLaws.{event_one_on}
-use Rattle.pool_events.specs.Policies.{IsChoice, merges, steps, IsPolicyRun}
+use Rattle.worklist_rules.specs.declared.policy.Policy.{Policy}
+use Rattle.worklist_rules.specs.Pools.{Spot, Pooled, positions_of, with_alarm}
+use Rattle.worklist_rules.specs.Events.{Happens, IsOneOn, book_after, spots_after, spread_book, spread_spots, book_at_faults, stepped_at, merged_at, met}
+use Rattle.worklist_rules.specs.EventLaws.{event_one_on}
+use Rattle.worklist_rules.specs.Policies.{IsChoice, merges, steps, IsPolicyRun}
 use Rattle.unranked_analyses.specs.Alongside.{zip_append, zip_take, zip_drop, zip_set, zip_remove, zip_at}
 
 -- the second point is the first with a state that goes with its own

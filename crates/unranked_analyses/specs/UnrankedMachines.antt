@@ -11,18 +11,18 @@ use Rattle.alf_check.specs.declared.rows.InputRow.{InputRow}
 use Rattle.alf_check.specs.CheckedPrograms.{CheckedParts, NumberedProgram, seen}
 use Rattle.flow_graph.specs.Numbering.{GraphParts}
 use Rattle.flow_graph.specs.Expansions.{node_number}
-use Rattle.held_memories.specs.HeldMemories.{memory_of}
+use Rattle.memory_model.specs.HeldMemories.{memory_of}
 use Rattle.memory_rules.specs.Memories.{Mem, both}
 use Rattle.memory_rules.specs.AbstractSets.{abstract_sets}
-use Rattle.step_rules.specs.Remains.{Remains}
-use Rattle.step_rules.specs.Filling.{first_memory}
-use Rattle.step_rules.specs.Stepping.{Goals, step_at, goals_left}
-use Rattle.step_rules.specs.Machines.{numbered_goal, goals_from}
-use Rattle.seen_memories.specs.Parts.{MemoryParts, memory_in, rows_of, functions_of}
-use Rattle.seen_memories.specs.Made.{made, frames_from}
-use Rattle.seen_memories.specs.SeenOrders.{parts_order, joined}
-use Rattle.seen_machines.specs.MadeMachines.{made_at}
-use Rattle.seen_machines.specs.PartMachines.{part_machine}
+use Rattle.transfer_rules.specs.Remains.{Remains}
+use Rattle.transfer_rules.specs.Filling.{first_memory}
+use Rattle.transfer_rules.specs.Stepping.{Goals, step_at, goals_left}
+use Rattle.transfer_rules.specs.Machines.{numbered_goal, goals_from}
+use Rattle.memory_model.specs.Parts.{MemoryParts, memory_in, rows_of, functions_of}
+use Rattle.memory_model.specs.Made.{made, frames_from}
+use Rattle.memory_model.specs.SeenOrders.{parts_order, joined}
+use Rattle.transfer_rules.specs.MadeMachines.{made_at}
+use Rattle.transfer_rules.specs.PartMachines.{part_machine}
 use Rattle.unranked_runs.specs.Ranking.{with_ranks}
 use Rattle.unranked_analyses.specs.Ranking.{step_same}
 use Rattle.unranked_analyses.specs.TwinRuns.{AreTwins, GoesWith}

@@ -5,9 +5,9 @@ ghost use Rattle.std.specs.Prelude.{◌≡◌};
 
 use alf_ops::{Op, find, operand, rows, shape};
 use domain_core::Domain;
+use flat_domain::operand_fit as fit;
 use flow_base::{Sink, StdSink};
 use interval_congruence::Strided;
-use operands::fit;
 use pointer_domain::AVal;
 use progressions::Progression;
 use std::alloc::{AllocError, Global};

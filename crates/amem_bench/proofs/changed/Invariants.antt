@@ -1,5 +1,5 @@
 -- The copy stays beside the memory.
-use Rattle.seen_memories.specs.SeenOrders.{AreAlike}
+use Rattle.memory_model.specs.SeenOrders.{AreAlike}
 use Rattle.amem_bench.proofs.changed.Given as goal
 
 abbrev pub invariant-loop-number : goal.invariant-loop-number

@@ -2,15 +2,15 @@
 
 ghost use Rattle.std.specs.Prelude.{◌≡◌, ◌++◌, ◌∷◌, [], string_bytes, IfOk, OnOk, Some};
 ghost use Rattle.flow_graph.specs.Names.{quoted};
-ghost use Rattle.work.specs.Outcome.{cause_of};
+ghost use Rattle.command_plans.specs.Outcome.{cause_of};
 ghost use Rattle.program_files.specs.CheckLines.{number_or_dash, name_line, size_line, names_line, check_line, check_cause, graph_line};
 
 use crate::lines::fault_lines::limit_line;
 use alf_check::CheckFault;
+use command_plans::Why;
 use flow_base::Name;
 use flow_graph::GraphFault;
 use std::alloc::{AllocError, Global};
-use work::Why;
 
 /// The line of a program that does not pass. Want of memory has none.
 pub fn check_line(alloc: Global, fault: &CheckFault) -> Result<Vec<u8>, AllocError>

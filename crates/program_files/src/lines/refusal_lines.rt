@@ -1,14 +1,14 @@
 //! Lines that tell why a unit of C does not pass the checks.
 
 ghost use Rattle.std.specs.Prelude.{◌≡◌, IfOk, IfSome, IsSomeAnd};
-ghost use Rattle.work.specs.Outcome.{cause_of};
+ghost use Rattle.command_plans.specs.Outcome.{cause_of};
 ghost use Rattle.program_files.specs.RefusalLines.{refusal_line, refusal_cause, refusal_of};
 
 use crate::lines::check_lines::{name_line, names_line};
 use crate::lines::fault_lines::place_text;
 use c_check::CFault;
+use command_plans::Why;
 use std::alloc::{AllocError, Global};
-use work::Why;
 
 /// The line of a unit that does not pass. Want of memory has none.
 pub fn refusal_line(alloc: Global, fault: &CFault) -> Result<Vec<u8>, AllocError>

@@ -1,7 +1,7 @@
 use Rattle.std.proofs.Common.{◌≡◌, ◌∙◌, ◌<◌, ℕ, List, length, sym, subst, arith}
 use Rattle.std.specs.Prelude.{Contains}
-use Rattle.seen_memories.specs.Parts.{MemoryParts}
-use Rattle.seen_machines.specs.PartMachines.{is_part_machine}
+use Rattle.memory_model.specs.Parts.{MemoryParts}
+use Rattle.transfer_rules.specs.PartMachines.{is_part_machine}
 use Rattle.step_bench.proofs.onward.Goals as goal
 
 pub returns : goal.returns

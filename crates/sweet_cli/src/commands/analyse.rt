@@ -7,7 +7,7 @@ ghost use Rattle.flow_graph.specs.Numbering.{IsGraph};
 ghost use Rattle.flow_facts.specs.Reports.{reported};
 ghost use Rattle.flow_facts.specs.Writable.{IsWritable};
 ghost use Rattle.program_machines.specs.NodeCosts.{HasCosts};
-ghost use Rattle.work.specs.Works.{Works, Judges};
+ghost use Rattle.command_plans.specs.Works.{Works, Judges};
 ghost use Rattle.sweet_cli.specs.Words.{analyse_meant};
 ghost use Rattle.sweet_cli.specs.Seen.{IsOutlined, scoped_of};
 ghost use Rattle.sweet_cli.specs.Analyse.{ReportMeans, IsSoundReport, analysing, policy_of};
@@ -17,14 +17,14 @@ use crate::commands::tables::{Tables, tables_in};
 use crate::lines::left_line;
 use crate::words::{AnalyseWords, Merging};
 use bounded_analyses::{a_program_has_one_bounded_analysis, found_reports_are_right};
+use command_plans::{Stop, Why};
 use cost_table::Costs;
 use fact_text::print;
 use flow_base::Shelf;
 use flow_facts::Report;
-use pool_events::Policy;
 use program_analysis::{Analysed, set_costs};
 use std::alloc::Global;
-use work::{Stop, Why};
+use worklist_rules::Policy;
 
 /// The text of the report.
 #[tactic(auto, unfolding(crate::specs::Analyse::analysing))]

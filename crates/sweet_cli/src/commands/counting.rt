@@ -10,9 +10,9 @@ ghost use Rattle.sweet_cli.specs.Counting.{CountedAs};
 
 use crate::node_costs::node_costs;
 use alf_check::InputRow;
+use alf_interp::{Counted, count};
 use cost_table::Costs;
 use program_files::Expanded;
-use run_counts::{Counted, count};
 use std::alloc::{AllocError, Global};
 
 /// What is counted of the run whose inputs have these words.

@@ -1,17 +1,17 @@
 //! `lower FILE`: the canonical text of the program of ALF that a file of C is lowered to.
 
 ghost use Rattle.std.specs.Prelude.{IfOk, IfSome};
-ghost use Rattle.work.specs.Works.{Works};
+ghost use Rattle.command_plans.specs.Works.{Works};
 ghost use Rattle.sweet_cli.specs.Words.{lower_meant};
 ghost use Rattle.sweet_cli.specs.Lower.{lowering, IsLoweredText};
 
 use crate::words::LowerWords;
 use alf_text::{print, writable_programs_are_spelled};
 use c_lower::lower_text;
+use command_plans::Stop;
 use flow_base::Shelf;
 use program_files::checked_unit_in;
 use std::alloc::Global;
-use work::Stop;
 
 /// The canonical text.
 #[tactic(auto, unfolding(crate::specs::Lower::lowering))]

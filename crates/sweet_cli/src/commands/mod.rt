@@ -1,8 +1,8 @@
 //! The commands, and the answer to the words. A further command is one more row.
 
 ghost use Rattle.std.specs.Prelude.{◌≡◌, map, string_bytes, IfOk, IfSome};
-ghost use Rattle.work.specs.Run.{Answers, ending_of};
-ghost use Rattle.work.specs.Works.{Works};
+ghost use Rattle.command_plans.specs.Run.{Answers, ending_of};
+ghost use Rattle.command_plans.specs.Works.{Works};
 ghost use Rattle.sweet_cli.specs.Words.{HasFewTurns, command_meant, file_meant};
 ghost use Rattle.sweet_cli.specs.Table.{print_task, task_for, task_of};
 ghost use Rattle.sweet_cli.specs.Task.{KeepsPromise};
@@ -20,9 +20,9 @@ mod print_c;
 mod run;
 
 use crate::words::{Command, ProgramFile, WordsFault, read};
+use command_plans::{Answer, Stop, Why, stopped};
 use flow_base::Shelf;
 use std::alloc::Global;
-use work::{Answer, Stop, Why, stopped};
 
 /// The answer to the words. None where memory ran out.
 pub fn words_answer<F: Shelf>(alloc: Global, words: &[String], shelf: &mut F) -> Option<Answer>

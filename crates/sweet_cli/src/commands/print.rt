@@ -1,14 +1,14 @@
 //! `print FILE`: the canonical text of the program.
 
 ghost use Rattle.std.specs.Prelude.{IfOk, IfSome};
-ghost use Rattle.work.specs.Works.{Works};
+ghost use Rattle.command_plans.specs.Works.{Works};
 ghost use Rattle.sweet_cli.specs.Print.{printing, IsSameProgram};
 
 use alf_text::{canonical_texts_are_read_back, print as print_program};
+use command_plans::Stop;
 use flow_base::Shelf;
 use program_files::program_in;
 use std::alloc::Global;
-use work::Stop;
 
 /// The canonical text.
 pub fn print<F: Shelf>(alloc: Global, file: &str, shelf: &mut F) -> Result<Vec<u8>, Stop>

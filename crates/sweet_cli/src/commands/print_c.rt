@@ -1,14 +1,14 @@
 //! `print FILE` of a file of C: the canonical text of the unit.
 
 ghost use Rattle.std.specs.Prelude.{IfOk, IfSome};
-ghost use Rattle.work.specs.Works.{Works};
+ghost use Rattle.command_plans.specs.Works.{Works};
 ghost use Rattle.sweet_cli.specs.PrintC.{printing_c, IsSameUnit};
 
 use c_text::{print as print_unit, spelled_units_are_read_back};
+use command_plans::Stop;
 use flow_base::Shelf;
 use program_files::unit_in;
 use std::alloc::Global;
-use work::Stop;
 
 /// The canonical text.
 pub fn print_c<F: Shelf>(alloc: Global, file: &str, shelf: &mut F) -> Result<Vec<u8>, Stop>

@@ -5,7 +5,7 @@ ghost use Rattle.alf_check.specs.declared.rows.InputRow.{InputRow};
 ghost use Rattle.alf_check.specs.CheckedPrograms.{seen};
 ghost use Rattle.alf_check.specs.Inputs.{KeepInputs};
 ghost use Rattle.flow_graph.specs.Numbering.{IsGraph};
-ghost use Rattle.work.specs.Works.{Works, Judges};
+ghost use Rattle.command_plans.specs.Works.{Works, Judges};
 ghost use Rattle.alf_ops.specs.TwosComplement.{word};
 ghost use Rattle.sweet_cli.specs.Words.{run_meant};
 ghost use Rattle.sweet_cli.specs.Seen.{scoped_of};
@@ -17,13 +17,13 @@ use crate::commands::tables::{Tables, tables_in};
 use crate::lines::{run_text, unbounded_line};
 use crate::words::RunWords;
 use alf_check::InputRow;
+use alf_interp::Counted;
 use alf_runs::{a_run_has_one_end, active_frames_follow_the_call_path};
+use command_plans::{Stop, Why};
 use flow_base::Shelf;
 use flow_graph::graphs_are_expansions;
-use run_counts::Counted;
 use std::alloc::{AllocError, Global};
 use whole_numbers::Whole;
-use work::{Stop, Why};
 
 /// The text that tells the run.
 #[tactic(auto, unfolding(crate::specs::Run::running))]

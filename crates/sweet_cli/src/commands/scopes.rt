@@ -3,7 +3,7 @@
 ghost use Rattle.std.specs.Prelude.{IfOk, IfSome};
 ghost use Rattle.alf_check.specs.CheckedPrograms.{seen};
 ghost use Rattle.flow_graph.specs.Numbering.{IsGraph};
-ghost use Rattle.work.specs.Works.{Works, Judges};
+ghost use Rattle.command_plans.specs.Works.{Works, Judges};
 ghost use Rattle.program_files.specs.Told.{IsToldProgram};
 ghost use Rattle.sweet_cli.specs.Words.{file_meant};
 ghost use Rattle.sweet_cli.specs.Scopes.{ScopesMean, scoped_in};
@@ -11,13 +11,13 @@ ghost use Rattle.sweet_cli.specs.Seen.{IsOutlined, scopes_seen, scoped_of};
 
 use crate::lines::irreducible_line;
 use crate::words::ProgramFile;
+use command_plans::{Stop, Why};
 use domain_core::{Outline, crossing_is_irreducible};
 use flow_base::Shelf;
 use flow_graph::Graph;
 use program_files::{Expanded, expanded_in};
 use scope_graph::{OutlineFault, a_graph_has_one_outline, outline};
 use std::alloc::Global;
-use work::{Stop, Why};
 
 /// A program and its graph, and the scopes of the graph.
 #[derive(Drop)]

@@ -3,18 +3,18 @@
 ghost use Rattle.std.specs.Prelude.{IfOk, option_map};
 ghost use Rattle.alf_check.specs.CheckedPrograms.{seen};
 ghost use Rattle.alf_check.specs.Inputs.{KeepInputs};
-ghost use Rattle.work.specs.Works.{Works, Judges};
+ghost use Rattle.command_plans.specs.Works.{Works, Judges};
 ghost use Rattle.unranked_runs.specs.Ranking.{unranked};
 ghost use Rattle.sweet_cli.specs.Tables.{InputsMean, inputs_told, inputs_in, CostsMean, costs_told, costs_in, tables_in};
 ghost use Rattle.sweet_cli.specs.Seen.{tables_of};
 
 use crate::lines::table_line;
 use alf_check::{Checked, InputRow};
+use command_plans::{Role, Stop, Why, read_file};
 use cost_table::{Costs, a_file_has_one_answer, costs, inputs};
 use flow_base::Shelf;
 use program_files::{MOST_BYTES, TOO_LONG};
 use std::alloc::Global;
-use work::{Role, Stop, Why, read_file};
 
 /// The rows of inputs, and the costs of blocks.
 #[derive(Drop)]

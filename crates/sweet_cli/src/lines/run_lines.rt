@@ -4,17 +4,16 @@ ghost use Rattle.std.specs.Prelude.{◌≡◌, ◌≤◌, ◌<◌, ◌-◌, ◌^
 ghost use Rattle.std.specs.List.{zip};
 ghost use Rattle.alf_ops.specs.TwosComplement.{signed};
 ghost use Rattle.alf_check.specs.CheckedPrograms.{seen};
-ghost use Rattle.run_counts.specs.Counts.{outcome_of};
+ghost use Rattle.alf_interp.specs.Counts.{outcome_of};
 ghost use Rattle.unranked_runs.specs.Ranking.{unranked};
 ghost use Rattle.sweet_cli.specs.RunText.{frame_text, value_text, returned_line, global_line, global_lines, name_of, stopped_line, run_text};
 
 use crate::lines::fault_words::word_of;
 use alf_check::Checked;
-use alf_interp::Outputs;
+use alf_interp::{Outputs, RunEnd, Tally};
 use alf_ops::{RunFault, Value};
 use flow_graph::Graph;
 use program_files::push_quoted;
-use run_counts::{RunEnd, Tally};
 use std::alloc::{AllocError, Global};
 
 /// What is told of a run of which this was counted.

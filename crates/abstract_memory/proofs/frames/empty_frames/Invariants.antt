@@ -1,7 +1,7 @@
 -- What `empty_frames` keeps: the frames so far are those of the entered function, or stay.
 use Rattle.std.proofs.Common.{◌≡◌, take}
 use Rattle.alf_check.specs.Shapes.{shapes_of}
-use Rattle.held_memories.specs.HeldMemories.{entered_frames}
+use Rattle.memory_model.specs.HeldMemories.{entered_frames}
 use Rattle.abstract_memory.proofs.frames.empty_frames.Given as goal
 
 abbrev pub invariant-loop-at : goal.invariant-loop-at

@@ -1,5 +1,5 @@
 -- What is left to show of `load_any`: facts of the proof files, applied.
-use Rattle.abstract_memory.proofs.Lone.{lone_loads}
+use Rattle.abstract_memory.proofs.MemoryLone.{lone_loads}
 use Rattle.abstract_memory.proofs.loads.load_any.Goals as goal
 
 pub returns : goal.returns

@@ -9,9 +9,9 @@ use Rattle.pointer_rules.specs.Covering.{IsValue}
 use Rattle.memory_rules.specs.AbstractSets.{abstract_sets}
 use Rattle.memory_rules.specs.Addresses.{load_at, IsLoadFault}
 use Rattle.memory_rules.specs.Memories.{joined_values}
-use Rattle.held_memories.specs.HeldMemories.{memory_of}
-use Rattle.address_cells.specs.Running.{runs_in}
-use Rattle.address_cells.specs.OnlyCells.{pointer_to, pointer_cell}
+use Rattle.memory_model.specs.HeldMemories.{memory_of}
+use Rattle.abstract_memory.specs.Running.{runs_in}
+use Rattle.abstract_memory.specs.OnlyCells.{pointer_to, pointer_cell}
 use Rattle.abstract_memory.proofs.loads.load_from.Goals as goal
 
 pub returns-then-has_cell-clause-value : goal.returns-then-has_cell-clause-value

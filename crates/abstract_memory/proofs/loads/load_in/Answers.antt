@@ -3,9 +3,9 @@ use Rattle.std.proofs.Common.{◌≡◌, ◌∙◌, ap, Bool, List}
 use Rattle.std.proofs.lemmas.Result.{IfOk-weaker}
 use Rattle.memory_rules.specs.AbstractSets.{abstract_sets}
 use Rattle.memory_rules.specs.Frames.{FrameMem, load_results}
-use Rattle.held_memories.specs.HeldFrames.{frame_of}
-use Rattle.held_memories.specs.HeldMemories.{memory_of}
-use Rattle.frame_loads.specs.LoadedResults.{onto}
+use Rattle.memory_model.specs.HeldFrames.{frame_of}
+use Rattle.memory_model.specs.HeldMemories.{memory_of}
+use Rattle.frame_memory.specs.LoadedResults.{onto}
 use Rattle.abstract_memory.proofs.Changing.{own_sized, own_frame}
 use Rattle.abstract_memory.proofs.loads.load_in.Goals as goal
 

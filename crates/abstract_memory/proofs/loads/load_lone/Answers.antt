@@ -1,9 +1,9 @@
 -- What is left to show of `load_lone`: facts of the proof files, applied.
 use Rattle.std.proofs.Common.{Some, subst, sym}
 use Rattle.pointer_rules.specs.AbstractValues.{AbstractValue}
-use Rattle.held_memories.specs.HeldMemories.{memory_of}
+use Rattle.memory_model.specs.HeldMemories.{memory_of}
 use Rattle.abstract_memory.specs.Cells.{Loads}
-use Rattle.abstract_memory.proofs.Lone.{known_loads}
+use Rattle.abstract_memory.proofs.MemoryLone.{known_loads}
 use Rattle.abstract_memory.proofs.loads.load_lone.Goals as goal
 
 pub returns : goal.returns

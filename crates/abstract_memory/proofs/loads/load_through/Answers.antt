@@ -1,11 +1,11 @@
 -- What is left to show of `load_through`: facts of the proof files, applied.
 use Rattle.std.proofs.Common.{◌∙◌, sym, subst, ℕ, List, length, map}
 use Rattle.alf_check.specs.Shapes.{shapes_of}
-use Rattle.address_cells.specs.Running.{runs_in}
+use Rattle.abstract_memory.specs.Running.{runs_in}
 use Rattle.abstract_memory.specs.Cells.{AllFit}
 use Rattle.abstract_memory.proofs.Fitting.{all_fit}
 use Rattle.abstract_memory.proofs.Loading.{load_faults}
-use Rattle.abstract_memory.proofs.Lone.{lone_fits}
+use Rattle.abstract_memory.proofs.MemoryLone.{lone_fits}
 use Rattle.abstract_memory.proofs.loads.load_through.Goals as goal
 
 pub load_lone-requires-clause-fits : goal.load_lone-requires-clause-fits

@@ -1,5 +1,5 @@
 -- What is left to show of `store_lone`: facts of the proof files, applied.
-use Rattle.abstract_memory.proofs.Lone.{lone_changes, lone_faults}
+use Rattle.abstract_memory.proofs.MemoryLone.{lone_changes, lone_faults}
 use Rattle.abstract_memory.proofs.stores.store_lone.Goals as goal
 
 pub returns-clause-changes : goal.returns-clause-changes

@@ -1,10 +1,10 @@
 -- What is left to show of `store_through`: the cells lie in their frames.
 use Rattle.std.proofs.Common.{◌∙◌, sym, subst, ℕ, List, length, map}
 use Rattle.alf_check.specs.Shapes.{shapes_of}
-use Rattle.address_cells.specs.Running.{runs_in}
+use Rattle.abstract_memory.specs.Running.{runs_in}
 use Rattle.abstract_memory.specs.Cells.{AllFit}
 use Rattle.abstract_memory.proofs.Fitting.{all_fit}
-use Rattle.abstract_memory.proofs.Lone.{lone_fits}
+use Rattle.abstract_memory.proofs.MemoryLone.{lone_fits}
 use Rattle.abstract_memory.proofs.stores.store_through.Goals as goal
 
 pub store_lone-requires-clause-fits : goal.store_lone-requires-clause-fits

@@ -1,8 +1,8 @@
 use Rattle.std.proofs.Common.{◌≡◌, Some}
 use Rattle.alf_check.specs.CheckedPrograms.{seen, term_of}
 use Rattle.alf_runs.specs.Steps.{frames_of}
-use Rattle.seen_memories.specs.Parts.{memory_in}
-use Rattle.step_rules.specs.Evaluating.{value_at}
+use Rattle.memory_model.specs.Parts.{memory_in}
+use Rattle.transfer_rules.specs.Evaluating.{value_at}
 use Rattle.abstract_step.proofs.EndLaws.{returned_taken, value_left}
 use Rattle.abstract_step.proofs.ending.give_back.Goals as goal
 

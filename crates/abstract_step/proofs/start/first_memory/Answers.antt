@@ -1,7 +1,7 @@
 use Rattle.std.proofs.Common.{◌∙◌, ℕ, [], ap}
 use Rattle.alf_check.specs.CheckedPrograms.{seen}
-use Rattle.seen_memories.specs.Parts.{memory_in}
-use Rattle.step_rules.specs.Filling.{entered_with}
+use Rattle.memory_model.specs.Parts.{memory_in}
+use Rattle.transfer_rules.specs.Filling.{entered_with}
 use Rattle.abstract_step.proofs.InputLaws.{inputs_room}
 use Rattle.abstract_step.proofs.start.first_memory.Goals as goal
 

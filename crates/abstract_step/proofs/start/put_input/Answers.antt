@@ -1,7 +1,7 @@
 use Rattle.std.proofs.Common.{◌≡◌, ap, ◌∙◌}
 use Rattle.strided_rules.specs.Strides.{Stride}
 use Rattle.pointer_rules.specs.AbstractValues.{Words, alone}
-use Rattle.step_rules.specs.Filling.{range_of}
+use Rattle.transfer_rules.specs.Filling.{range_of}
 use Rattle.abstract_step.proofs.InputLaws.{input_storable, input_there}
 use Rattle.abstract_step.proofs.start.put_input.Goals as goal
 

@@ -4,11 +4,11 @@ use Rattle.std.proofs.lemmas.List.{length-map}
 use Rattle.alf_check.specs.CheckedPrograms.{CheckedParts, seen, term_of}
 use Rattle.alf_runs.specs.Steps.{frames_of}
 use Rattle.pointer_rules.specs.AbstractValues.{AbstractValue}
-use Rattle.seen_memories.specs.Parts.{MemoryParts, memory_in, rows_of}
-use Rattle.step_rules.specs.Remains.{goes_on}
-use Rattle.step_rules.specs.Evaluating.{value_at}
-use Rattle.step_rules.specs.Stepping.{arms, switched, pointer_fault}
-use Rattle.step_arms.specs.Arms.{goals_of, IsArmOf}
+use Rattle.memory_model.specs.Parts.{MemoryParts, memory_in, rows_of}
+use Rattle.transfer_rules.specs.Remains.{goes_on}
+use Rattle.transfer_rules.specs.Evaluating.{value_at}
+use Rattle.transfer_rules.specs.Stepping.{arms, switched, pointer_fault}
+use Rattle.branch_refinement.specs.Arms.{goals_of, IsArmOf}
 use Rattle.abstract_step.specs.Standing.{path_at}
 use Rattle.abstract_step.specs.Turns.{numbered_arm, IsTurn}
 use Rattle.abstract_step.proofs.EndLaws.{arms_lead, arms_turn, arms_own, value_left}

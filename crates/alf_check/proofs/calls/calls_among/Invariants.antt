@@ -1,6 +1,6 @@
 use Rattle.std.proofs.Common.{◌≡◌, map, take}
 use Rattle.alf_program.specs.Tree.{function_of}
-use Rattle.call_cycles.specs.Calls.{calls_of}
+use Rattle.graph_walks.specs.Calls.{calls_of}
 use Rattle.alf_check.specs.Checking.{calls_among}
 use Rattle.alf_check.proofs.calls.calls_among.Given as goal
 

@@ -1,6 +1,6 @@
 use Rattle.std.proofs.Common.{◌≡◌, ℕ, List, subst, sym, rules}
 use Rattle.alf_program.specs.Tree.{program_of}
-use Rattle.call_cycles.specs.Calls.{CallsWithin, IsRanked, calls_of}
+use Rattle.graph_walks.specs.Calls.{CallsWithin, IsRanked, calls_of}
 use Rattle.alf_check.specs.Checking.{calls_in}
 use Rattle.alf_check.proofs.Kept.{calls_within}
 use Rattle.alf_check.proofs.checking.check_calls.Goals as goal

@@ -1,5 +1,5 @@
 -- Some text spells a program exactly where it is writable.
-use Rattle.alf_printer.specs.Canonical.{canonical_text}
+use Rattle.alf_text.specs.Canonical.{canonical_text}
 use Rattle.alf_text.proofs.Needs.{writable_spelled, spelled_alone}
 use Rattle.alf_text.proofs.Kept.{spelled_writable}
 use Rattle.alf_text.proofs.writable.writable_programs_are_spelled.Goals as goal

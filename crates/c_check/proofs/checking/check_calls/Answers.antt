@@ -1,12 +1,12 @@
 -- A cycle of calls is told by the names of its functions.
 use Rattle.std.proofs.Common.{ℕ, List, map, slice_index_or, ap, sym, ◌∙◌, subst}
 use Rattle.c_unit.specs.Units.{Word, unit_of}
-use Rattle.c_checks.specs.Names.{text_at}
-use Rattle.c_checks.specs.Recursion.{calls_of}
-use Rattle.c_checks.specs.Programs as checks
-use Rattle.c_checks.specs.Programs.{Refuses}
-use Rattle.call_cycles.specs.declared.fault.CallFault.{CallFault}
-use Rattle.call_cycles.specs.Calls.{IsFaultOf}
+use Rattle.c_rules.specs.Names.{text_at}
+use Rattle.c_rules.specs.Recursion.{calls_of}
+use Rattle.c_rules.specs.Programs as checks
+use Rattle.c_rules.specs.Programs.{Refuses}
+use Rattle.graph_walks.specs.declared.fault.CallFault.{CallFault}
+use Rattle.graph_walks.specs.Calls.{IsFaultOf}
 use Rattle.c_check.proofs.checking.check_calls.Goals as goal
 
 pub returns-in-Ok-names_along-clause-told : goal.returns-in-Ok-names_along-clause-told

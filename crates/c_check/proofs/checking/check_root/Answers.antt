@@ -1,7 +1,7 @@
 -- A root that is defined has a number.
 use Rattle.std.proofs.Common.{is_some, ap, sym, ◌∙◌}
 use Rattle.c_unit.specs.Units.{unit_of}
-use Rattle.c_checks.specs.Programs as checks
+use Rattle.c_rules.specs.Programs as checks
 use Rattle.c_check.proofs.Roots.{has_number}
 use Rattle.c_check.proofs.checking.check_root.Goals as goal
 

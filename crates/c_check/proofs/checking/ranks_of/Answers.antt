@@ -1,6 +1,6 @@
 -- What is told of the text and of calls holds for each root, and ranked calls have no cycle.
 use Rattle.c_unit.specs.Units.{unit_of}
-use Rattle.c_checks.specs.Recursion.{calls_of}
+use Rattle.c_rules.specs.Recursion.{calls_of}
 use Rattle.c_check.proofs.checking.ranks_of.Goals as goal
 
 pub returns-in-Err-clause-told : goal.returns-in-Err-clause-told

@@ -1,9 +1,9 @@
 -- The first fault is told by its name or its place.
 use Rattle.std.proofs.Common.{List, ℕ, Some, ap, sym, ◌∙◌}
 use Rattle.c_unit.specs.Units.{Word, unit_of}
-use Rattle.c_checks.specs.Names.{text_at}
-use Rattle.c_checks.specs.Programs as checks
-use Rattle.c_types.specs.Told.{fault_of}
+use Rattle.c_rules.specs.Names.{text_at}
+use Rattle.c_rules.specs.Programs as checks
+use Rattle.c_scopes.specs.Told.{fault_of}
 use Rattle.c_check.proofs.telling.told.Goals as goal
 
 pub returns-in-Ok : goal.returns-in-Ok

@@ -1,7 +1,7 @@
 -- Measures of the cycle of expressions, and the loops over operators and indices.
 use Rattle.std.proofs.Common.{◌+◌, ◌*◌}
 use Rattle.grammar.specs.Form.{left}
-use Rattle.grammar_chains.specs.Turns.{ChainSoFar}
+use Rattle.grammar.specs.Turns.{ChainSoFar}
 use Rattle.c_unit.specs.Tree.{expression_of}
 use Rattle.c_grammar.specs.Expressions.{at_operation, operation, at_index, index, deeper_of}
 use Rattle.c_reader.specs.Reading.{position}

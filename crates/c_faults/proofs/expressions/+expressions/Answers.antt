@@ -7,9 +7,9 @@ use Rattle.c_unit.specs.declared.expression.Expr.TheOpen as exprs
 use Rattle.c_unit.specs.declared.expression.Expr.TheViews.{rolls-Binary}
 use Rattle.c_unit.specs.Tree.{Expression, expression_of, expression_step, WithBinary}
 use Rattle.c_unit.specs.Measures.{first_of}
-use Rattle.c_checks.specs.Faults.{earliest}
-use Rattle.c_checks.specs.Types.{binary_type}
-use Rattle.c_checks.specs.Expressions.{type_of, misfit, part_faults, faults_of}
+use Rattle.c_rules.specs.Faults.{earliest}
+use Rattle.c_rules.specs.Types.{binary_type}
+use Rattle.c_rules.specs.Expressions.{type_of, misfit, part_faults, faults_of}
 use Rattle.c_faults.proofs.Pairs.{binary_told}
 use Rattle.c_faults.proofs.expressions.+expressions.Goals as goal
 

@@ -5,7 +5,7 @@ use Rattle.alf_program.specs.Writable.{IsWritable}
 use Rattle.c_unit.specs.declared.unit.CUnit.{CUnit}
 use Rattle.c_unit.specs.Units.{UnitTree, unit_of}
 use Rattle.c_lowered.specs.Programs.{lowered}
-use Rattle.spelled_texts.specs.Passing.{TextHasFewTokens}
+use Rattle.c_lower.specs.Passing.{TextHasFewTokens}
 use Rattle.c_lower.proofs.Made.{few_tokens}
 use Rattle.c_lower.proofs.texts.lower_text.Goals as goal
 

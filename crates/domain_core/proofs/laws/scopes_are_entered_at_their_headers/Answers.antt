@@ -1,6 +1,6 @@
 -- What is left to show of `scopes_are_entered_at_their_headers`.
 use Rattle.std.proofs.Common.{inl, inr}
-use Rattle.walks.specs.ListLaws.{same_or_not}
+use Rattle.graph_walks.specs.ListLaws.{same_or_not}
 use Rattle.domain_core.specs.ScopeLaws.{scope_entered}
 use Rattle.domain_core.proofs.laws.scopes_are_entered_at_their_headers.Goals as goal
 

@@ -1,6 +1,6 @@
 -- With the rows that are left, the lists have all terms.
 use Rattle.std.proofs.Common.{◌≡◌, ◌+◌, ◌++◌, ℕ, [], length, get_or}
-use Rattle.dual_rules.specs.Sparse.{column_terms}
+use Rattle.ipet_rows.specs.Sparse.{column_terms}
 use Rattle.dual_check.specs.Systems.{AreOf}
 use Rattle.dual_check.proofs.by_columns.by_columns.Given as goal
 

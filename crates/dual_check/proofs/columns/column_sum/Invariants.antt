@@ -1,6 +1,6 @@
 use Rattle.std.proofs.Common.{◌≡◌, length, pos}
-use Rattle.path_rows.specs.Programs.{IsWithin}
-use Rattle.dual_rules.specs.Sparse.{summed_terms}
+use Rattle.ipet_rows.specs.Programs.{IsWithin}
+use Rattle.ipet_rows.specs.Sparse.{summed_terms}
 use Rattle.dual_check.proofs.columns.column_sum.Given as goal
 
 abbrev pub invariant-loop-term : goal.invariant-loop-term

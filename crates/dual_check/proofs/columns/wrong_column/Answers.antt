@@ -1,7 +1,7 @@
 -- The first answer comes at this turn, or none came up to the next.
 use Rattle.std.proofs.Common.{◌∙◌, sym, arith, length}
-use Rattle.dual_rules.specs.Verdicts.{column_at}
-use Rattle.dual_rules.specs.FirstLaws.{first_here}
+use Rattle.ipet_rows.specs.Verdicts.{column_at}
+use Rattle.ipet_rows.specs.FirstLaws.{first_here}
 use Rattle.dual_check.proofs.columns.wrong_column.Goals as goal
 
 pub returns-in-Some : goal.returns-in-Some

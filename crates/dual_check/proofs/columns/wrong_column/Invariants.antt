@@ -1,6 +1,6 @@
 use Rattle.std.proofs.Common.{◌≡◌, None}
-use Rattle.dual_rules.specs.Firsts.{first}
-use Rattle.dual_rules.specs.Verdicts.{column_at}
+use Rattle.ipet_rows.specs.Firsts.{first}
+use Rattle.ipet_rows.specs.Verdicts.{column_at}
 use Rattle.dual_check.proofs.columns.wrong_column.Given as goal
 
 abbrev pub invariant-loop-column : goal.invariant-loop-column

@@ -1,5 +1,5 @@
 -- What the verdict promises follows from which verdict it is.
-use Rattle.dual_rules.specs.VerdictLaws.{verdict_bounds}
+use Rattle.ipet_rows.specs.VerdictLaws.{verdict_bounds}
 use Rattle.dual_check.proofs.duals.verify.Goals as goal
 
 pub returns-clause-bounds : goal.returns-clause-bounds

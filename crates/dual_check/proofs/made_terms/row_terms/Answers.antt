@@ -1,7 +1,7 @@
 -- The walk's beginning, a step, and its end.
 use Rattle.std.proofs.Common.{rules, ◌≡◌, ◌++◌, ◌∙◌, ℕ, ℤ, List, [], get_or, length, subst, sym, ap, refl, arith}
 use Rattle.domain_core.specs.Outlines.{shape_of}
-use Rattle.path_rows.specs.SparseLaws.{weight_at}
+use Rattle.ipet_rows.specs.PathSparseLaws.{weight_at}
 use Rattle.dual_check.specs.Constraints.{weighing_of}
 use Rattle.dual_check.specs.Terms.{term_if}
 use Rattle.dual_check.proofs.Sought.{IsSought, sought_first, sought_next, sought_all}

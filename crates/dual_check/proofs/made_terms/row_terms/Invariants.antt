@@ -1,7 +1,7 @@
 -- Up to the place that comes next, all terms are made.
 use Rattle.std.proofs.Common.{◌-◌}
 use Rattle.domain_core.specs.Outlines.{shape_of}
-use Rattle.path_rows.specs.SparseLaws.{weight_at}
+use Rattle.ipet_rows.specs.PathSparseLaws.{weight_at}
 use Rattle.dual_check.specs.Constraints.{weighing_of}
 use Rattle.dual_check.proofs.Sought.{IsSought}
 use Rattle.dual_check.proofs.made_terms.row_terms.Given as goal

@@ -1,5 +1,5 @@
 use Rattle.std.proofs.Common.{◌≡◌, map, take}
-use Rattle.path_rows.specs.Columns.{edge_column}
+use Rattle.ipet_rows.specs.Columns.{edge_column}
 use Rattle.dual_check.proofs.outline_columns.edge_columns.Given as goal
 
 abbrev pub invariant-loop-number : goal.invariant-loop-number

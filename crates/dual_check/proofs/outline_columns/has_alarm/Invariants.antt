@@ -1,5 +1,5 @@
 use Rattle.std.proofs.Common.{◌≡◌, length}
-use Rattle.path_rows.specs.Columns.{has_alarm}
+use Rattle.ipet_rows.specs.Columns.{has_alarm}
 use Rattle.dual_check.proofs.outline_columns.has_alarm.Given as goal
 
 abbrev pub invariant-loop-fact : goal.invariant-loop-fact

@@ -1,6 +1,6 @@
 use Rattle.std.proofs.Common.{◌≡◌, ◌++◌}
 use Rattle.std.specs.List.{flat_map, range_with_len}
-use Rattle.path_rows.specs.Columns.{has_alarm}
+use Rattle.ipet_rows.specs.Columns.{has_alarm}
 use Rattle.dual_check.specs.Terms.{fault_if}
 use Rattle.dual_check.proofs.outline_columns.push_faults.Given as goal
 

@@ -1,9 +1,9 @@
 -- A sum that is wide ends the walk; else it is the sum up to the next row.
 use Rattle.std.proofs.Common.{◌≡◌, None, Some, arith, length}
-use Rattle.path_rows.specs.Sums.{total}
-use Rattle.dual_rules.specs.Duals.{right_part}
-use Rattle.dual_rules.specs.Verdicts.{summed}
-use Rattle.dual_rules.specs.FirstLaws.{wide_here, narrow_here}
+use Rattle.ipet_rows.specs.Sums.{total}
+use Rattle.ipet_rows.specs.Duals.{right_part}
+use Rattle.ipet_rows.specs.Verdicts.{summed}
+use Rattle.ipet_rows.specs.FirstLaws.{wide_here, narrow_here}
 use Rattle.dual_check.proofs.right_sides.sum_of_rights.Goals as goal
 
 pub returns-in-None : goal.returns-in-None

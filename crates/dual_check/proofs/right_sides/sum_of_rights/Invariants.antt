@@ -1,7 +1,7 @@
 use Rattle.std.proofs.Common.{◌≡◌, None}
-use Rattle.path_rows.specs.Sums.{total}
-use Rattle.dual_rules.specs.Duals.{right_part}
-use Rattle.dual_rules.specs.Verdicts.{first_wide}
+use Rattle.ipet_rows.specs.Sums.{total}
+use Rattle.ipet_rows.specs.Duals.{right_part}
+use Rattle.ipet_rows.specs.Verdicts.{first_wide}
 use Rattle.dual_check.proofs.right_sides.sum_of_rights.Given as goal
 
 abbrev pub invariant-loop-row : goal.invariant-loop-row

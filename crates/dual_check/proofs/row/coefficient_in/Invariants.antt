@@ -1,5 +1,5 @@
 use Rattle.std.proofs.Common.{◌≡◌, length}
-use Rattle.path_rows.specs.Sums.{coefficient, IsAscending}
+use Rattle.ipet_rows.specs.Sums.{coefficient, IsAscending}
 use Rattle.dual_check.proofs.row.coefficient_in.Given as goal
 
 abbrev pub invariant-loop-term : goal.invariant-loop-term

@@ -1,6 +1,6 @@
 use Rattle.std.proofs.Common.{◌≡◌, None}
-use Rattle.dual_rules.specs.Firsts.{first}
-use Rattle.dual_rules.specs.Verdicts.{sign_at}
+use Rattle.ipet_rows.specs.Firsts.{first}
+use Rattle.ipet_rows.specs.Verdicts.{sign_at}
 use Rattle.dual_check.proofs.signs.negative_row.Given as goal
 
 abbrev pub invariant-loop-row : goal.invariant-loop-row

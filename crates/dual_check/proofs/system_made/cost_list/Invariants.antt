@@ -1,5 +1,5 @@
 use Rattle.std.proofs.Common.{◌≡◌, ◌++◌, map, length}
-use Rattle.path_rows.specs.Rows.{cost_of}
+use Rattle.ipet_rows.specs.Rows.{cost_of}
 use Rattle.dual_check.specs.Terms.{AreFrom}
 use Rattle.dual_check.specs.Openings.{costs_of}
 use Rattle.dual_check.proofs.system_made.cost_list.Given as goal

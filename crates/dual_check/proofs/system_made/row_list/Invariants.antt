@@ -1,6 +1,6 @@
 use Rattle.std.proofs.Common.{◌≡◌, map, take}
 use Rattle.domain_core.specs.Outlines.{shape_of}
-use Rattle.path_rows.specs.Rows.{row_of}
+use Rattle.ipet_rows.specs.Rows.{row_of}
 use Rattle.dual_check.specs.Constraints.{weighing_of}
 use Rattle.dual_check.proofs.system_made.row_list.Given as goal
 

@@ -1,7 +1,7 @@
 -- What was made keeps what every program keeps.
 use Rattle.std.proofs.Common.{rules, ◌∙◌, ◌<◌, ◌^◌, ℕ, List, ap, refl, subst, arith, length}
 use Rattle.domain_core.specs.Outlines.{shape_of}
-use Rattle.path_rows.specs.Programs.{Row}
+use Rattle.ipet_rows.specs.Programs.{Row}
 use Rattle.dual_check.specs.Systems.{AreColumns}
 use Rattle.dual_check.specs.Openings.{openings_of}
 use Rattle.dual_check.proofs.Kept.{rows_of_columns, system_kept}

@@ -1,6 +1,6 @@
 use Rattle.std.proofs.Common.{◌≡◌, Some, length, arith}
-use Rattle.run_recordings.specs.Generated.{length-generated}
-use Rattle.run_recordings.specs.LoopRules.{loop_tally}
+use Rattle.recorder_rules.specs.Generated.{length-generated}
+use Rattle.recorder_rules.specs.LoopRules.{loop_tally}
 use Rattle.exec_tests.proofs.told.add_book.Goals as goal
 
 pub loop_of-requires : goal.loop_of-requires

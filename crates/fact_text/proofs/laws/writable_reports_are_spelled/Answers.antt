@@ -1,7 +1,7 @@
 -- Some text spells a report exactly where it is writable.
 use Rattle.fact_text.proofs.Written.{text_spells}
 use Rattle.fact_text.proofs.Kept.{spelled_writable}
-use Rattle.fact_printer.specs.Canonical.{report_text}
+use Rattle.fact_words.specs.Canonical.{report_text}
 use Rattle.fact_text.proofs.laws.writable_reports_are_spelled.Goals as goal
 
 pub returns : goal.returns

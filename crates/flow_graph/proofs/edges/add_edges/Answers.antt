@@ -1,7 +1,7 @@
 use Rattle.std.proofs.Common.{◌≡◌, ◌∙◌, ◌<◌, ◌+◌, ℕ, List, [], ◌∷◌, ◌++◌, Option, Some, None, get_or, slice_get, length, Contains, All, AllPairs, ap, sym, subst, arith}
 use Rattle.std.proofs.Math.Seq.{take-length}
 use Rattle.std.proofs.lemmas.List.Elements.{Contains-get_or}
-use Rattle.walks.specs.ListLaws.{same_default}
+use Rattle.graph_walks.specs.ListLaws.{same_default}
 use Rattle.alf_check.specs.CheckedPrograms.{NumberedProgram, seen}
 use Rattle.flow_graph.specs.Nodes.{Node, Leads, IsKeptNode, goes_on}
 use Rattle.flow_graph.specs.Numbering.{block_rank}

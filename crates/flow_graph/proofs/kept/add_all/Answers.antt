@@ -1,6 +1,6 @@
 use Rattle.std.proofs.Common.{◌≡◌, ◌∙◌, ◌<◌, ◌+◌, ℕ, List, Contains, Option, Some, None, get_or, ap, sym, subst, inl, inr, length, take}
 use Rattle.std.proofs.lemmas.Result.{err_from_is_err_and}
-use Rattle.walks.specs.ListLaws.{same_default}
+use Rattle.graph_walks.specs.ListLaws.{same_default}
 use Rattle.flow_graph.specs.Nodes.{Node}
 use Rattle.flow_graph.specs.Places.{node_at, nodes_of}
 use Rattle.flow_graph.specs.Goals.{IsGoalIn}

@@ -1,7 +1,7 @@
 -- What is left to show of `begun`.
 use Rattle.std.proofs.Common.{◌≡◌, ℕ, length, arith, ap, ◌∙◌, cond}
-use Rattle.run_recordings.specs.TallyRules.{is_at, key_at}
-use Rattle.run_recordings.specs.Generated.{generated}
+use Rattle.recorder_rules.specs.TallyRules.{is_at, key_at}
+use Rattle.recorder_rules.specs.Generated.{generated}
 use Rattle.flow_recorders.proofs.Steps.{generated_more}
 use Rattle.flow_recorders.proofs.begun.begun.Goals as goal
 

@@ -1,7 +1,7 @@
 -- What the loop keeps.
 use Rattle.std.proofs.Common.{◌≡◌, ℕ, cond}
-use Rattle.run_recordings.specs.TallyRules.{is_at, key_at}
-use Rattle.run_recordings.specs.Generated.{generated}
+use Rattle.recorder_rules.specs.TallyRules.{is_at, key_at}
+use Rattle.recorder_rules.specs.Generated.{generated}
 use Rattle.flow_recorders.proofs.begun.begun.Given as goal
 
 abbrev pub invariant-loop-i : goal.invariant-loop-i

@@ -1,8 +1,8 @@
 -- What the loop keeps.
 use Rattle.std.proofs.Common.{◌≡◌}
 use Rattle.domain_core.specs.Outlines.{shape_of}
-use Rattle.run_recordings.specs.LoopRules.{counted_node}
-use Rattle.run_recordings.specs.Generated.{generated}
+use Rattle.recorder_rules.specs.LoopRules.{counted_node}
+use Rattle.recorder_rules.specs.Generated.{generated}
 use Rattle.flow_recorders.proofs.begun.counted_nodes.Given as goal
 
 abbrev pub invariant-loop-n : goal.invariant-loop-n

@@ -1,8 +1,8 @@
 -- What is left to show of `counted_scopes`.
 use Rattle.std.proofs.Common.{◌≡◌, ℕ, length, arith, ap, ◌∙◌}
 use Rattle.domain_core.specs.Outlines.{shape_of}
-use Rattle.run_recordings.specs.LoopRules.{counted_scope}
-use Rattle.run_recordings.specs.Generated.{generated}
+use Rattle.recorder_rules.specs.LoopRules.{counted_scope}
+use Rattle.recorder_rules.specs.Generated.{generated}
 use Rattle.flow_recorders.proofs.Steps.{generated_more}
 use Rattle.flow_recorders.proofs.begun.counted_scopes.Goals as goal
 

@@ -3,7 +3,7 @@ use Rattle.std.proofs.Common.{◌≡◌, ℕ, Some, length, arith, ap, sym, ◌�
 use Rattle.std.proofs.lemmas.Option.{get_or_from_slice_get}
 use Rattle.domain_core.specs.declared.outline.ScopeRow.{ScopeRow}
 use Rattle.domain_core.specs.Outlines.{header_of, no_scope}
-use Rattle.run_recordings.specs.Generated.{generated}
+use Rattle.recorder_rules.specs.Generated.{generated}
 use Rattle.flow_recorders.proofs.Steps.{generated_more}
 use Rattle.flow_recorders.proofs.begun.each_header.Goals as goal
 

@@ -1,7 +1,7 @@
 -- What the loop keeps.
 use Rattle.std.proofs.Common.{◌≡◌, ℕ, Some}
 use Rattle.domain_core.specs.Outlines.{header_of}
-use Rattle.run_recordings.specs.Generated.{generated}
+use Rattle.recorder_rules.specs.Generated.{generated}
 use Rattle.flow_recorders.proofs.begun.each_header.Given as goal
 
 abbrev pub invariant-loop-t : goal.invariant-loop-t

@@ -1,6 +1,6 @@
 -- What is left to show of `each_scope`.
 use Rattle.std.proofs.Common.{◌≡◌, ℕ, Some, length, refl, arith, ap, ◌∙◌}
-use Rattle.run_recordings.specs.Generated.{generated}
+use Rattle.recorder_rules.specs.Generated.{generated}
 use Rattle.flow_recorders.proofs.Steps.{generated_more}
 use Rattle.flow_recorders.proofs.begun.each_scope.Goals as goal
 

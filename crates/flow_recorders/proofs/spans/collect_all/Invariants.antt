@@ -1,6 +1,6 @@
 -- What the loop over the spans keeps.
 use Rattle.std.proofs.Common.{◌≡◌, ◌<◌, ◌≤◌, ℕ, get_or, None}
-use Rattle.run_recordings.specs.Spans.{collected}
+use Rattle.recorder_rules.specs.Spans.{collected}
 use Rattle.flow_recorders.proofs.spans.collect_all.Given as goal
 
 abbrev pub invariant-loop-i : goal.invariant-loop-i

@@ -1,5 +1,5 @@
 -- What is left to show of `spans`.
-use Rattle.run_recordings.specs.Generated.{generated}
+use Rattle.recorder_rules.specs.Generated.{generated}
 use Rattle.flow_recorders.proofs.spans.spans.Goals as goal
 
 pub loop-i-init : goal.loop-i-init

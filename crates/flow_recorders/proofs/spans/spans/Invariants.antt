@@ -1,7 +1,7 @@
 -- What the loop over both lists keeps.
 use Rattle.std.proofs.Common.{◌≡◌, get_or}
-use Rattle.run_recordings.specs.Generated.{generated}
-use Rattle.run_recordings.specs.Spans.{span_of}
+use Rattle.recorder_rules.specs.Generated.{generated}
+use Rattle.recorder_rules.specs.Spans.{span_of}
 use Rattle.flow_recorders.proofs.spans.spans.Given as goal
 
 abbrev pub invariant-loop-i : goal.invariant-loop-i

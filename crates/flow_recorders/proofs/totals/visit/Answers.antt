@@ -1,6 +1,6 @@
 -- What is left to show of `visit`.
 use Rattle.std.proofs.Common.{arith}
-use Rattle.run_recordings.specs.SpanLaws.{below_greatest}
+use Rattle.recorder_rules.specs.SpanLaws.{below_greatest}
 use Rattle.flow_recorders.proofs.totals.visit.Goals as goal
 
 pub overflow_add-counts : goal.overflow_add-counts

@@ -1,7 +1,7 @@
 -- What the walk along the numbers keeps.
 use Rattle.std.proofs.Common.{◌-◌, length, None}
-use Rattle.run_recordings.specs.Spans.{collected}
-use Rattle.run_recordings.specs.TotalRules.{span_at, spread_at}
+use Rattle.recorder_rules.specs.Spans.{collected}
+use Rattle.recorder_rules.specs.TotalRules.{span_at, spread_at}
 use Rattle.flow_recorders.specs.Walked.{IsWalked}
 use Rattle.flow_recorders.proofs.walked.collect_scope.Given as goal
 

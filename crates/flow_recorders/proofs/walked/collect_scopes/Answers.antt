@@ -1,8 +1,8 @@
 -- What is left to show of `collect_scopes`.
 use Rattle.std.proofs.Common.{◌≡◌, ℕ, List, [], drop, arith, ap, sym, ◌∙◌}
 use Rattle.std.proofs.lemmas.List.{drop_all}
-use Rattle.run_recordings.specs.TotalRules.{span_at, spread_at}
-use Rattle.run_recordings.specs.TallyRules.{key_at}
+use Rattle.recorder_rules.specs.TotalRules.{span_at, spread_at}
+use Rattle.recorder_rules.specs.TallyRules.{key_at}
 use Rattle.flow_recorders.proofs.Walking.{after_each, each_after}
 use Rattle.flow_recorders.proofs.walked.collect_scopes.Goals as goal
 

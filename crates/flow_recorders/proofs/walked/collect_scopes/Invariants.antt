@@ -1,7 +1,7 @@
 -- What the loop over the scopes keeps.
 use Rattle.std.proofs.Common.{◌≡◌, ◌<◌, ℕ, length, drop}
-use Rattle.run_recordings.specs.TotalRules.{span_at, spread_at}
-use Rattle.run_recordings.specs.TallyRules.{key_at}
+use Rattle.recorder_rules.specs.TotalRules.{span_at, spread_at}
+use Rattle.recorder_rules.specs.TallyRules.{key_at}
 use Rattle.flow_recorders.proofs.Walking.{after_each}
 use Rattle.flow_recorders.proofs.walked.collect_scopes.Given as goal
 

@@ -1,7 +1,7 @@
 -- What is left to show of `enter`.
 use Rattle.std.proofs.Common.{◌≡◌, ◌<◌, ℕ, length, arith, ap}
-use Rattle.run_recordings.specs.SpanLaws.{below_greatest}
-use Rattle.run_recordings.specs.TotalRules.{span_at}
+use Rattle.recorder_rules.specs.SpanLaws.{below_greatest}
+use Rattle.recorder_rules.specs.TotalRules.{span_at}
 use Rattle.flow_recorders.proofs.walked.enter.Goals as goal
 
 pub overflow_add-spans : goal.overflow_add-spans

@@ -1,7 +1,7 @@
 -- What the walk along the numbers keeps.
 use Rattle.std.proofs.Common.{◌-◌, length}
-use Rattle.run_recordings.specs.Spans.{one_more}
-use Rattle.run_recordings.specs.TotalRules.{span_at}
+use Rattle.recorder_rules.specs.Spans.{one_more}
+use Rattle.recorder_rules.specs.TotalRules.{span_at}
 use Rattle.flow_recorders.specs.Walked.{IsWalked}
 use Rattle.flow_recorders.proofs.walked.enter.Given as goal
 

@@ -1,8 +1,8 @@
 -- What is left to show of `reset_scopes`.
 use Rattle.std.proofs.Common.{◌≡◌, ℕ, List, [], drop, arith, ap, sym, ◌∙◌}
 use Rattle.std.proofs.lemmas.List.{drop_all}
-use Rattle.run_recordings.specs.TotalRules.{span_at}
-use Rattle.run_recordings.specs.TallyRules.{key_at}
+use Rattle.recorder_rules.specs.TotalRules.{span_at}
+use Rattle.recorder_rules.specs.TallyRules.{key_at}
 use Rattle.flow_recorders.proofs.Walking.{reset_each, each_reset}
 use Rattle.flow_recorders.proofs.walked.reset_scopes.Goals as goal
 

@@ -1,7 +1,7 @@
 -- What is left to show of `bound`.
 use Rattle.std.proofs.Common.{◌*◌, length, arith}
 use Rattle.std.specs.Prelude.{slice_index}
-use Rattle.told_reports.specs.Told.{greatest_total, costs_of}
+use Rattle.report_soundness.specs.ReportTold.{greatest_total, costs_of}
 use Rattle.flow_reports.specs.Gathering.{found_in}
 use Rattle.flow_reports.proofs.Steps.{sum_part}
 use Rattle.flow_reports.proofs.bound.bound.Goals as goal

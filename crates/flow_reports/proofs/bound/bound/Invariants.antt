@@ -1,7 +1,7 @@
 -- What the loop keeps.
 use Rattle.std.proofs.Common.{◌≡◌, ◌*◌}
 use Rattle.std.specs.Prelude.{slice_index}
-use Rattle.told_reports.specs.Told.{sum_below, greatest_total, costs_of}
+use Rattle.report_soundness.specs.ReportTold.{sum_below, greatest_total, costs_of}
 use Rattle.flow_reports.specs.Gathering.{found_in}
 use Rattle.flow_reports.proofs.bound.bound.Given as goal
 

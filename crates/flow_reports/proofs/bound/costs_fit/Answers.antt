@@ -1,5 +1,5 @@
 -- What is left to show of `costs_fit`.
-use Rattle.told_reports.specs.Told.{costs_of}
+use Rattle.report_soundness.specs.ReportTold.{costs_of}
 use Rattle.flow_reports.proofs.Steps.{costs_more}
 use Rattle.flow_reports.proofs.bound.costs_fit.Goals as goal
 

@@ -1,7 +1,7 @@
 -- What the loop keeps.
 use Rattle.std.proofs.Common.{◌<◌, ◌^◌, ℕ}
 use Rattle.std.specs.Prelude.{slice_index}
-use Rattle.told_reports.specs.Told.{costs_of}
+use Rattle.report_soundness.specs.ReportTold.{costs_of}
 use Rattle.flow_reports.proofs.bound.costs_fit.Given as goal
 
 abbrev pub invariant-loop-n : goal.invariant-loop-n

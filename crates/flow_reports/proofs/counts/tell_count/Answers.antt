@@ -2,9 +2,9 @@
 use Rattle.std.specs.Prelude.{◌&&◌, ◌==◌}
 use Rattle.domain_core.specs.Outlines.{shape_of}
 use Rattle.flow_facts.specs.declared.fact.Fact.TheVariants.{Count}
-use Rattle.run_recordings.specs.TotalRules.{spread_at}
-use Rattle.run_recordings.specs.LoopRules.{own_of, is_counted}
-use Rattle.told_reports.specs.Told.{is_stepped}
+use Rattle.recorder_rules.specs.TotalRules.{spread_at}
+use Rattle.recorder_rules.specs.LoopRules.{own_of, is_counted}
+use Rattle.report_soundness.specs.ReportTold.{is_stepped}
 use Rattle.flow_reports.specs.Gathering.{found_in}
 use Rattle.flow_reports.proofs.Steps.{nothing_at, no_line}
 use Rattle.flow_reports.proofs.counts.tell_count.Goals as goal

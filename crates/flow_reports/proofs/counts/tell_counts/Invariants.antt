@@ -1,6 +1,6 @@
 -- What the loop keeps.
 use Rattle.std.proofs.Common.{◌≡◌, ◌++◌}
-use Rattle.told_reports.specs.Told.{below, count_lines}
+use Rattle.report_soundness.specs.ReportTold.{below, count_lines}
 use Rattle.flow_reports.specs.Gathering.{found_in}
 use Rattle.flow_reports.proofs.counts.tell_counts.Given as goal
 

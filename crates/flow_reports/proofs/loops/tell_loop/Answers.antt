@@ -1,8 +1,8 @@
 -- What is left to show of `tell_loop`.
 use Rattle.domain_core.specs.Outlines.{kind_of}
 use Rattle.flow_facts.specs.declared.fact.Fact.TheVariants.{Loop}
-use Rattle.run_recordings.specs.TotalRules.{spread_at}
-use Rattle.run_recordings.specs.LoopRules.{is_loop}
+use Rattle.recorder_rules.specs.TotalRules.{spread_at}
+use Rattle.recorder_rules.specs.LoopRules.{is_loop}
 use Rattle.flow_reports.proofs.Steps.{nothing_at, no_line}
 use Rattle.flow_reports.proofs.loops.tell_loop.Goals as goal
 

@@ -1,6 +1,6 @@
 -- What the loop keeps.
 use Rattle.std.proofs.Common.{◌≡◌, ◌++◌}
-use Rattle.told_reports.specs.Told.{below, pair_lines}
+use Rattle.report_soundness.specs.ReportTold.{below, pair_lines}
 use Rattle.flow_reports.specs.Gathering.{found_in}
 use Rattle.flow_reports.proofs.pairs.tell_pairs.Given as goal
 

@@ -1,6 +1,6 @@
 -- What the loop keeps.
 use Rattle.std.proofs.Common.{◌≡◌, ◌++◌}
-use Rattle.told_reports.specs.Told.{below, pairs_with}
+use Rattle.report_soundness.specs.ReportTold.{below, pairs_with}
 use Rattle.flow_reports.specs.Gathering.{found_in}
 use Rattle.flow_reports.proofs.pairs.tell_pairs_in.Given as goal
 

@@ -2,7 +2,7 @@
 use Rattle.std.proofs.Common.{sym, ap, ◌∙◌, subst}
 use Rattle.flow_facts.specs.Reports.{Reported}
 use Rattle.flow_facts.specs.Writable.{IsWritable}
-use Rattle.told_reports.specs.Told.{Found, found_of, told_report}
+use Rattle.report_soundness.specs.ReportTold.{Found, found_of, told_report}
 use Rattle.flow_reports.proofs.Sizes.{pool_sized}
 use Rattle.flow_reports.proofs.reports.report.Goals as goal
 

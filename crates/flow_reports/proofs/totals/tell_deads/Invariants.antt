@@ -1,6 +1,6 @@
 -- What the loop keeps.
 use Rattle.std.proofs.Common.{◌≡◌, ◌++◌}
-use Rattle.told_reports.specs.Told.{below, dead_lines}
+use Rattle.report_soundness.specs.ReportTold.{below, dead_lines}
 use Rattle.flow_reports.specs.Gathering.{found_in}
 use Rattle.flow_reports.proofs.totals.tell_deads.Given as goal
 

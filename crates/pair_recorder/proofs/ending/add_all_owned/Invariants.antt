@@ -1,7 +1,7 @@
 -- What the loop over the scopes keeps.
 use Rattle.std.proofs.Common.{◌≡◌, ◌*◌, ◌<◌, ℕ, length, drop}
-use Rattle.pair_bits.specs.Marks.{is_marked}
-use Rattle.pair_bits.specs.EndedNodes.{after_each}
+use Rattle.recorder_rules.specs.Marks.{is_marked}
+use Rattle.recorder_rules.specs.EndedNodes.{after_each}
 use Rattle.pair_recorder.proofs.ending.add_all_owned.Given as goal
 
 abbrev pub invariant-loop-scope : goal.invariant-loop-scope

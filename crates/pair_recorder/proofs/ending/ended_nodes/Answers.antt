@@ -4,10 +4,10 @@ use Rattle.std.specs.List.{list_any}
 use Rattle.std.proofs.lemmas.List.{with_items_is, length-replicate}
 use Rattle.lists.specs.Members.{all_members}
 use Rattle.domain_core.specs.Outlines.{shape_of}
-use Rattle.pair_bits.specs.Marks.{is_marked}
-use Rattle.pair_bits.specs.EndedNodes.{ended_low, owned_ended}
-use Rattle.pair_bits.specs.StepBits.{none_marked}
-use Rattle.scope_steps.specs.Climbs.{own_low}
+use Rattle.recorder_rules.specs.Marks.{is_marked}
+use Rattle.recorder_rules.specs.EndedNodes.{ended_low, owned_ended}
+use Rattle.recorder_rules.specs.StepBits.{none_marked}
+use Rattle.flow_recorders.specs.Climbs.{own_low}
 use Rattle.pair_recorder.proofs.ending.ended_nodes.Goals as goal
 
 pub add_all_owned-requires-clause-scopes : goal.add_all_owned-requires-clause-scopes

@@ -2,9 +2,9 @@
 use Rattle.std.proofs.Common.{◌≡◌, ◌*◌, ℕ, List, length, refl, ap, ◌∙◌, arith}
 use Rattle.std.proofs.lemmas.List.{with_items_is}
 use Rattle.domain_core.specs.Outlines.{shape_of}
-use Rattle.pair_bits.specs.Marks.{is_marked}
-use Rattle.pair_bits.specs.Rows.{row_end}
-use Rattle.pair_bits.specs.StepBits.{entered_seen, entered_rows}
+use Rattle.recorder_rules.specs.Marks.{is_marked}
+use Rattle.recorder_rules.specs.Rows.{row_end}
+use Rattle.recorder_rules.specs.StepBits.{entered_seen, entered_rows}
 use Rattle.pair_recorder.proofs.Handed.{kept_by, added_by}
 use Rattle.pair_recorder.proofs.stepping.enter.Goals as goal
 

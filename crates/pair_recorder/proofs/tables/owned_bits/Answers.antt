@@ -2,9 +2,9 @@
 use Rattle.std.proofs.Common.{◌≡◌, ◌*◌, ◌/◌, ◌==◌, ◌&&◌, ◌||◌, ℕ, Bool, List, length, ap, ◌∙◌, arith}
 use Rattle.std.proofs.lemmas.List.{with_items_is}
 use Rattle.domain_core.specs.Outlines.{shape_of}
-use Rattle.pair_bits.specs.Marks.{is_marked}
-use Rattle.pair_bits.specs.Rows.{row_low}
-use Rattle.pair_bits.specs.StepBits.{placed_set, more_owned}
+use Rattle.recorder_rules.specs.Marks.{is_marked}
+use Rattle.recorder_rules.specs.Rows.{row_low}
+use Rattle.recorder_rules.specs.StepBits.{placed_set, more_owned}
 use Rattle.pair_recorder.proofs.tables.owned_bits.Goals as goal
 
 pub loop-node-preserved : goal.loop-node-preserved

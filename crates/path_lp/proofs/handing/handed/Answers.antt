@@ -3,8 +3,8 @@ use Rattle.std.proofs.Common.{rules, to_z, of_z, ◌≡◌, ◌∙◌, ◌≤◌
 use Rattle.std.specs.Int.{w128}
 use Rattle.std.proofs.lemmas.Int.{to_z-of_z}
 use Rattle.std.specs.Prelude.{◌≤ℤ◌}
-use Rattle.path_rows.specs.Sums.{coefficient}
-use Rattle.pivot_rules.specs.Tableaus.{slacks_from}
+use Rattle.ipet_rows.specs.Sums.{coefficient}
+use Rattle.simplex_rules.specs.Tableaus.{slacks_from}
 use Rattle.path_lp.specs.Handing.{multipliers_by}
 use Rattle.path_lp.proofs.HandingLaws.{objective_rising, handed_is}
 use Rattle.path_lp.proofs.handing.handed.Goals as goal

@@ -1,7 +1,7 @@
 -- What was appended, and then the multipliers of the rows left, is all.
 use Rattle.std.proofs.Common.{◌≡◌, ◌++◌, ◌≤◌, ℕ, drop}
-use Rattle.path_rows.specs.Sums.{coefficient, IsAscending}
-use Rattle.pivot_rules.specs.Tableaus.{width_of, width_from, slacks_from}
+use Rattle.ipet_rows.specs.Sums.{coefficient, IsAscending}
+use Rattle.simplex_rules.specs.Tableaus.{width_of, width_from, slacks_from}
 use Rattle.path_lp.specs.Handing.{multipliers_by}
 use Rattle.path_lp.proofs.handing.multipliers.Given as goal
 

@@ -2,7 +2,7 @@
 use Rattle.std.proofs.Common.{rules, to_z, of_z, ◌≡◌, refl, ◌∙◌, ◌<◌, length, arith}
 use Rattle.std.specs.Int.{w128}
 use Rattle.std.proofs.lemmas.Int.{to_z-of_z}
-use Rattle.pivot_rules.specs.Tableaus.{number_at, basic_at}
+use Rattle.simplex_rules.specs.Tableaus.{number_at, basic_at}
 use Rattle.path_lp.proofs.FractionLaws.{fraction_here, fraction_more}
 use Rattle.path_lp.proofs.reading.fraction.Goals as goal
 

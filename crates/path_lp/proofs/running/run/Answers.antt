@@ -1,6 +1,6 @@
 -- Each turn ends the run, or goes on with it.
 use Rattle.std.proofs.Common.{rules, ◌≡◌, ◌≤◌, ◌<◌, None, Some, ◌∙◌}
-use Rattle.pivot_rules.specs.PivotRule.{leaving, at_limit, run}
+use Rattle.simplex_rules.specs.PivotRule.{leaving, at_limit, run}
 use Rattle.path_lp.specs.Stepping.{stepped, IsNext}
 use Rattle.path_lp.specs.Solving.{IsSolved}
 use Rattle.path_lp.proofs.RunLaws.{run_least, run_wide, run_goes, run_ends}

@@ -1,6 +1,6 @@
 -- The tableau stands, its multipliers are at hand, and the run from here is the run from the start.
 use Rattle.std.proofs.Common.{◌≡◌, ◌-◌}
-use Rattle.pivot_rules.specs.PivotRule.{run}
+use Rattle.simplex_rules.specs.PivotRule.{run}
 use Rattle.path_lp.specs.Handing.{IsHanded}
 use Rattle.path_lp.specs.Stepping.{Stands}
 use Rattle.path_lp.proofs.running.run.Given as goal

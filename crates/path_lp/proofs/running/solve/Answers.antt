@@ -1,9 +1,9 @@
 -- The run from the opening is the rule's, and what the rule promises holds of what is told.
 use Rattle.std.proofs.Common.{rules}
-use Rattle.pivot_rules.specs.PivotRule.{run}
-use Rattle.pivot_rules.specs.NarrowOpening.{IsSmall}
-use Rattle.pivot_rules.specs.OpeningPlaces.{ended}
-use Rattle.first_tableaus.specs.Started.{IsStarted}
+use Rattle.simplex_rules.specs.PivotRule.{run}
+use Rattle.simplex_rules.specs.NarrowOpening.{IsSmall}
+use Rattle.simplex_rules.specs.OpeningPlaces.{ended}
+use Rattle.simplex_tableau.specs.Started.{IsStarted}
 use Rattle.path_lp.specs.Solving.{IsSolved}
 use Rattle.path_lp.proofs.RunLaws.{start_stands, solved_run, solved_dual, solved_holds, solved_most, solved_least}
 use Rattle.path_lp.proofs.running.solve.Goals as goal

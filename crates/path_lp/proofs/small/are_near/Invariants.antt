@@ -1,6 +1,6 @@
 -- What is left is small only if all is.
 use Rattle.std.proofs.Common.{length}
-use Rattle.first_tableaus.specs.FirstTerms.{AreSmall}
+use Rattle.simplex_tableau.specs.FirstTerms.{AreSmall}
 use Rattle.path_lp.proofs.small.are_near.Given as goal
 
 abbrev pub invariant-loop-term : goal.invariant-loop-term

@@ -1,6 +1,6 @@
 -- The rows so far are small.
 use Rattle.std.proofs.Common.{ℕ, ◌<◌}
-use Rattle.path_rows.specs.Programs.{row_at}
+use Rattle.ipet_rows.specs.Programs.{row_at}
 use Rattle.path_lp.specs.Small.{IsSmallRow}
 use Rattle.path_lp.proofs.small.is_small.Given as goal
 

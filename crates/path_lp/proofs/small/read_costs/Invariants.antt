@@ -1,6 +1,6 @@
 -- The costs so far.
 use Rattle.std.proofs.Common.{ℕ, ◌<◌, ◌^◌}
-use Rattle.path_rows.specs.Programs.{cost_at}
+use Rattle.ipet_rows.specs.Programs.{cost_at}
 use Rattle.path_lp.proofs.small.read_costs.Given as goal
 
 abbrev pub invariant-loop-column : goal.invariant-loop-column

@@ -1,8 +1,8 @@
 -- The tableau after the pivot stands, and what it hands out is tested.
 use Rattle.std.proofs.Common.{rules, ◌≡◌, false}
-use Rattle.dual_rules.specs.Verdicts.{verdict}
-use Rattle.pivot_rules.specs.PivotRule.{is_wide}
-use Rattle.pivot_steps.specs.Stepped.{IsPivoted}
+use Rattle.ipet_rows.specs.Verdicts.{verdict}
+use Rattle.simplex_rules.specs.PivotRule.{is_wide}
+use Rattle.simplex_tableau.specs.Stepped.{IsPivoted}
 use Rattle.path_lp.specs.Handing.{IsHanded}
 use Rattle.path_lp.proofs.StepLaws.{more_stands, handed_scale, next_is}
 use Rattle.path_lp.proofs.stepping.pivot_on.Goals as goal

@@ -1,6 +1,6 @@
 -- What the loop keeps.
 use Rattle.std.proofs.Common.{◌<◌, ℕ}
-use Rattle.pivot_rules.specs.OutlineOpenings.{IsLimited}
+use Rattle.simplex_rules.specs.OutlineOpenings.{IsLimited}
 use Rattle.path_tests.proofs.ready.are_limited.Given as goal
 
 abbrev pub invariant-loop-node : goal.invariant-loop-node

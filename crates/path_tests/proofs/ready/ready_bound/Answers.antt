@@ -2,8 +2,8 @@
 use Rattle.std.proofs.Common.{◌^◌, List, length, pos, refl, subst}
 use Rattle.std.specs.Prelude.{◌<ℤ◌}
 use Rattle.flow_facts.specs.declared.fact.Fact.{Fact}
-use Rattle.pivot_rules.specs.OutlineOpenings.{AreLimited}
-use Rattle.path_bounds.specs.Bounding.{opening_sum}
+use Rattle.simplex_rules.specs.OutlineOpenings.{AreLimited}
+use Rattle.path_lp.specs.Bounding.{opening_sum}
 use Rattle.path_tests.proofs.ready.ready_bound.Goals as goal
 
 pub path_bound-requires-clause-limited : goal.path_bound-requires-clause-limited

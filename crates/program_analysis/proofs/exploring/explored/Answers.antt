@@ -3,7 +3,7 @@ use Rattle.std.proofs.lemmas.List.{length-map}
 use Rattle.domain_core.specs.Outlines.{shape_of}
 use Rattle.scope_graph.specs.Placing.{place_of}
 use Rattle.abstract_step.specs.Steppers.{StepperParts, stepped_by}
-use Rattle.told_reports.specs.Runs.{IsSound as IsSoundSystem}
+use Rattle.report_soundness.specs.Runs.{IsSound as IsSoundSystem}
 use Rattle.program_analysis.specs.Answers.{answer_of, IfTold}
 use Rattle.program_analysis.specs.Analyses.{PoolOf, IsFound}
 use Rattle.program_analysis.proofs.exploring.explored.Goals as goal

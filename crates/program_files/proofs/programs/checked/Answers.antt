@@ -2,7 +2,7 @@
 use Rattle.std.proofs.Common.{ap}
 use Rattle.alf_program.specs.Tree.{program_of}
 use Rattle.alf_check.specs.CheckedPrograms.{seen}
-use Rattle.work.specs.Outcome.{cause_of}
+use Rattle.command_plans.specs.Outcome.{cause_of}
 use Rattle.unranked_runs.specs.Ranking.{unranked}
 use Rattle.program_files.proofs.Judged.{passes_only, told_only, check_read}
 use Rattle.program_files.proofs.programs.checked.Goals as goal

@@ -1,6 +1,6 @@
 -- What was read is told.
 use Rattle.alf_program.specs.Tree.{program_of}
-use Rattle.work.specs.Log.{log_of}
+use Rattle.command_plans.specs.Log.{log_of}
 use Rattle.program_files.proofs.Told.{told_numbered}
 use Rattle.program_files.proofs.programs.numbered_in.Goals as goal
 

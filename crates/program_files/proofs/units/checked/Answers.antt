@@ -1,6 +1,6 @@
 -- The unit that passes, or the line of what the checks refuse it by, is the only meaning.
 use Rattle.c_unit.specs.Units.{unit_of}
-use Rattle.work.specs.Outcome.{cause_of}
+use Rattle.command_plans.specs.Outcome.{cause_of}
 use Rattle.program_files.proofs.JudgedUnit.{checked_only, fault_only}
 use Rattle.program_files.proofs.units.checked.Goals as goal
 

@@ -1,6 +1,6 @@
 -- What was read is told.
 use Rattle.c_unit.specs.Units.{unit_of}
-use Rattle.work.specs.Log.{log_of}
+use Rattle.command_plans.specs.Log.{log_of}
 use Rattle.program_files.proofs.Told.{told_checked}
 use Rattle.program_files.proofs.units.checked_unit_in.Goals as goal
 

@@ -1,5 +1,5 @@
 use Rattle.alf_check.specs.CheckedPrograms.{seen}
-use Rattle.run_points.specs.PointLaws.{Promises}
+use Rattle.transfer_rules.specs.PointLaws.{Promises}
 use Rattle.program_machines.specs.ProgramRunLaws.{program_run, system_run, over_is_over, end_is_over}
 use Rattle.program_machines.proofs.laws.runs_of_a_program_are_runs_of_its_machine.Goals as goal
 

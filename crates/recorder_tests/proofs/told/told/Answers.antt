@@ -1,7 +1,7 @@
 use Rattle.std.proofs.Common.{◌≡◌, Some, length, arith}
 use Rattle.domain_core.specs.Outlines.{shape_of}
-use Rattle.run_recordings.specs.Generated.{length-generated}
-use Rattle.run_recordings.specs.LoopRules.{loop_tally, count_tally, counted_scope}
+use Rattle.recorder_rules.specs.Generated.{length-generated}
+use Rattle.recorder_rules.specs.LoopRules.{loop_tally, count_tally, counted_scope}
 use Rattle.recorder_tests.proofs.told.told.Goals as goal
 
 pub loop_of-requires : goal.loop_of-requires

@@ -2,7 +2,7 @@
 use Rattle.std.proofs.Common.{◌≡◌, ℕ, true, false, length, get_or, set, replicate, ap, sym, ◌∙◌, arith}
 use Rattle.std.proofs.lemmas.List.{length-map}
 use Rattle.std.proofs.lemmas.List.Elements.{Contains-get_or}
-use Rattle.walks.specs.Tables.{rows_of}
+use Rattle.graph_walks.specs.Tables.{rows_of}
 use Rattle.scope_graph.proofs.BodyMarks.{marking_first, marking_over, marking_more, marking_done}
 use Rattle.scope_graph.proofs.body.mark_body.Goals as goal
 use Rattle.scope_graph.proofs.body.mark_body.Goals.{then-edge-header+in_ok-mark_reached, else-edge-header}

@@ -1,5 +1,5 @@
 -- What the loop of `mark_body` keeps.
-use Rattle.walks.specs.Tables.{rows_of}
+use Rattle.graph_walks.specs.Tables.{rows_of}
 use Rattle.scope_graph.proofs.BodyMarks.{IsMarking}
 use Rattle.scope_graph.proofs.body.mark_body.Given as goal
 

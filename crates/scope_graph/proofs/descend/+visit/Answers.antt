@@ -3,12 +3,12 @@ use Rattle.std.proofs.Common.{rules, ◌≡◌, ◌<◌, ℕ, Bool, true, length
 use Rattle.std.proofs.lemmas.Grind.{common_steps}
 use Rattle.std.proofs.lemmas.List.{take_more, take_all}
 use Rattle.std.proofs.lemmas.List.Elements.{Contains-push}
-use Rattle.walks.specs.Walks.{Walk, goes_on}
-use Rattle.walks.specs.Tables.{HasEdge, rows_of}
+use Rattle.graph_walks.specs.Walks.{Walk, goes_on}
+use Rattle.graph_walks.specs.Tables.{HasEdge, rows_of}
 use Rattle.scope_graph.specs.Descending.{IsDescent, IsVisited, IsChecked}
 use Rattle.std.proofs.lemmas.List.Sums.{count_by-le-length}
-use Rattle.walks.specs.MarkLaws.{marked_more}
-use Rattle.walks.specs.TableLaws.{row_is, row_edge, row_low}
+use Rattle.graph_walks.specs.MarkLaws.{marked_more}
+use Rattle.graph_walks.specs.TableLaws.{row_is, row_edge, row_low}
 use Rattle.scope_graph.proofs.Descents.{IsDescending, descend_first, descend_on, descend_over, descend_all}
 use Rattle.scope_graph.proofs.descend.+visit.Goals as goal
 use Rattle.scope_graph.proofs.descend.+visit.Goals.{then-not-seen-next+in_ok-visit+in-None, else-not-seen-next+in_ok-look_back+in-None-2}

@@ -1,7 +1,7 @@
 -- What is left to show of `depth_first`.
 use Rattle.std.proofs.Common.{ℕ, List, subst}
-use Rattle.walks.specs.Walks.{stays}
-use Rattle.walks.specs.Tables.{rows_of}
+use Rattle.graph_walks.specs.Walks.{stays}
+use Rattle.graph_walks.specs.Tables.{rows_of}
 use Rattle.scope_graph.specs.Descending.{IsDescent, IsVisited}
 use Rattle.scope_graph.proofs.Descents.{descend_done}
 use Rattle.scope_graph.proofs.descend.depth_first.Goals as goal

@@ -1,5 +1,5 @@
 -- What is left to show of `look_back`.
-use Rattle.walks.specs.Tables.{rows_of}
+use Rattle.graph_walks.specs.Tables.{rows_of}
 use Rattle.scope_graph.specs.Tables.{IsAround}
 use Rattle.scope_graph.proofs.Descents.{crossing_cut}
 use Rattle.scope_graph.proofs.descend.look_back.Goals as goal

@@ -3,7 +3,7 @@ use Rattle.std.proofs.Common.{◌≡◌, ◌++◌, ◌∷◌, [], List, Bool, Ve
 use Rattle.std.proofs.lemmas.Grind.{common_steps}
 use Rattle.std.proofs.lemmas.List.{map_push}
 use Rattle.domain_core.specs.declared.outline.ScopeRow.{ScopeRow}
-use Rattle.walks.specs.Tables.{rows_of}
+use Rattle.graph_walks.specs.Tables.{rows_of}
 use Rattle.scope_graph.specs.Placing.{plan_of}
 use Rattle.scope_graph.specs.Members.{MarksExactly}
 use Rattle.scope_graph.specs.Inner.{lists_of}

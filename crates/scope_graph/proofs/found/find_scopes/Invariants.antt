@@ -1,5 +1,5 @@
 -- What the loop of `find_scopes` keeps.
-use Rattle.walks.specs.Tables.{rows_of}
+use Rattle.graph_walks.specs.Tables.{rows_of}
 use Rattle.scope_graph.specs.Placing.{plan_of}
 use Rattle.scope_graph.specs.Inner.{lists_of}
 use Rattle.scope_graph.specs.Found.{IsFound}

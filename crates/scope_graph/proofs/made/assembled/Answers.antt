@@ -1,7 +1,7 @@
 -- What is left to show of `assembled`.
 use Rattle.std.proofs.Common.{map, length}
-use Rattle.walks.specs.Tables.{rows_of}
-use Rattle.walks.specs.TableLaws.{rows_long}
+use Rattle.graph_walks.specs.Tables.{rows_of}
+use Rattle.graph_walks.specs.TableLaws.{rows_long}
 use Rattle.domain_core.specs.Reducible.{IsEdge, IsRanking}
 use Rattle.scope_graph.specs.Tables.{IsTable}
 use Rattle.scope_graph.specs.Placing.{plan_of}

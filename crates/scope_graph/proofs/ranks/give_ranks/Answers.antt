@@ -1,6 +1,6 @@
 -- What is left to show of `give_ranks`.
 use Rattle.std.proofs.Common.{◌≡◌, ◌+◌, ℕ, suc, set, subst, arith}
-use Rattle.walks.specs.Tables.{rows_of}
+use Rattle.graph_walks.specs.Tables.{rows_of}
 use Rattle.scope_graph.specs.Ranking.{Into, IsStage}
 use Rattle.scope_graph.proofs.Stages.{stage_first, stage_on}
 use Rattle.scope_graph.proofs.ranks.give_ranks.Goals as goal

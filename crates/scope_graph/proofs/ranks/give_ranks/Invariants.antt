@@ -1,5 +1,5 @@
 -- What the loop of `give_ranks` keeps.
-use Rattle.walks.specs.Tables.{rows_of}
+use Rattle.graph_walks.specs.Tables.{rows_of}
 use Rattle.scope_graph.specs.Ranking.{Into, IsStage}
 use Rattle.scope_graph.proofs.ranks.give_ranks.Given as goal
 

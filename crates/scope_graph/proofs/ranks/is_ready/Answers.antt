@@ -1,7 +1,7 @@
 -- What is left to show of `is_ready`.
 use Rattle.std.proofs.Common.{◌<◌, ◌≤◌, ℕ, List, Contains, length, get_or, ◌∙◌, subst, arith}
-use Rattle.walks.specs.ListLaws.{same_default}
-use Rattle.walks.specs.TableLaws.{row_is, row_edge}
+use Rattle.graph_walks.specs.ListLaws.{same_default}
+use Rattle.graph_walks.specs.TableLaws.{row_is, row_edge}
 use Rattle.scope_graph.proofs.ranks.is_ready.Goals as goal
 
 pub bounds-ranks-before : goal.bounds-ranks-before

@@ -1,7 +1,7 @@
 -- What is left to show of `least_ready`.
 use Rattle.std.proofs.Common.{◌≡◌, ◌≤◌, ℕ, get_or, inl, inr, subst, arith}
 use Rattle.std.proofs.lemmas.Bool.{cases_lt}
-use Rattle.walks.specs.Tables.{rows_of}
+use Rattle.graph_walks.specs.Tables.{rows_of}
 use Rattle.scope_graph.specs.Ranking.{Into, IsDue}
 use Rattle.scope_graph.proofs.Stages.{some_ready}
 use Rattle.scope_graph.proofs.ranks.least_ready.Goals as goal

@@ -1,6 +1,6 @@
 -- What the loop of `least_ready` keeps.
 use Rattle.std.proofs.Common.{◌≡◌, ◌<◌, ℕ, get_or}
-use Rattle.walks.specs.Tables.{rows_of}
+use Rattle.graph_walks.specs.Tables.{rows_of}
 use Rattle.scope_graph.specs.Ranking.{Into, IsDue}
 use Rattle.scope_graph.proofs.ranks.least_ready.Given as goal
 

@@ -3,7 +3,7 @@ use Rattle.std.proofs.Common.{arith}
 use Rattle.domain_core.specs.Reducible.{IsEdge}
 use Rattle.domain_core.specs.ReducibleLaws.{falling_reducible, crossing_same}
 use Rattle.scope_graph.specs.declared.descend.Descent.TheVariants.{Back, Crosses}
-use Rattle.walks.specs.Tables.{HasEdge, rows_of}
+use Rattle.graph_walks.specs.Tables.{HasEdge, rows_of}
 use Rattle.scope_graph.specs.Tables.{IsTable}
 use Rattle.scope_graph.specs.Descending.{IsDescentAnswer}
 use Rattle.scope_graph.proofs.Transfer.{table_closed, table_reached, back_same, edges_fall}

@@ -1,6 +1,6 @@
 -- What is left to show of `predecessors`.
 use Rattle.std.proofs.Common.{◌≡◌, ℕ, List, map, ◌∙◌, subst}
-use Rattle.walks.specs.Tables.{rows_of}
+use Rattle.graph_walks.specs.Tables.{rows_of}
 use Rattle.domain_core.specs.Reducible.{IsEdge}
 use Rattle.scope_graph.specs.Tables.{IsTable}
 use Rattle.scope_graph.specs.Assembled.{flip}

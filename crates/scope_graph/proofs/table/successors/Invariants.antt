@@ -1,7 +1,7 @@
 -- What the loop of `successors` keeps.
 use Rattle.std.proofs.Common.{◌≡◌, ◌<◌, ℕ, [], length, get_or}
 use Rattle.scope_graph.specs.Tables.{targets}
-use Rattle.walks.specs.Tables.{rows_of}
+use Rattle.graph_walks.specs.Tables.{rows_of}
 use Rattle.scope_graph.proofs.table.successors.Given as goal
 
 abbrev pub invariant-loop-node : goal.invariant-loop-node

@@ -1,7 +1,7 @@
 use Rattle.std.proofs.Common.{ℕ, List, sym, ap, subst, ◌∙◌}
 use Rattle.alf_check.specs.CheckedPrograms.{seen}
-use Rattle.seen_memories.specs.Parts.{memory_in, rows_of}
-use Rattle.step_rules.specs.Filling.{with_arguments}
+use Rattle.memory_model.specs.Parts.{memory_in, rows_of}
+use Rattle.transfer_rules.specs.Filling.{with_arguments}
 use Rattle.step_statements.specs.Rooms.{HaveRoom}
 use Rattle.step_statements.specs.Arguments.{HaveFrames}
 use Rattle.step_statements.proofs.CallLaws.{entered_frames, entered_room}

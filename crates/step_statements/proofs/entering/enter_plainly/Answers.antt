@@ -1,8 +1,8 @@
 use Rattle.std.proofs.Common.{List, sym, ap, subst, ◌∙◌}
 use Rattle.alf_check.specs.declared.rows.InitRow.{InitRow}
 use Rattle.alf_check.specs.CheckedPrograms.{CheckedParts, seen}
-use Rattle.seen_memories.specs.Parts.{memory_in, rows_of}
-use Rattle.step_rules.specs.Filling.{with_inits}
+use Rattle.memory_model.specs.Parts.{memory_in, rows_of}
+use Rattle.transfer_rules.specs.Filling.{with_inits}
 use Rattle.step_statements.specs.Rooms.{HaveRoom}
 use Rattle.step_statements.proofs.CallLaws.{plain_room, plain_is}
 use Rattle.step_statements.proofs.entering.enter_plainly.Goals as goal

@@ -1,6 +1,6 @@
 use Rattle.std.proofs.Common.{◌≡◌, length}
-use Rattle.seen_memories.specs.Parts.{memory_in, IsMemory}
-use Rattle.step_rules.specs.Filling.{with_arguments}
+use Rattle.memory_model.specs.Parts.{memory_in, IsMemory}
+use Rattle.transfer_rules.specs.Filling.{with_arguments}
 use Rattle.step_statements.specs.Arguments.{HaveFrames}
 use Rattle.step_statements.proofs.entering.put_arguments.Given as goal
 

@@ -9,8 +9,8 @@ use Rattle.alf_check.specs.declared.rows.Term.TheViews.{the_lemmas}
 use Rattle.alf_check.specs.CheckedPrograms.{term_of, term_step}
 use Rattle.std.specs.List.{AllZip}
 use Rattle.pointer_rules.specs.AbstractValues.{AbstractValue, HasSize}
-use Rattle.step_rules.specs.Remains.{Remains, goes_on}
-use Rattle.step_rules.specs.Evaluating.{operated}
+use Rattle.transfer_rules.specs.Remains.{Remains, goes_on}
+use Rattle.transfer_rules.specs.Evaluating.{operated}
 use Rattle.step_statements.specs.Typed.{AreTyped, IsTyped}
 use Rattle.step_statements.specs.Found.{found, one_operand, two_operands, three_operands}
 use Rattle.step_statements.proofs.TypedLaws.{first_typed, second_typed, third_typed, few_terms, one_member, two_members, three_members, load_sized, operands_typed, operands_sized, one_sized, two_sized, three_sized, one_found, two_found, three_found}

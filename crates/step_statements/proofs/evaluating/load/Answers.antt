@@ -2,9 +2,9 @@ use Rattle.std.proofs.Common.{◌≡◌, Option, Some, sym, ap, subst, ◌∙◌
 use Rattle.std.specs.Prelude.{IfSome}
 use Rattle.pointer_rules.specs.AbstractValues.{AbstractValue}
 use Rattle.pointer_rules.specs.Covering.{IsValue}
-use Rattle.seen_memories.specs.Parts.{memory_in, rows_of}
-use Rattle.step_rules.specs.Remains.{goes_on}
-use Rattle.step_rules.specs.Evaluating.{loaded}
+use Rattle.memory_model.specs.Parts.{memory_in, rows_of}
+use Rattle.transfer_rules.specs.Remains.{goes_on}
+use Rattle.transfer_rules.specs.Evaluating.{loaded}
 use Rattle.step_statements.proofs.FoundLaws.{load_found}
 use Rattle.step_statements.proofs.evaluating.load.Goals as goal
 

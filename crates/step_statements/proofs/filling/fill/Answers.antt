@@ -1,6 +1,6 @@
 use Rattle.std.proofs.Common.{◌<◌, ◌^◌, refl, rules}
-use Rattle.seen_memories.specs.Parts.{memory_in, rows_of}
-use Rattle.step_rules.specs.Evaluating.{pointer_value}
+use Rattle.memory_model.specs.Parts.{memory_in, rows_of}
+use Rattle.transfer_rules.specs.Evaluating.{pointer_value}
 use Rattle.step_statements.proofs.RoomLaws.{filled_is}
 use Rattle.step_statements.proofs.filling.fill.Goals as goal
 

@@ -1,7 +1,7 @@
 use Rattle.std.proofs.Common.{◌≡◌, ap, ◌∙◌}
 use Rattle.strided_rules.specs.Strides.{Stride}
 use Rattle.pointer_rules.specs.AbstractValues.{Words, alone}
-use Rattle.step_rules.specs.Evaluating.{word_value}
+use Rattle.transfer_rules.specs.Evaluating.{word_value}
 use Rattle.step_statements.proofs.RoomLaws.{cell_there}
 use Rattle.step_statements.proofs.filling.put_word.Goals as goal
 

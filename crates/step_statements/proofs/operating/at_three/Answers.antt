@@ -1,8 +1,8 @@
 use Rattle.std.proofs.Common.{◌≡◌, Option, Some, None, sym, ap, ◌∙◌, rules}
 use Rattle.std.proofs.lemmas.Result.{IfOk-weaker}
 use Rattle.pointer_rules.specs.AbstractValues.{AbstractValue}
-use Rattle.step_rules.specs.Remains.{goes_on}
-use Rattle.step_rules.specs.Evaluating.{operated}
+use Rattle.transfer_rules.specs.Remains.{goes_on}
+use Rattle.transfer_rules.specs.Evaluating.{operated}
 use Rattle.step_statements.specs.Found.{found, three_operands}
 use Rattle.step_statements.proofs.FoundLaws.{three_told, three_end}
 use Rattle.step_statements.proofs.operating.at_three.Goals as goal

@@ -1,8 +1,8 @@
 use Rattle.std.proofs.Common.{◌≡◌, Option, Some, sym, ap, ◌∙◌, rules}
 use Rattle.std.proofs.lemmas.Result.{IfOk-weaker}
 use Rattle.pointer_rules.specs.AbstractValues.{AbstractValue}
-use Rattle.step_rules.specs.Remains.{goes_on}
-use Rattle.step_rules.specs.Evaluating.{operated}
+use Rattle.transfer_rules.specs.Remains.{goes_on}
+use Rattle.transfer_rules.specs.Evaluating.{operated}
 use Rattle.step_statements.specs.Found.{found, two_operands}
 use Rattle.step_statements.proofs.FoundLaws.{two_told}
 use Rattle.step_statements.proofs.operating.at_two.Goals as goal

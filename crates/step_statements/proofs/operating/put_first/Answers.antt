@@ -3,8 +3,8 @@ use Rattle.std.specs.Option.{option_map}
 use Rattle.std.specs.declared.alloc.Global.{Global}
 use Rattle.domain_core.specs.FaultSets.{either}
 use Rattle.pointer_rules.specs.AbstractValues.{AbstractValue}
-use Rattle.step_rules.specs.Remains.{with_faults}
-use Rattle.step_rules.specs.Evaluating.{before}
+use Rattle.transfer_rules.specs.Remains.{with_faults}
+use Rattle.transfer_rules.specs.Evaluating.{before}
 use Rattle.step_statements.proofs.FoundLaws.{remains_is, first_found}
 use Rattle.step_statements.proofs.operating.put_first.Goals as goal
 

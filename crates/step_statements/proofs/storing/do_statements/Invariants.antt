@@ -1,9 +1,9 @@
 use Rattle.std.proofs.Common.{◌≡◌, length, map}
 use Rattle.std.specs.List.{AllByRecursion}
 use Rattle.alf_check.specs.CheckedPrograms.{act_of}
-use Rattle.seen_memories.specs.Parts.{memory_in, rows_of, IsMemory}
-use Rattle.step_rules.specs.Remains.{with_faults}
-use Rattle.step_rules.specs.Doing.{after_statements}
+use Rattle.memory_model.specs.Parts.{memory_in, rows_of, IsMemory}
+use Rattle.transfer_rules.specs.Remains.{with_faults}
+use Rattle.transfer_rules.specs.Doing.{after_statements}
 use Rattle.step_statements.specs.Typed.{IsTypedStatement}
 use Rattle.step_statements.proofs.storing.do_statements.Given as goal
 

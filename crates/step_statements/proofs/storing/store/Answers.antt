@@ -3,7 +3,7 @@ use Rattle.std.specs.Prelude.{IfSome}
 use Rattle.alf_check.specs.CheckedPrograms.{term_of}
 use Rattle.pointer_rules.specs.AbstractValues.{AbstractValue}
 use Rattle.pointer_rules.specs.Covering.{IsValue}
-use Rattle.step_rules.specs.EvaluatingLaws.{cell_size}
+use Rattle.transfer_rules.specs.EvaluatingLaws.{cell_size}
 use Rattle.step_statements.proofs.TypedLaws.{value_found}
 use Rattle.step_statements.proofs.storing.store.Goals as goal
 

@@ -1,8 +1,8 @@
 use Rattle.std.proofs.Common.{◌≡◌, ◌≢◌, ◌∙◌, ◌<◌, ℕ, List, length, sym, subst, arith}
 use Rattle.std.specs.Prelude.{All, Contains}
 use Rattle.lists.specs.Members.{all_members}
-use Rattle.seen_memories.specs.Parts.{MemoryParts, IsMemory}
-use Rattle.seen_machines.specs.PartMachines.{is_part_machine}
+use Rattle.memory_model.specs.Parts.{MemoryParts, IsMemory}
+use Rattle.transfer_rules.specs.PartMachines.{is_part_machine}
 use Rattle.step_tests.proofs.walk.step.Goals as goal
 
 pub add_points-requires : goal.add_points-requires

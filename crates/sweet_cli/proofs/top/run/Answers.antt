@@ -1,8 +1,8 @@
 -- What was written keeps the promise of the command, and is the answer of the told files.
 use Rattle.std.proofs.Common.{map, string_bytes, inr, sym, ◌∙◌}
-use Rattle.work.specs.Outcome.{ending_text}
-use Rattle.work.specs.Log.{log_of}
-use Rattle.work.specs.Run.{Wrote, ending_of}
+use Rattle.command_plans.specs.Outcome.{ending_text}
+use Rattle.command_plans.specs.Log.{log_of}
+use Rattle.command_plans.specs.Run.{Wrote, ending_of}
 use Rattle.sweet_cli.specs.Table.{task_of}
 use Rattle.sweet_cli.proofs.Promises.{promised, no_failed_read, settle}
 use Rattle.sweet_cli.proofs.top.run.Goals as goal

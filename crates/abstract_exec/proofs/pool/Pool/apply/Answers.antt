@@ -3,7 +3,7 @@ use Rattle.std.proofs.Common.{arith}
 use Rattle.std.proofs.lemmas.Result.{on_ok_weaker}
 use Rattle.std.proofs.lemmas.Option.{slice_get_within}
 use Rattle.domain_core.specs.declared.event.Event.TheVariants.{Step, Merge}
-use Rattle.pool_events.specs.EventLaws.{event_one_on}
+use Rattle.worklist_rules.specs.EventLaws.{event_one_on}
 use Rattle.abstract_exec.proofs.Moves.{on_ok_first, pool_kept, merge_few}
 use Rattle.abstract_exec.proofs.pool.Pool.apply.Goals as goal
 

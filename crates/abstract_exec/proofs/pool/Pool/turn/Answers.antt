@@ -1,7 +1,7 @@
 use Rattle.std.proofs.Common.{subst, sym, ap, Err}
 use Rattle.domain_core.specs.Outlines.{shape_of}
-use Rattle.pool_events.specs.Policies.{IsChoice}
-use Rattle.pool_places.specs.Points.{AreMergePoints}
+use Rattle.worklist_rules.specs.Policies.{IsChoice}
+use Rattle.abstract_exec.specs.Points.{AreMergePoints}
 use Rattle.abstract_exec.proofs.Moves.{flag_there, is_allowed}
 use Rattle.abstract_exec.proofs.pool.Pool.turn.Goals as goal
 

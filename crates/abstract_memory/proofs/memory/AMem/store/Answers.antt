@@ -5,12 +5,12 @@ use Rattle.std.proofs.lemmas.List.{with_items_is}
 use Rattle.std.proofs.lemmas.Result.{on_ok_weaker}
 use Rattle.alf_check.specs.declared.rows.FrameRow.{FrameRow}
 use Rattle.alf_check.specs.Shapes.{shapes_of}
-use Rattle.address_cells.specs.Running.{runs_in}
+use Rattle.abstract_memory.specs.Running.{runs_in}
 use Rattle.memory_pages.specs.Slots.{HeldSlot}
 use Rattle.memory_rules.specs.AbstractSets.{abstract_sets}
 use Rattle.memory_rules.specs.Addresses.{cells_of}
 use Rattle.memory_rules.specs.Memories.{Mem, stored}
-use Rattle.seen_memories.specs.Parts.{MemoryParts}
+use Rattle.memory_model.specs.Parts.{MemoryParts}
 use Rattle.abstract_memory.specs.Cells.{Changes}
 use Rattle.abstract_memory.proofs.Lent.{lent, kept_in}
 use Rattle.abstract_memory.proofs.memory.AMem.store.Goals as goal

@@ -1,7 +1,7 @@
 use Rattle.std.proofs.Common.{◌≡◌, Some, subst}
 use Rattle.alf_check.specs.CheckedPrograms.{seen}
 use Rattle.flow_graph.specs.Nodes.{Node, Leads}
-use Rattle.run_points.specs.NodeNumbers.{goal_number}
+use Rattle.transfer_rules.specs.NodeNumbers.{goal_number}
 use Rattle.abstract_step.specs.Standing.{HereParts, place_of}
 use Rattle.abstract_step.proofs.HereLaws.{next_is}
 use Rattle.abstract_step.proofs.here.Here.next.Goals as goal

@@ -1,7 +1,7 @@
 use Rattle.std.proofs.Common.{◌≡◌, ap, subst, ◌∙◌}
 use Rattle.alf_check.specs.CheckedPrograms.{seen}
-use Rattle.seen_memories.specs.Made.{made}
-use Rattle.step_rules.specs.Filling.{first_memory}
+use Rattle.memory_model.specs.Made.{made}
+use Rattle.transfer_rules.specs.Filling.{first_memory}
 use Rattle.abstract_step.specs.Steppers.{StepperParts}
 use Rattle.abstract_step.proofs.TurnLaws.{own_made}
 use Rattle.abstract_step.proofs.stepper.AlfStepperStepper.start.Goals as goal

@@ -1,10 +1,10 @@
 use Rattle.std.proofs.Common.{◌≡◌, ℕ, List, map, subst}
 use Rattle.alf_check.specs.CheckedPrograms.{seen}
-use Rattle.seen_memories.specs.Parts.{MemoryParts, memory_in}
-use Rattle.seen_memories.specs.Made.{made}
-use Rattle.step_rules.specs.Stepping.{goals_left}
-use Rattle.step_rules.specs.Machines.{goals_from, numbered_goal}
-use Rattle.seen_machines.specs.MadeMachines.{made_at}
+use Rattle.memory_model.specs.Parts.{MemoryParts, memory_in}
+use Rattle.memory_model.specs.Made.{made}
+use Rattle.transfer_rules.specs.Stepping.{goals_left}
+use Rattle.transfer_rules.specs.Machines.{goals_from, numbered_goal}
+use Rattle.transfer_rules.specs.MadeMachines.{made_at}
 use Rattle.abstract_step.specs.Steppers.{StepperParts}
 use Rattle.abstract_step.specs.Standing.{HereParts}
 use Rattle.abstract_step.proofs.TurnLaws.{turn_made}

@@ -1,7 +1,7 @@
 use Rattle.std.proofs.lemmas.Option.{slice_get_within}
 use Rattle.alf_check.specs.CheckedPrograms.{seen}
 use Rattle.flow_graph.specs.Nodes.{first_node}
-use Rattle.graph_edges.specs.EdgeLaws.{first_is_0}
+use Rattle.flow_graph.specs.EdgeLaws.{first_is_0}
 use Rattle.alf_interp.proofs.machine.Machine.start.Goals as goal
 
 pub invariant_of-result : goal.invariant_of-result

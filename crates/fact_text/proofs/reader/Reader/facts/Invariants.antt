@@ -1,7 +1,7 @@
 -- The lines that were read, and those that are to come, are those of all.
 use Rattle.std.proofs.Common.{[]}
 use Rattle.grammar.specs.Form.{left}
-use Rattle.grammar_chains.specs.Turns.{ChainSoFar}
+use Rattle.grammar.specs.Turns.{ChainSoFar}
 use Rattle.fact_text.specs.Grammar.{fact_begins, next_fact}
 use Rattle.fact_text.specs.Reading.{position}
 use Rattle.fact_text.proofs.reader.Reader.facts.Given as goal

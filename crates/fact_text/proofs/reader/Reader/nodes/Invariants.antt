@@ -1,7 +1,7 @@
 -- The lines that were read, and those that are to come, are those of all.
 use Rattle.std.proofs.Common.{[], map}
 use Rattle.grammar.specs.Form.{left}
-use Rattle.grammar_chains.specs.Turns.{ChainSoFar}
+use Rattle.grammar.specs.Turns.{ChainSoFar}
 use Rattle.flow_facts.specs.Reports.{node_of}
 use Rattle.fact_text.specs.Grammar.{node_begins, next_node}
 use Rattle.fact_text.specs.Reading.{position}

@@ -3,8 +3,8 @@ use Rattle.std.proofs.Common.{◌≡◌, ◌<◌, ℕ, length, map, subst, sym, 
 use Rattle.std.proofs.lemmas.List.{length-map}
 use Rattle.domain_core.specs.declared.outline.NodeRow.{NodeRow}
 use Rattle.domain_core.specs.Outlines.{shape_of}
-use Rattle.run_recordings.specs.LoopRules.{counted_scope, counted_node}
-use Rattle.scope_steps.specs.Climbs.{own_low}
+use Rattle.recorder_rules.specs.LoopRules.{counted_scope, counted_node}
+use Rattle.flow_recorders.specs.Climbs.{own_low}
 use Rattle.flow_recorders.proofs.Keys.{below_by, length_by, counted_own, counted_self}
 use Rattle.flow_recorders.proofs.counts.CountsRecorder.book.Goals as goal
 

@@ -1,6 +1,6 @@
 -- What is left to show of `finish`.
 use Rattle.std.proofs.Common.{◌∙◌}
-use Rattle.run_recordings.specs.LoopRules.{count_tally, count_lengths}
+use Rattle.recorder_rules.specs.LoopRules.{count_tally, count_lengths}
 use Rattle.flow_recorders.proofs.Tallying.{ledger_of}
 use Rattle.flow_recorders.proofs.counts.CountsRecorder.finish.Goals as goal
 

@@ -1,7 +1,7 @@
 -- What is left to show of `go`.
 use Rattle.std.proofs.Common.{◌∙◌}
-use Rattle.run_recordings.specs.TotalLaws.{node_low}
-use Rattle.run_recordings.specs.LoopRules.{count_tally, count_lengths}
+use Rattle.recorder_rules.specs.TotalLaws.{node_low}
+use Rattle.recorder_rules.specs.LoopRules.{count_tally, count_lengths}
 use Rattle.flow_recorders.proofs.Tallying.{ledger_of}
 use Rattle.flow_recorders.proofs.counts.CountsRecorder.go.Goals as goal
 

@@ -1,5 +1,5 @@
 -- What is left to show of `start`.
-use Rattle.run_recordings.specs.LoopRules.{count_tally, count_lengths}
+use Rattle.recorder_rules.specs.LoopRules.{count_tally, count_lengths}
 use Rattle.flow_recorders.proofs.Keys.{begun_by}
 use Rattle.flow_recorders.proofs.counts.CountsRecorder.start.Goals as goal
 

@@ -1,8 +1,8 @@
 -- What is left to show of `book`.
 use Rattle.std.proofs.Common.{◌<◌, ℕ, Some, length, subst, sym, ◌∙◌, arith}
 use Rattle.domain_core.specs.Outlines.{header_of}
-use Rattle.run_recordings.specs.TotalLaws.{node_low}
-use Rattle.run_recordings.specs.LoopRules.{some_one}
+use Rattle.recorder_rules.specs.TotalLaws.{node_low}
+use Rattle.recorder_rules.specs.LoopRules.{some_one}
 use Rattle.flow_recorders.proofs.Keys.{below_by, length_by}
 use Rattle.flow_recorders.proofs.loops.LoopsRecorder.book.Goals as goal
 

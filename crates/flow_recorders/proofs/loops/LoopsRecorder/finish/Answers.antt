@@ -1,6 +1,6 @@
 -- What is left to show of `finish`.
 use Rattle.std.proofs.Common.{◌∙◌}
-use Rattle.run_recordings.specs.LoopRules.{loop_tally, loop_lengths}
+use Rattle.recorder_rules.specs.LoopRules.{loop_tally, loop_lengths}
 use Rattle.flow_recorders.proofs.Tallying.{ledger_of}
 use Rattle.flow_recorders.proofs.loops.LoopsRecorder.finish.Goals as goal
 

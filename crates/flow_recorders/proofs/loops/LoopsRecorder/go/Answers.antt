@@ -1,7 +1,7 @@
 -- What is left to show of `go`.
 use Rattle.std.proofs.Common.{◌∙◌}
-use Rattle.run_recordings.specs.TotalLaws.{node_low}
-use Rattle.run_recordings.specs.LoopRules.{loop_tally, loop_lengths}
+use Rattle.recorder_rules.specs.TotalLaws.{node_low}
+use Rattle.recorder_rules.specs.LoopRules.{loop_tally, loop_lengths}
 use Rattle.flow_recorders.proofs.Tallying.{ledger_of}
 use Rattle.flow_recorders.proofs.loops.LoopsRecorder.go.Goals as goal
 

@@ -1,5 +1,5 @@
 -- What is left to show of `start`.
-use Rattle.run_recordings.specs.LoopRules.{loop_tally, loop_lengths}
+use Rattle.recorder_rules.specs.LoopRules.{loop_tally, loop_lengths}
 use Rattle.flow_recorders.proofs.Keys.{begun_by}
 use Rattle.flow_recorders.proofs.loops.LoopsRecorder.start.Goals as goal
 

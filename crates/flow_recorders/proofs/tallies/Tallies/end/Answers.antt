@@ -2,7 +2,7 @@
 use Rattle.std.proofs.Common.{ℕ, List, Option, ap, ◌∙◌}
 use Rattle.std.proofs.lemmas.List.{with_items_is}
 use Rattle.domain_core.specs.Outlines.{shape_of}
-use Rattle.run_recordings.specs.TallyRules.{spreads_ended}
+use Rattle.recorder_rules.specs.TallyRules.{spreads_ended}
 use Rattle.flow_recorders.proofs.Tallying.{ended_is, ledger, changed_book}
 use Rattle.flow_recorders.proofs.tallies.Tallies.end.Goals as goal
 

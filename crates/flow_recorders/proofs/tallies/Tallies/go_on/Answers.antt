@@ -3,7 +3,7 @@ use Rattle.std.proofs.Common.{◌≡◌, ◌==◌, ℕ, List, Option, ap, ◌∙
 use Rattle.std.specs.List.{list_any}
 use Rattle.std.proofs.lemmas.List.{with_items_is}
 use Rattle.domain_core.specs.Outlines.{shape_of}
-use Rattle.run_recordings.specs.TallyRules.{Ledger, key_at, is_at, spans_gone, spreads_gone}
+use Rattle.recorder_rules.specs.TallyRules.{Ledger, key_at, is_at, spans_gone, spreads_gone}
 use Rattle.flow_recorders.proofs.Tallying.{reset_greatest, spans_are, book_is, ledger, changed_book}
 use Rattle.flow_recorders.proofs.tallies.Tallies.go_on.Goals as goal
 

@@ -1,9 +1,9 @@
 -- What is left to show of `join`.
 use Rattle.std.proofs.Common.{◌≡◌, ◌*◌, ◌||◌, ℕ, List, length, sym, ap, ◌∙◌}
-use Rattle.pair_recordings.specs.PairRules.{Sightings, both_seen}
-use Rattle.pair_bits.specs.Marks.{words_for, is_marked}
-use Rattle.pair_bits.specs.Seen.{sightings}
-use Rattle.pair_bits.specs.PairBits.{joined}
+use Rattle.recorder_rules.specs.PairRules.{Sightings, both_seen}
+use Rattle.recorder_rules.specs.Marks.{words_for, is_marked}
+use Rattle.recorder_rules.specs.Seen.{sightings}
+use Rattle.recorder_rules.specs.PairBits.{joined}
 use Rattle.pair_recorder.proofs.Handed.{seen_count}
 use Rattle.pair_recorder.proofs.pairs.PairsLattice.join.Goals as goal
 

@@ -1,8 +1,8 @@
 -- What is left to show of `book`.
 use Rattle.std.proofs.Common.{◌*◌}
-use Rattle.pair_bits.specs.Marks.{words_for}
-use Rattle.pair_bits.specs.StepBits.{none_marked}
-use Rattle.pair_bits.specs.PairBits.{begun_book}
+use Rattle.recorder_rules.specs.Marks.{words_for}
+use Rattle.recorder_rules.specs.StepBits.{none_marked}
+use Rattle.recorder_rules.specs.PairBits.{begun_book}
 use Rattle.pair_recorder.proofs.pairs.PairsRecorder.book.Goals as goal
 
 pub returns : goal.returns

@@ -1,12 +1,12 @@
 -- What is left to show of `go`.
 use Rattle.std.proofs.Common.{◌*◌, ℕ, List, length, sym, ap, subst, ◌∙◌}
 use Rattle.std.proofs.lemmas.List.{with_items_is}
-use Rattle.run_recordings.specs.TotalLaws.{node_low}
+use Rattle.recorder_rules.specs.TotalLaws.{node_low}
 use Rattle.domain_core.specs.Outlines.{shape_of}
-use Rattle.pair_recordings.specs.PairRules.{pair_recording}
-use Rattle.pair_bits.specs.Marks.{words_for, AreOwned}
-use Rattle.pair_bits.specs.Seen.{sightings, pair_book}
-use Rattle.pair_bits.specs.PairBits.{nodes_of, book_nodes, book_scopes, book_owned}
+use Rattle.recorder_rules.specs.PairRules.{pair_recording}
+use Rattle.recorder_rules.specs.Marks.{words_for, AreOwned}
+use Rattle.recorder_rules.specs.Seen.{sightings, pair_book}
+use Rattle.recorder_rules.specs.PairBits.{nodes_of, book_nodes, book_scopes, book_owned}
 use Rattle.pair_recorder.proofs.Handed.{gone_recorder, gone_collected, sightings_same}
 use Rattle.pair_recorder.proofs.pairs.PairsRecorder.go.Goals as goal
 

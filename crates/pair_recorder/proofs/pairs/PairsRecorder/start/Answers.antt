@@ -1,11 +1,11 @@
 -- What is left to show of `start`.
 use Rattle.std.proofs.Common.{◌≡◌, ◌*◌, ◌<◌, ◌==◌, ◌||◌, ℕ, Bool, List, length, sym, ap, ◌∙◌, arith}
 use Rattle.std.proofs.lemmas.List.{with_items_is, length-replicate}
-use Rattle.run_recordings.specs.TotalLaws.{node_low}
-use Rattle.pair_bits.specs.Marks.{is_marked}
-use Rattle.pair_bits.specs.Rows.{row_low}
-use Rattle.pair_bits.specs.StepBits.{none_marked, first_set, first_marked}
-use Rattle.pair_bits.specs.PairBits.{begun}
+use Rattle.recorder_rules.specs.TotalLaws.{node_low}
+use Rattle.recorder_rules.specs.Marks.{is_marked}
+use Rattle.recorder_rules.specs.Rows.{row_low}
+use Rattle.recorder_rules.specs.StepBits.{none_marked, first_set, first_marked}
+use Rattle.recorder_rules.specs.PairBits.{begun}
 use Rattle.pair_recorder.proofs.Handed.{sightings_same}
 use Rattle.pair_recorder.proofs.pairs.PairsRecorder.start.Goals as goal
 

@@ -2,7 +2,7 @@
 use Rattle.std.proofs.Common.{Option, subst}
 use Rattle.flow_base.specs.Outside.{Files}
 use Rattle.flow_facts.specs.Reports.{reported}
-use Rattle.work.specs.Log.{log_of}
+use Rattle.command_plans.specs.Log.{log_of}
 use Rattle.sweet_cli.specs.Words.{analyse_meant}
 use Rattle.sweet_cli.specs.Analyse.{policy_of}
 use Rattle.sweet_cli.specs.Seen.{scoped_of, tables_of}

@@ -5,8 +5,8 @@ use Rattle.alf_check.specs.CheckedPrograms.{seen}
 use Rattle.alf_check.specs.Inputs.{KeepInputs}
 use Rattle.flow_facts.specs.Reports.{reported}
 use Rattle.program_analysis.specs.Answers.{Told, Unbounded as LeftIn}
-use Rattle.work.specs.Outcome.{Outcome, Unbounded}
-use Rattle.work.specs.Work.{IsOnly}
+use Rattle.command_plans.specs.Outcome.{Outcome, Unbounded}
+use Rattle.command_plans.specs.Work.{IsOnly}
 use Rattle.unranked_runs.specs.Ranking.{unranked}
 use Rattle.sweet_cli.specs.Seen.{scoped_of}
 use Rattle.sweet_cli.specs.Analyse.{ReportMeans}

@@ -1,8 +1,8 @@
 -- What nodes cost has no part in the scopes.
 use Rattle.std.proofs.Common.{subst}
 use Rattle.flow_facts.specs.Reports.{reported}
-use Rattle.pool_events.specs.declared.policy.Policy.{Policy}
-use Rattle.work.specs.Works.{Judges}
+use Rattle.worklist_rules.specs.declared.policy.Policy.{Policy}
+use Rattle.command_plans.specs.Works.{Judges}
 use Rattle.sweet_cli.specs.Scopes.{ScopedProgram}
 use Rattle.sweet_cli.specs.Seen.{scoped_of}
 use Rattle.sweet_cli.specs.Analyse.{ReportMeans}

@@ -1,5 +1,5 @@
 -- A text that was printed spells the same unit.
-use Rattle.work.specs.Log.{log_of}
+use Rattle.command_plans.specs.Log.{log_of}
 use Rattle.sweet_cli.proofs.Promises.{prints_same_unit}
 use Rattle.sweet_cli.proofs.commands.print_c.print_c.Goals as goal
 

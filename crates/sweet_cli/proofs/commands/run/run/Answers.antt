@@ -1,7 +1,7 @@
 -- A text that was made tells the run.
 use Rattle.std.proofs.Common.{Option, subst}
 use Rattle.flow_base.specs.Outside.{Files}
-use Rattle.work.specs.Log.{log_of}
+use Rattle.command_plans.specs.Log.{log_of}
 use Rattle.sweet_cli.specs.Words.{run_meant}
 use Rattle.sweet_cli.specs.Seen.{scoped_of, tables_of}
 use Rattle.sweet_cli.specs.Tables.{tables_in}

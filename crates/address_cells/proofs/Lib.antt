@@ -1,5 +1,0 @@
-mod Finding
-mod Members
-mod CellLists
-mod ActiveFrames
-mod Faulty

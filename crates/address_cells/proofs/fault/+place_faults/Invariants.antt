@@ -1,5 +1,0 @@
-use Rattle.std.proofs.Common.{length}
-use Rattle.address_cells.proofs.fault.+place_faults.Given as goal
-
-abbrev pub decreases-place_faults : goal.decreases-place_faults
-decreases-place_faults l = length l.places.now

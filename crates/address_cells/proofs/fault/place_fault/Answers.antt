@@ -1,9 +1,0 @@
-use Rattle.std.proofs.Common.{slice_get}
-use Rattle.alf_check.specs.Shapes.{shapes_of}
-use Rattle.address_cells.specs.Running.{runs_in}
-use Rattle.address_cells.proofs.Faulty.{dead_told}
-use Rattle.address_cells.proofs.fault.place_fault.Goals as goal
-
-pub returns-in-None : goal.returns-in-None
-returns-in-None c = λ fault. rw (c.with.ensures, c.none.ensures)
-    (dead_told (slice_get (shapes_of c.args.rows.now) c.args.place.now.0) (runs_in c.args.running.now) c.args.place.now c.args.size fault c.requires.place c.in-None.ensures)

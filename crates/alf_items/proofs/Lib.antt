@@ -1,5 +1,0 @@
-mod Cutting
-mod Doing
-mod Examples
-mod Functions
-mod Naming

@@ -1,7 +1,0 @@
-use Rattle.alf_program.specs.Tree.{program_of}
-use Rattle.alf_printer.specs.Canonical.{body_marks}
-use Rattle.alf_printer.proofs.Printing.{braced_text}
-use Rattle.alf_printer.proofs.printer.print.Goals as goal
-
-pub returns : goal.returns
-returns c = rw (c.in_ok-push-2.ensures.items, c.in_ok-put_body.ensures, c.in_ok-push.ensures.items, c.new-out.ensures.items) (braced_text (body_marks (program_of c.args.program.now)))

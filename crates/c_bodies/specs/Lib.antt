@@ -1,2 +1,0 @@
-pub mod Surroundings
-pub mod Afterwards

@@ -1,6 +1,0 @@
--- What is left to show of `every_program_stands`.
-use Rattle.c_checks.specs.UnitsStand.{unit_stands}
-use Rattle.c_checks.proofs.laws.every_program_stands.Goals as goal
-
-pub returns : goal.returns
-returns c unit root ranks program = unit_stands unit program.no_faults

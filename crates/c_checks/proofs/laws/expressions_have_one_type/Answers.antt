@@ -1,9 +1,0 @@
--- What is left to show of `expressions_have_one_type`.
-use Rattle.c_checks.specs.Typed.{typed, is_type}
-use Rattle.c_checks.proofs.laws.expressions_have_one_type.Goals as goal
-
-pub returns-clause-some : goal.returns-clause-some
-returns-clause-some c = typed
-
-pub returns-clause-told : goal.returns-clause-told
-returns-clause-told c = is_type

@@ -1,2 +1,0 @@
--- Large numbers.
-pub mod Large

@@ -1,2 +1,0 @@
--- What constants are worth.
-pub mod Worth

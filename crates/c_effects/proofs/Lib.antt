@@ -1,2 +1,0 @@
--- Assignments with an operator.
-mod Updates

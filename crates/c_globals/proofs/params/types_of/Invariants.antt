@@ -1,7 +1,0 @@
--- The types so far.
-use Rattle.std.proofs.Common.{◌≡◌, take}
-use Rattle.c_checks.specs.Units.{types_of}
-use Rattle.c_globals.proofs.params.types_of.Given as goal
-
-abbrev pub invariant-loop-param : goal.invariant-loop-param
-invariant-loop-param l = l.types.items ≡ types_of (take l.param-index l.params)

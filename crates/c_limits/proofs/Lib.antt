@@ -1,0 +1,19 @@
+-- The files of this folder.
+mod NameTokens
+mod Objects
+mod Callees
+mod Calls
+mod Given
+mod NameUnits
+mod Spending
+mod LabelExpressions
+mod LabelStatements
+mod LabelUnits
+mod Keeping
+mod TypesKeep
+mod PlainExpressions
+mod PlainStatements
+mod PlainTokens
+mod Depths
+mod ShallowStatements
+mod PlainUnits

@@ -1,0 +1,331 @@
+-- What calls, values, effects and declarations count.
+use Rattle.std.proofs.Common.{◌≡◌, ◌≤◌, ◌+◌, ◌-◌, ℕ, suc, Bool, true, false, List, [], ◌∷◌, ◌++◌, Option, refl, sym, ap, ap₂, subst, ◌∙◌, arith}
+use Rattle.std.specs.Prelude.{codes}
+use Rattle.grammar.specs.Form.{Form, InARow, row}
+use Rattle.grammar.specs.Rule.{value, weaken, maybe}
+use Rattle.grammar.specs.Exact.{ok_is}
+use Rattle.c_unit.specs.Tree.{Expression, CallTree, ValueTree, OfExpression, OfCall, EffectTree, Assigns, Updates, Steps, Calls, LocalTree, Statement, Declares}
+use Rattle.c_unit.specs.declared.expression.Binary.{Binary}
+use Rattle.c_unit.specs.Units.{Word}
+use Rattle.c_rules.specs.Names.{text_at}
+use Rattle.c_rules.specs.Recursion.{calls_in_value, calls_if_valued, calls_in_effect, calls_in_shape, calls_in_locals, calls_in}
+use Rattle.c_grammar.specs.declared.standing.Assigning.{Assigning}
+use Rattle.c_grammar.specs.declared.standing.Assigning.TheVariants as assigning
+use Rattle.c_grammar.specs.declared.specifiers.Setting.TheVariants as settings
+use Rattle.c_grammar.specs.declared.others.Casts.TheVariants as casts
+use Rattle.c_grammar.specs.declared.others.Others.{Others}
+use Rattle.c_grammar.specs.declared.others.Others.TheVariants as others
+use Rattle.c_grammar.specs.Tokens.{Fault, Seen, Room, Place, some_frames, gives_value, either, most_parens}
+use Rattle.c_grammar.specs.Types.{at_assign, at_list_comma}
+use Rattle.c_grammar.specs.Expressions.{some_token, fits_any, call_frame, arguments, argument, further_argument, some_arguments}
+use Rattle.c_grammar.specs.Expressions.{no_arguments, at_comma, call, called_value, plain_value, assigned, rest_of, rest_after_postfix}
+use Rattle.c_grammar.specs.Expressions.{rest_of_value}
+use Rattle.c_grammar.specs.Statements.{effect_end, call_effect, fits_step_of, step, prefix_step, assigning_mark, assign, update}
+use Rattle.c_grammar.specs.Statements.{postfix_step, effect_after, target_effect, other_effect, effect, initial, after_local, local_end}
+use Rattle.c_grammar.specs.Statements.{pointer_local, array_local, integer_local, plain_local, local, further_local, semicolon}
+use Rattle.c_grammar.specs.Statements.{declaration}
+use Rattle.c_rules.specs.SpelledExpressions.{Every, InCall, InValue, IfValue, InEffect, InShape, InLocals, InStatement}
+use Rattle.c_rules.specs.Counts.{tokens_of, elements_of, elements_of_all, tokens_in, elements_in}
+use Rattle.c_limits.specs.Taking.{Good, Later, later_on, same_place, Takes, judged_takes, made_takes, mark_takes, one_takes, ◌>>>◌}
+use Rattle.c_limits.specs.TypesTake.{assign_mark_takes, before_either_takes, before_takes, comma_mark_takes, integer_type_takes}
+use Rattle.c_limits.specs.TypesTake.{next_number_takes, sees_takes, star_takes}
+use Rattle.c_limits.specs.ExpressionsTake.{open_paren_takes, close_paren_takes, comma_takes, sees_call_takes}
+use Rattle.c_limits.specs.Measuring.{one_if, Quietly, Fits, q_takes, q_made, q_then, q_either, fits_quiet, fits_after, fits_last}
+use Rattle.c_limits.specs.Measuring.{fits_then, fits_either, fits_maybe, fits_row}
+use Rattle.c_limits.specs.Depths.{whole_expr_deep, target_deep}
+use Rattle.c_limits.specs.Spending.{Shallow, Spends, frames_spend, token_seen, fits_declared, array_fits}
+
+module _ (words : List Word) where
+  abbrev pub Is : {A : Type 0} → (A → List ℕ) → (A → List ℕ) → (A → ℕ) → (A → Type 0) → A → List ℕ → List ℕ → ℕ → Type 0
+  Is D C E Q x ds calls el = (ds ≡ D x) × (calls ≡ C x) × (el ≡ E x) × Q x
+
+  pub semicolon_takes : (o : Others) → Takes (semicolon o).form
+  unfolding semicolon
+  semicolon_takes o = mark_takes (codes ";") o >>> λ _. made_takes
+
+  -- ---- arguments
+
+  pub q_row : {A : Type 0} {R : A → Type 0} (goes_on : Place → Bool) (p : Form Seen Room Fault A) (S : List A → Type 0)
+      → Quietly words p R → S [] → ((x : A) (xs : List A) → R x → S xs → S (x ∷ xs)) → Quietly words (row goes_on p) S
+  q_row {A = A} {R = R} goes_on p S h none some = record { each = λ at xs rest s. rows at xs rest s.0 }
+    where
+      rows : (at : Place) (xs : List A) (rest : Place) → InARow goes_on p at xs rest → Later at rest × S xs
+      rows at [] rest s = (same_place at rest s, none)
+      rows at (x ∷ xs) rest s =
+          let a = h.each at x s.1.0 s.1.1 in
+          let b = rows s.1.0 xs rest s.1.2 in
+          (later_on at s.1.0 rest a.0 b.0, some x xs a.1 b.1)
+
+  argument_deep : (p : ℕ) → Quietly words (argument p).form Shallow
+  unfolding argument
+  argument_deep p =
+      q_then words (whole_expr_deep words p others.Steps)
+      (λ e low. q_then words (q_takes words (before_either_takes (codes ",") (codes ")") (rest_of false e)))
+      (λ _ _. q_made words e low))
+
+  further_argument_deep : (p : ℕ) → Quietly words (further_argument p).form Shallow
+  unfolding further_argument
+  further_argument_deep p = q_then words (q_takes words comma_takes) (λ _ _. q_then words (argument_deep p) (λ e low. q_made words e low))
+
+  some_arguments_deep : (p : ℕ) → Quietly words (some_arguments p).form (Every Shallow)
+  unfolding some_arguments
+  some_arguments_deep p =
+      q_then words (argument_deep p) (λ e low. q_then words
+      (q_row at_comma (further_argument p).form (Every Shallow) (further_argument_deep p) tt (λ x xs h i. (h, i))) (λ es lows.
+      q_then words (q_takes words (close_paren_takes others.Nothing)) (λ _ _. q_made words (e ∷ es) (low, lows))))
+
+  no_arguments_deep : Quietly words no_arguments.form (Every Shallow)
+  unfolding no_arguments
+  no_arguments_deep = q_then words (q_takes words (close_paren_takes others.Nothing)) (λ _ _. q_made words [] tt)
+
+  arguments_deep : (p : ℕ) → Quietly words (arguments p).form (Every Shallow)
+  unfolding arguments
+  arguments_deep p =
+      q_then words (q_takes words (sees_takes (codes ")")))
+      (λ none _. q_either words none no_arguments (some_arguments p) no_arguments_deep (some_arguments_deep p))
+
+  -- ---- calls
+
+  known_spends : (known : Bool) (at rest : Place) (x : Unit {0}) → (either known (some_frames 1) (value tt)).form.Spells at x rest
+      → Spends at rest (one_if words known) 0 0
+  known_spends true at rest x s = frames_spend 1 at rest x s
+  known_spends false at rest x s =
+      let room = ap (λ (p : Place). p.room) s.1 in
+      let f = ap (λ (r : Room). r.frames) room in
+      let e = ap (λ (r : Room). r.elements) room in
+      let g = ap (λ (r : Room). r.functions) room in
+      record {
+        ahead = ap (λ (p : Place). p.ahead) s.1;
+        frames = omega (arith, f);
+        elements = omega (arith, e);
+        functions = omega (arith, g);
+        names = ap (λ (r : Room). r.names) room;
+      }
+
+  call_frame_spends : (text : List ℕ) (at rest : Place) (x : Unit {0}) → (call_frame text).form.Spells at x rest
+      → Spends at rest (one_if words (gives_value text at.room.names)) 0 0
+  unfolding call_frame
+  call_frame_spends text at rest x s =
+      let known = ok_is {F = Fault} (gives_value text at.room.names) s.0 s.2.0 in
+      subst (λ (b : Bool). Spends at rest (one_if words b) 0 0) (sym known)
+      (subst (λ (p : Place). Spends p rest (one_if words s.0) 0 0) s.2.1 (known_spends s.0 s.1 rest x s.3))
+
+  abbrev pub IsCall : CallTree → List ℕ → List ℕ → ℕ → Type 0
+  IsCall = Is (λ c. []) (λ (c : CallTree). c.name ∷ []) (λ c. 0) (InCall Shallow)
+
+  pub call_fits : (p : ℕ) → Fits words (call p).form IsCall
+  unfolding call some_token
+  call_fits p = record {
+    each = λ at y rest s n good.
+        let (t, named, name_spelled, after_name) = s in
+        let (mark, opened, mark_spelled, after_mark) = after_name in
+        let (frame, framed, frame_taken, after_frame) = after_mark in
+        let (list, listed, list_spelled, end) = after_frame in
+        let seen = token_seen words fits_any n at t named name_spelled good in
+        let same = ok_is {F = Fault} seen.t t seen.fits in
+        let paren = open_paren_takes.each named mark opened mark_spelled in
+        let spent = call_frame_spends t.text opened framed frame frame_taken in
+        let args = (arguments_deep p).each framed list listed list_spelled in
+        let last = same_place listed rest end.1 in
+        let room1 : opened.room ≡ at.room = paren.room ∙ seen.room in
+        let room2 : rest.room ≡ framed.room = last.room ∙ args.0.room in
+        let text : text_at words t.number ≡ t.text = subst (λ (x : Seen). text_at words x.number ≡ x.text) same seen.faithful.text in
+        let low : n ≤ t.number = subst (λ (x : Seen). n ≤ x.number) same seen.low in
+        let gave : one_if words (gives_value (text_at words t.number) at.room.names) ≡ one_if words (gives_value t.text opened.room.names) =
+        ap₂ (λ (x : List ℕ) (names : List (List ℕ × Bool)). one_if words (gives_value x names)) text (sym (ap (λ (r : Room). r.names) room1))
+        in
+        let a = ap (λ (r : Room). r.frames) room1 in
+        let b = ap (λ (r : Room). r.elements) room1 in
+        let c = ap (λ (r : Room). r.functions) room1 in
+        let a2 = ap (λ (r : Room). r.frames) room2 in
+        let b2 = ap (λ (r : Room). r.elements) room2 in
+        let c2 = ap (λ (r : Room). r.functions) room2 in
+        let f = spent.frames in
+        let e = spent.elements in
+        let g = spent.functions in
+        let good1 : Good words (suc t.number) named.ahead = subst (λ (x : Seen). Good words (suc x.number) named.ahead) same seen.good in
+        let good2 = paren.good words (suc t.number) good1 in
+        let good3 : Good words (suc t.number) framed.ahead = subst (λ (us : List Seen). Good words (suc t.number) us) (sym spent.ahead) good2 in
+        let good4 = last.good words (suc t.number) (args.0.good words (suc t.number) good3) in
+        record {
+          ds = [];
+          calls = t.number ∷ [];
+          el = 0;
+          m = suc t.number;
+          tokens = (let fine : n ≤ suc t.number = omega (arith, low) in fine);
+          good = good4;
+          frames = omega (arith, a, a2, f, gave);
+          elements = omega (arith, b, b2, e);
+          functions = (let fine : rest.room.functions ≡ at.room.functions = omega (arith, c, c2, g) in fine);
+          names = ap (λ (r : Room). r.names) room2 ∙ spent.names ∙ ap (λ (r : Room). r.names) room1;
+          holds = subst (λ (z : CallTree). IsCall z [] (t.number ∷ []) 0) (sym end.0) (refl, refl, refl, args.1);
+        };
+  }
+
+  -- ---- values
+
+  abbrev pub IsValue : ValueTree → List ℕ → List ℕ → ℕ → Type 0
+  IsValue = Is (λ v. []) calls_in_value (λ v. 0) (InValue Shallow)
+
+  called_fits : (p : ℕ) → Fits words (called_value p).form IsValue
+  unfolding called_value
+  called_fits p = fits_last words (call_fits p) (λ c ds calls el is. q_made words (OfCall c) is)
+
+  plain_fits : (p : ℕ) (o : Others) → Fits words (plain_value p o).form IsValue
+  unfolding plain_value
+  plain_fits p o = fits_quiet words (q_then words (whole_expr_deep words p o) (λ e low. q_made words (OfExpression e) (refl, refl, refl, low)))
+
+  pub assigned_fits : (p : ℕ) (o : Others) → Fits words (assigned p o).form IsValue
+  unfolding assigned
+  assigned_fits p o =
+      fits_after words (q_takes words sees_call_takes)
+      (λ c _. fits_either words c (called_value (p - 1)) (plain_value p o) (called_fits (p - 1)) (plain_fits p o))
+
+  -- ---- effects
+
+  abbrev pub IsEffect : EffectTree → List ℕ → List ℕ → ℕ → Type 0
+  IsEffect = Is (λ e. []) calls_in_effect (λ e. 0) (InEffect Shallow)
+
+  call_effect_fits : (p : ℕ) (last : Bool) → Fits words (call_effect p last).form IsEffect
+  unfolding call_effect
+  call_effect_fits p last =
+      fits_last words (call_fits p) (λ c ds calls el is.
+      q_then words (q_takes words (before_takes (effect_end last) (rest_after_postfix true))) (λ _ _. q_made words (Calls c) is))
+
+  prefix_step_fits : (p : ℕ) (last : Bool) → Fits words (prefix_step p last).form IsEffect
+  unfolding prefix_step step
+  prefix_step_fits p last =
+      fits_quiet words (q_then words (q_takes words (one_takes (λ t. fits_step_of t.symbol t)))
+      (λ s _. q_then words (target_deep words p casts.Refused others.Steps) (λ e low.
+      q_then words (q_takes words (before_takes (effect_end last) (rest_of true e))) (λ _ _. q_made words (Steps e s.0 s.1) (refl, refl, refl, low)))))
+
+  assign_fits : (p : ℕ) (last : Bool) (to : Expression) (n : ℕ) → Shallow to → Fits words (assign p last to n).form IsEffect
+  unfolding assign
+  assign_fits p last to n low =
+      fits_last words (assigned_fits p others.Steps)
+      (λ v ds calls el is. q_then words (q_takes words (before_takes (effect_end last) (rest_of_value true v)))
+      (λ _ _. q_made words (Assigns to n v) (is.0, is.1, is.2, (low, is.3))))
+
+  update_fits : (p : ℕ) (last : Bool) (to : Expression) (op : Binary) (n : ℕ) → Shallow to → Fits words (update p last to op n).form IsEffect
+  unfolding update
+  update_fits p last to op n low =
+      fits_quiet words (q_then words (whole_expr_deep words p others.Steps)
+      (λ e less. q_then words (q_takes words (before_takes (effect_end last) (rest_of true e)))
+      (λ _ _. q_made words (Updates to op n e) (refl, refl, refl, (low, less)))))
+
+  postfix_step_fits : (last : Bool) (to : Expression) (up : Bool) (n : ℕ) → Shallow to → Fits words (postfix_step last to up n).form IsEffect
+  unfolding postfix_step
+  postfix_step_fits last to up n low =
+      fits_quiet words (q_then words (q_takes words (before_takes (effect_end last) (rest_after_postfix true)))
+      (λ _ _. q_made words (Steps to up n) (refl, refl, refl, low)))
+
+  effect_after_fits : (p : ℕ) (last : Bool) (to : Expression) (a : Assigning) (n : ℕ) → Shallow to → Fits words (effect_after p last to a n).form IsEffect
+  unfolding effect_after
+  effect_after_fits p last to assigning.Assign n low = assign_fits p last to n low
+  effect_after_fits p last to (assigning.Update op) n low = update_fits p last to op n low
+  effect_after_fits p last to (assigning.Step up) n low = postfix_step_fits last to up n low
+
+  target_effect_fits : (p : ℕ) (o : Others) (last : Bool) → Fits words (target_effect p o last).form IsEffect
+  unfolding target_effect assigning_mark
+  target_effect_fits p o last =
+      fits_after words (target_deep words p casts.Outside o)
+      (λ to low. fits_after words (q_takes words (one_takes _))
+      (λ a _. fits_last words (effect_after_fits p last to a.0 a.1 low) (λ e ds calls el is. q_made words e is)))
+
+  other_effect_fits : (p : ℕ) (o : Others) (last : Bool) → Fits words (other_effect p o last).form IsEffect
+  unfolding other_effect
+  other_effect_fits p o last =
+      fits_after words (q_takes words judged_takes)
+      (λ s _. fits_last words (fits_either words s (prefix_step p last) (target_effect p o last) (prefix_step_fits p last)
+      (target_effect_fits p o last)) (λ e ds calls el is. q_made words e is))
+
+  pub effect_fits : (p : ℕ) (o : Others) (last : Bool) → Fits words (effect p o last).form IsEffect
+  unfolding effect
+  effect_fits p o last =
+      fits_after words (q_takes words sees_call_takes)
+      (λ c _. fits_last words (fits_either words c (call_effect (p - 1) last) (other_effect p o last) (call_effect_fits (p - 1) last)
+      (other_effect_fits p o last)) (λ e ds calls el is. q_made words e is))
+
+  -- ---- locals
+
+  local_end_takes : (o : Others) → Takes (local_end o).form
+  unfolding local_end
+  local_end_takes o = before_either_takes (codes ",") (codes ";") o
+
+  initial_fits : Fits words initial.form IsValue
+  unfolding initial
+  initial_fits =
+      fits_after words (q_takes words assign_mark_takes)
+      (λ _ _. fits_last words (assigned_fits most_parens others.StepsAndBraces) (λ v ds calls el is. q_made words v is))
+
+  abbrev pub IsFirst : Option ValueTree → List ℕ → List ℕ → ℕ → Type 0
+  IsFirst = Is (λ v. []) calls_if_valued (λ v. 0) (IfValue Shallow)
+
+  first_fits : Fits words (maybe at_assign initial).form IsFirst
+  first_fits = fits_maybe words at_assign initial.form IsValue IsFirst initial_fits (refl, refl, refl, tt) (λ v ds calls el is. is)
+
+  abbrev pub IsLocal : LocalTree → List ℕ → List ℕ → ℕ → Type 0
+  IsLocal =
+      Is (λ (l : LocalTree). l.name ∷ []) (λ (l : LocalTree). calls_in_shape l.shape) (λ (l : LocalTree). elements_of words l.shape)
+      (λ (l : LocalTree). InShape Shallow l.shape)
+
+  -- the name stands before
+  abbrev AfterName : ℕ → LocalTree → List ℕ → List ℕ → ℕ → Type 0
+  AfterName n l ds calls el = IsLocal l (n ∷ ds) calls el
+
+  pointer_local_fits : Fits words pointer_local.form IsLocal
+  unfolding pointer_local
+  pointer_local_fits =
+      fits_after words (q_takes words star_takes) (λ _ _. fits_declared words others.Stars (λ t. fits_last words first_fits (λ v ds calls el is.
+      q_then words (q_takes words (local_end_takes (after_local others.BracketsAndParens v)))
+      (λ _ _. q_made words _ (ap (λ (xs : List ℕ). t.number ∷ xs) is.0, is.1, is.2, is.3)))))
+
+  array_local_fits : (n : ℕ) → Fits words (array_local n).form (AfterName n)
+  unfolding array_local
+  array_local_fits n = fits_last words (array_fits words) (λ a ds calls el is. q_made words _ (ap (λ (xs : List ℕ). n ∷ xs) is.0, is.1, is.2, tt))
+
+  integer_local_fits : (n : ℕ) → Fits words (integer_local n).form (AfterName n)
+  unfolding integer_local
+  integer_local_fits n =
+      fits_last words first_fits (λ v ds calls el is. q_then words (q_takes words (local_end_takes (after_local others.Parens v)))
+      (λ _ _. q_made words _ (ap (λ (xs : List ℕ). n ∷ xs) is.0, is.1, is.2, is.3)))
+
+  plain_local_fits : Fits words plain_local.form IsLocal
+  unfolding plain_local
+  plain_local_fits =
+      fits_declared words others.Nothing (λ t. fits_after words (q_takes words (sees_takes (codes "["))) (λ b _.
+      fits_last words (fits_either words b (weaken (array_local t.number)) (integer_local t.number) (array_local_fits t.number)
+      (integer_local_fits t.number)) (λ l ds calls el is. q_made words l is)))
+
+  local_fits : Fits words local.form IsLocal
+  unfolding local
+  local_fits =
+      fits_after words (q_takes words (sees_takes (codes "*")))
+      (λ p _. fits_last words (fits_either words p pointer_local plain_local pointer_local_fits plain_local_fits)
+      (λ l ds calls el is. q_made words l is))
+
+  further_local_fits : Fits words further_local.form IsLocal
+  unfolding further_local
+  further_local_fits = fits_after words (q_takes words comma_mark_takes) (λ _ _. fits_last words local_fits (λ l ds calls el is. q_made words l is))
+
+  abbrev pub AreLocals : List LocalTree → List ℕ → List ℕ → ℕ → Type 0
+  AreLocals = Is tokens_of calls_in_locals (elements_of_all words) (InLocals Shallow)
+
+  one_more : (l : LocalTree) (ls : List LocalTree) (ds calls : List ℕ) (el : ℕ) (es more : List ℕ) (fl : ℕ) → IsLocal l ds calls el
+      → AreLocals ls es more fl → AreLocals (l ∷ ls) (ds ++ es) (calls ++ more) (el + fl)
+  one_more l ls ds calls el es more fl is are =
+      (ap₂ (λ (xs ys : List ℕ). xs ++ ys) is.0 are.0, ap₂ (λ (xs ys : List ℕ). xs ++ ys) is.1 are.1, ap₂ (λ (x y : ℕ). x + y) is.2 are.2, (is.3, are.3))
+
+  abbrev pub IsStatement : Statement → List ℕ → List ℕ → ℕ → Type 0
+  IsStatement = Is tokens_in calls_in (elements_in words) (InStatement Shallow Shallow)
+
+  pub declaration_fits : Fits words declaration.form IsStatement
+  unfolding declaration
+  declaration_fits =
+      fits_after words (q_takes words next_number_takes)
+      (λ n _. fits_after words (q_takes words (integer_type_takes settings.Block))
+      (λ i _. fits_then words local_fits (λ l ds calls el is.
+      fits_last words (fits_row words at_list_comma further_local.form IsLocal AreLocals further_local_fits (refl, refl, refl, tt)
+      one_more) (λ ls es more fl are.
+      q_then words (q_takes words (semicolon_takes others.Nothing))
+      (λ _ _. q_made words (Declares n i (l ∷ ls)) (one_more l ls ds calls el es more fl is are))))))

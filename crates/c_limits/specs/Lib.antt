@@ -1,0 +1,20 @@
+-- The files of this folder.
+-- Sizes of a counted unit.
+pub mod Objects
+pub mod Bytes
+pub mod Counted
+pub mod LabelSpelled
+-- What the rules of C count.
+pub mod Taking
+pub mod TypesTake
+pub mod ExpressionsTake
+pub mod Measuring
+pub mod Depths
+pub mod Spending
+pub mod Effects
+pub mod Statements
+pub mod Parameters
+pub mod Externals
+pub mod Starts
+pub mod CountSpelled
+pub mod PlainSpelled

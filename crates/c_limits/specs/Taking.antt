@@ -1,0 +1,98 @@
+-- What rules take.
+--   Good words n ts    the tokens ahead have ascending numbers from n on, and each is what the words have there
+--   Later at rest      nothing is counted, and what is left stands later
+--   Takes p            so it is of all that p spells
+use Rattle.std.proofs.Common.{◌≡◌, ◌≤◌, ℕ, zero, suc, Bool, true, false, List, [], ◌∷◌, Result, Option, Some, None, sym, ap, subst, ◌∙◌, arith}
+use Rattle.std.specs.Prelude.{⊤}
+use Rattle.grammar.specs.Form.{others_of, after, Form, bound, made, refused, judged, InARow, row, AtMostOne, at_most_one}
+use Rattle.grammar.specs.Chain.{InTurn, chain}
+use Rattle.c_unit.specs.Units.{Word}
+use Rattle.c_rules.specs.Names.{text_at, worth_at, number_of}
+use Rattle.c_grammar.specs.declared.symbol.Symbol.TheVariants as symbols
+use Rattle.c_grammar.specs.declared.others.Others.{Others}
+use Rattle.c_grammar.specs.Tokens.{Fault, Seen, Room, Place, Rule, one, mark, fits_text, either}
+use Rattle.lowering_layout.specs.Texts.{IsIdentifier}
+
+module _ (words : List Word) where
+  -- a token is what the words have at its number
+  pub record Faithful (t : Seen) : Type 0 where
+    pub text : text_at words t.number ≡ t.text
+    pub name : t.symbol ≡ symbols.Name → IsIdentifier t.text
+    pub constant : (n : ℕ) → t.symbol ≡ symbols.Constant n → number_of (worth_at words t.number) ≡ n
+
+  abbrev pub Good : ℕ → List Seen → Type 0
+  Good n [] = ⊤
+  Good n (t ∷ ts) = (n ≤ t.number) × Faithful t × Good (suc t.number) ts
+
+  pub good_from : (m n : ℕ) (ts : List Seen) → m ≤ n → Good n ts → Good m ts
+  good_from m n [] low g = tt
+  good_from m n (t ∷ ts) low g = (let first = g.0 in omega (arith, first, low), g.1, g.2)
+
+-- nothing is counted, and what is left stands later
+pub record Later (at rest : Place) : Type 0 where
+  pub good : (words : List Word) (n : ℕ) → Good words n at.ahead → Good words n rest.ahead
+  pub room : rest.room ≡ at.room
+
+pub record Takes {A : Type 0} (p : Form Seen Room Fault A) : Type 0 where
+  pub each : (at : Place) (x : A) (rest : Place) → p.Spells at x rest → Later at rest
+
+pub same_place : (at rest : Place) → rest ≡ at → Later at rest
+same_place at rest e = record { good = λ words n g. subst (λ (p : Place). Good words n p.ahead) (sym e) g; room = ap (λ (p : Place). p.room) e }
+
+pub later_on : (at mid rest : Place) → Later at mid → Later mid rest → Later at rest
+later_on at mid rest h i = record { good = λ words n g. i.good words n (h.good words n g); room = i.room ∙ h.room }
+
+pub good_after : (words : List Word) (n : ℕ) (ts : List Seen) → Good words n ts → Good words n (others_of ts)
+good_after words n [] g = tt
+good_after words n (t ∷ ts) g = good_from words n (suc t.number) ts (let low = g.0 in omega (arith, low)) g.2
+
+pub after_place : (at rest : Place) → rest ≡ after at → Later at rest
+after_place at rest e =
+    record { good = λ words n g. subst (λ (p : Place). Good words n p.ahead) (sym e) (good_after words n at.ahead g); room = ap (λ (p : Place). p.room) e }
+
+pub one_takes : {A : Type 0} (fit : Seen → Result A Fault) → Takes (one fit).form
+one_takes fit = record { each = λ at x rest s. after_place at rest s.1 }
+
+pub mark_takes : (w : List ℕ) (o : Others) → Takes (mark w o).form
+unfolding mark
+mark_takes w o = one_takes (fits_text w o)
+
+infixr 10 ◌>>>◌
+pub ◌>>>◌ : {A B : Type 0} {p : Form Seen Room Fault A} {q : A → Form Seen Room Fault B} → Takes p → ((x : A) → Takes (q x)) → Takes (bound p q)
+hp >>> hq = record { each = λ at y rest s. later_on at s.1 rest (hp.each at s.0 s.1 s.2) ((hq s.0).each s.1 y rest s.3) }
+
+pub made_takes : {A : Type 0} {a : A} → Takes (made a)
+made_takes = record { each = λ at x rest s. same_place at rest s.1 }
+
+pub judged_takes : {A : Type 0} {fit : Place → Result A Fault} → Takes (judged fit)
+judged_takes = record { each = λ at x rest s. same_place at rest s.1 }
+
+pub refused_takes : {A : Type 0} {fault : Place → Fault} → Takes (refused {A = A} fault)
+refused_takes = record { each = λ at x rest s. absurd s }
+
+pub either_takes : {some : Bool} {A : Type 0} (b : Bool) (p q : Rule some A) → Takes p.form → Takes q.form → Takes (either b p q).form
+either_takes true p q h i = h
+either_takes false p q h i = i
+
+module _ {A : Type 0} (goes_on : Place → Bool) (p : Form Seen Room Fault A) where
+  pub row_each : Takes p → (at : Place) (xs : List A) (rest : Place) → InARow goes_on p at xs rest → Later at rest
+  row_each h at [] rest s = same_place at rest s
+  row_each h at (x ∷ xs) rest s = later_on at s.1.0 rest (h.each at x s.1.0 s.1.1) (row_each h s.1.0 xs rest s.1.2)
+
+  pub row_takes : Takes p → Takes (row goes_on p)
+  row_takes h = record { each = λ at xs rest s. row_each h at xs rest s.0 }
+
+  maybe_each : Takes p → (at : Place) (o : Option A) (rest : Place) → AtMostOne goes_on p at o rest → Later at rest
+  maybe_each h at None rest s = same_place at rest s.1
+  maybe_each h at (Some x) rest s = h.each at x rest s.1
+
+  pub maybe_takes : Takes p → Takes (at_most_one goes_on p)
+  maybe_takes h = record { each = maybe_each h }
+
+module _ {A : Type 0} (goes_on : A → Place → Bool) (p : A → Form Seen Room Fault A) where
+  turns_each : ((x : A) → Takes (p x)) → (n : ℕ) (x : A) (at : Place) (y : A) (rest : Place) → InTurn goes_on p n x at y rest → Later at rest
+  turns_each h zero x at y rest s = same_place at rest s.1
+  turns_each h (suc n) x at y rest s = later_on at s.1.1 rest ((h x).each at s.1.0 s.1.1 s.1.2) (turns_each h n s.1.0 s.1.1 y rest s.1.3)
+
+  pub chain_takes : ((x : A) → Takes (p x)) → (x : A) → Takes (chain goes_on p x)
+  chain_takes h x = record { each = λ at y rest s. turns_each h s.0.0 x at y rest s.0.1 }

@@ -1,0 +1,22 @@
+-- What holds of each function of a unit by its number holds of all.
+use Rattle.std.proofs.Common.{◌≡◌, ◌≤◌, ◌<◌, ◌*◌, ◌^◌, ℕ, suc, List, [], ◌∷◌, length, slice_get, Some, refl, arith}
+use Rattle.c_unit.specs.Units.{UnitTree}
+use Rattle.c_text.specs.Language.{IsSpelled}
+use Rattle.c_meaning.specs.Objects.{Function, functions_of}
+use Rattle.c_lowered.specs.Statements.{labels_in_all}
+use Rattle.lowering_layout.specs.Lists.{EachOf}
+use Rattle.c_limits.specs.LabelSpelled.{SpelledUnitsHaveFewLabels}
+use Rattle.c_lower.specs.Measured.{HasFewLabels}
+use Rattle.c_lower.specs.Passing.{TextHasFewTokens}
+
+each_by_number : (P : Function → Type 0) (fs : List Function) → ((f : ℕ) (function : Function) → slice_get fs f ≡ Some function → P function) → EachOf P fs
+each_by_number P [] all = tt
+each_by_number P (g ∷ fs) all = (all 0 g refl, each_by_number P fs (λ f function at. all (suc f) function at))
+
+pub few_labels : SpelledUnitsHaveFewLabels → (unit : UnitTree) → IsSpelled unit → TextHasFewTokens unit → HasFewLabels unit
+few_labels few unit spelled short =
+    each_by_number (λ (function : Function). labels_in_all function.body < 2 ^ 64) (functions_of unit)
+    (λ f function at.
+    let here : labels_in_all function.body ≤ 4 * length unit.words = few unit spelled f function at in
+    let words : length unit.words ≤ 4294967296 = short in
+    omega arith)

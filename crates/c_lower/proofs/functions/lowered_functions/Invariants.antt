@@ -1,0 +1,13 @@
+-- The functions so far, with those that are left, are all.
+use Rattle.std.proofs.Common.{map, length}
+use Rattle.c_unit.specs.Tree.{external_of}
+use Rattle.c_unit.specs.Units.{unit_of}
+use Rattle.object_layout.specs.Views.{program_in}
+use Rattle.c_lower.proofs.Walking.{IsWalk}
+use Rattle.c_lower.proofs.functions.lowered_functions.Given as goal
+
+abbrev pub invariant-externals : goal.invariant-externals
+invariant-externals l = IsWalk (unit_of l.unit).words (program_in l.unit) l.scopes l.funcs.items l.function (map external_of l.rest)
+
+abbrev pub decreases-externals : goal.decreases-externals
+decreases-externals l = length l.rest

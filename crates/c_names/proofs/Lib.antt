@@ -1,4 +1,0 @@
-mod Ends
-mod RowLaws
-mod CutLaws
-mod Shortened

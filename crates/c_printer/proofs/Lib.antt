@@ -1,2 +1,0 @@
--- Texts of ranges.
-pub mod Texts

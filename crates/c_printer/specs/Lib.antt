@@ -1,2 +1,0 @@
--- Texts of tokens.
-pub mod Texts

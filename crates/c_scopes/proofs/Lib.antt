@@ -1,0 +1,7 @@
+-- The files of this folder.
+mod Ends
+mod RowLaws
+mod CutLaws
+mod Shortened
+-- No lemmas of its own.
+pub mod Counting

@@ -1,2 +1,0 @@
--- What tokens that spell a unit promise.
-pub mod Laws

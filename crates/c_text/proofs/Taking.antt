@@ -1,0 +1,150 @@
+-- Rules that take tokens which can be printed.
+--   Good t     a token that is what its bytes are to the grammar can be printed
+--   Takes p    where what p leaves is good, all that stands ahead of it is
+use Rattle.std.proofs.Common.{◌≡◌, ℕ, zero, suc, Bool, true, false, ◌&&◌, cond, List, [], ◌∷◌, Result, Ok, Err, Option, Some, None, refl, sym, subst, ◌∙◌}
+use Rattle.std.specs.Str.{bytes_eq}
+use Rattle.std.proofs.lemmas.Slice.Eq.{bytes_eq-Decides}
+use Rattle.grammar.specs.Form.{first_of, others_of, after, Form, fit_first, bound, made, refused, judged, InARow, row, AtMostOne, at_most_one}
+use Rattle.grammar.specs.Exact.{ok_is, ok_no_err}
+use Rattle.grammar.specs.Each.{Each}
+use Rattle.grammar.specs.Chain.{InTurn, chain}
+use Rattle.c_tokens.specs.declared.token.Kind.{Kind}
+use Rattle.c_tokens.specs.declared.token.Kind.TheVariants as kinds
+use Rattle.c_tokens.specs.Kinds.{kind_of}
+use Rattle.c_tokens.specs.Printed.{is_printed_kind, has_printed_kind, can_print}
+use Rattle.c_grammar.specs.declared.symbol.Symbol.{Symbol}
+use Rattle.c_grammar.specs.declared.symbol.Symbol.TheVariants as symbols
+use Rattle.c_grammar.specs.declared.others.Others.{Others}
+use Rattle.c_grammar.specs.Symbols.{symbol_of}
+use Rattle.c_grammar.specs.Tokens.{Fault, Syntax, Seen, Room, Place, Rule, misfit, one, mark, fits_text, either, is_first}
+use Rattle.c_grammar.specs.Expressions.{some_token}
+
+-- a token that is what its bytes are to the grammar can be printed
+abbrev pub Good : Seen → Type 0
+Good t = (kind : Kind) → kind_of t.text ≡ Some kind → t.symbol ≡ symbol_of kind t.text → is_printed_kind kind ≡ true
+
+-- where what p leaves is good, all that stands ahead of it is
+pub record Takes {A : Type 0} (p : Form Seen Room Fault A) : Type 0 where
+  pub each : (at : Place) (x : A) (rest : Place) → p.Spells at x rest → Each Good rest.ahead → Each Good at.ahead
+
+same : (at rest : Place) → rest ≡ at → Each Good rest.ahead → Each Good at.ahead
+same at rest e g = subst (λ (p : Place). Each Good p.ahead) e g
+
+-- ---- tokens
+
+-- a token that is something to the grammar
+pub good_symbol : (t : Seen) → (t.symbol ≡ symbols.NoSymbol → ⊥) → Good t
+good_symbol t h kinds.White k e = absurd (h e)
+good_symbol t h kinds.Identifier k e = refl
+good_symbol t h kinds.Number k e = refl
+good_symbol t h kinds.Character k e = refl
+good_symbol t h kinds.StringLiteral k e = refl
+good_symbol t h kinds.Punctuator k e = refl
+good_symbol t h kinds.Other k e = absurd (h e)
+good_symbol t h kinds.OpenLiteral k e = absurd (h e)
+good_symbol t h kinds.OpenComment k e = absurd (h e)
+
+-- a token that fits by its symbol, where none that is nothing to the grammar fits
+pub fitting : {A : Type 0} (fit : Symbol → Seen → Result A Fault) (t : Seen) (f : Fault) (x : A) → fit symbols.NoSymbol t ≡ Err f → fit t.symbol t ≡ Ok x → Good t
+fitting fit t f x none e = good_symbol t (λ k. let o : fit symbols.NoSymbol t ≡ Ok x = subst (λ (s : Symbol). fit s t ≡ Ok x) k e in ok_no_err x f (sym none ∙ o))
+
+one_first : {A : Type 0} (fit : Seen → Result A Fault) → ((t : Seen) (x : A) → fit t ≡ Ok x → Good t) → (ts : List Seen) (at : Place) (x : A)
+    → fit_first (λ (at : Place). Syntax None) (λ (t : Seen) (at : Place). fit t) (first_of ts) at ≡ Ok x → Each Good (others_of ts) → Each Good ts
+one_first fit h [] at x e g = tt
+one_first fit h (t ∷ ts) at x e g = (h t x e, g)
+
+pub one_takes : {A : Type 0} (fit : Seen → Result A Fault) → ((t : Seen) (x : A) → fit t ≡ Ok x → Good t) → Takes (one fit).form
+one_takes fit h = record { each = λ at x rest s g. one_first fit h at.ahead at x s.0 (same (after at) rest s.1 g) }
+
+printed_text : (w text : List ℕ) (kind : Kind) → can_print w ≡ true → text ≡ w → kind_of text ≡ Some kind → is_printed_kind kind ≡ true
+unfolding can_print
+printed_text w text kind p e k = subst (λ (o : Option Kind). has_printed_kind o ≡ true) k (rw e p)
+
+fits_mark : (w : List ℕ) (o : Others) (t : Seen) (x : ℕ) (b : Bool) → bytes_eq t.text w ≡ b → cond b (Ok t.number) (Err (misfit o t)) ≡ Ok x → t.text ≡ w
+fits_mark w o t x true b e = (bytes_eq-Decides t.text w).0 b
+fits_mark w o t x false b e = ok_no_err x (misfit o t) e
+
+-- the token with a text that can be printed
+pub mark_takes : (w : List ℕ) (o : Others) → can_print w ≡ true → Takes (mark w o).form
+unfolding mark
+mark_takes w o p = one_takes (fits_text w o) (λ t x e kind k s. printed_text w t.text kind p (fits_mark w o t x (bytes_eq t.text w) refl e) k)
+
+-- the next token is something to the grammar
+pub first_good : (is : Symbol → Bool) (ts : List Seen) → is symbols.NoSymbol ≡ false → is_first (λ (t : Seen). is t.symbol) (first_of ts) ≡ true → Each Good (others_of ts) → Each Good ts
+first_good is [] none e g = tt
+first_good is (t ∷ ts) none e g = (good_symbol t (λ k. let b : is symbols.NoSymbol ≡ true = subst (λ (s : Symbol). is s ≡ true) k e in absurd cc), g)
+
+-- ---- one part and then another
+
+infixr 10 ◌>>>◌
+pub ◌>>>◌ : {A B : Type 0} {p : Form Seen Room Fault A} {q : A → Form Seen Room Fault B} → Takes p → ((x : A) → Takes (q x)) → Takes (bound p q)
+hp >>> hq = record { each = λ at y rest s g. hp.each at s.0 s.1 s.2 ((hq s.0).each s.1 y rest s.3 g) }
+
+pub made_takes : {A : Type 0} {a : A} → Takes (made a)
+made_takes = record { each = λ at x rest s g. same at rest s.1 g }
+
+pub judged_takes : {A : Type 0} {fit : Place → Result A Fault} → Takes (judged fit)
+judged_takes = record { each = λ at x rest s g. same at rest s.1 g }
+
+pub refused_takes : {A : Type 0} {fault : Place → Fault} → Takes (refused {A = A} fault)
+refused_takes = record { each = λ at x rest s g. absurd s }
+
+-- no token is taken
+pub same_ahead : {A : Type 0} {p : Form Seen Room Fault A} → ((at : Place) (x : A) (rest : Place) → p.Spells at x rest → rest.ahead ≡ at.ahead) → Takes p
+same_ahead h = record { each = λ at x rest s g. subst (λ (ts : List Seen). Each Good ts) (h at x rest s) g }
+
+pub either_takes : {some : Bool} {A : Type 0} (b : Bool) (p q : Rule some A) → Takes p.form → Takes q.form → Takes (either b p q).form
+either_takes true p q h i = h
+either_takes false p q h i = i
+
+-- ---- lists and chains
+
+module _ {A : Type 0} (goes_on : Place → Bool) (p : Form Seen Room Fault A) where
+  pub row_each : Takes p → (at : Place) (xs : List A) (rest : Place) → InARow goes_on p at xs rest → Each Good rest.ahead → Each Good at.ahead
+  row_each h at [] rest s g = same at rest s g
+  row_each h at (x ∷ xs) rest s g = h.each at x s.1.0 s.1.1 (row_each h s.1.0 xs rest s.1.2 g)
+
+  pub row_takes : Takes p → Takes (row goes_on p)
+  row_takes h = record { each = λ at xs rest s g. row_each h at xs rest s.0 g }
+
+  maybe_each : Takes p → (at : Place) (o : Option A) (rest : Place) → AtMostOne goes_on p at o rest → Each Good rest.ahead → Each Good at.ahead
+  maybe_each h at None rest s g = same at rest s.1 g
+  maybe_each h at (Some x) rest s g = h.each at x rest s.1 g
+
+  pub maybe_takes : Takes p → Takes (at_most_one goes_on p)
+  maybe_takes h = record { each = maybe_each h }
+
+module _ {A : Type 0} (goes_on : A → Place → Bool) (p : A → Form Seen Room Fault A) where
+  turns_each : ((x : A) → Takes (p x)) → (n : ℕ) (x : A) (at : Place) (y : A) (rest : Place) → InTurn goes_on p n x at y rest → Each Good rest.ahead → Each Good at.ahead
+  turns_each h zero x at y rest s g = same at rest s.1 g
+  turns_each h (suc n) x at y rest s g = (h x).each at s.1.0 s.1.1 s.1.2 (turns_each h n s.1.0 s.1.1 y rest s.1.3 g)
+
+  pub chain_takes : ((x : A) → Takes (p x)) → (x : A) → Takes (chain goes_on p x)
+  chain_takes h x = record { each = λ at y rest s g. turns_each h s.0.0 x at y rest s.0.1 g }
+
+-- ---- what was seen of the next token
+
+-- any token, after which all is good
+pub after_any : {B : Type 0} {q : Seen → Form Seen Room Fault B} → ((t : Seen) → Takes (q t)) → (at : Place) (y : B) (rest : Place) → (bound some_token.form q).Spells at y rest
+    → Each Good rest.ahead → Each Good (others_of at.ahead)
+unfolding some_token
+after_any hq at y rest s g = same (after at) s.1 s.2.1 ((hq s.0).each s.1 y rest s.3 g)
+
+-- what was seen holds of the position where the next part is read
+pub seen_then : {B : Type 0} {is : Place → Bool} (q : Bool → Form Seen Room Fault B)
+    → ((b : Bool) (at : Place) → is at ≡ b → (y : B) (rest : Place) → (q b).Spells at y rest → Each Good rest.ahead → Each Good at.ahead)
+    → Takes (bound (judged (λ at. Ok (is at))) q)
+seen_then {B = B} {is = is} q h = record {
+  each = λ at y rest s g. h s.0 at (ok_is {F = Fault} (is at) s.0 s.2.0) y rest (subst (λ (p : Place). (q s.0).Spells p y rest) s.2.1 s.3) g;
+}
+
+-- the one rule takes what is good where the test holds, and the other anywhere
+pub seen_or : {some : Bool} {A : Type 0} (is : Place → Bool) (p q : Rule some A)
+    → ((at : Place) (x : A) (rest : Place) → is at ≡ true → p.form.Spells at x rest → Each Good rest.ahead → Each Good at.ahead) → Takes q.form
+    → (b : Bool) (at : Place) → is at ≡ b → (x : A) (rest : Place) → (either b p q).form.Spells at x rest → Each Good rest.ahead → Each Good at.ahead
+seen_or is p q h i true at e x rest s g = h at x rest e s g
+seen_or is p q h i false at e x rest s g = i.each at x rest s g
+
+pub first_holds : (a b : Bool) → (a && b) ≡ true → a ≡ true
+first_holds true b e = refl
+first_holds false b e = absurd cc

@@ -1,8 +1,0 @@
--- What the loop of `caller_among` keeps.
-use Rattle.std.proofs.Common.{◌<◌, ℕ}
-use Rattle.call_cycles.specs.Calls.{calls_of}
-use Rattle.call_cycles.specs.Findings.{IsCaller}
-use Rattle.call_cycles.proofs.finding.caller_among.Given as goal
-
-abbrev pub invariant-loop-caller : goal.invariant-loop-caller
-invariant-loop-caller l = (g : ℕ) → g < l.caller → IsCaller (calls_of l.calls) l.marks l.function g → ⊥

@@ -1,5 +1,0 @@
-use Rattle.call_cycles.specs.CallLaws.{ranks_rule_out}
-use Rattle.call_cycles.proofs.laws.ranked_calls_have_no_cycle.Goals as goal
-
-pub returns : goal.returns
-returns c = ranks_rule_out

@@ -1,0 +1,9 @@
+-- The files of this folder.
+-- Exit codes, outcomes, what was read, work, what code does beside it, and a run of the whole.
+pub mod Code
+pub mod Outcome
+pub mod Log
+pub mod Roles
+pub mod Work
+pub mod Works
+pub mod Run

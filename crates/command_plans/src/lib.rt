@@ -1,0 +1,23 @@
+//! A command as a plan of reads and judgements, which has one answer by its type.
+//!
+//! The order of work of a command line tool, as combinators.
+//!
+//! Work over files gives a value, or stops with an outcome: a cause, and the line that tells it.
+//! Each combinator carries the proof that told files have one value or one outcome, so a command
+//! that is written in them has one answer by its type. This crate knows no command.
+#![tactic(auto)]
+
+// How a tool ends, and why work stops.
+mod status;
+mod stop;
+
+// A file, read in its turn.
+mod reading;
+
+// The answer, before it is written.
+mod answer;
+
+pub use answer::Answer;
+pub use reading::{Role, read_file};
+pub use status::Status;
+pub use stop::{Stop, Why, stopped};

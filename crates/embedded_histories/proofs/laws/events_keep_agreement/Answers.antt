@@ -1,5 +1,0 @@
-use Rattle.embedded_histories.proofs.Loads.{goes_on}
-use Rattle.embedded_histories.proofs.laws.events_keep_agreement.Goals as goal
-
-pub returns : goal.returns
-returns c = λ place is_embedded m h agrees. goes_on place is_embedded m h agrees

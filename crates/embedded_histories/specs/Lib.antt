@@ -1,3 +1,0 @@
--- The files of this folder.
-pub mod Embedding
-pub mod EmbeddingLaws

@@ -1,2 +1,0 @@
--- What the printer rests on.
-pub mod Printing

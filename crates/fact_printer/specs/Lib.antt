@@ -1,3 +1,0 @@
--- The text of a report, and how it is put together.
-pub mod Canonical
-pub mod Printing

@@ -1,3 +1,0 @@
--- The first token of a text, and printed texts.
-pub mod Cutting
-pub mod Printed

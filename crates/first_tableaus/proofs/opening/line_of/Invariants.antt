@@ -1,7 +1,0 @@
--- The lines of the rows so far.
-use Rattle.std.proofs.Common.{◌≡◌}
-use Rattle.pivot_rules.specs.OpeningPlaces.{line_place}
-use Rattle.first_tableaus.proofs.opening.line_of.Given as goal
-
-abbrev pub invariant-loop-other : goal.invariant-loop-other
-invariant-loop-other l = l.line ≡ line_place l.rows.program.rows l.other

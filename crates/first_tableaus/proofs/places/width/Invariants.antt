@@ -1,7 +1,0 @@
--- The rows left end at the width.
-use Rattle.std.proofs.Common.{◌≡◌, drop}
-use Rattle.pivot_rules.specs.Tableaus.{width_of, width_from}
-use Rattle.first_tableaus.proofs.places.width.Given as goal
-
-abbrev pub invariant-loop-row : goal.invariant-loop-row
-invariant-loop-row l = width_from (drop l.row l.rows.program.rows) l.slack ≡ width_of l.rows.program

@@ -1,3 +1,0 @@
-pub mod FirstTerms
-pub mod Started
-pub mod RowSteps

@@ -1,3 +1,0 @@
--- The files of this folder.
-pub mod StandingCells
-pub mod ByteLaws

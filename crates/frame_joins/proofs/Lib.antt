@@ -1,2 +1,0 @@
-mod SlotJoins
-mod FrameSteps

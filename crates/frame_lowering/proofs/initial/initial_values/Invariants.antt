@@ -1,0 +1,14 @@
+-- What is put, with what is left, is all.
+use Rattle.std.proofs.Common.{◌≡◌, ◌++◌, map, length}
+use Rattle.alf_program.specs.Tree.{initial_of}
+use Rattle.c_unit.specs.Tree.{external_of}
+use Rattle.c_lowered.specs.Frames.{first_words}
+use Rattle.object_layout.specs.Views.{program_in}
+use Rattle.frame_lowering.proofs.initial.initial_values.Given as goal
+
+abbrev pub invariant-externals : goal.invariant-externals
+invariant-externals l =
+    map initial_of l.inits.items ++ first_words (program_in l.table) (map external_of l.rest) ≡ first_words (program_in l.table) (map external_of l.externals)
+
+abbrev pub decreases-externals : goal.decreases-externals
+decreases-externals l = length l.rest

@@ -1,5 +1,0 @@
-mod SlotFrames
-mod Steps
-mod Stores
-mod Changes
-mod Sizes

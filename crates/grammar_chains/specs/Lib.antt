@@ -1,3 +1,0 @@
--- Chains, and how they are read.
-pub mod Chain
-pub mod Turns

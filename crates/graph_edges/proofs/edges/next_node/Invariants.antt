@@ -1,7 +1,0 @@
-use Rattle.std.proofs.Common.{◌≡◌}
-use Rattle.flow_graph.specs.Nodes.{Node}
-use Rattle.graph_edges.specs.Edges.{HasEdge, HasEdgeFrom}
-use Rattle.graph_edges.proofs.edges.next_node.Given as goal
-
-abbrev pub invariant-loop-edge : goal.invariant-loop-edge
-invariant-loop-edge l = (goal : Node) → HasEdge l.graph l.node goal → goal.block ≡ l.block → HasEdgeFrom l.graph l.node goal l.edge

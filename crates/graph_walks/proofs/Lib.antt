@@ -1,0 +1,3 @@
+-- The files of this folder.
+-- The files here, each after those that it cites.
+pub mod Spreading

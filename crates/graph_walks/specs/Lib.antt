@@ -1,0 +1,12 @@
+-- The files of this folder.
+pub mod Walks
+pub mod Tables
+pub mod Marks
+pub mod ListLaws
+pub mod TableLaws
+pub mod WalkLaws
+pub mod MarkLaws
+pub mod Searching
+pub mod Calls
+pub mod CallLaws
+pub mod Findings

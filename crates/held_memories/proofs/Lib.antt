@@ -1,3 +1,0 @@
-mod Held
-mod Lattice
-mod Stored

@@ -1,0 +1,33 @@
+-- The files of this folder.
+-- The files here, each after those that it cites.
+pub mod Sums
+pub mod Programs
+pub mod Points
+pub mod Columns
+pub mod Weights
+pub mod Rows
+pub mod Uses
+pub mod UseLaws
+pub mod FlowLaws
+pub mod ColumnLaws
+pub mod ExecutionSums
+pub mod Shaped
+pub mod PathRowLaws
+pub mod OnceLaws
+pub mod IterationSums
+pub mod Feasible
+pub mod PathSparseLaws
+pub mod Examples
+pub mod Firsts
+pub mod Fractions
+pub mod Duals
+pub mod Verdicts
+pub mod Bounds
+pub mod SumLaws
+pub mod Duality
+pub mod FirstLaws
+pub mod DualRowLaws
+pub mod PointLaws
+pub mod VerdictLaws
+pub mod Sparse
+pub mod DualSparseLaws

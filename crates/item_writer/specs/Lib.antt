@@ -1,9 +1,0 @@
-pub mod Views
-pub mod Afterwards
-pub mod Joins
-pub mod Marks
-pub mod Arguments
-pub mod ValueParts
-pub mod Controls
-pub mod Braces
-pub mod Plain

@@ -1,5 +1,0 @@
-use Rattle.least_lists.proofs.Ends.{first_at_end}
-use Rattle.least_lists.proofs.earlier.least_earlier.Goals as goal
-
-pub returns : goal.returns
-returns g c = first_at_end g.X.Keyed.key_of c.args.earlier.now c.index-earlier-earlier.result c.requires.some c.requires.first

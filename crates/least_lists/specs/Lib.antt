@@ -1,4 +1,0 @@
--- The files here, each after those that it cites.
-pub mod Least
-pub mod LeastLaws
-pub mod Lines

@@ -1,5 +1,0 @@
-mod Rows
-mod Objects
-mod Naming
-mod LaidOut
-mod Globals

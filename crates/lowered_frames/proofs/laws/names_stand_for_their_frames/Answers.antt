@@ -1,5 +1,0 @@
-use Rattle.lowered_frames.proofs.Naming.{naming}
-use Rattle.lowered_frames.proofs.laws.names_stand_for_their_frames.Goals as goal
-
-pub returns : goal.returns
-returns c = λ unit f function names at. naming unit names f function at

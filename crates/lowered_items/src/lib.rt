@@ -1,2 +1,0 @@
-//! Items of a lowered program: each passes the checks of ALF.
-#![tactic(auto)]

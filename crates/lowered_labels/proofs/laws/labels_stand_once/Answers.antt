@@ -1,6 +1,0 @@
--- What is left to show of `labels_stand_once`.
-use Rattle.lowered_labels.specs.Labels.{label_stands, label_stands_once}
-use Rattle.lowered_labels.proofs.laws.labels_stand_once.Goals as goal
-
-pub returns : goal.returns
-returns c = record { once = label_stands; at_most = label_stands_once }

@@ -1,6 +1,0 @@
--- What is left to show of `the_rest_stands_after_the_items_of_a_statement`.
-use Rattle.lowered_labels.specs.Places.{after_items}
-use Rattle.lowered_labels.proofs.laws.the_rest_stands_after_the_items_of_a_statement.Goals as goal
-
-pub returns : goal.returns
-returns c = after_items

@@ -1,8 +1,0 @@
--- The files of this folder.
-mod Callees
-mod Scopes
-mod Leaves
-mod Calls
-mod Effects
-mod Statements
-mod Programs

@@ -1,4 +1,0 @@
--- The files of this folder.
-pub mod Plain
-pub mod Laws
-pub mod Correct

@@ -1,6 +1,0 @@
--- What is left to show of `all_frames_have_names_of_their_own`.
-use Rattle.lowered_names.specs.Views.{all_frames_apart}
-use Rattle.lowered_names.proofs.laws.all_frames_have_names_of_their_own.Goals as goal
-
-pub returns : goal.returns
-returns c = all_frames_apart

@@ -1,6 +1,0 @@
--- What is left to show of `each_frame_is_an_objects_or_a_results`.
-use Rattle.lowered_names.specs.Views.{view_of}
-use Rattle.lowered_names.proofs.laws.each_frame_is_an_objects_or_a_results.Goals as goal
-
-pub returns : goal.returns
-returns c = view_of

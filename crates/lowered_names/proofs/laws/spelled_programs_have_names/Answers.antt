@@ -1,6 +1,0 @@
--- What is left to show of `spelled_programs_have_names`.
-use Rattle.lowered_names.specs.Checked.{program_has_names}
-use Rattle.lowered_names.proofs.laws.spelled_programs_have_names.Goals as goal
-
-pub returns : goal.returns
-returns c = program_has_names

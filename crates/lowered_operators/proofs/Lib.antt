@@ -1,5 +1,0 @@
-mod Words
-mod Outcomes
-mod Tests
-mod Sizes
-mod Given

@@ -1,6 +1,0 @@
-mod Constants
-mod Fitting
-mod Agreeing
-mod Stores
-mod Calls
-mod Lower

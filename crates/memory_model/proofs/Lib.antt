@@ -1,0 +1,4 @@
+-- The files of this folder.
+mod Held
+mod Lattice
+mod Stored

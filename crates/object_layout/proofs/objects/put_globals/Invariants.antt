@@ -1,0 +1,13 @@
+-- What is put, with what is left, is all.
+use Rattle.std.proofs.Common.{◌≡◌, ◌++◌, map, length}
+use Rattle.c_unit.specs.Tree.{external_of}
+use Rattle.c_meaning.specs.Objects.{globals_in}
+use Rattle.object_layout.specs.Views.{object_of}
+use Rattle.object_layout.proofs.objects.put_globals.Given as goal
+
+abbrev pub invariant-externals : goal.invariant-externals
+invariant-externals l =
+    map object_of l.objects.items ++ globals_in l.words (map external_of l.rest) ≡ map object_of l.initial.objects.items ++ globals_in l.words (map external_of l.externals)
+
+abbrev pub decreases-externals : goal.decreases-externals
+decreases-externals l = length l.rest

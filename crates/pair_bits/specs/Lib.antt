@@ -1,9 +1,0 @@
-pub mod Marks
-pub mod Seen
-pub mod Ranges
-pub mod Bits
-pub mod Walks
-pub mod Rows
-pub mod EndedNodes
-pub mod StepBits
-pub mod PairBits

@@ -1,5 +1,0 @@
-pub mod Tables
-pub mod PairRules
-pub mod PairSteps
-pub mod PairLaws
-pub mod PairBookLaws

@@ -1,2 +1,0 @@
-//! Which nodes recorders have seen in one iteration, and what it means.
-#![tactic(auto)]

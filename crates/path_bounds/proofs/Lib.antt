@@ -1,4 +1,0 @@
-pub mod Fitting
-pub mod Floors
-pub mod BoundLaws
-pub mod RightLaws

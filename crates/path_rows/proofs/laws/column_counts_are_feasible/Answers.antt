@@ -1,9 +1,0 @@
--- What is left to show of `column_counts_are_feasible`.
-use Rattle.path_rows.specs.Feasible.{feasible, worth_cost}
-use Rattle.path_rows.proofs.laws.column_counts_are_feasible.Goals as goal
-
-pub returns-clause-feasible : goal.returns-clause-feasible
-returns-clause-feasible c = feasible
-
-pub returns-clause-worth : goal.returns-clause-worth
-returns-clause-worth c = worth_cost

@@ -1,4 +1,0 @@
-pub mod Sparse
-pub mod Stepped
-pub mod Choosing
-pub mod TermsFrom

@@ -1,6 +1,0 @@
-mod Placing
-mod Spreading
-mod Joining
-mod Choosing
-mod Exits
-mod Stepping

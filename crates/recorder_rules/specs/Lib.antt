@@ -1,0 +1,24 @@
+-- The files of this folder.
+pub mod Generated
+pub mod Spans
+pub mod SpanLaws
+pub mod TotalRules
+pub mod TotalLaws
+pub mod TallyRules
+pub mod TallyLaws
+pub mod LoopRules
+pub mod BookLaws
+pub mod Tables
+pub mod PairRules
+pub mod PairSteps
+pub mod PairLaws
+pub mod PairBookLaws
+pub mod Marks
+pub mod Seen
+pub mod Ranges
+pub mod Bits
+pub mod Walks
+pub mod Rows
+pub mod EndedNodes
+pub mod StepBits
+pub mod PairBits

@@ -1,2 +1,0 @@
--- What the texts of reports promise.
-pub mod Laws

@@ -1,3 +1,0 @@
--- Shared lemmas.
-pub mod Placing
-pub mod Turning

@@ -1,8 +1,0 @@
-use Rattle.alf_check.specs.CheckedPrograms.{seen}
-use Rattle.alf_runs.specs.Starts.{start}
-use Rattle.run_counts.proofs.Turning.{SoFar}
-use Rattle.run_counts.proofs.counting.count.Given as goal
-
-abbrev pub invariant-loop-turn : goal.invariant-loop-turn
-invariant-loop-turn l =
-    SoFar (seen l.checked) l.graph l.costs (start (seen l.checked) l.rows l.words) l.turn l.at l.counts.items l.cost l.machine

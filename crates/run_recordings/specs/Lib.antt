@@ -1,9 +1,0 @@
-pub mod Generated
-pub mod Spans
-pub mod SpanLaws
-pub mod TotalRules
-pub mod TotalLaws
-pub mod TallyRules
-pub mod TallyLaws
-pub mod LoopRules
-pub mod BookLaws

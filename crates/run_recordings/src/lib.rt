@@ -1,2 +1,0 @@
-//! What recorders keep of the traces of runs, and what it means.
-#![tactic(auto)]

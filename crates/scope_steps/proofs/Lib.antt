@@ -1,2 +1,0 @@
-pub mod LeftScopes
-pub mod NearScopes

@@ -1,8 +1,0 @@
--- The files here, each after those that it cites.
-pub mod Parts
-pub mod Made
-pub mod Within
-pub mod PartsWords
-pub mod ReadOff
-pub mod PartsLaws
-pub mod SeenOrders

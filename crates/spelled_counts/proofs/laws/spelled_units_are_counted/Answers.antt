@@ -1,6 +1,0 @@
--- What is left to show of `spelled_units_are_counted`.
-use Rattle.spelled_counts.specs.Spelled.{spelled_is_counted}
-use Rattle.spelled_counts.proofs.laws.spelled_units_are_counted.Goals as goal
-
-pub returns : goal.returns
-returns c unit spelled = spelled_is_counted c.tokens_are_known_by_their_texts.ensures unit spelled

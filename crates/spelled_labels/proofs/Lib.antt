@@ -1,5 +1,0 @@
--- The files of this folder.
-mod Spending
-mod Expressions
-mod Statements
-mod Units

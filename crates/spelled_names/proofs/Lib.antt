@@ -1,7 +1,0 @@
--- The files of this folder.
-mod Tokens
-mod Objects
-mod Callees
-mod Calls
-mod Given
-mod Units

@@ -1,3 +1,0 @@
--- Sizes of a counted unit.
-pub mod Objects
-pub mod Bytes

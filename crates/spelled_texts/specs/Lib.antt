@@ -1,3 +1,0 @@
--- Counted units are measured.
-pub mod Measured
-pub mod Passing

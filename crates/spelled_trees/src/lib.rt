@@ -1,2 +1,0 @@
-//! What the trees of a unit keep that some text spells.
-#![tactic(auto)]

@@ -1,0 +1,13 @@
+-- The targets so far, with those that are left, are all.
+use Rattle.std.proofs.Common.{◌≡◌, ◌++◌, map, length}
+use Rattle.c_unit.specs.Tree.{statement_of, statements_of}
+use Rattle.c_lowered.specs.Statements.{targets_in}
+use Rattle.statement_lowering.specs.Views.{within_of}
+use Rattle.statement_lowering.proofs.switches.targets_in.Given as goal
+
+abbrev pub invariant-targets : goal.invariant-targets
+invariant-targets l =
+    l.targets.items ++ targets_in (within_of l.code) l.kind l.label (statements_of (map statement_of l.rest)) ≡ targets_in (within_of l.code) l.kind l.first (statements_of (map statement_of l.body))
+
+abbrev pub decreases-targets : goal.decreases-targets
+decreases-targets l = length l.rest

@@ -1,0 +1,10 @@
+-- The files of this folder.
+pub mod Views
+pub mod Afterwards
+pub mod Joins
+pub mod Marks
+pub mod Arguments
+pub mod ValueParts
+pub mod Controls
+pub mod Braces
+pub mod Plain

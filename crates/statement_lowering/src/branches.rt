@@ -1,0 +1,95 @@
+//! The labels, tests and jumps of an `if`.
+
+ghost use Rattle.std.specs.Prelude.{◌≡◌, ◌+◌, ◌∷◌, IfOk, OnOk};
+ghost use Rattle.c_unit.specs.Tree.{expression_of};
+ghost use Rattle.c_unit.specs.Units.{unit_of};
+ghost use Rattle.c_lowered.specs.Conditions as laws;
+ghost use Rattle.statement_lowering.specs.Views.{Makes, within_of};
+
+use crate::code::{Code, greater};
+use crate::conditions::put_condition;
+use crate::parts::{label_name, put_jump, put_label};
+use alf_program::Item;
+use c_scopes::Scopes;
+use c_unit::Expr;
+use std::alloc::AllocError;
+
+/// Puts a condition, and the label to which it leads where it holds.
+pub fn put_checked(
+    code: Code<'_, '_>,
+    scopes: &Scopes<'_>,
+    items: &mut Vec<Item>,
+    condition: &Expr,
+    next: u64,
+    held: u64,
+    failed: u64,
+) -> Result<u64, AllocError>
+    requires { (unit_of code.table.now).words ≡ scopes.now.words }
+    ensures items { OnOk result (Makes items.old.items items.new.items (λ rest. laws.condition_items (within_of code.entry) scopes.now.scopes (expression_of condition.now) next (laws.label (within_of code.entry) held) (laws.label (within_of code.entry) failed)
+        (laws.label_item (within_of code.entry) held ∷ rest))) }
+    ensures labels { IfOk result (λ after. after ≡ next + laws.condition_labels (expression_of condition.now)) }
+{
+    let to = label_name(code, held)?;
+    let other = label_name(code, failed)?;
+    let labels = put_condition(
+        code,
+        scopes,
+        items,
+        condition,
+        next,
+        to.bytes(),
+        other.bytes(),
+    )?;
+    put_label(code, items, held)?;
+    Ok(labels)
+}
+
+/// Puts the condition of an `if` that has so many labels of its own, and the label of what is done where it holds.
+pub fn begin_if(
+    code: Code<'_, '_>,
+    scopes: &Scopes<'_>,
+    items: &mut Vec<Item>,
+    condition: &Expr,
+    labels: u64,
+    own: u64,
+) -> Result<u64, AllocError>
+    requires { (unit_of code.table.now).words ≡ scopes.now.words }
+    ensures items { OnOk result (Makes items.old.items items.new.items (λ rest. laws.condition_items (within_of code.entry) scopes.now.scopes (expression_of condition.now) (own + labels) (laws.label (within_of code.entry) labels) (laws.label (within_of code.entry) (1 + labels))
+        (laws.label_item (within_of code.entry) labels ∷ rest))) }
+    ensures labels { IfOk result (λ after. after ≡ own + labels + laws.condition_labels (expression_of condition.now)) }
+{
+    let other = greater(1, labels)?;
+    let inner = greater(own, labels)?;
+    let after = put_checked(code, scopes, items, condition, inner, labels, other)?;
+    Ok(after)
+}
+
+/// Puts what stands after an `if` without an `else`.
+pub fn end_if(code: Code<'_, '_>, items: &mut Vec<Item>, labels: u64) -> Result<(), AllocError>
+    ensures { OnOk result (Makes items.old.items items.new.items (λ rest. laws.jump (within_of code.entry) (1 + labels) ∷ laws.label_item (within_of code.entry) (1 + labels) ∷ rest)) }
+{
+    let end = greater(1, labels)?;
+    put_jump(code, items, end)?;
+    put_label(code, items, end)?;
+    Ok(())
+}
+
+/// Puts what stands before an `else`.
+pub fn end_then(code: Code<'_, '_>, items: &mut Vec<Item>, labels: u64) -> Result<(), AllocError>
+    ensures { OnOk result (Makes items.old.items items.new.items (λ rest. laws.jump (within_of code.entry) (2 + labels) ∷ laws.label_item (within_of code.entry) (1 + labels) ∷ rest)) }
+{
+    let other = greater(1, labels)?;
+    let end = greater(2, labels)?;
+    put_jump(code, items, end)?;
+    put_label(code, items, other)?;
+    Ok(())
+}
+
+/// Puts the label after an `else`.
+pub fn end_else(code: Code<'_, '_>, items: &mut Vec<Item>, labels: u64) -> Result<(), AllocError>
+    ensures { OnOk result (Makes items.old.items items.new.items (λ rest. laws.label_item (within_of code.entry) (2 + labels) ∷ rest)) }
+{
+    let end = greater(2, labels)?;
+    put_label(code, items, end)?;
+    Ok(())
+}

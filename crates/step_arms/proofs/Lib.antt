@@ -1,4 +1,0 @@
-mod Reading
-mod Lying
-mod Tellings
-mod ArmLists

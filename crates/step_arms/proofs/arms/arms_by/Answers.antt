@@ -1,7 +1,0 @@
-use Rattle.seen_memories.specs.Parts.{rows_of}
-use Rattle.step_arms.proofs.Tellings.{sized_fit}
-use Rattle.step_arms.proofs.arms.arms_by.Goals as goal
-
-pub push_arms-requires-clause-default : goal.push_arms-requires-clause-default
-push_arms-requires-clause-default c =
-    sized_fit (rows_of c.args.memory.checked) c.args.words.size c.args.told.now c.without_all-rest.result c.requires.fits c.without_all-rest.ensures.sized

@@ -1,9 +1,0 @@
--- The files here, each after those that it cites.
-pub mod Fitted
-pub mod Merging
-pub mod Reducing
-pub mod Turning
-pub mod Shown
-pub mod TermLaws
-pub mod DivisorLaws
-pub mod StepLaws

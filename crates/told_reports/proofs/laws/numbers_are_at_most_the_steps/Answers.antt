@@ -1,5 +1,0 @@
-use Rattle.told_reports.specs.NumberLaws.{orderly_events}
-use Rattle.told_reports.proofs.laws.numbers_are_at_most_the_steps.Goals as goal
-
-pub returns : goal.returns
-returns g c = λ stepper o events w happen. orderly_events g.S.Stepper.machine g.S.State.Lattice.order events stepper o w happen

@@ -1,0 +1,3 @@
+-- The files of this folder.
+-- The files here.
+mod WorkedRows

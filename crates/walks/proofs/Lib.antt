@@ -1,2 +1,0 @@
--- The files here, each after those that it cites.
-pub mod Spreading

@@ -1,8 +1,0 @@
-pub mod Walks
-pub mod Tables
-pub mod Marks
-pub mod ListLaws
-pub mod TableLaws
-pub mod WalkLaws
-pub mod MarkLaws
-pub mod Searching

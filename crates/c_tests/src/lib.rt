@@ -1,8 +1,16 @@
+//! Tests of texts of C and of their checks.
+//!
+//! ## C tests
+//!
 //! Tests of `c_tokens`, `c_unit` and `c_text`. Without tests this library is
 //! empty.
+//!
+//! ## Check tests
+//!
+//! Tests of `c_check` on texts that `c_text` reads. Without tests this library is empty.
 #![tactic(auto)]
 
-// Tokens and their places.
+// C tests: tokens and their places.
 #[cfg(test)]
 mod tokens;
 
@@ -23,3 +31,15 @@ mod edits;
 mod limits;
 #[cfg(test)]
 mod readings;
+
+// Check tests: what is told of a text.
+#[cfg(test)]
+mod check_answers;
+
+// Texts, and what is told of them.
+#[cfg(test)]
+mod names;
+#[cfg(test)]
+mod orders;
+#[cfg(test)]
+mod types;

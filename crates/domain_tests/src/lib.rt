@@ -1,7 +1,15 @@
+//! Tests of abstract values: sets of words, strided values and pointers.
+//!
+//! ## Domain tests
+//!
 //! Tests of the implementations of `Domain`. Without tests this library is empty.
+//!
+//! ## Value tests
+//!
+//! Tests of abstract values. Without tests this library is empty.
 #![tactic(auto)]
 
-// Sets of one word, or of every word.
+// Domain tests: sets of one word, or of every word.
 #[cfg(test)]
 mod flat;
 
@@ -14,3 +22,7 @@ mod operators;
 mod rows;
 #[cfg(test)]
 mod strided;
+
+// Value tests: words and pointers.
+#[cfg(test)]
+mod pointers;

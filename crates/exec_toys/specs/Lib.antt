@@ -1,3 +1,4 @@
+-- The files of this folder.
 -- The files here, each after those that it cites.
 pub mod Charts
 pub mod ChartLaws

@@ -4,10 +4,10 @@
 use alf_check::check;
 use alf_text::read;
 use domain_core::Outline;
+use fact_tests::ready_bound;
 use flow_base::{FolderShelf, Shelf, Sink, StdSink};
 use flow_facts::Report;
 use flow_graph::Graph;
-use path_tests::ready_bound;
 use scope_graph::outline;
 use std::alloc::{AllocError, Global};
 use std::env;

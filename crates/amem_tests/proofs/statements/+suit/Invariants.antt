@@ -1,6 +1,0 @@
--- There are fewer and fewer arguments.
-use Rattle.std.proofs.Common.{length}
-use Rattle.amem_tests.proofs.statements.+suit.Given as goal
-
-abbrev pub decreases-suit : goal.decreases-suit
-decreases-suit l = length l.args.now

@@ -1,6 +1,0 @@
--- The two memories stay ready.
-use Rattle.amem_tests.specs.Sides.{AreReady}
-use Rattle.amem_tests.proofs.steps.told_script.Given as goal
-
-abbrev pub invariant-loop-line : goal.invariant-loop-line
-invariant-loop-line l = AreReady l.count l.sides.a l.sides.b

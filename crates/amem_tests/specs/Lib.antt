@@ -1,4 +1,0 @@
--- The files here.
-pub mod Sides
-pub mod Slots
-pub mod Statements

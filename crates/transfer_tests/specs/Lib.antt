@@ -1,0 +1,5 @@
+-- The files of this folder.
+-- The files here.
+pub mod Sides
+pub mod Slots
+pub mod Statements

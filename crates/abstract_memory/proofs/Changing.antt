@@ -17,7 +17,7 @@ use Rattle.memory_rules.specs.Frames.{FrameMem}
 use Rattle.memory_rules.specs.Memories.{Mem, with_frame, strong_at, stored, weak_at, weak_all}
 use Rattle.memory_model.specs.HeldFrames.{frame_of}
 use Rattle.memory_model.specs.HeldMemories.{memory_of, FrameHeld}
-use Rattle.memory_model.specs.Parts.{MemoryParts, canonical, IsMemory}
+use Rattle.memory_model.specs.KeptMemories.{MemoryParts, canonical, IsMemory}
 use Rattle.abstract_memory.specs.Cells.{count_or, Fits, AllFit, AreSized, Changes}
 
 -- ---- one frame

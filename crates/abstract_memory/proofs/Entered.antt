@@ -15,7 +15,7 @@ use Rattle.memory_rules.specs.AbstractSetLaws.{abstract_is_sets}
 use Rattle.memory_rules.specs.Memories.{Mem, MemSized, entered}
 use Rattle.memory_rules.specs.MemoryProofs.{enter_sized}
 use Rattle.memory_model.specs.HeldMemories.{held_no_byte, entered_frame, entered_frames, EnteredHeld}
-use Rattle.memory_model.specs.Parts.{MemoryParts, memory_in, rows_of, bytes_in, canonical, IsMemory}
+use Rattle.memory_model.specs.KeptMemories.{MemoryParts, memory_in, rows_of, bytes_in, canonical, IsMemory}
 use Rattle.abstract_memory.specs.Rows.{shape_of}
 use Rattle.abstract_memory.proofs.Started.{blank_canonical, set_length}
 

@@ -14,7 +14,7 @@ use Rattle.strided_rules.specs.Members.{has}
 use Rattle.memory_rules.specs.Covers.{IsCellSize}
 use Rattle.memory_rules.specs.Memories.{is_on}
 use Rattle.memory_rules.specs.Addresses.{cells_at, cells_in, cells_of}
-use Rattle.memory_model.specs.Parts.{bytes_in}
+use Rattle.memory_model.specs.KeptMemories.{bytes_in}
 use Rattle.abstract_memory.specs.Cells.{IsCellOf, count_or, Fits, AllFit}
 
 module _ (rows : List FrameShape) (size : ℕ) (lengths : List ℕ) (is : IsCellSize size) (same : lengths ≡ map bytes_in rows) where

@@ -23,7 +23,7 @@ use Rattle.memory_rules.specs.Memories.{Mem, joined_values, load_all, stored, st
 use Rattle.memory_model.specs.HeldMemories.{memory_of}
 use Rattle.frame_memory.specs.declared.loaded.Loaded.{Loaded}
 use Rattle.frame_memory.specs.LoadedResults.{onto}
-use Rattle.memory_model.specs.Parts.{bytes_in}
+use Rattle.memory_model.specs.KeptMemories.{bytes_in}
 use Rattle.abstract_memory.specs.Running.{runs_in}
 use Rattle.abstract_memory.specs.OnlyCells.{IsOnlyCell}
 use Rattle.abstract_memory.specs.Cells.{AllFit, Changes, Fits, Loads}

@@ -21,7 +21,7 @@ use Rattle.memory_rules.specs.Memories.{Mem, joined_values}
 use Rattle.memory_rules.specs.Addresses.{load_at, IsLoadFault}
 use Rattle.memory_model.specs.HeldFrames.{frame_of}
 use Rattle.memory_model.specs.HeldMemories.{memory_of}
-use Rattle.memory_model.specs.Parts.{canonical}
+use Rattle.memory_model.specs.KeptMemories.{canonical}
 
 -- the cell lies in its frame
 pub record IsCellOf (rows : List FrameShape) (frame offset size : ℕ) : Type 0 where

@@ -9,7 +9,7 @@ use Rattle.memory_pages.specs.Slots.{HeldSlot}
 use Rattle.memory_rules.specs.AbstractSets.{abstract_sets}
 use Rattle.memory_rules.specs.Covers.{FrameSized}
 use Rattle.memory_model.specs.HeldFrames.{frame_of}
-use Rattle.memory_model.specs.Parts.{canonical}
+use Rattle.memory_model.specs.KeptMemories.{canonical}
 
 -- the frame of this row as runs take it
 abbrev pub shape_of : FrameRow → FrameShape

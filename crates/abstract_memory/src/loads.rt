@@ -16,7 +16,7 @@ ghost use Rattle.memory_model.specs.HeldMemories.{memory_of};
 ghost use Rattle.frame_memory.specs.LoadedResults.{onto};
 ghost use Rattle.abstract_memory.specs.Running.{runs_in};
 ghost use Rattle.abstract_memory.specs.OnlyCells.{IsOnlyCell, pointer_to};
-ghost use Rattle.memory_model.specs.Parts.{bytes_in};
+ghost use Rattle.memory_model.specs.KeptMemories.{bytes_in};
 ghost use Rattle.abstract_memory.specs.Cells.{AllFit, AreSized, Fits, Loads};
 
 use crate::cell::{cells, has_cell};

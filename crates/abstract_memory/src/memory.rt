@@ -10,7 +10,7 @@ ghost use Rattle.memory_rules.specs.Covers.{IsCellSize};
 ghost use Rattle.memory_rules.specs.Memories.{fresh, entered, left, pinned_at, joined_values};
 ghost use Rattle.memory_rules.specs.Addresses.{tested, cells_of, load_at, stored_at, IsAddressFault, IsLoadFault};
 ghost use Rattle.memory_rules.specs.AbstractSets.{abstract_sets};
-ghost use Rattle.memory_model.specs.Parts.{memory_in, rows_of, IsMemory};
+ghost use Rattle.memory_model.specs.KeptMemories.{memory_in, rows_of, IsMemory};
 ghost use Rattle.abstract_memory.specs.OnlyCells.{pointer_to};
 ghost use Rattle.abstract_memory.specs.Cells.{IsCellOf};
 
@@ -42,7 +42,7 @@ pub struct AMem<'a> {
 impl<'a> Model for AMem<'a> {
     ghost use Rattle.std.specs.Coded.{codes};
     ghost use Rattle.alf_check.specs.contracts.rows.Term as e;
-    ghost use Rattle.memory_model.specs.Parts.{MemoryParts};
+    ghost use Rattle.memory_model.specs.KeptMemories.{MemoryParts};
 
     ghost Value = { MemoryParts };
 

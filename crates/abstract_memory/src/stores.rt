@@ -13,7 +13,7 @@ ghost use Rattle.memory_rules.specs.Addresses.{cells_of, IsAddressFault};
 ghost use Rattle.memory_rules.specs.AbstractSets.{abstract_sets};
 ghost use Rattle.memory_rules.specs.Covers.{IsCellSize};
 ghost use Rattle.memory_rules.specs.Memories.{pinned_at, stored, strong_at, weak_all, weak_at};
-ghost use Rattle.memory_model.specs.Parts.{bytes_in};
+ghost use Rattle.memory_model.specs.KeptMemories.{bytes_in};
 ghost use Rattle.abstract_memory.specs.Cells.{AllFit, AreSized, Changes, Fits};
 
 use crate::cell::{cells, has_cell};

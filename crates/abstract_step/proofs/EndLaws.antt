@@ -38,7 +38,7 @@ use Rattle.pointer_rules.specs.AbstractValues.{AbstractValue}
 use Rattle.pointer_rules.specs.Covering.{IsValue}
 use Rattle.memory_rules.specs.Memories.{Mem, MemSized, left}
 use Rattle.memory_rules.specs.AbstractSets.{abstract_sets}
-use Rattle.memory_model.specs.Parts.{MemoryParts, memory_in, rows_of}
+use Rattle.memory_model.specs.KeptMemories.{MemoryParts, memory_in, rows_of}
 use Rattle.transfer_rules.specs.Remains.{Remains, goes_on}
 use Rattle.transfer_rules.specs.RemainsLaws.{IfLeft}
 use Rattle.transfer_rules.specs.Evaluating.{value_at, arguments_at}

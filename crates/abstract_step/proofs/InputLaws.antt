@@ -30,7 +30,7 @@ use Rattle.pointer_rules.specs.RuleLaws.{alone_is}
 use Rattle.memory_rules.specs.Covers.{IsCellSize}
 use Rattle.memory_rules.specs.Memories.{Mem, is_on, fresh}
 use Rattle.memory_rules.specs.AbstractSets.{abstract_sets}
-use Rattle.memory_model.specs.Parts.{MemoryParts, memory_in, rows_of, IsMemory}
+use Rattle.memory_model.specs.KeptMemories.{MemoryParts, memory_in, rows_of, IsMemory}
 use Rattle.transfer_rules.specs.Evaluating.{width_of}
 use Rattle.transfer_rules.specs.Filling.{range_of, with_inits, with_inputs, entered_with, first_memory}
 use Rattle.transfer_rules.specs.FillingLaws.{args_of, entered_inits_kept}

@@ -11,9 +11,9 @@ use Rattle.flow_graph.specs.Nodes.{Goal}
 use Rattle.transfer_rules.specs.NodeNumbers.{goal_number}
 use Rattle.domain_core.specs.declared.fault_set.FaultSet.{FaultSet}
 use Rattle.domain_core.specs.FaultSets.{no_faults, either}
-use Rattle.memory_model.specs.Parts.{MemoryParts, memory_in}
+use Rattle.memory_model.specs.KeptMemories.{MemoryParts, memory_in}
 use Rattle.memory_model.specs.Made.{made}
-use Rattle.memory_model.specs.PartsLaws.{parts_are}
+use Rattle.memory_model.specs.KeptMemoryLaws.{parts_are}
 use Rattle.transfer_rules.specs.Remains.{Remains, goes_on}
 use Rattle.transfer_rules.specs.Stepping.{Goals, to_goal, goals_left}
 use Rattle.transfer_rules.specs.Machines.{numbered_goal}

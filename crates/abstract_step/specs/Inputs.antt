@@ -8,7 +8,7 @@ use Rattle.alf_check.specs.CheckedPrograms.{NumberedProgram, seen}
 use Rattle.alf_check.specs.Kept.{IsKept}
 use Rattle.alf_check.specs.Inputs.{KeepsInput}
 use Rattle.memory_rules.specs.Memories.{is_on}
-use Rattle.memory_model.specs.Parts.{MemoryParts, memory_in}
+use Rattle.memory_model.specs.KeptMemories.{MemoryParts, memory_in}
 
 -- the range is one of words of the size
 pub record IsRange (row : InputRow) : Type 0 where

@@ -12,7 +12,7 @@ use Rattle.flow_graph.specs.Numbering.{GraphParts, IsGraph}
 use Rattle.flow_graph.specs.Edges.{AreFirstEdges}
 use Rattle.domain_core.specs.Machines.{Machine, IsAlong}
 use Rattle.domain_core.specs.Outlines.{Shape}
-use Rattle.memory_model.specs.Parts.{MemoryParts}
+use Rattle.memory_model.specs.KeptMemories.{MemoryParts}
 use Rattle.transfer_rules.specs.PartMachines.{part_machine}
 
 pub record StepperParts : Type 0 where

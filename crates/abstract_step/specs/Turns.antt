@@ -8,7 +8,7 @@ use Rattle.transfer_rules.specs.NodeNumbers.{goal_number}
 use Rattle.domain_core.specs.declared.fault_set.FaultSet.{FaultSet}
 use Rattle.memory_rules.specs.Memories.{Mem}
 use Rattle.memory_rules.specs.AbstractSets.{abstract_sets}
-use Rattle.memory_model.specs.Parts.{MemoryParts, memory_in}
+use Rattle.memory_model.specs.KeptMemories.{MemoryParts, memory_in}
 use Rattle.transfer_rules.specs.Remains.{Remains}
 use Rattle.transfer_rules.specs.Stepping.{Goals, goals_left}
 use Rattle.transfer_rules.specs.Machines.{numbered_goal}

@@ -4,7 +4,7 @@ ghost use Rattle.std.specs.Prelude.{ℕ, List, Option, IfOk, map};
 ghost use Rattle.alf_program.specs.Tree.{NumberedExpression};
 ghost use Rattle.alf_check.specs.CheckedPrograms.{Call, seen, term_of};
 ghost use Rattle.alf_runs.specs.Steps.{frames_of};
-ghost use Rattle.memory_model.specs.Parts.{memory_in};
+ghost use Rattle.memory_model.specs.KeptMemories.{memory_in};
 ghost use Rattle.transfer_rules.specs.Remains.{goes_on};
 ghost use Rattle.transfer_rules.specs.Evaluating.{arguments_at};
 ghost use Rattle.transfer_rules.specs.Stepping.{call_to};

@@ -4,7 +4,7 @@ ghost use Rattle.std.specs.Prelude.{◌≡◌, ◌∷◌, ℕ, List, Some, IfOk,
 ghost use Rattle.alf_check.specs.CheckedPrograms.{seen};
 ghost use Rattle.flow_graph.specs.Nodes.{Leads, block_node, ending_at, function_at};
 ghost use Rattle.alf_runs.specs.Steps.{frames_of};
-ghost use Rattle.memory_model.specs.Parts.{memory_in};
+ghost use Rattle.memory_model.specs.KeptMemories.{memory_in};
 ghost use Rattle.transfer_rules.specs.Remains.{goes_on};
 ghost use Rattle.transfer_rules.specs.Evaluating.{pointer_value};
 ghost use Rattle.transfer_rules.specs.Doing.{stored_through};

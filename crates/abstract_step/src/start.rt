@@ -3,7 +3,7 @@
 ghost use Rattle.std.specs.Prelude.{◌≡◌, ◌∷◌, [], IfOk, OnOk};
 ghost use Rattle.alf_check.specs.CheckedPrograms.{seen};
 ghost use Rattle.alf_check.specs.Inputs.{KeepInputs};
-ghost use Rattle.memory_model.specs.Parts.{memory_in, IsMemory};
+ghost use Rattle.memory_model.specs.KeptMemories.{memory_in, IsMemory};
 ghost use Rattle.transfer_rules.specs.Filling.{range_of, with_inputs, first_memory};
 ghost use Rattle.transfer_rules.specs.PartMachines.{IsOwn};
 ghost use Rattle.abstract_step.specs.Inputs.{IsRange, HasInputRoom, HaveInputRoom};

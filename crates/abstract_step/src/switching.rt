@@ -4,7 +4,7 @@ ghost use Rattle.std.specs.Prelude.{◌≡◌, Some, IfOk, map, All};
 ghost use Rattle.alf_check.specs.CheckedPrograms.{seen, term_of};
 ghost use Rattle.flow_graph.specs.Nodes.{Leads, block_node};
 ghost use Rattle.alf_runs.specs.Steps.{frames_of};
-ghost use Rattle.memory_model.specs.Parts.{memory_in};
+ghost use Rattle.memory_model.specs.KeptMemories.{memory_in};
 ghost use Rattle.transfer_rules.specs.Remains.{goes_on};
 ghost use Rattle.transfer_rules.specs.Evaluating.{value_at};
 ghost use Rattle.transfer_rules.specs.Stepping.{pointer_fault, switched};

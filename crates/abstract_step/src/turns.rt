@@ -4,7 +4,7 @@ ghost use Rattle.std.specs.Prelude.{◌≡◌, [], ◌∷◌, None, Some, IfOk};
 ghost use Rattle.alf_check.specs.CheckedPrograms.{seen};
 ghost use Rattle.flow_graph.specs.Nodes.{Node, Leads};
 ghost use Rattle.domain_core.specs.FaultSets.{either, no_faults};
-ghost use Rattle.memory_model.specs.Parts.{memory_in};
+ghost use Rattle.memory_model.specs.KeptMemories.{memory_in};
 ghost use Rattle.transfer_rules.specs.Stepping.{to_goal};
 ghost use Rattle.transfer_rules.specs.PartMachines.{IsOwn};
 ghost use Rattle.abstract_step.specs.Standing.{place_of};

@@ -9,7 +9,7 @@ pub mod Duplicates
 pub mod Unknowns
 pub mod Sizes
 pub mod Faults
-pub mod Told
+pub mod FoundFaults
 pub mod NoFault
 pub mod NoFaultLaws
 pub mod Scopes

@@ -4,7 +4,7 @@ ghost use Rattle.std.specs.Prelude.{◌≡◌, IfOk};
 ghost use Rattle.std.specs.Option.{option_map};
 ghost use Rattle.alf_program.specs.Tree.{program_of};
 ghost use Rattle.alf_faults.specs.Fault.{earliest};
-ghost use Rattle.alf_faults.specs.Told.{told, fault_of};
+ghost use Rattle.alf_faults.specs.FoundFaults.{told, fault_of};
 ghost use Rattle.alf_faults.specs.Faults.{global_faults, faults_in};
 
 use crate::findings::Found;

@@ -5,7 +5,7 @@ ghost use Rattle.std.specs.List.{flat_map};
 ghost use Rattle.std.specs.Option.{option_map};
 ghost use Rattle.alf_program.specs.Tree.{allocation_of, initial_of};
 ghost use Rattle.alf_faults.specs.Fault.{each_from, earliest};
-ghost use Rattle.alf_faults.specs.Told.{told};
+ghost use Rattle.alf_faults.specs.FoundFaults.{told};
 ghost use Rattle.alf_faults.specs.Duplicates.{frame_duplicates};
 ghost use Rattle.alf_faults.specs.Sizes.{is_export_size, start_fits};
 ghost use Rattle.alf_faults.specs.Faults.{export_faults, start_faults};

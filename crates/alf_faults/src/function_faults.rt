@@ -4,7 +4,7 @@ ghost use Rattle.std.specs.Prelude.{◌≡◌, IfOk};
 ghost use Rattle.std.specs.Option.{option_map};
 ghost use Rattle.alf_program.specs.Tree.{item_of, function_of, program_of};
 ghost use Rattle.alf_faults.specs.Fault.{earliest, each_from};
-ghost use Rattle.alf_faults.specs.Told.{told};
+ghost use Rattle.alf_faults.specs.FoundFaults.{told};
 ghost use Rattle.alf_faults.specs.Returns.{returns_of};
 ghost use Rattle.alf_faults.specs.Scopes.{IsScope};
 ghost use Rattle.alf_faults.specs.Faults.{entry_faults, header_faults, function_faults};

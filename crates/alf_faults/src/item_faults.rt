@@ -2,7 +2,7 @@
 
 ghost use Rattle.std.specs.Prelude.{◌≡◌, IfOk};
 ghost use Rattle.alf_faults.specs.Fault.{Duplicate};
-ghost use Rattle.alf_faults.specs.Told.{told, fault_of};
+ghost use Rattle.alf_faults.specs.FoundFaults.{told, fault_of};
 ghost use Rattle.alf_faults.specs.Duplicates.{number_twice};
 
 use crate::findings::Found;

@@ -4,7 +4,7 @@ ghost use Rattle.std.specs.Prelude.{◌≡◌, [], map, IfOk};
 ghost use Rattle.std.specs.Option.{option_map};
 ghost use Rattle.alf_program.specs.Tree.{item_of, function_of, program_of};
 ghost use Rattle.alf_faults.specs.Fault.{earliest};
-ghost use Rattle.alf_faults.specs.Told.{told};
+ghost use Rattle.alf_faults.specs.FoundFaults.{told};
 ghost use Rattle.alf_faults.specs.Duplicates.{function_duplicates, label_duplicates, target_duplicates, entry_duplicates};
 
 use crate::findings::{Found, is_exactly};

@@ -6,7 +6,7 @@ ghost use Rattle.alf_program.specs.Writable.{is_ending, ends_well};
 ghost use Rattle.alf_reader.specs.Reading.{Reads};
 ghost use Rattle.alf_text.specs.Grammar.{closing_after, stmts, scope, arg_decls, function_tail, function, functions};
 
-use crate::parts::{Funcs, Items};
+use crate::sequences::{Funcs, Items};
 use alf_program::{Alloc, Func, Init, Item, Stmt};
 use alf_reader::{Departure, Reader, misfit};
 use alf_tokens::Kind;

@@ -10,15 +10,15 @@
 #![tactic(auto)]
 
 // Alf printer: tokens, names and numbers.
-mod marks;
+mod canonical_tokens;
 
 // Expressions, statements and programs.
 mod printer;
 
 // Alf text: reading by the grammar's rules.
 mod functions;
-mod parts;
 mod programs;
+mod sequences;
 mod statements;
 
 // What a text means, and what the definitions promise.

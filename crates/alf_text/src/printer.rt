@@ -7,7 +7,7 @@ ghost use Rattle.alf_text.specs.Printing.{all_put};
 ghost use Rattle.alf_program.specs.Tree.{expression_of, expressions_of, statement_of, item_of, allocation_of, initial_of, function_of, program_of, Load, Apply, Null, Store, Jump, Switch, Call, Return};
 ghost use Rattle.alf_text.specs.Canonical.{a_number, listed, if_any, address_marks, term_marks, target_marks, default_marks, act_marks, entry_marks, frame_marks, place_marks, start_marks, starts_marks, scope_marks, function_marks, refs_marks, names_marks, unit_marks, head_marks, globals_marks, parts_marks, body_marks, canonical_text};
 
-use crate::marks::{
+use crate::canonical_tokens::{
     close, open, put_address, put_dec_unsigned, put_label, put_name, put_num, put_number, put_ref,
     put_word,
 };

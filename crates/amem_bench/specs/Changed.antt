@@ -6,7 +6,7 @@ use Rattle.pointer_rules.specs.AbstractValues.{AbstractValue}
 use Rattle.memory_rules.specs.AbstractSets.{abstract_sets}
 use Rattle.memory_rules.specs.Addresses.{stored_at, cells_of}
 use Rattle.memory_rules.specs.Memories.{Mem, stored, weak_at, weak_all}
-use Rattle.memory_model.specs.Parts.{MemoryParts, memory_in, rows_of, IsMemory}
+use Rattle.memory_model.specs.KeptMemories.{MemoryParts, memory_in, rows_of, IsMemory}
 use Rattle.memory_model.specs.SeenOrders.{AreAlike}
 
 weak_runs : (cells : List (ℕ × ℕ)) (m : Mem abstract_sets) (size : ℕ) (v : AbstractValue) → (weak_all abstract_sets m cells size v).runs ≡ m.runs

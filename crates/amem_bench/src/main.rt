@@ -3,7 +3,7 @@
 
 ghost use Rattle.std.specs.Prelude.{◌<◌, IsTrue, OnOk, IfOk};
 ghost use Rattle.pointer_rules.specs.Covering.{IsValue};
-ghost use Rattle.memory_model.specs.Parts.{IsMemory};
+ghost use Rattle.memory_model.specs.KeptMemories.{IsMemory};
 ghost use Rattle.memory_model.specs.SeenOrders.{AreAlike};
 
 use abstract_memory::AMem;

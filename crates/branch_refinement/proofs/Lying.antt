@@ -22,7 +22,7 @@ use Rattle.pointer_rules.specs.AbstractValues.{AbstractValue}
 use Rattle.memory_rules.specs.Memories.{Mem, is_on}
 use Rattle.memory_rules.specs.Addresses.{tested, tested_in}
 use Rattle.memory_rules.specs.AbstractSets.{abstract_sets}
-use Rattle.memory_model.specs.Parts.{MemoryParts, memory_in, rows_of, IsMemory}
+use Rattle.memory_model.specs.KeptMemories.{MemoryParts, memory_in, rows_of, IsMemory}
 use Rattle.abstract_memory.specs.Cells.{IsCellOf}
 use Rattle.transfer_rules.specs.Evaluating.{loaded, value_at}
 use Rattle.transfer_rules.specs.Refining.{Place as SeenPlace, cell_of, words_alone, cell_where, loaded_cell, load_place, is_extension, operand_place, place_of}

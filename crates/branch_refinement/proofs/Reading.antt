@@ -22,7 +22,7 @@ use Rattle.pointer_rules.specs.Covering.{IsValue}
 use Rattle.memory_rules.specs.Covers.{IsCellSize}
 use Rattle.memory_rules.specs.Memories.{Mem}
 use Rattle.memory_rules.specs.AbstractSets.{abstract_sets, some_place}
-use Rattle.memory_model.specs.Parts.{MemoryParts, memory_in, rows_of, IsMemory}
+use Rattle.memory_model.specs.KeptMemories.{MemoryParts, memory_in, rows_of, IsMemory}
 use Rattle.transfer_rules.specs.Remains.{all_left, onward, goes_on}
 use Rattle.transfer_rules.specs.Evaluating.{loaded, operated, before, value_at}
 use Rattle.transfer_rules.specs.Refining.{is_extension, words_alone}

@@ -25,7 +25,7 @@ use Rattle.pointer_rules.specs.AbstractValues.{AbstractValue}
 use Rattle.pointer_rules.specs.Covering.{IsValue}
 use Rattle.memory_rules.specs.Memories.{Mem}
 use Rattle.memory_rules.specs.AbstractSets.{abstract_sets}
-use Rattle.memory_model.specs.Parts.{MemoryParts, memory_in, rows_of, IsMemory}
+use Rattle.memory_model.specs.KeptMemories.{MemoryParts, memory_in, rows_of, IsMemory}
 use Rattle.transfer_rules.specs.Evaluating.{value_at}
 use Rattle.transfer_rules.specs.Refining.{Place as SeenPlace, Comparison, is_extension, words_alone, place_of, relation_of, sides_of, comparison_of, pinned_sides, rel_at, by_form, refined}
 use Rattle.transfer_rules.specs.ComparisonLaws.{relation_is, compared_sizes}

@@ -11,7 +11,7 @@ use Rattle.strided_rules.specs.Strides.{Stride}
 use Rattle.strided_rules.specs.Members.{only}
 use Rattle.memory_rules.specs.Memories.{Mem}
 use Rattle.memory_rules.specs.AbstractSets.{abstract_sets}
-use Rattle.memory_model.specs.Parts.{MemoryParts, memory_in, IsMemory}
+use Rattle.memory_model.specs.KeptMemories.{MemoryParts, memory_in, IsMemory}
 use Rattle.transfer_rules.specs.Stepping.{Goals, without_all}
 use Rattle.branch_refinement.specs.declared.refinements.Refinement.{Refinement}
 use Rattle.branch_refinement.specs.Refinements.{refined_by}

@@ -3,7 +3,7 @@
 ghost use Rattle.std.specs.Prelude.{◌≡◌, ◌++◌, ℕ, List, IfOk, IfSome, OnOk, All, Some};
 ghost use Rattle.alf_check.specs.CheckedPrograms.{term_of};
 ghost use Rattle.strided_rules.specs.Members.{only as only_of};
-ghost use Rattle.memory_model.specs.Parts.{memory_in, rows_of, IsMemory};
+ghost use Rattle.memory_model.specs.KeptMemories.{memory_in, rows_of, IsMemory};
 ghost use Rattle.transfer_rules.specs.Evaluating.{value_at};
 ghost use Rattle.transfer_rules.specs.Stepping.{arms as arms_by_rule, without_all as without_all_of};
 ghost use Rattle.step_statements.specs.Typed.{IsTyped};

@@ -3,7 +3,7 @@
 ghost use Rattle.std.specs.Prelude.{◌≡◌, IfOk, IfSome, OnOk};
 ghost use Rattle.std.specs.Option.{option_map};
 ghost use Rattle.strided_rules.specs.Members.{assumed};
-ghost use Rattle.memory_model.specs.Parts.{memory_in, rows_of, IsMemory};
+ghost use Rattle.memory_model.specs.KeptMemories.{memory_in, rows_of, IsMemory};
 ghost use Rattle.transfer_rules.specs.Refining.{pinned_side};
 ghost use Rattle.branch_refinement.specs.Places.{seen_place, PinFits};
 ghost use Rattle.branch_refinement.specs.Refinements.{there, sides_by, refined_by, SidesFit, Refines};

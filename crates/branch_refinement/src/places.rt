@@ -6,7 +6,7 @@ ghost use Rattle.std.specs.Option.{option_map};
 ghost use Rattle.alf_ops.specs.declared.history.Value.TheVariants.{Ptr};
 ghost use Rattle.strided_rules.specs.Members.{is_one as is_one_of, word_of};
 ghost use Rattle.memory_rules.specs.Addresses.{tested as tested_of};
-ghost use Rattle.memory_model.specs.Parts.{memory_in, rows_of, IsMemory};
+ghost use Rattle.memory_model.specs.KeptMemories.{memory_in, rows_of, IsMemory};
 ghost use Rattle.transfer_rules.specs.Refining.{cell_of, cut as cut_of, for_cell as for_cell_of, pinned_to};
 ghost use Rattle.transfer_rules.specs.PlaceLaws.{PlaceFits};
 ghost use Rattle.branch_refinement.specs.Places.{seen_place, placed, PinFits};

@@ -10,7 +10,7 @@ ghost use Rattle.memory_rules.specs.Covers.{IsCellSize};
 ghost use Rattle.strided_rules.specs.Strides.{one_word};
 ghost use Rattle.pointer_rules.specs.AbstractValues.{HasSize};
 ghost use Rattle.pointer_rules.specs.Covering.{IsValue};
-ghost use Rattle.memory_model.specs.Parts.{memory_in, rows_of, IsMemory};
+ghost use Rattle.memory_model.specs.KeptMemories.{memory_in, rows_of, IsMemory};
 ghost use Rattle.transfer_rules.specs.Evaluating.{pointer_value, value_at};
 ghost use Rattle.transfer_rules.specs.Refining.{is_extension as is_extension_of, cell_of, cell_where as cell_where_of, loaded_cell, place_in, place_of, words_alone as words_alone_of};
 ghost use Rattle.step_statements.specs.Typed.{IsTyped};

@@ -3,7 +3,7 @@
 ghost use Rattle.std.specs.Prelude.{◌≡◌, true, false, IfOk, Some, map};
 ghost use Rattle.alf_program.specs.Tree.{Load, Apply, expressions_of};
 ghost use Rattle.alf_check.specs.CheckedPrograms.{term_of};
-ghost use Rattle.memory_model.specs.Parts.{memory_in, rows_of, IsMemory};
+ghost use Rattle.memory_model.specs.KeptMemories.{memory_in, rows_of, IsMemory};
 ghost use Rattle.transfer_rules.specs.Evaluating.{value_at};
 ghost use Rattle.transfer_rules.specs.Refining.{is_extension as is_extension_of, loaded_cell};
 ghost use Rattle.step_statements.specs.Typed.{IsTyped};

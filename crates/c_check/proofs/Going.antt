@@ -18,7 +18,7 @@ use Rattle.c_scopes.specs.Views.{Known}
 use Rattle.c_faults.specs.Tells.{Tells}
 use Rattle.c_faults.specs.declared.stop.Stop.{Stop}
 use Rattle.c_faults.specs.declared.stop.Stop.TheVariants as stops
-use Rattle.c_scopes.specs.ToldLaws.{before_others}
+use Rattle.c_scopes.specs.FirstFaultLaws.{before_others}
 use Rattle.c_faults.specs.Files.{IsFile}
 use Rattle.c_faults.specs.FileLaws.{known_at}
 use Rattle.c_check.specs.Progress.{file_at}

@@ -7,7 +7,7 @@ use Rattle.c_rules.specs.Faults.{Fault}
 use Rattle.c_rules.specs.Names.{Scope}
 use Rattle.c_rules.specs.Expressions.{condition_faults}
 use Rattle.c_rules.specs.Statements.{Around, inside, statement_faults}
-use Rattle.c_scopes.specs.ToldLaws.{before_others}
+use Rattle.c_scopes.specs.FirstFaultLaws.{before_others}
 use Rattle.c_faults.specs.declared.stop.Stop.{Stop}
 use Rattle.c_faults.specs.declared.stop.Stop.TheVariants as stops
 use Rattle.c_faults.specs.Tells.{Tells}

@@ -12,7 +12,7 @@ use Rattle.c_unit.specs.declared.statement.Stmt.TheVariants as variants
 use Rattle.c_unit.specs.declared.statement.Stmt.TheViews.{rolls-If, rolls-For}
 use Rattle.c_unit.specs.Tree.{Expression, EffectTree, Statement, expression_of, effect_of, if_of, for_of, statement_step, statement_of}
 use Rattle.c_rules.specs.Recursion.{calls_in, calls_if_done}
-use Rattle.c_check.specs.Parts.{stated, calls_if_stated}
+use Rattle.c_check.specs.OptionalStatements.{stated, calls_if_stated}
 
 pub if_tree : (condition : Expr) (body : Box Stmt Global) (otherwise : Option (Box Stmt Global)) → statement_of (variants.If condition body otherwise) ≡ if_of (expression_of condition) (statement_of body.value) (stated otherwise)
 if_tree condition body None = ap statement_of (sym (rolls-If condition body None)) ∙ fold-roll-Stmt Statement statement_step (stmts.If condition body None)

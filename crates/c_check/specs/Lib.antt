@@ -1,5 +1,5 @@
 -- The files of this folder.
-pub mod Parts
+pub mod OptionalStatements
 pub mod Surroundings
 pub mod Afterwards
 pub mod Progress

@@ -8,7 +8,7 @@ ghost use Rattle.c_faults.specs.Tells.{Tells};
 ghost use Rattle.c_check.specs.Surroundings.{around_of, no_marks};
 ghost use Rattle.c_check.specs.Afterwards.{Stays, known_after};
 
-use crate::body_parts::{check_if_condition, check_if_effect};
+use crate::for_parts::{check_if_condition, check_if_effect};
 use crate::labels::Labels;
 use crate::leaving::{check_case, check_default, check_leaving, check_return};
 use crate::place::{Place, in_function, in_loop, in_switch};

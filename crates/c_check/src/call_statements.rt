@@ -3,9 +3,9 @@
 ghost use Rattle.std.specs.Prelude.{◌≡◌, ◌<◌, ◌^◌, ◌++◌, map, length, OnOk};
 ghost use Rattle.c_unit.specs.Tree.{statement_of, statements_of};
 ghost use Rattle.c_rules.specs.Recursion.{calls_in, called_in, numbers_at};
-ghost use Rattle.c_check.specs.Parts.{stated, calls_if_stated};
+ghost use Rattle.c_check.specs.OptionalStatements.{stated, calls_if_stated};
 
-use crate::call_parts::{note_effect, note_if_done, note_if_valued, note_locals};
+use crate::expression_calls::{note_effect, note_if_done, note_if_valued, note_locals};
 use c_scopes::Definitions;
 use c_unit::Stmt;
 use std::alloc::AllocError;

@@ -7,7 +7,7 @@ ghost use Rattle.c_unit.specs.Units.{Word};
 ghost use Rattle.c_rules.specs.Faults.{Mistyped, earliest, when};
 ghost use Rattle.c_rules.specs.Statements.{is_label, label_of, return_faults};
 ghost use Rattle.c_rules.specs.Names.{Scope};
-ghost use Rattle.c_scopes.specs.Told.{told};
+ghost use Rattle.c_scopes.specs.FirstFault.{told};
 ghost use Rattle.c_faults.specs.Tells.{Tells};
 
 use crate::labels::{Labels, label_of};

@@ -28,8 +28,8 @@
 #![tactic(auto)]
 
 // C calls: calls in statements.
-mod call_parts;
 mod call_statements;
+mod expression_calls;
 mod noting;
 
 // Calls of functions, and ranks.
@@ -41,7 +41,7 @@ mod labels;
 mod place;
 
 // Statements in which none stand.
-mod body_parts;
+mod for_parts;
 mod leaving;
 
 // Statements.

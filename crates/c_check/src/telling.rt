@@ -6,7 +6,7 @@ ghost use Rattle.c_rules.specs.Faults.{earliest};
 ghost use Rattle.c_rules.specs.Names.{text_at};
 ghost use Rattle.c_rules.specs.Units.{faults_in};
 ghost use Rattle.c_rules.specs.Programs.{place_at};
-ghost use Rattle.c_scopes.specs.Told.{fault_of};
+ghost use Rattle.c_scopes.specs.FirstFault.{fault_of};
 ghost use Rattle.c_check.specs.Programs.{IsTold};
 
 use crate::fault::CFault;

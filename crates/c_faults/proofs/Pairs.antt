@@ -13,7 +13,7 @@ use Rattle.c_rules.specs.Faults.{Fault, earliest}
 use Rattle.c_rules.specs.Names.{Scope}
 use Rattle.c_rules.specs.Types.{binary_type}
 use Rattle.c_rules.specs.Expressions.{type_of, misfit, part_faults, pair_faults, faults_of}
-use Rattle.c_scopes.specs.ToldLaws.{after_none}
+use Rattle.c_scopes.specs.FirstFaultLaws.{after_none}
 
 -- the first fault of a pair whose parts have none
 pub pair_told : (op : Binary) (l r : Scalar) (a b : ℕ) → earliest (part_faults op (Some l) a) ≡ None → earliest (part_faults op (Some r) b) ≡ None → earliest (misfit true (binary_type op l r) a) ≡ earliest (pair_faults op (Some l) (Some r) a)

@@ -10,7 +10,7 @@ use Rattle.c_rules.specs.Faults.{Fault, earliest}
 use Rattle.c_rules.specs.Names.{Scope}
 use Rattle.c_rules.specs.Expressions.{type_of, faults_of, target_type, target_faults}
 use Rattle.c_rules.specs.Statements.{update_faults, effect_faults}
-use Rattle.c_scopes.specs.ToldLaws.{after_none}
+use Rattle.c_scopes.specs.FirstFaultLaws.{after_none}
 
 pub update_told :
     (words : List Word) (defined : List ℕ) (scopes : List Scope) (to : Expression) (op : Binary) (token : ℕ) (e : Expression) (t r : Scalar) → earliest (target_faults words scopes to) ≡ None

@@ -5,7 +5,7 @@ ghost use Rattle.c_unit.specs.Tree.{expression_of};
 ghost use Rattle.c_rules.specs.Faults.{earliest};
 ghost use Rattle.c_rules.specs.Calls.{argument_faults};
 ghost use Rattle.c_faults.specs.Params.{next_of, others_of};
-ghost use Rattle.c_scopes.specs.Told.{told};
+ghost use Rattle.c_scopes.specs.FirstFault.{told};
 
 use crate::wanted::check_wanted;
 use c_scopes::{Fault, Scopes};

@@ -5,7 +5,7 @@ ghost use Rattle.std.specs.Option.{option_map};
 ghost use Rattle.c_rules.specs.Faults.{earliest};
 ghost use Rattle.c_rules.specs.Names as names;
 ghost use Rattle.c_rules.specs.Statements.{array_faults, initialiser_faults, first_of_constant};
-ghost use Rattle.c_scopes.specs.Told.{told};
+ghost use Rattle.c_scopes.specs.FirstFault.{told};
 
 use c_scopes::{Fault, Words};
 use c_tokens::Worth;

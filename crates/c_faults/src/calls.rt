@@ -5,7 +5,7 @@ ghost use Rattle.c_unit.specs.Tree.{call_of};
 ghost use Rattle.c_rules.specs.Faults.{earliest};
 ghost use Rattle.c_rules.specs.Calls.{call_faults, bound_faults, function_faults};
 ghost use Rattle.c_scopes.specs.Views.{bound_of};
-ghost use Rattle.c_scopes.specs.Told.{told};
+ghost use Rattle.c_scopes.specs.FirstFault.{told};
 ghost use Rattle.c_faults.specs.Uses.{use_of};
 
 use crate::arguments::check_arguments;

@@ -5,7 +5,7 @@ ghost use Rattle.c_unit.specs.Tree.{expression_of, effect_of};
 ghost use Rattle.c_unit.specs.Measures.{first_of};
 ghost use Rattle.c_rules.specs.Faults.{earliest};
 ghost use Rattle.c_rules.specs.Statements.{update_faults, effect_faults};
-ghost use Rattle.c_scopes.specs.Told.{told};
+ghost use Rattle.c_scopes.specs.FirstFault.{told};
 
 use crate::calls::check_call;
 use crate::expressions::expression_type;

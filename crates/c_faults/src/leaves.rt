@@ -5,7 +5,7 @@ ghost use Rattle.c_unit.specs.Tree.{expression_of};
 ghost use Rattle.c_rules.specs.Faults.{earliest};
 ghost use Rattle.c_rules.specs.Names as names;
 ghost use Rattle.c_rules.specs.Expressions as laws;
-ghost use Rattle.c_scopes.specs.Told.{told};
+ghost use Rattle.c_scopes.specs.FirstFault.{told};
 ghost use Rattle.c_scopes.specs.Views.{bound_of};
 
 use c_scopes::{Bound, Fault, Scopes};

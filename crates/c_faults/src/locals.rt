@@ -6,7 +6,7 @@ ghost use Rattle.c_unit.specs.Tree.{local_of, local_shape_of, value_of};
 ghost use Rattle.c_rules.specs.Faults.{earliest};
 ghost use Rattle.c_rules.specs.Statements.{local_bound, locals_faults, shape_faults, first_value_faults};
 ghost use Rattle.c_scopes.specs.Views.{bound_of};
-ghost use Rattle.c_scopes.specs.Told.{told};
+ghost use Rattle.c_scopes.specs.FirstFault.{told};
 ghost use Rattle.c_faults.specs.Tells.{Tells};
 ghost use Rattle.c_faults.specs.Known.{local_faults, with_declared};
 

@@ -5,7 +5,7 @@ ghost use Rattle.c_unit.specs.Tree.{expression_of};
 ghost use Rattle.c_unit.specs.Measures.{first_of};
 ghost use Rattle.c_rules.specs.Faults.{earliest};
 ghost use Rattle.c_rules.specs.Expressions.{misfit, unsuited, is_of_conditions as of_conditions, part_faults};
-ghost use Rattle.c_scopes.specs.Told.{told};
+ghost use Rattle.c_scopes.specs.FirstFault.{told};
 
 use c_scopes::{Fault, suits};
 use c_unit::{Binary, Expr, Integer, Scalar};

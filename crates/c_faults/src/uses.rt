@@ -3,7 +3,7 @@
 ghost use Rattle.std.specs.Prelude.{◌≡◌};
 ghost use Rattle.c_rules.specs.Faults.{earliest};
 ghost use Rattle.c_rules.specs.Calls.{use_faults};
-ghost use Rattle.c_scopes.specs.Told.{told};
+ghost use Rattle.c_scopes.specs.FirstFault.{told};
 ghost use Rattle.c_faults.specs.declared.uses.Use.TheVariants as uses;
 ghost use Rattle.c_faults.specs.Uses.{use_of};
 

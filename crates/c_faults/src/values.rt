@@ -4,7 +4,7 @@ ghost use Rattle.std.specs.Prelude.{◌≡◌, Some};
 ghost use Rattle.c_unit.specs.Tree.{value_of};
 ghost use Rattle.c_rules.specs.Faults.{earliest};
 ghost use Rattle.c_rules.specs.Calls.{value_faults};
-ghost use Rattle.c_scopes.specs.Told.{told};
+ghost use Rattle.c_scopes.specs.FirstFault.{told};
 
 use crate::calls::check_call;
 use crate::uses::Use;

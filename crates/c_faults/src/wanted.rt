@@ -4,7 +4,7 @@ ghost use Rattle.std.specs.Prelude.{◌≡◌, Some, IfOk};
 ghost use Rattle.c_unit.specs.Tree.{expression_of};
 ghost use Rattle.c_rules.specs.Faults.{earliest};
 ghost use Rattle.c_rules.specs.Expressions as laws;
-ghost use Rattle.c_scopes.specs.Told.{told};
+ghost use Rattle.c_scopes.specs.FirstFault.{told};
 
 use crate::expressions::expression_type;
 use crate::leaves::designates;

@@ -3,8 +3,8 @@ pub mod Views
 pub mod Rows
 pub mod Cuts
 -- What a check tells.
-pub mod Told
+pub mod FirstFault
 -- Laws of it.
-pub mod ToldLaws
+pub mod FirstFaultLaws
 pub mod Numbers
 pub mod Table

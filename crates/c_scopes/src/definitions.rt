@@ -11,7 +11,7 @@ ghost use Rattle.c_scopes.specs.Table.{IsTableOf};
 
 use crate::made::names_of;
 use crate::table::table_of;
-use crate::words::Words;
+use crate::unit_tokens::Words;
 use c_unit::CUnit;
 use indexmap::IndexMap;
 use std::alloc::{AllocError, Global};

@@ -24,7 +24,7 @@
 #![tactic(auto)]
 
 // C names: tokens.
-mod words;
+mod unit_tokens;
 
 // What names are bound to.
 mod entry;
@@ -57,4 +57,4 @@ pub use fault::Fault;
 pub use other_operators::{cast_type, index_type, unary_type};
 pub use sameness::{is_integer, same_integer, same_outcome, same_scalar, suits};
 pub use scopes::Scopes;
-pub use words::Words;
+pub use unit_tokens::Words;

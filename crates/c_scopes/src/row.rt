@@ -9,7 +9,7 @@ ghost use Rattle.c_scopes.specs.Views.{bound_of, entry_of, others};
 ghost use Rattle.c_scopes.specs.Rows.{Row, IsRow, found, latest, newest};
 
 use crate::entry::{Bound, Entry};
-use crate::words::Words;
+use crate::unit_tokens::Words;
 use c_unit::CUnit;
 use indexmap::IndexMap;
 use std::alloc::{AllocError, Global};

@@ -9,7 +9,7 @@ ghost use Rattle.c_scopes.specs.Views.{Known, bound_of, entry_of, entered, decla
 
 use crate::entry::{Bound, Entry};
 use crate::row::Row;
-use crate::words::Words;
+use crate::unit_tokens::Words;
 use c_unit::CUnit;
 use std::alloc::{AllocError, Global};
 use std::marker::Model;

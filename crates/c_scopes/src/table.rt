@@ -4,7 +4,7 @@ ghost use Rattle.std.specs.Prelude.{◌≡◌, ℕ, List, Some, IfOk, OnOk, if�
 ghost use Rattle.std.specs.Str.{bytes_eq};
 ghost use Rattle.c_scopes.specs.Table.{found, IsTableOf};
 
-use crate::words::Words;
+use crate::unit_tokens::Words;
 use indexmap::IndexMap;
 use std::alloc::{AllocError, Global};
 

@@ -11,7 +11,7 @@ ghost use Rattle.c_reader.specs.Reading.{seen, Reads};
 
 use crate::objects::object;
 use crate::parameters::read_parameters;
-use crate::parts::Declarators;
+use crate::sequences::Declarators;
 use c_expressions::open_paren;
 use c_grammar::Others;
 use c_reader::{Departure, Reader, Token};

@@ -10,7 +10,7 @@ use crate::declarators::{
     after_sole, further_declarators, may_be_defined, parameter_count, parameters_of,
     read_declarator, with_first,
 };
-use crate::parts::Externals;
+use crate::sequences::Externals;
 use c_grammar::{Others, Setting, Standing};
 use c_reader::{Departure, Reader};
 use c_statements::{block_items, semicolon};

@@ -34,7 +34,7 @@ mod parameters;
 // Objects, functions, and lists of them.
 mod declarators;
 mod objects;
-mod parts;
+mod sequences;
 
 // Declarations and functions.
 mod externals;

@@ -8,7 +8,7 @@ ghost use Rattle.c_grammar.specs.Tokens.{name};
 ghost use Rattle.c_grammar.specs.Types.{at_name, at_list_comma, parameter_end, number_of_name, after_pointer, pointer_parameter, empty_brackets, bracketed_type, after_plain, plain_parameter, parameter_tail, further_parameter, right_paren, parameters_from, void_parameters, parameters_after, some_parameters, no_parameters, parameters};
 ghost use Rattle.c_reader.specs.Reading.{seen, Reads};
 
-use crate::parts::Parameters;
+use crate::sequences::Parameters;
 use c_grammar::{Others, Setting};
 use c_reader::{Departure, Reader, Token};
 use c_unit::{Integer, Outcome, Parameter, Scalar};

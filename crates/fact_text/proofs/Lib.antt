@@ -6,6 +6,6 @@ pub mod Kept
 pub mod Lasts
 -- What words a spelling takes, combinator by combinator and rule by rule, and the texts that follow.
 mod Spelling
-mod Words
+mod NumberWords
 mod Rules
 mod Texts

@@ -30,7 +30,7 @@ use Rattle.fact_words.specs.Names.{is_node_name}
 use Rattle.fact_words.specs.DigitLaws.{decimal_one, decimal_two}
 use Rattle.fact_text.specs.Grammar.{Place, Rule, begins_line, goes_on, line_word, next_word, told, only_if, check, begins, number, count, whole, either, unknown, line_is, form_of, heading, is_next, numbered, name, node, next_node, node_begins, parent_of, parent, scope_kind_of, scope_kind, scope, next_scope, scope_begins, place_of_word, fact_begins, may_stand, bounds, loop_fact, count_fact, dead_fact, total_fact, pair_fact, cause_of, cause, alarm_fact, fact_tail, follows, low_fits, fact, last_of, next_fact, count_bound, bound_word_of, path_bound, event_begins, step, merge, event_tail, event, scale, multiplier, cert, ending, lists, tail, report}
 use Rattle.fact_text.proofs.Spelling.{mark_of, marks_of, Placed, Spelt, Goes, Closes, ◌>>-◌, done, keeps, spelt, takes, one_spelt, judged_spelt, refused_spelt, row_spelt, maybe_spelt, all_lines, OneMore, chain_spelt, then_closes, closes_as}
-use Rattle.fact_text.proofs.Words.{number_text, whole_text}
+use Rattle.fact_text.proofs.NumberWords.{number_text, whole_text}
 
 -- the tokens that a rule takes are the marks of the value that it spells
 abbrev Takes : {some : Bool} {A : Type 0} → Rule some A → (A → List Mark) → Type 0

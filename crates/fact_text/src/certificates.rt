@@ -7,8 +7,8 @@ ghost use Rattle.fact_words.specs.Ahead.{lexeme};
 ghost use Rattle.fact_text.specs.Grammar.{event_begins, step, merge, event_tail, event, scale, line_is, multiplier, cert};
 ghost use Rattle.fact_text.specs.Reading.{position, Reads};
 
-use crate::parts::{Events, Multipliers};
 use crate::reader::Reader;
+use crate::sequences::{Events, Multipliers};
 use domain_core::Event;
 use fact_words::{Departure, Token, is_positive, whole_within};
 use flow_facts::Cert;

@@ -29,8 +29,8 @@ mod certificates;
 mod facts;
 mod nodes;
 mod order;
-mod parts;
 mod reports;
+mod sequences;
 
 // Texts and reports.
 mod language;

@@ -3,7 +3,7 @@ ghost use Rattle.fact_words.specs.Tokens.{tokens_of, others_of};
 ghost use Rattle.fact_words.specs.Ahead.{ahead, taken};
 
 use crate::token::Token;
-use crate::words::word_len;
+use crate::word_length::word_len;
 
 /// A place in a text. Tokens are cut as they are asked for, so it takes no memory.
 #[derive(Clone, Copy)]

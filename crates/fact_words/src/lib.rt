@@ -29,7 +29,7 @@
 
 // Fact tokens: what is cut.
 mod token;
-mod words;
+mod word_length;
 
 // Cutting on demand.
 mod cursor;
@@ -38,7 +38,7 @@ mod cursor;
 mod laws;
 
 // Fact printer: words and numbers.
-mod marks;
+mod spaced_words;
 
 // Lines.
 mod lines;

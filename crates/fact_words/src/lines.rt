@@ -5,7 +5,7 @@ ghost use Rattle.flow_facts.specs.Reports.{node_of};
 ghost use Rattle.fact_words.specs.Printing.{all_put};
 ghost use Rattle.fact_words.specs.Canonical.{begins, a_number, parent_mark, scope_word, fault_word, bound_word, node_marks, scope_marks, fact_marks, event_marks, multiplier_marks, count_bound_marks, path_bound_marks, scale_marks};
 
-use crate::marks::{put_line, put_number, put_whole, put_word};
+use crate::spaced_words::{put_line, put_number, put_whole, put_word};
 use domain_core::{Event, ScopeKind, ScopeRow};
 use flow_facts::{BoundWord, Fact, NodeLine, RunKind};
 use std::alloc::AllocError;

@@ -11,7 +11,7 @@ use crate::lines::{
     put_count_bound, put_event, put_fact, put_multiplier, put_node, put_path_bound, put_scale,
     put_scope,
 };
-use crate::marks::{put_line, put_number};
+use crate::spaced_words::{put_line, put_number};
 use domain_core::{Event, ScopeRow};
 use flow_facts::{BoundWord, Cert, Fact, NodeLine, Report};
 use std::alloc::{AllocError, Global};

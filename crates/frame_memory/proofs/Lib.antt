@@ -4,7 +4,7 @@ mod Steps
 mod Stores
 mod Changes
 mod Sizes
-pub mod Words
+pub mod ByteWords
 pub mod Results
 mod SlotJoins
 mod FrameSteps

@@ -5,7 +5,7 @@ ghost use Rattle.memory_pages.specs.Slots.{without_wider as without_wider_of};
 ghost use Rattle.memory_model.specs.HeldFrames.{frame_of};
 ghost use Rattle.frame_memory.specs.Places.{Becomes, with_place, wider};
 
-use crate::near::has_wider;
+use crate::overlapping::has_wider;
 use crate::slots::put;
 use memory_pages::{FrameSlots, Slot};
 use std::alloc::{AllocError, Global};

@@ -40,7 +40,7 @@ mod byte;
 mod cell;
 
 // Frame stores: the places where something may change, and how a slot is put.
-mod near;
+mod overlapping;
 mod slots;
 mod stored;
 

@@ -6,7 +6,7 @@ ghost use Rattle.memory_rules.specs.Frames.{with_x};
 ghost use Rattle.memory_model.specs.HeldFrames.{frame_of};
 ghost use Rattle.frame_memory.specs.Places.{Becomes, with_place, wider};
 
-use crate::near::has_wider;
+use crate::overlapping::has_wider;
 use crate::slots::put;
 use memory_pages::FrameSlots;
 use std::alloc::{AllocError, Global};

@@ -8,7 +8,7 @@ ghost use Rattle.memory_model.specs.HeldFrames.{byte_held, frame_of, is_cell_siz
 ghost use Rattle.frame_memory.specs.Places.{AreCanonical, Becomes, at_place, lone_slot};
 
 use crate::dropped::drop_wider;
-use crate::near::first_near;
+use crate::overlapping::first_near;
 use crate::slots::put_bare;
 use crate::stored::is_stored;
 use crate::stored_byte::new_byte;

@@ -13,7 +13,7 @@ use crate::cell::standing_cell;
 use crate::joined::weak_cell;
 use crate::marked::mark_wider;
 use crate::mixed::mix_at;
-use crate::near::first_near;
+use crate::overlapping::first_near;
 use memory_pages::{FrameSlots, Held};
 use pointer_domain::AVal;
 use std::alloc::{AllocError, Global};

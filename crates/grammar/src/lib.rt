@@ -23,10 +23,10 @@
 #![tactic(auto)]
 
 // Grammar.
-mod parts;
+mod sequence;
 
 // Grammar chains.
 mod links;
 
 pub use links::{Link, grow};
-pub use parts::{Part, many};
+pub use sequence::{Part, many};

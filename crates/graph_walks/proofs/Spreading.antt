@@ -8,10 +8,10 @@ use Rattle.std.proofs.lemmas.List.Sums.{count_by-le-length}
 use Rattle.lists.specs.Members.{no_member}
 use Rattle.graph_walks.specs.Walks.{Walk, stays, goes_on, IsDistinct}
 use Rattle.graph_walks.specs.Tables.{HasEdge, IsClosed}
-use Rattle.graph_walks.specs.Marks.{IsMarked, marked_count, ReachesPast, IsBarred}
+use Rattle.graph_walks.specs.MarkedNodes.{IsMarked, marked_count, ReachesPast, IsBarred}
 use Rattle.graph_walks.specs.ListLaws.{same_or_not, contains_cases, distinct_one, distinct_push, distinct_front, same_default}
 use Rattle.graph_walks.specs.WalkLaws.{split}
-use Rattle.graph_walks.specs.MarkLaws.{by_mark, both, marked_low, marked_kept, marked_either, marked_new, marked_set}
+use Rattle.graph_walks.specs.MarkedNodeLaws.{by_mark, both, marked_low, marked_kept, marked_either, marked_new, marked_set}
 use Rattle.graph_walks.specs.Searching.{IsFresh, IsSpread, IsMet, GoesOn, GoesBack, IsSearch}
 
 -- no place is looked at where none is noted

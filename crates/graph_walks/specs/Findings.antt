@@ -5,7 +5,7 @@
 --   IsFinding calls f finding   what is found of f is true
 use Rattle.std.specs.Prelude.{◌≡◌, ℕ, suc, Bool, List, length}
 use Rattle.graph_walks.specs.Walks.{Reaches}
-use Rattle.graph_walks.specs.Marks.{IsMarked, marked_count}
+use Rattle.graph_walks.specs.MarkedNodes.{IsMarked, marked_count}
 use Rattle.graph_walks.specs.declared.finding.Finding.{Finding}
 use Rattle.graph_walks.specs.declared.finding.Finding.TheVariants.{Rank, Cycle}
 use Rattle.graph_walks.specs.Calls.{Calls, OnCycle, IsCycle}

@@ -8,7 +8,7 @@
 use Rattle.std.specs.Prelude.{◌≡◌, ◌<◌, ◌≤◌, ℕ, Bool, true, false, List, [], ◌∷◌, ◌++◌, ◌⊎◌, Option, Some, Contains, length, slice_index, slice_index_or, slice_set}
 use Rattle.graph_walks.specs.Walks.{Walk, IsDistinct}
 use Rattle.graph_walks.specs.Tables.{HasEdge}
-use Rattle.graph_walks.specs.Marks.{IsMarked, KeepsMarks, ReachesPast, IsPathPast}
+use Rattle.graph_walks.specs.MarkedNodes.{IsMarked, KeepsMarks, ReachesPast, IsPathPast}
 
 -- the place has the first node without a mark, from the first place on
 pub record IsFresh (row : List ℕ) (marks : List Bool) (first place : ℕ) : Type 0 where

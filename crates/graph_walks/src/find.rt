@@ -2,7 +2,7 @@
 
 ghost use Rattle.std.specs.Prelude.{◌≡◌, ◌<◌, length, IfOk, IfSome, IfNone};
 ghost use Rattle.graph_walks.specs.Tables.{HasEdge, IsClosed, rows_of};
-ghost use Rattle.graph_walks.specs.Marks.{IsBarred, IsPathPast};
+ghost use Rattle.graph_walks.specs.MarkedNodes.{IsBarred, IsPathPast};
 
 use crate::search::search;
 use std::alloc::{AllocError, Global};

@@ -2,7 +2,7 @@
 
 ghost use Rattle.std.specs.Prelude.{◌≡◌, ◌<◌, ◌^◌, ◌↔◌, ℕ, length, IsTrue, IfOk, IfNone, IfSome};
 ghost use Rattle.graph_walks.specs.Walks.{Reaches};
-ghost use Rattle.graph_walks.specs.Marks.{marked_count};
+ghost use Rattle.graph_walks.specs.MarkedNodes.{marked_count};
 ghost use Rattle.graph_walks.specs.Calls.{Calls, CallsWithin, IsCycle, calls_of};
 ghost use Rattle.graph_walks.specs.Findings.{IsMarking, IsCaller, IsFinding};
 

@@ -1,7 +1,7 @@
 //! The next node of a row.
 
 ghost use Rattle.std.specs.Prelude.{◌<◌, ◌≤◌, ℕ, length, All, IfNone, IfSome, slice_index};
-ghost use Rattle.graph_walks.specs.Marks.{IsMarked};
+ghost use Rattle.graph_walks.specs.MarkedNodes.{IsMarked};
 ghost use Rattle.graph_walks.specs.Searching.{IsFresh};
 
 /// The place of the first node without a mark in the row, from this place on.

@@ -2,7 +2,7 @@
 
 ghost use Rattle.std.specs.Prelude.{◌≡◌, ◌<◌, ℕ, length, OnOk, ◌⊎◌};
 ghost use Rattle.graph_walks.specs.Tables.{HasEdge, IsClosed, rows_of};
-ghost use Rattle.graph_walks.specs.Marks.{IsMarked, KeepsMarks, ReachesPast};
+ghost use Rattle.graph_walks.specs.MarkedNodes.{IsMarked, KeepsMarks, ReachesPast};
 
 use crate::search::search;
 use std::alloc::{AllocError, Global};

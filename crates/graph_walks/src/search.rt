@@ -2,7 +2,7 @@
 
 ghost use Rattle.std.specs.Prelude.{◌≡◌, ◌<◌, ℕ, true, false, length, [], slice_index_or, OnOk, OnErr, IfOk, MatchOption, ◌⊎◌};
 ghost use Rattle.graph_walks.specs.Tables.{HasEdge, IsClosed, rows_of};
-ghost use Rattle.graph_walks.specs.Marks.{IsMarked, KeepsMarks, ReachesPast};
+ghost use Rattle.graph_walks.specs.MarkedNodes.{IsMarked, KeepsMarks, ReachesPast};
 ghost use Rattle.graph_walks.specs.Searching.{IsSpread, IsMet, GoesOn, GoesBack};
 
 use crate::fresh::fresh_place;

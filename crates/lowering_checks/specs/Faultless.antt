@@ -38,7 +38,7 @@ use Rattle.lowering_layout.specs.Lists.{EachOf, Apart, Across, each_at, each_mem
 use Rattle.lowering_layout.specs.Spelled.{HasNames}
 use Rattle.lowering_layout.specs.Differ.{functions_differ, label_is_no_function}
 use Rattle.lowering_layout.specs.Places.{apart_of_places}
-use Rattle.lowering_layout.specs.Parts.{DifferInName, IsObject, HasFrame}
+use Rattle.lowering_layout.specs.PartFrames.{DifferInName, IsObject, HasFrame}
 use Rattle.lowering_layout.specs.Views.{globals, globals_part, all_objects}
 use Rattle.lowering_checks.specs.Standing.{IsLabel, TargetStands, ArgumentsFit, ResultStands, CallStands, ReturnStands, ItemStands}
 use Rattle.lowering_checks.specs.Functions.{IsMeasured, object_name, view, items_stand}

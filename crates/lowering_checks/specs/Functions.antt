@@ -35,7 +35,7 @@ use Rattle.lowering_layout.specs.Lists.{EachOf, each_when, each_both, each_parts
 use Rattle.lowering_layout.specs.Spelled.{HasNames, HasFewCalls}
 use Rattle.lowering_layout.specs.Places.{frame_at, each_of_places}
 use Rattle.lowering_layout.specs.NameTexts.{object_is_name, call_is_name}
-use Rattle.lowering_layout.specs.Parts.{IsObject, HasFrame}
+use Rattle.lowering_layout.specs.PartFrames.{IsObject, HasFrame}
 use Rattle.lowering_layout.specs.Views.{View, globals, own_objects, each_own, all_objects, view_of}
 use Rattle.lowering_checks.specs.Terms.{IsUsable}
 use Rattle.lowering_checks.specs.Operators.{whole_term, cut_term}

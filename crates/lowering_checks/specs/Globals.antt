@@ -24,7 +24,7 @@ use Rattle.c_meaning.specs.Statements.{constant_number, further_elements}
 use Rattle.c_lowered.specs.Names.{frame_of}
 use Rattle.c_lowered.specs.Frames.{number_of_type, constant_num, first_num, element_words, shape_words, declarators_words, first_words}
 use Rattle.lowering_layout.specs.Lists.{EachOf, Apart, each_joined, each_parts}
-use Rattle.lowering_layout.specs.Parts.{DifferInName, HasFrame}
+use Rattle.lowering_layout.specs.PartFrames.{DifferInName, HasFrame}
 use Rattle.lowering_checks.specs.Returns.{frame_found}
 
 -- ---- words

@@ -39,7 +39,7 @@ use Rattle.c_lowered.specs.Programs.{last_return, function_items, lowered_functi
 use Rattle.lowering_layout.specs.Lists.{EachOf, each_at, each_member, each_when, each_both, each_all}
 use Rattle.lowering_layout.specs.Spelled.{HasNames, HasFewCalls}
 use Rattle.lowering_layout.specs.NameTexts.{function_is_name, label_is_name, call_is_name}
-use Rattle.lowering_layout.specs.Parts.{IsObject, IsFrameOf, of_object, of_result}
+use Rattle.lowering_layout.specs.PartFrames.{IsObject, IsFrameOf, of_object, of_result}
 use Rattle.lowering_layout.specs.Views.{globals, globals_part, all_objects}
 use Rattle.lowering_checks.specs.Terms.{Term}
 use Rattle.lowering_checks.specs.Standing.{called_numbers, IsLabel, TargetStands, ArgumentsFit, ResultStands, ReturnStands, ItemStands}

@@ -25,7 +25,7 @@ use Rattle.c_meaning.specs.Values.{bits_of_type}
 use Rattle.c_meaning.specs.Objects.{Program, function_at}
 use Rattle.lowering_simulation.specs.Counts.{one, count}
 use Rattle.lowering_layout.specs.Lists.{EachOf, Apart, each_at}
-use Rattle.lowering_layout.specs.Parts.{DifferInName}
+use Rattle.lowering_layout.specs.PartFrames.{DifferInName}
 use Rattle.lowering_checks.specs.Standing.{ItemStands, ReturnStands, ResultStands}
 
 same_text : (a : List ℕ) → bytes_eq a a ≡ true

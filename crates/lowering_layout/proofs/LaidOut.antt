@@ -35,7 +35,7 @@ use Rattle.c_lowered.specs.Programs.{lowered_function, lowered_from, lowered}
 use Rattle.lowering_values.specs.EmbeddingLaws.{EventsAgree}
 use Rattle.lowering_layout.specs.Lists.{EachOf, each_when, each_both, each_joined, each_parts, each_at}
 use Rattle.lowering_layout.specs.Spelled.{HasNames}
-use Rattle.lowering_layout.specs.Parts.{HasFrame}
+use Rattle.lowering_layout.specs.PartFrames.{HasFrame}
 use Rattle.lowering_layout.specs.Places.{object_found, each_of_places}
 use Rattle.lowering_layout.specs.Views.{globals_part}
 use Rattle.lowering_values.specs.Frames.{frame_number, is_object_frame, Agrees}

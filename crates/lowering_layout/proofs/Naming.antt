@@ -21,7 +21,7 @@ use Rattle.c_lowered.specs.Frames.{parameter_frames, all_frames_in, global_frame
 use Rattle.c_lowered.specs.Programs.{lowered_function, lowered}
 use Rattle.lowering_layout.specs.Lists.{EachOf, each_when, each_both, each_joined, each_at}
 use Rattle.lowering_layout.specs.Spelled.{HasNames}
-use Rattle.lowering_layout.specs.Parts.{HasFrame}
+use Rattle.lowering_layout.specs.PartFrames.{HasFrame}
 use Rattle.lowering_layout.specs.Places.{frame_at, call_is_no_object}
 use Rattle.lowering_layout.specs.Checked.{all_owned, parameters_owned, IsGlobal, globals_global}
 use Rattle.lowering_layout.specs.Views.{globals_part, view_of}

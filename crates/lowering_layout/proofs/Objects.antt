@@ -20,7 +20,7 @@ use Rattle.c_lowered.specs.Frames.{parameter_frames, all_frames_in, global_frame
 use Rattle.c_lowered.specs.Programs.{lowered_function, lowered_from, lowered}
 use Rattle.lowering_layout.specs.Lists.{EachOf, Apart, each_when, each_both, each_joined, each_parts, each_at}
 use Rattle.lowering_layout.specs.Spelled.{HasNames}
-use Rattle.lowering_layout.specs.Parts.{HasFrame}
+use Rattle.lowering_layout.specs.PartFrames.{HasFrame}
 use Rattle.lowering_layout.specs.Places.{frame_at, names_differ_at}
 use Rattle.lowering_layout.specs.Checked.{all_owned, parameters_owned, IsGlobal, globals_global}
 use Rattle.lowering_layout.specs.Views.{globals_part, view_of, all_frames_apart}

@@ -15,7 +15,7 @@ use Rattle.alf_check.specs.declared.rows.FrameRow.{FrameRow}
 use Rattle.alf_check.specs.Numbers.{row_for, rows_of, rows_from, frame_rows, frames_before, first_frame}
 use Rattle.c_lowered.specs.Names.{same_owner}
 use Rattle.lowering_layout.specs.Lists.{Apart, each_of_image, apart_at}
-use Rattle.lowering_layout.specs.Parts.{DifferInName}
+use Rattle.lowering_layout.specs.PartFrames.{DifferInName}
 use Rattle.lowering_values.specs.Frames.{is_row_of, row_number}
 
 -- ---- names

@@ -15,7 +15,7 @@ use Rattle.c_lowered.specs.Frames.{result_frames, value_frames, first_frames, ef
 use Rattle.lowering_layout.specs.Lists.{EachOf, Apart, each_parts, apart_parts}
 use Rattle.lowering_layout.specs.Spelled.{HasNames}
 use Rattle.lowering_layout.specs.Places.{OfOtherFrames}
-use Rattle.lowering_layout.specs.Parts.{IsObject, Part, part_is, nothing, an_object, a_result, joined}
+use Rattle.lowering_layout.specs.PartFrames.{IsObject, Part, part_is, nothing, an_object, a_result, joined}
 
 module _ (program : Program) (names : HasNames program) (f : ℕ) (low : f < length program.functions) where
   -- ---- frames of results

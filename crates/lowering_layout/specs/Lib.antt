@@ -8,7 +8,7 @@ pub mod Differ
 pub mod Places
 pub mod NameTexts
 pub mod Checked
-pub mod Parts
+pub mod PartFrames
 pub mod Frames
 pub mod Views
 pub mod FrameLaws

@@ -21,7 +21,7 @@ use Rattle.lowering_layout.specs.Lists.{EachOf, Apart, Across, InParts, each_whe
 use Rattle.lowering_layout.specs.Spelled.{HasNames, HasFewCalls}
 use Rattle.lowering_layout.specs.Checked.{globals_global, owned_owned}
 use Rattle.lowering_layout.specs.Places.{OfOtherFrames, frames_apart, each_of_places}
-use Rattle.lowering_layout.specs.Parts.{DifferInName, IsObject, IsFrameOf, Part, nothing, an_object, joined, frames_differ, known_apart, wider, all_wider}
+use Rattle.lowering_layout.specs.PartFrames.{DifferInName, IsObject, IsFrameOf, Part, nothing, an_object, joined, frames_differ, known_apart, wider, all_wider}
 use Rattle.lowering_layout.specs.Frames.{statements_part, parameters_part}
 
 -- the parameters and the locals of function f

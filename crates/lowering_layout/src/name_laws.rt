@@ -9,7 +9,7 @@ ghost use Rattle.c_lowered.specs.Names.{function_name, label_name, call_name, na
 ghost use Rattle.c_lowered.specs.Programs.{lowered};
 ghost use Rattle.lowering_layout.specs.Lists.{Apart};
 ghost use Rattle.lowering_layout.specs.Spelled.{NamesAreSpelled, HasNames};
-ghost use Rattle.lowering_layout.specs.Parts.{DifferInName};
+ghost use Rattle.lowering_layout.specs.PartFrames.{DifferInName};
 ghost use Rattle.lowering_layout.specs.Views.{View, globals};
 
 /// A unit that the checks pass, and whose names are as the grammar has them, has names that differ.

@@ -1,7 +1,7 @@
 -- The files of this folder.
 mod Origins
 mod Loads
-mod Words
+mod SameWords
 mod Outcomes
 mod Tests
 mod Sizes

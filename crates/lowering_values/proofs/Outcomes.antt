@@ -16,7 +16,7 @@ use Rattle.c_unit.specs.declared.types.Integer.TheVariants.{Int, UnsignedInt}
 use Rattle.c_meaning.specs.Values.{Valued, on_value, on_both, on_words, number, negation, complement, product, quotient, remainder, shifted_left, shifted_right, bitwise, sum, difference}
 use Rattle.lowering_values.specs.Embedding.{embedded_value, embedded_result}
 use Rattle.lowering_values.specs.OperatorLaws.{FitsResult}
-use Rattle.lowering_values.proofs.Words.{of_64, less_word, product_word}
+use Rattle.lowering_values.proofs.SameWords.{of_64, less_word, product_word}
 
 -- operators at results
 abbrev pub one : Op → List ℕ → Valued → Valued

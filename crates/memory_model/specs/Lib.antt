@@ -4,10 +4,10 @@ pub mod HeldFrames
 pub mod SlotStores
 pub mod HeldMemories
 pub mod MemoryOrders
-pub mod Parts
+pub mod KeptMemories
 pub mod Made
 pub mod Within
-pub mod PartsWords
+pub mod KeptMemoryWords
 pub mod ReadOff
-pub mod PartsLaws
+pub mod KeptMemoryLaws
 pub mod SeenOrders

@@ -11,7 +11,7 @@ use Rattle.memory_rules.specs.Frames.{FrameMem}
 use Rattle.memory_rules.specs.Memories.{Mem}
 use Rattle.memory_rules.specs.AbstractSets.{abstract_sets}
 use Rattle.memory_model.specs.HeldFrames.{byte_held, cell_held}
-use Rattle.memory_model.specs.Parts.{MemoryParts, rows_of, functions_of, bytes_in}
+use Rattle.memory_model.specs.KeptMemories.{MemoryParts, rows_of, functions_of, bytes_in}
 
 -- the slot with the byte and the cells of the frame at this place
 abbrev pub slot_at : FrameMem abstract_sets → ℕ → HeldSlot

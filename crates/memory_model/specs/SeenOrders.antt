@@ -15,10 +15,10 @@ use Rattle.memory_rules.specs.AbstractSets.{abstract_sets}
 use Rattle.memory_rules.specs.AbstractSetLaws.{abstract_is_sets}
 use Rattle.memory_rules.specs.Memories.{Mem, both, MemCovers}
 use Rattle.memory_rules.specs.MemoryProofs.{join_covers, join_sized}
-use Rattle.memory_model.specs.Parts.{MemoryParts, memory_in, rows_of, functions_of, IsMemory}
+use Rattle.memory_model.specs.KeptMemories.{MemoryParts, memory_in, rows_of, functions_of, IsMemory}
 use Rattle.memory_model.specs.Made.{made}
 use Rattle.memory_model.specs.Within.{IsWithin}
-use Rattle.memory_model.specs.PartsLaws.{memory_is, is_within, made_is, both_within}
+use Rattle.memory_model.specs.KeptMemoryLaws.{memory_is, is_within, made_is, both_within}
 
 -- both are memories of one program, in which the same functions run
 pub record AreAlike (a b : MemoryParts) : Type 0 where

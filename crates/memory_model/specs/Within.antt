@@ -8,7 +8,7 @@ use Rattle.memory_rules.specs.Frames.{FrameMem, no_byte}
 use Rattle.memory_rules.specs.Memories.{Mem}
 use Rattle.memory_rules.specs.AbstractSets.{abstract_sets}
 use Rattle.memory_model.specs.HeldFrames.{is_cell_size}
-use Rattle.memory_model.specs.Parts.{bytes_in}
+use Rattle.memory_model.specs.KeptMemories.{bytes_in}
 
 -- how many bytes a frame of this row has
 abbrev pub bytes_at : Option FrameShape → ℕ

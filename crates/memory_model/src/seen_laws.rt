@@ -1,9 +1,9 @@
 //! Parts, the memories that they stand for, and their order.
 
 ghost use Rattle.domain_core.specs.Orders.{IsOrder};
-ghost use Rattle.memory_model.specs.Parts.{MemoryParts};
+ghost use Rattle.memory_model.specs.KeptMemories.{MemoryParts};
 ghost use Rattle.memory_model.specs.SeenOrders.{parts_order};
-ghost use Rattle.memory_model.specs.PartsWords.{PartsAreMade, MadeIsSeen, MadeIsMemory, SeenIsWithin};
+ghost use Rattle.memory_model.specs.KeptMemoryWords.{PartsAreMade, MadeIsSeen, MadeIsMemory, SeenIsWithin};
 
 /// The parts of a memory are those made of the memory that they stand for, which holds nothing outside the frames
 /// of the program; and what is made of such a memory stands for it.

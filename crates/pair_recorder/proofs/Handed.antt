@@ -14,7 +14,7 @@ use Rattle.recorder_rules.specs.Generated.{length-generated}
 use Rattle.recorder_rules.specs.TotalLaws.{past_end}
 use Rattle.recorder_rules.specs.Tables.{cell, cell-tabled, length-tabled}
 use Rattle.recorder_rules.specs.PairRules.{Sightings, PairBook, together, pair_recording}
-use Rattle.recorder_rules.specs.Marks.{words_for, is_marked, AreInRange, AreRows}
+use Rattle.recorder_rules.specs.BitWords.{words_for, is_marked, AreInRange, AreRows}
 use Rattle.recorder_rules.specs.Seen.{sightings, pair_book}
 use Rattle.recorder_rules.specs.Ranges.{ranged, ranged_over}
 use Rattle.recorder_rules.specs.Rows.{row_low}

@@ -3,7 +3,7 @@
 ghost use Rattle.std.specs.Prelude.{◌≡◌, ℕ, ◌*◌, ◌^◌, ◌<◌, length, OnOk};
 ghost use Rattle.domain_core.specs.Outlines.{shape_of};
 ghost use Rattle.recorder_rules.specs.PairRules.{PairBook, pair_recording};
-ghost use Rattle.recorder_rules.specs.Marks.{words_for, AreOwned};
+ghost use Rattle.recorder_rules.specs.BitWords.{words_for, AreOwned};
 ghost use Rattle.recorder_rules.specs.Seen.{sightings, pair_book};
 
 use crate::stepping::{enter, leave};

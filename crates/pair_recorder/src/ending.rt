@@ -5,7 +5,7 @@ ghost use Rattle.std.specs.List.{list_any};
 ghost use Rattle.domain_core.specs.Outlines.{shape_of, is_held, header_of};
 ghost use Rattle.recorder_rules.specs.LoopRules.{own_of};
 ghost use Rattle.recorder_rules.specs.PairRules.{ends};
-ghost use Rattle.recorder_rules.specs.Marks.{is_marked, AreOwned};
+ghost use Rattle.recorder_rules.specs.BitWords.{is_marked, AreOwned};
 
 use crate::words::add_words;
 use domain_core::Outline;

@@ -1,7 +1,7 @@
 //! Rows of bits, those of marked places.
 
 ghost use Rattle.std.specs.Prelude.{◌≡◌, ◌*◌, ◌^◌, ◌<◌, ◌≤◌, length, slice_index, bit_or};
-ghost use Rattle.recorder_rules.specs.Marks.{AreRows};
+ghost use Rattle.recorder_rules.specs.BitWords.{AreRows};
 
 use crate::words::{add_words, clear_words, next_mark};
 

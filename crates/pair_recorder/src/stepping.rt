@@ -2,7 +2,7 @@
 
 ghost use Rattle.std.specs.Prelude.{◌≡◌, ◌*◌, ◌<◌, ◌≤◌, ◌^◌, length, OnOk};
 ghost use Rattle.domain_core.specs.Outlines.{shape_of};
-ghost use Rattle.recorder_rules.specs.Marks.{AreOwned};
+ghost use Rattle.recorder_rules.specs.BitWords.{AreOwned};
 ghost use Rattle.recorder_rules.specs.Seen.{AreLeft, AreLeftRows, AreCollectedRows, AreEntered, AreEnteredRows};
 
 use crate::ending::ended_nodes;

@@ -3,7 +3,7 @@
 ghost use Rattle.std.specs.Prelude.{◌≡◌, ◌*◌, ◌<◌, ◌||◌, ℕ, length, IfOk};
 ghost use Rattle.domain_core.specs.Outlines.{shape_of};
 ghost use Rattle.recorder_rules.specs.LoopRules.{own_of};
-ghost use Rattle.recorder_rules.specs.Marks.{words_for, is_marked, AreOwned};
+ghost use Rattle.recorder_rules.specs.BitWords.{words_for, is_marked, AreOwned};
 
 use crate::words::{add_words, mark, words};
 use domain_core::Outline;

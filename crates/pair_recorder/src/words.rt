@@ -2,7 +2,7 @@
 
 ghost use Rattle.std.specs.Prelude.{◌≡◌, ℕ, ◌+◌, ◌-◌, ◌*◌, ◌/◌, ◌%◌, ◌^◌, ◌<◌, ◌≤◌, length, slice_index, slice_set, bit_or, bit_and};
 ghost use Rattle.std.specs.Int.{bit_not, w64};
-ghost use Rattle.recorder_rules.specs.Marks.{words_for, is_marked, AreInRange, IsNextMark};
+ghost use Rattle.recorder_rules.specs.BitWords.{words_for, is_marked, AreInRange, IsNextMark};
 
 /// The words that hold so many bits.
 pub fn words(count: u32) -> usize

@@ -13,7 +13,7 @@ use Rattle.worklist_rules.specs.declared.policy.Policy.{Policy}
 use Rattle.worklist_rules.specs.Pools.{Pooled}
 use Rattle.worklist_rules.specs.Events.{opened}
 use Rattle.worklist_rules.specs.Policies.{IsPolicyRun}
-use Rattle.memory_model.specs.Parts.{MemoryParts}
+use Rattle.memory_model.specs.KeptMemories.{MemoryParts}
 use Rattle.memory_model.specs.SeenOrders.{parts_order}
 use Rattle.abstract_exec.specs.Explorations.{IsLeftIn}
 use Rattle.abstract_step.specs.Steppers.{StepperParts, stepped_by}

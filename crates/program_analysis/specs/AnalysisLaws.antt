@@ -28,7 +28,7 @@ use Rattle.worklist_rules.specs.Pools.{Spot}
 use Rattle.worklist_rules.specs.Policies.{IsPolicyRun}
 use Rattle.worklist_rules.specs.PolicyLaws.{run_unique, closed_longer}
 use Rattle.abstract_exec.specs.Explorations.{IsLeftIn}
-use Rattle.memory_model.specs.Parts.{MemoryParts}
+use Rattle.memory_model.specs.KeptMemories.{MemoryParts}
 use Rattle.memory_model.specs.SeenOrders.{parts_order}
 use Rattle.abstract_step.specs.Steppers.{StepperParts, stepped_by}
 use Rattle.report_soundness.specs.ReportTold.{FourRecorders, four_order, four_recording, Found, found_of, is_stepped, below, sum_below, span_lines, dead_lines, total_lines, alarm_lines, greatest_total, told_facts, costs_of, count_bound, named_nodes, told_report}

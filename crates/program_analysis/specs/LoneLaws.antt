@@ -25,7 +25,7 @@ use Rattle.transfer_rules.specs.NodeNumbers.{number_of}
 use Rattle.transfer_rules.specs.Points.{points}
 use Rattle.transfer_rules.specs.TraceLaws.{trace_is_trace}
 use Rattle.scope_graph.specs.Placing.{place_of, plan_of}
-use Rattle.memory_model.specs.Parts.{MemoryParts}
+use Rattle.memory_model.specs.KeptMemories.{MemoryParts}
 use Rattle.memory_model.specs.SeenOrders.{parts_order, parts_are_order}
 use Rattle.transfer_rules.specs.PartMachines.{is_part_machine, is_part_along}
 use Rattle.worklist_rules.specs.declared.policy.Policy.{Policy}

@@ -15,7 +15,7 @@ use Rattle.domain_core.specs.OutlineLaws.{member_found, held_is, holder_low}
 use Rattle.domain_core.specs.Executions.{goes_on_at}
 use Rattle.recorder_rules.specs.LoopRules.{own_of}
 use Rattle.recorder_rules.specs.PairRules.{ends}
-use Rattle.recorder_rules.specs.Marks.{is_set, is_marked, AreInRange, AreOwned}
+use Rattle.recorder_rules.specs.BitWords.{is_set, is_marked, AreInRange, AreOwned}
 use Rattle.recorder_rules.specs.Bits.{set_or}
 use Rattle.recorder_rules.specs.Ranges.{ranged}
 

@@ -13,7 +13,7 @@ pub mod PairRules
 pub mod PairSteps
 pub mod PairLaws
 pub mod PairBookLaws
-pub mod Marks
+pub mod BitWords
 pub mod Seen
 pub mod Ranges
 pub mod Bits

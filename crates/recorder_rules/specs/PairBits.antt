@@ -10,7 +10,7 @@ use Rattle.recorder_rules.specs.Generated.{generated, length-generated}
 use Rattle.recorder_rules.specs.LoopRules.{own_of}
 use Rattle.recorder_rules.specs.Tables.{truth, cell, tabled, truth-generated, cell-tabled, length-tabled, generated_same, tabled_same}
 use Rattle.recorder_rules.specs.PairRules.{Sightings, PairBook, is_shared, ends, is_over, seen_after, pair_after, book_after, book_ended, both_seen, owned_nodes, pair_recording}
-use Rattle.recorder_rules.specs.Marks.{words_for, is_marked, AreOwned, AreRows}
+use Rattle.recorder_rules.specs.BitWords.{words_for, is_marked, AreOwned, AreRows}
 use Rattle.recorder_rules.specs.Seen.{sightings, pair_book, AreLeft, AreLeftRows, AreCollectedRows, AreEntered, AreEnteredRows}
 use Rattle.recorder_rules.specs.StepBits.{added_rows}
 

@@ -7,7 +7,7 @@ use Rattle.std.proofs.lemmas.Bool.{le-leb, lt-leb, lt-ltb, le-ltb, and_from, and
 use Rattle.std.proofs.lemmas.List.{get_or-set_same, get_or-set_other}
 use Rattle.std.proofs.lemmas.Nat.{same_from_place}
 use Rattle.lists.specs.Tests.{by_test}
-use Rattle.recorder_rules.specs.Marks.{in_range, AreInRange}
+use Rattle.recorder_rules.specs.BitWords.{in_range, AreInRange}
 
 pub ranged : (start n i : ℕ) → start ≤ i → i < start + n → in_range start n i ≡ true
 ranged start n i least low = and_from _ _ (le-leb start i least) (lt-ltb i (start + n) low)

@@ -4,7 +4,7 @@
 use Rattle.std.proofs.Common.{◌≡◌, ◌≢◌, ◌+◌, ◌*◌, ◌<◌, ◌≤◌, ◌==◌, ℕ, Bool, cond, List, length, get_or, inl, inr, refl, sym, ap, ◌∙◌, subst, arith}
 use Rattle.std.proofs.lemmas.Bool.{cases_lt, cases_eq, eq-eqb, ne_eqb}
 use Rattle.std.proofs.Math.Nat.{mul-le-mul_right, add-mul}
-use Rattle.recorder_rules.specs.Marks.{is_marked, AreInRange, IsNextMark, AreRows, IsRowwise}
+use Rattle.recorder_rules.specs.BitWords.{is_marked, AreInRange, IsNextMark, AreRows, IsRowwise}
 use Rattle.recorder_rules.specs.Ranges.{row_range}
 
 -- a row lies in the table

@@ -10,7 +10,7 @@ use Rattle.recorder_rules.specs.Generated.{generated}
 use Rattle.recorder_rules.specs.LoopRules.{own_of}
 use Rattle.recorder_rules.specs.Tables.{tabled}
 use Rattle.recorder_rules.specs.PairRules.{Sightings, PairBook, ends, is_shared}
-use Rattle.recorder_rules.specs.Marks.{words_for, is_marked}
+use Rattle.recorder_rules.specs.BitWords.{words_for, is_marked}
 
 abbrev pub sightings : ℕ → List ℕ → List ℕ → Sightings
 sightings n seen rows = record { seen = generated n (λ a. is_marked seen 0 a); pairs = tabled n n (λ a b. is_marked rows (a * words_for n) b) }

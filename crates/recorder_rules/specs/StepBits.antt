@@ -15,7 +15,7 @@ use Rattle.domain_core.specs.Outlines.{Shape}
 use Rattle.recorder_rules.specs.LoopRules.{own_of}
 use Rattle.recorder_rules.specs.TotalLaws.{past_end}
 use Rattle.recorder_rules.specs.PairRules.{ends, is_shared}
-use Rattle.recorder_rules.specs.Marks.{is_set, is_marked, AreInRange, AreRows, AreOwned}
+use Rattle.recorder_rules.specs.BitWords.{is_set, is_marked, AreInRange, AreRows, AreOwned}
 use Rattle.recorder_rules.specs.Seen.{AreLeft, AreLeftRows, AreCollectedRows, AreEntered, AreEnteredRows}
 use Rattle.recorder_rules.specs.Bits.{set_or, set_and, set_not, set_none}
 use Rattle.recorder_rules.specs.Ranges.{ranged, ranged_over, row_range}

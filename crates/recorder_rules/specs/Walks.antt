@@ -7,7 +7,7 @@ use Rattle.std.specs.Int.{bit_at, w64, trailing_zeros}
 use Rattle.std.proofs.lemmas.Bool.{cases_lt}
 use Rattle.std.proofs.lemmas.Nat.{shr-shr}
 use Rattle.std.proofs.lemmas.Nat.Bits.{bit_at-trailing_zeros, bit_at_above, bit_at-zero}
-use Rattle.recorder_rules.specs.Marks.{is_set, is_marked, IsNextMark}
+use Rattle.recorder_rules.specs.BitWords.{is_set, is_marked, IsNextMark}
 
 -- a bit of a word whose low bits are shifted out
 pub shifted : (n k i : ℕ) → bit_at (n / 2 ^ k) i ≡ bit_at n (k + i)

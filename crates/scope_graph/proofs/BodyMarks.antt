@@ -9,10 +9,10 @@ use Rattle.graph_walks.specs.WalkLaws.{walk_cons, walk_ends}
 use Rattle.graph_walks.specs.ListLaws.{contains_cases}
 use Rattle.domain_core.specs.Scopes.{Plan, leads, IsBody}
 use Rattle.graph_walks.specs.Tables.{HasEdge}
-use Rattle.graph_walks.specs.Marks.{IsMarked, KeepsMarks, ReachesPast}
+use Rattle.graph_walks.specs.MarkedNodes.{IsMarked, KeepsMarks, ReachesPast}
 use Rattle.scope_graph.specs.Descending.{IsBackList}
 use Rattle.scope_graph.specs.LoopBodies.{ReturnsBack, IsBackward}
-use Rattle.graph_walks.specs.MarkLaws.{by_mark, none_marked, marked_either, marked_new}
+use Rattle.graph_walks.specs.MarkedNodeLaws.{by_mark, none_marked, marked_either, marked_new}
 
 -- what is kept while the sources below k are looked at
 pub record IsMarking (table : List (List ℕ)) (back : List (ℕ × ℕ)) (h : ℕ) (seen : List Bool) (k : ℕ) : Type 0 where

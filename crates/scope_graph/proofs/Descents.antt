@@ -9,11 +9,11 @@ use Rattle.graph_walks.specs.WalkLaws.{walk_ends, split}
 use Rattle.graph_walks.specs.ListLaws.{contains_cases, distinct_push, distinct_front}
 use Rattle.lists.specs.Members.{first_member, further_member, no_member}
 use Rattle.graph_walks.specs.Tables.{HasEdge}
-use Rattle.graph_walks.specs.Marks.{IsMarked, IsBarred, IsPathPast}
+use Rattle.graph_walks.specs.MarkedNodes.{IsMarked, IsBarred, IsPathPast}
 use Rattle.scope_graph.specs.Tables.{IsAround}
 use Rattle.scope_graph.specs.Descending.{IsLooked, IsSettled, IsDescent, IsVisited, IsChecked, IsBackList}
 use Rattle.lists.specs.Tests.{by_test}
-use Rattle.graph_walks.specs.MarkLaws.{both, none_marked, marked_kept, marked_either, marked_new, barred_by_one}
+use Rattle.graph_walks.specs.MarkedNodeLaws.{both, none_marked, marked_kept, marked_either, marked_new, barred_by_one}
 
 -- ---- what is noted and left stays so
 

@@ -5,9 +5,9 @@ use Rattle.std.proofs.lemmas.List.{get_or_append_left, get_or_push, length_push}
 use Rattle.std.proofs.lemmas.Bool.{false≢true}
 use Rattle.domain_core.specs.Scopes.{Plan, path_at, Extends, IsCalledFrom}
 use Rattle.scope_graph.specs.Members.{MarksExactly, IsCalled, IsTaken, Tells}
-use Rattle.graph_walks.specs.Marks.{IsMarked}
+use Rattle.graph_walks.specs.MarkedNodes.{IsMarked}
 use Rattle.lists.specs.Tests.{by_test}
-use Rattle.graph_walks.specs.MarkLaws.{marked_low}
+use Rattle.graph_walks.specs.MarkedNodeLaws.{marked_low}
 
 -- none yet
 pub marks_none : (P : ℕ → Type 0) → MarksExactly 0 P []

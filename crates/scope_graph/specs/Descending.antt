@@ -14,7 +14,7 @@ use Rattle.scope_graph.specs.declared.crossing.Crossing.{Crossing}
 use Rattle.scope_graph.specs.declared.descend.Descent.{Descent}
 use Rattle.scope_graph.specs.declared.descend.Descent.TheVariants.{Back, Crosses}
 use Rattle.graph_walks.specs.Tables.{HasEdge}
-use Rattle.graph_walks.specs.Marks.{IsMarked}
+use Rattle.graph_walks.specs.MarkedNodes.{IsMarked}
 
 -- the edge is noted, or v was left before u; and it is noted where v lies on every walk to u
 abbrev pub IsLooked : List (List ℕ) → List (ℕ × ℕ) → List ℕ → ℕ → ℕ → Type 0

@@ -9,7 +9,7 @@ use Rattle.std.specs.Prelude.{◌≡◌, ◌<◌, ◌≤◌, ℕ, Bool, List, []
 use Rattle.std.specs.declared.alloc.Global.{Global}
 use Rattle.domain_core.specs.declared.outline.ScopeRow.{ScopeRow}
 use Rattle.domain_core.specs.Outlines.{header_of}
-use Rattle.graph_walks.specs.Marks.{IsMarked}
+use Rattle.graph_walks.specs.MarkedNodes.{IsMarked}
 
 -- what the code's marks stand for
 abbrev pub lists_of : List (Vec Bool Global) → List (List Bool)

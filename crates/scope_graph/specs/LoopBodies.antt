@@ -4,7 +4,7 @@
 use Rattle.std.specs.Prelude.{◌≡◌, ℕ, Bool, List, ◌⊎◌, Contains, length}
 use Rattle.graph_walks.specs.Walks.{Walk}
 use Rattle.graph_walks.specs.Tables.{HasEdge}
-use Rattle.graph_walks.specs.Marks.{IsMarked}
+use Rattle.graph_walks.specs.MarkedNodes.{IsMarked}
 
 -- against the edges the node is reached from a source of a back edge to h, without h
 pub record ReturnsBack (table : List (List ℕ)) (back : List (ℕ × ℕ)) (h n : ℕ) : Type 0 where

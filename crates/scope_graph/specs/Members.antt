@@ -4,7 +4,7 @@
 --   IsCalled plan body n          the node lies in an instance that a marked one calls
 --   IsTaken plan body n           the node is marked, or lies in an instance that a marked one calls
 use Rattle.std.specs.Prelude.{◌≡◌, ◌<◌, ℕ, Bool, true, false, List, ◌⊎◌, length}
-use Rattle.graph_walks.specs.Marks.{IsMarked}
+use Rattle.graph_walks.specs.MarkedNodes.{IsMarked}
 use Rattle.domain_core.specs.Scopes.{Plan, IsCalledFrom}
 
 -- the test passes exactly where P holds

@@ -1,7 +1,7 @@
 //! The nodes of scopes, as marks.
 
 ghost use Rattle.std.specs.Prelude.{◌≡◌, ◌<◌, ◌-◌, ◌||◌, ℕ, true, false, length, IfOk};
-ghost use Rattle.graph_walks.specs.Marks.{IsMarked};
+ghost use Rattle.graph_walks.specs.MarkedNodes.{IsMarked};
 ghost use Rattle.domain_core.specs.Scopes.{path_at, Extends};
 ghost use Rattle.scope_graph.specs.Placing.{plan_of};
 ghost use Rattle.scope_graph.specs.Members.{MarksExactly, IsTaken, IsCalled, Tells};

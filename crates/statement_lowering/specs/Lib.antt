@@ -2,7 +2,7 @@
 pub mod Views
 pub mod Afterwards
 pub mod Joins
-pub mod Marks
+pub mod SwitchMarks
 pub mod Arguments
 pub mod ValueParts
 pub mod Controls

@@ -10,7 +10,7 @@ ghost use Rattle.object_layout.specs.Views.{program_in};
 ghost use Rattle.statement_lowering.specs.Views.{Makes};
 
 use crate::code::Code;
-use crate::parts::put_act;
+use crate::items::put_act;
 use alf_program::{Expr as Term, Item, Stmt as Act};
 use c_unit::{Constant, Integer};
 use object_layout::count_at;

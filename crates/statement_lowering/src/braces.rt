@@ -9,8 +9,8 @@ ghost use Rattle.statement_lowering.specs.Braces.{after_row, around_row, before_
 ghost use Rattle.statement_lowering.specs.Views.{Makes, around_of, within_of};
 
 use crate::code::{Code, Targets, greater};
-use crate::marks::{labels_of, mark_of};
-use crate::parts::put_label;
+use crate::items::put_label;
+use crate::switch_labels::{labels_of, mark_of};
 use crate::switches::{cases_in, put_mark, put_switch};
 use alf_program::Item;
 use c_scopes::Scopes;

@@ -8,7 +8,7 @@ ghost use Rattle.statement_lowering.specs.Views.{Makes, within_of};
 
 use crate::code::{Code, greater};
 use crate::conditions::put_condition;
-use crate::parts::{label_name, put_jump, put_label};
+use crate::items::{label_name, put_jump, put_label};
 use alf_program::Item;
 use c_scopes::Scopes;
 use c_unit::Expr;

@@ -11,7 +11,7 @@ ghost use Rattle.statement_lowering.specs.Arguments as parts;
 ghost use Rattle.statement_lowering.specs.Views.{Makes, within_of};
 
 use crate::code::Code;
-use crate::parts::{call_name, put_act};
+use crate::items::{call_name, put_act};
 use alf_program::{Expr as Term, Item, Stmt as Act};
 use c_scopes::Scopes;
 use c_unit::{Call, Expr, Outcome, Parameter, Scalar};

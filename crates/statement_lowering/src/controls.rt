@@ -10,8 +10,8 @@ ghost use Rattle.statement_lowering.specs.Controls.{after_part, around_part, bef
 
 use crate::branches::{begin_if, end_else, end_if, end_then};
 use crate::code::{Code, Next, Targets, greater};
+use crate::items::put_label;
 use crate::loops::{begin_for, begin_while, calls_if, end_do, end_for, end_while, loop_targets};
-use crate::parts::put_label;
 use alf_program::Item;
 use c_scopes::Scopes;
 use c_unit::{Effect, Expr};

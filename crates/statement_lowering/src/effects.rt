@@ -11,7 +11,7 @@ ghost use Rattle.statement_lowering.specs.Views.{Makes, within_of};
 
 use crate::calls::{calls_of_outcome, put_call};
 use crate::code::Code;
-use crate::parts::put_assign;
+use crate::items::put_assign;
 use crate::values::{calls_in_value, put_value};
 use alf_program::{Expr as Term, Item};
 use c_scopes::Scopes;

@@ -6,7 +6,7 @@
 
 // The function whose code is lowered, and numbers of labels and calls.
 mod code;
-mod parts;
+mod items;
 
 // Conditions.
 mod conditions;
@@ -28,7 +28,7 @@ mod braces;
 mod branches;
 mod controls;
 mod loops;
-mod marks;
+mod switch_labels;
 mod switches;
 
 // Statements.

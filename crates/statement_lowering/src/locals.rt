@@ -12,7 +12,7 @@ ghost use Rattle.statement_lowering.specs.Views.{Makes, with_declared, within_of
 
 use crate::arrays::put_array;
 use crate::code::{Code, greater};
-use crate::parts::put_assign;
+use crate::items::put_assign;
 use crate::values::{calls_in_first, put_value};
 use alf_program::Item;
 use c_scopes::{Bound, Scopes};

@@ -13,7 +13,7 @@ use crate::branches::put_checked;
 use crate::code::{Code, Next, Targets, greater};
 use crate::conditions::put_condition;
 use crate::effects::{calls_in_effect, put_effect};
-use crate::parts::{label_name, put_jump, put_label};
+use crate::items::{label_name, put_jump, put_label};
 use alf_program::Item;
 use c_scopes::Scopes;
 use c_unit::{Effect, Expr};

@@ -12,8 +12,8 @@ ghost use Rattle.statement_lowering.specs.Views.{Makes, around_of, known_after, 
 
 use crate::code::{Code, Next, Targets, greater};
 use crate::effects::{calls_in_effect, put_effect};
+use crate::items::put_leaving;
 use crate::locals::put_locals;
-use crate::parts::put_leaving;
 use crate::returns::put_return;
 use crate::values::calls_in_first;
 use alf_program::Item;

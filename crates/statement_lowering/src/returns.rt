@@ -10,7 +10,7 @@ ghost use Rattle.c_lowered.specs.Programs as programs;
 ghost use Rattle.statement_lowering.specs.Views.{Makes, within_of};
 
 use crate::code::Code;
-use crate::parts::put_act;
+use crate::items::put_act;
 use crate::values::put_value;
 use alf_program::{Expr as Term, Item, Stmt as Act};
 use c_scopes::Scopes;

@@ -24,7 +24,7 @@ use Rattle.alf_runs.specs.Steps.{frames_of}
 use Rattle.pointer_rules.specs.AbstractValues.{AbstractValue}
 use Rattle.memory_rules.specs.Memories.{Mem, is_on, entered}
 use Rattle.memory_rules.specs.AbstractSets.{abstract_sets}
-use Rattle.memory_model.specs.Parts.{MemoryParts, memory_in}
+use Rattle.memory_model.specs.KeptMemories.{MemoryParts, memory_in}
 use Rattle.transfer_rules.specs.Evaluating.{width_of}
 use Rattle.transfer_rules.specs.EvaluatingLaws.{ArgumentIs, cell_size}
 use Rattle.transfer_rules.specs.DoingLaws.{width_is}

@@ -20,7 +20,7 @@ use Rattle.pointer_rules.specs.AbstractValues.{AbstractValue}
 use Rattle.memory_rules.specs.Covers.{IsCellSize}
 use Rattle.memory_rules.specs.Memories.{Mem, is_on}
 use Rattle.memory_rules.specs.AbstractSets.{abstract_sets}
-use Rattle.memory_model.specs.Parts.{MemoryParts, memory_in, rows_of}
+use Rattle.memory_model.specs.KeptMemories.{MemoryParts, memory_in, rows_of}
 use Rattle.transfer_rules.specs.Remains.{Remains, all_left}
 use Rattle.transfer_rules.specs.Evaluating.{word_value, pointer_value, width_of}
 use Rattle.transfer_rules.specs.Doing.{stored_through}

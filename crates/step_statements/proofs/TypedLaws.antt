@@ -26,7 +26,7 @@ use Rattle.alf_check.specs.Kept.{HasSize as HasWritten, HaveSizes}
 use Rattle.domain_core.specs.declared.fault_set.FaultSet.{FaultSet}
 use Rattle.pointer_rules.specs.AbstractValues.{AbstractValue, HasSize}
 use Rattle.pointer_rules.specs.Covering.{IsValue}
-use Rattle.memory_model.specs.Parts.{MemoryParts, memory_in, rows_of, IsMemory}
+use Rattle.memory_model.specs.KeptMemories.{MemoryParts, memory_in, rows_of, IsMemory}
 use Rattle.transfer_rules.specs.Remains.{Remains}
 use Rattle.transfer_rules.specs.Evaluating.{value_at, values_at}
 use Rattle.transfer_rules.specs.RemainsLaws.{IfLeft}

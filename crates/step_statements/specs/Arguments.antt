@@ -10,7 +10,7 @@ use Rattle.alf_check.specs.Kept.{IsCellSize}
 use Rattle.pointer_rules.specs.AbstractValues.{AbstractValue}
 use Rattle.pointer_rules.specs.Covering.{IsValue}
 use Rattle.memory_rules.specs.Memories.{is_on}
-use Rattle.memory_model.specs.Parts.{MemoryParts, memory_in}
+use Rattle.memory_model.specs.KeptMemories.{MemoryParts, memory_in}
 use Rattle.transfer_rules.specs.EvaluatingLaws.{ArgumentIs}
 
 -- the value has the size of the frame, which is a cell's

@@ -6,7 +6,7 @@ use Rattle.alf_check.specs.declared.rows.InitRow.{InitRow}
 use Rattle.alf_check.specs.CheckedPrograms.{seen}
 use Rattle.alf_check.specs.Kept.{InitFits}
 use Rattle.memory_rules.specs.Memories.{is_on}
-use Rattle.memory_model.specs.Parts.{MemoryParts, memory_in}
+use Rattle.memory_model.specs.KeptMemories.{MemoryParts, memory_in}
 
 -- the word has the size of its cell, which lies in its frame, and this is active
 pub record HasRoom (parts : MemoryParts) (init : InitRow) : Type 0 where

@@ -2,7 +2,7 @@
 
 ghost use Rattle.std.specs.Prelude.{◌≡◌, ◌<◌, [], OnOk, length};
 ghost use Rattle.alf_check.specs.CheckedPrograms.{seen};
-ghost use Rattle.memory_model.specs.Parts.{memory_in, IsMemory};
+ghost use Rattle.memory_model.specs.KeptMemories.{memory_in, IsMemory};
 ghost use Rattle.transfer_rules.specs.Filling.{with_arguments, entered_with};
 ghost use Rattle.step_statements.specs.Arguments.{HaveFrames, FitCall};
 

@@ -7,7 +7,7 @@ ghost use Rattle.alf_program.specs.Tree.{Address, Load, Number, expressions_of};
 ghost use Rattle.alf_check.specs.CheckedPrograms.{term_of};
 ghost use Rattle.memory_rules.specs.Covers.{IsCellSize};
 ghost use Rattle.pointer_rules.specs.Covering.{IsValue};
-ghost use Rattle.memory_model.specs.Parts.{memory_in, rows_of, IsMemory};
+ghost use Rattle.memory_model.specs.KeptMemories.{memory_in, rows_of, IsMemory};
 ghost use Rattle.transfer_rules.specs.Remains.{all_left, goes_on};
 ghost use Rattle.transfer_rules.specs.Evaluating.{word_value, pointer_value, loaded, operated, value_at, values_at, arguments_at};
 ghost use Rattle.step_statements.specs.Typed.{IsTyped, AreTyped};

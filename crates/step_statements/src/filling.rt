@@ -1,7 +1,7 @@
 //! Cells filled, and what frames hold at first.
 
 ghost use Rattle.std.specs.Prelude.{◌≡◌, OnOk, ◌∷◌, []};
-ghost use Rattle.memory_model.specs.Parts.{memory_in, rows_of, IsMemory};
+ghost use Rattle.memory_model.specs.KeptMemories.{memory_in, rows_of, IsMemory};
 ghost use Rattle.transfer_rules.specs.CellStores.{IsCellAt};
 ghost use Rattle.transfer_rules.specs.Evaluating.{width_of};
 ghost use Rattle.transfer_rules.specs.Filling.{filled, with_inits};

@@ -5,7 +5,7 @@ ghost use Rattle.std.specs.List.{AllByRecursion};
 ghost use Rattle.alf_program.specs.Tree.{Address};
 ghost use Rattle.alf_check.specs.CheckedPrograms.{Store, act_of, term_of};
 ghost use Rattle.pointer_rules.specs.Covering.{IsValue};
-ghost use Rattle.memory_model.specs.Parts.{memory_in, rows_of, IsMemory};
+ghost use Rattle.memory_model.specs.KeptMemories.{memory_in, rows_of, IsMemory};
 ghost use Rattle.transfer_rules.specs.Evaluating.{width_of, pointer_value};
 ghost use Rattle.transfer_rules.specs.Doing.{stored_through, after_statement, after_statements};
 ghost use Rattle.step_statements.specs.Typed.{IsTypedStatement, IsStorable};

@@ -20,7 +20,7 @@ use Rattle.memory_rules.specs.Memories.{Mem, is_on, MemCovers, MemSharp, MemSize
 use Rattle.memory_rules.specs.AbstractSets.{abstract_sets}
 use Rattle.strided_rules.specs.Strides.{Stride}
 use Rattle.memory_model.specs.HeldFrames.{is_cell_size}
-use Rattle.memory_model.specs.Parts.{rows_of, functions_of, bytes_in}
+use Rattle.memory_model.specs.KeptMemories.{rows_of, functions_of, bytes_in}
 use Rattle.memory_model.specs.Made.{slot_at, slots_of, frames_from, made}
 use Rattle.memory_model.specs.Within.{bytes_at, IsFrameWithin, IsWithin}
 use Rattle.transfer_rules.specs.Inside.{IsInside, outside}

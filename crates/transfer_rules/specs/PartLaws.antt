@@ -8,7 +8,7 @@ use Rattle.alf_check.specs.CheckedPrograms.{CheckedParts}
 use Rattle.flow_graph.specs.Numbering.{GraphParts}
 use Rattle.domain_core.specs.Machines.{IsMachine, IsAlong}
 use Rattle.domain_core.specs.Outlines.{Shape}
-use Rattle.memory_model.specs.Parts.{MemoryParts}
+use Rattle.memory_model.specs.KeptMemories.{MemoryParts}
 use Rattle.memory_model.specs.SeenOrders.{parts_order}
 use Rattle.transfer_rules.specs.PartMachines.{KeepsParts, part_machine}
 

@@ -25,9 +25,9 @@ use Rattle.memory_rules.specs.AbstractSets.{abstract_sets}
 use Rattle.transfer_rules.specs.Machines.{CoversHistory, SharpFor, Fits, memory_order, KeepsMachine, run_machine}
 use Rattle.transfer_rules.specs.MachineLaws.{own_order_suits, is_machine, is_along}
 use Rattle.transfer_rules.specs.SteppingLaws.{same_along}
-use Rattle.memory_model.specs.Parts.{MemoryParts, memory_in, rows_of, functions_of, IsMemory}
+use Rattle.memory_model.specs.KeptMemories.{MemoryParts, memory_in, rows_of, functions_of, IsMemory}
 use Rattle.memory_model.specs.Made.{made}
-use Rattle.memory_model.specs.PartsLaws.{memory_is, made_is}
+use Rattle.memory_model.specs.KeptMemoryLaws.{memory_is, made_is}
 use Rattle.memory_model.specs.SeenOrders.{parts_order, joined_seen, joined_is}
 use Rattle.transfer_rules.specs.Inside.{IsInside}
 use Rattle.transfer_rules.specs.Clipped.{clipped, clip_within, made_clipped, clip_sized, clip_runs, clip_covers, clip_sharp}

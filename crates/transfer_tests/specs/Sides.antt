@@ -20,7 +20,7 @@ use Rattle.pointer_rules.specs.AbstractValues.{AbstractValue}
 use Rattle.memory_rules.specs.AbstractSets.{abstract_sets}
 use Rattle.memory_rules.specs.Addresses.{tested, tested_in, stored_at, cells_of}
 use Rattle.memory_rules.specs.Memories.{Mem, is_on, fresh, stored, weak_at, weak_all, entered, left}
-use Rattle.memory_model.specs.Parts.{MemoryParts, memory_in, rows_of, functions_of, IsMemory}
+use Rattle.memory_model.specs.KeptMemories.{MemoryParts, memory_in, rows_of, functions_of, IsMemory}
 use Rattle.memory_model.specs.SeenOrders.{AreAlike, joined, joined_seen, joined_is}
 use Rattle.transfer_rules.specs.CellStores.{IsCellAt}
 use Rattle.abstract_memory.specs.Cells.{IsCellOf}

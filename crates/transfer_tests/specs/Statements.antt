@@ -20,7 +20,7 @@ use Rattle.alf_check.specs.Lookups.{IsFunction}
 use Rattle.pointer_rules.specs.AbstractValues.{AbstractValue}
 use Rattle.pointer_rules.specs.Covering.{IsValue}
 use Rattle.memory_rules.specs.Covers.{IsCellSize}
-use Rattle.memory_model.specs.Parts.{MemoryParts, IsMemory}
+use Rattle.memory_model.specs.KeptMemories.{MemoryParts, IsMemory}
 use Rattle.transfer_rules.specs.EvaluatingLaws.{ArgumentIs}
 use Rattle.step_statements.specs.Typed.{IsTyped, IsTypedStatement}
 use Rattle.step_statements.specs.Rooms.{HaveRoom}

@@ -3,7 +3,7 @@
 //! Each call makes sure that the call of the memory may be made. Where it may not be, nothing is done.
 
 ghost use Rattle.std.specs.Prelude.{◌≡◌, OnOk, IfOk};
-ghost use Rattle.memory_model.specs.Parts.{functions_of};
+ghost use Rattle.memory_model.specs.KeptMemories.{functions_of};
 ghost use Rattle.transfer_tests.specs.Sides.{AreReady};
 
 use crate::values::{is_cell, is_value};

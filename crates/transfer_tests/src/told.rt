@@ -3,7 +3,7 @@
 ghost use Rattle.std.specs.Prelude.{◌≢◌, All, IfOk};
 ghost use Rattle.pointer_rules.specs.Covering.{IsValue};
 ghost use Rattle.memory_rules.specs.Covers.{IsCellSize};
-ghost use Rattle.memory_model.specs.Parts.{IsMemory};
+ghost use Rattle.memory_model.specs.KeptMemories.{IsMemory};
 
 use abstract_memory::AMem;
 use alf_ops::RunFault;

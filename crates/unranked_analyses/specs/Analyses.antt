@@ -21,7 +21,7 @@ use Rattle.scope_graph.specs.Placing.{plan_of}
 use Rattle.flow_facts.specs.Reports.{Reported}
 use Rattle.worklist_rules.specs.declared.policy.Policy.{Policy}
 use Rattle.worklist_rules.specs.Pools.{Spot}
-use Rattle.memory_model.specs.Parts.{MemoryParts}
+use Rattle.memory_model.specs.KeptMemories.{MemoryParts}
 use Rattle.memory_model.specs.SeenOrders.{parts_order}
 use Rattle.abstract_step.specs.Steppers.{StepperParts, stepped_by}
 use Rattle.report_soundness.specs.ReportTold.{FourRecorders, four_order, four_recording}

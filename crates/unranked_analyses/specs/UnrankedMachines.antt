@@ -18,7 +18,7 @@ use Rattle.transfer_rules.specs.Remains.{Remains}
 use Rattle.transfer_rules.specs.Filling.{first_memory}
 use Rattle.transfer_rules.specs.Stepping.{Goals, step_at, goals_left}
 use Rattle.transfer_rules.specs.Machines.{numbered_goal, goals_from}
-use Rattle.memory_model.specs.Parts.{MemoryParts, memory_in, rows_of, functions_of}
+use Rattle.memory_model.specs.KeptMemories.{MemoryParts, memory_in, rows_of, functions_of}
 use Rattle.memory_model.specs.Made.{made, frames_from}
 use Rattle.memory_model.specs.SeenOrders.{parts_order, joined}
 use Rattle.transfer_rules.specs.MadeMachines.{made_at}

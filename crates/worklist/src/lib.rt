@@ -11,8 +11,8 @@ mod order;
 
 // The two parts of a list.
 mod earlier;
+mod halves;
 mod later;
-mod parts;
 
 // The list.
 mod line;

@@ -5,8 +5,8 @@ ghost use Rattle.worklist.specs.Least.{IsFirstLeast};
 
 use crate::Keyed;
 use crate::entry::Entry;
+use crate::halves::{element, first_of, part_at};
 use crate::later::{least_later, put_first};
-use crate::parts::{element, first_of, part_at};
 use std::alloc::{AllocError, Global};
 use std::marker::Model;
 

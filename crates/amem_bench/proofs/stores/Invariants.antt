@@ -1,5 +1,5 @@
 -- The memory stays one.
-use Rattle.memory_model.specs.Parts.{IsMemory}
+use Rattle.memory_model.specs.KeptMemories.{IsMemory}
 use Rattle.amem_bench.proofs.stores.Given as goal
 
 abbrev pub invariant-loop-round : goal.invariant-loop-round

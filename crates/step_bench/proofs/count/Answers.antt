@@ -1,5 +1,5 @@
 use Rattle.std.proofs.Common.{sym, subst}
-use Rattle.memory_model.specs.Parts.{MemoryParts}
+use Rattle.memory_model.specs.KeptMemories.{MemoryParts}
 use Rattle.transfer_rules.specs.PartMachines.{is_part_machine}
 use Rattle.abstract_step.specs.Steppers.{stepped_by}
 use Rattle.step_bench.proofs.count.Goals as goal

@@ -2,7 +2,7 @@ use Rattle.std.proofs.Common.{◌≡◌, ℕ, List, map, Some, sym, subst}
 use Rattle.alf_check.specs.CheckedPrograms.{seen, term_of}
 use Rattle.alf_runs.specs.Steps.{frames_of}
 use Rattle.pointer_rules.specs.AbstractValues.{AbstractValue}
-use Rattle.memory_model.specs.Parts.{MemoryParts, memory_in}
+use Rattle.memory_model.specs.KeptMemories.{MemoryParts, memory_in}
 use Rattle.transfer_rules.specs.Evaluating.{arguments_at}
 use Rattle.transfer_rules.specs.Stepping.{call_to}
 use Rattle.abstract_step.specs.Standing.{path_at}

@@ -1,7 +1,7 @@
 use Rattle.std.proofs.Common.{◌≡◌, Some}
 use Rattle.alf_check.specs.CheckedPrograms.{seen, term_of}
 use Rattle.alf_runs.specs.Steps.{frames_of}
-use Rattle.memory_model.specs.Parts.{memory_in}
+use Rattle.memory_model.specs.KeptMemories.{memory_in}
 use Rattle.transfer_rules.specs.Evaluating.{value_at}
 use Rattle.abstract_step.proofs.EndLaws.{returned_taken, value_left}
 use Rattle.abstract_step.proofs.ending.give_back.Goals as goal

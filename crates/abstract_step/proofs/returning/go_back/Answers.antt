@@ -5,7 +5,7 @@ use Rattle.alf_check.specs.declared.rows.BlockEnd.{BlockEnd}
 use Rattle.alf_check.specs.CheckedPrograms.{CheckedParts, NumberedBlock, BlockEnding, Call, seen, blocks_at, block_of, end_of, term_of}
 use Rattle.flow_graph.specs.Nodes.{ending_at, function_at, block_node}
 use Rattle.alf_runs.specs.Steps.{frames_of}
-use Rattle.memory_model.specs.Parts.{memory_in}
+use Rattle.memory_model.specs.KeptMemories.{memory_in}
 use Rattle.transfer_rules.specs.Stepping.{back_to}
 use Rattle.abstract_step.specs.Turns.{IsTurn}
 use Rattle.abstract_step.proofs.EndLaws.{back_at, end_there, is_call, back_leads}

@@ -1,6 +1,6 @@
 use Rattle.std.proofs.Common.{◌∙◌, ℕ, [], ap}
 use Rattle.alf_check.specs.CheckedPrograms.{seen}
-use Rattle.memory_model.specs.Parts.{memory_in}
+use Rattle.memory_model.specs.KeptMemories.{memory_in}
 use Rattle.transfer_rules.specs.Filling.{entered_with}
 use Rattle.abstract_step.proofs.InputLaws.{inputs_room}
 use Rattle.abstract_step.proofs.start.first_memory.Goals as goal

@@ -2,7 +2,7 @@ use Rattle.std.proofs.Common.{◌≡◌, ◌∷◌, [], List, ap, subst, ◌∙�
 use Rattle.alf_check.specs.declared.rows.InputRow.{InputRow}
 use Rattle.memory_rules.specs.Memories.{Mem}
 use Rattle.memory_rules.specs.AbstractSets.{abstract_sets}
-use Rattle.memory_model.specs.Parts.{memory_in}
+use Rattle.memory_model.specs.KeptMemories.{memory_in}
 use Rattle.transfer_rules.specs.Filling.{with_inputs}
 use Rattle.abstract_step.proofs.InputLaws.{first_input, later_inputs}
 use Rattle.abstract_step.proofs.start.put_inputs.Goals as goal

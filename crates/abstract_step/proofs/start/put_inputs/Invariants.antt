@@ -1,5 +1,5 @@
 use Rattle.std.proofs.Common.{◌≡◌, length}
-use Rattle.memory_model.specs.Parts.{memory_in, IsMemory}
+use Rattle.memory_model.specs.KeptMemories.{memory_in, IsMemory}
 use Rattle.transfer_rules.specs.Filling.{with_inputs}
 use Rattle.abstract_step.specs.Inputs.{HaveInputRoom}
 use Rattle.abstract_step.proofs.start.put_inputs.Given as goal

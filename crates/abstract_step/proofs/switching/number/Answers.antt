@@ -2,7 +2,7 @@ use Rattle.std.proofs.Common.{◌≡◌, ◌<◌, ℕ, List, length, Some, sym, 
 use Rattle.std.specs.Prelude.{get_or}
 use Rattle.alf_check.specs.CheckedPrograms.{seen}
 use Rattle.flow_graph.specs.Nodes.{Leads, block_node}
-use Rattle.memory_model.specs.Parts.{MemoryParts}
+use Rattle.memory_model.specs.KeptMemories.{MemoryParts}
 use Rattle.abstract_step.specs.Standing.{place_of, path_at}
 use Rattle.abstract_step.specs.Turns.{numbered_arm}
 use Rattle.abstract_step.proofs.ArmLaws.{first_mapped, not_yet, next_mapped, all_mapped}

@@ -4,7 +4,7 @@ use Rattle.std.proofs.lemmas.List.{length-map}
 use Rattle.alf_check.specs.CheckedPrograms.{CheckedParts, seen, term_of}
 use Rattle.alf_runs.specs.Steps.{frames_of}
 use Rattle.pointer_rules.specs.AbstractValues.{AbstractValue}
-use Rattle.memory_model.specs.Parts.{MemoryParts, memory_in, rows_of}
+use Rattle.memory_model.specs.KeptMemories.{MemoryParts, memory_in, rows_of}
 use Rattle.transfer_rules.specs.Remains.{goes_on}
 use Rattle.transfer_rules.specs.Evaluating.{value_at}
 use Rattle.transfer_rules.specs.Stepping.{arms, switched, pointer_fault}

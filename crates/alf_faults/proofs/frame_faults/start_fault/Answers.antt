@@ -1,6 +1,6 @@
 use Rattle.std.proofs.Common.{map, ◌∙◌}
 use Rattle.alf_program.specs.Tree.{allocation_of, initial_of}
-use Rattle.alf_faults.specs.Told.{told}
+use Rattle.alf_faults.specs.FoundFaults.{told}
 use Rattle.alf_faults.specs.Faults.{start_faults}
 use Rattle.alf_faults.proofs.Reading.{walk_found, walk_passed}
 use Rattle.alf_faults.proofs.frame_faults.start_fault.Goals as goal

@@ -1,4 +1,4 @@
-use Rattle.memory_model.specs.Parts.{rows_of}
+use Rattle.memory_model.specs.KeptMemories.{rows_of}
 use Rattle.branch_refinement.proofs.Tellings.{sized_fit}
 use Rattle.branch_refinement.proofs.arms.arms_by.Goals as goal
 

@@ -1,6 +1,6 @@
 use Rattle.std.proofs.Common.{ℕ, ◌∷◌, [], ◌++◌}
 use Rattle.std.proofs.lemmas.List.Elements.{All-push, All-same}
-use Rattle.memory_model.specs.Parts.{MemoryParts}
+use Rattle.memory_model.specs.KeptMemories.{MemoryParts}
 use Rattle.branch_refinement.specs.Arms.{IsArmOf}
 use Rattle.branch_refinement.proofs.ArmLists.{one_arm}
 use Rattle.branch_refinement.proofs.arms.push_arm.Goals as goal

@@ -1,5 +1,5 @@
 use Rattle.alf_check.specs.CheckedPrograms.{term_of}
-use Rattle.memory_model.specs.Parts.{memory_in, rows_of}
+use Rattle.memory_model.specs.KeptMemories.{memory_in, rows_of}
 use Rattle.branch_refinement.proofs.Tellings.{is_refined, refinement_fits}
 use Rattle.branch_refinement.proofs.ArmLists.{all_arms_are}
 use Rattle.branch_refinement.proofs.arms.switch_arms.Goals as goal

@@ -1,5 +1,5 @@
 use Rattle.std.proofs.Common.{arith, sym, ◌∙◌}
-use Rattle.memory_model.specs.Parts.{memory_in, rows_of}
+use Rattle.memory_model.specs.KeptMemories.{memory_in, rows_of}
 use Rattle.branch_refinement.proofs.Tellings.{tells_nothing, two_members, compared_told}
 use Rattle.branch_refinement.proofs.telling.of_operator.Goals as goal
 

@@ -6,7 +6,7 @@ use Rattle.c_unit.specs.declared.statement.Stmt.{Stmt}
 use Rattle.c_unit.specs.Tree.{expression_of, effect_of, statement_of, statements_of}
 use Rattle.c_unit.specs.Units.{Word}
 use Rattle.c_rules.specs.Recursion.{calls_in, calls_if_done, called_in, numbers_at}
-use Rattle.c_check.specs.Parts.{stated, calls_if_stated}
+use Rattle.c_check.specs.OptionalStatements.{stated, calls_if_stated}
 use Rattle.c_check.proofs.Numbering.{joined}
 use Rattle.c_check.proofs.Trees.{if_tree, if_calls, for_tree, for_calls}
 use Rattle.c_check.proofs.call_statements.+statements.Goals as goal

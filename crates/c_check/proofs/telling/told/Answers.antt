@@ -3,7 +3,7 @@ use Rattle.std.proofs.Common.{List, ℕ, Some, ap, sym, ◌∙◌}
 use Rattle.c_unit.specs.Units.{Word, unit_of}
 use Rattle.c_rules.specs.Names.{text_at}
 use Rattle.c_rules.specs.Programs as checks
-use Rattle.c_scopes.specs.Told.{fault_of}
+use Rattle.c_scopes.specs.FirstFault.{fault_of}
 use Rattle.c_check.proofs.telling.told.Goals as goal
 
 pub returns-in-Ok : goal.returns-in-Ok

@@ -6,7 +6,7 @@ use Rattle.strided_rules.specs.Domains.{stride_sets}
 use Rattle.memory_rules.specs.AbstractSets.{abstract_sets}
 use Rattle.memory_rules.specs.Frames.{AbstractByte, FrameMem}
 use Rattle.memory_model.specs.HeldFrames.{frame_of}
-use Rattle.frame_memory.proofs.Words.{word_more, word_sized, below}
+use Rattle.frame_memory.proofs.ByteWords.{word_more, word_sized, below}
 use Rattle.frame_memory.proofs.word.+word_of_bytes.Goals as goal
 
 pub returns-clause-word : goal.returns-clause-word

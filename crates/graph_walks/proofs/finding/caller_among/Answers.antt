@@ -1,7 +1,7 @@
 -- What is left to show of `caller_among`.
 use Rattle.std.proofs.Common.{◌≡◌, ℕ, true, false, below_more, sym, ◌∙◌, arith}
 use Rattle.graph_walks.specs.TableLaws.{rows_long}
-use Rattle.graph_walks.specs.MarkLaws.{both}
+use Rattle.graph_walks.specs.MarkedNodeLaws.{both}
 use Rattle.graph_walks.specs.Calls.{calls_of}
 use Rattle.graph_walks.specs.CallLaws.{caller_low}
 use Rattle.graph_walks.specs.Findings.{IsCaller}

@@ -3,8 +3,8 @@ use Rattle.std.proofs.Common.{◌≡◌, Bool, false, List, ℕ, [], ◌∷◌, 
 use Rattle.std.proofs.lemmas.Grind.{common_steps}
 use Rattle.graph_walks.specs.Walks.{Walk, goes_on, IsDistinct}
 use Rattle.graph_walks.specs.WalkLaws.{walk_starts}
-use Rattle.graph_walks.specs.Marks.{IsMarked, IsBarred, IsPathPast}
-use Rattle.graph_walks.specs.MarkLaws.{none_marked}
+use Rattle.graph_walks.specs.MarkedNodes.{IsMarked, IsBarred, IsPathPast}
+use Rattle.graph_walks.specs.MarkedNodeLaws.{none_marked}
 use Rattle.graph_walks.specs.Calls.{Calls, calls_of}
 use Rattle.graph_walks.proofs.finding.cycle_through.Goals as goal
 

@@ -1,6 +1,6 @@
 -- What the loop of `fresh_place` keeps.
 use Rattle.std.proofs.Common.{◌<◌, ◌≤◌, ℕ, get_or}
-use Rattle.graph_walks.specs.Marks.{IsMarked}
+use Rattle.graph_walks.specs.MarkedNodes.{IsMarked}
 use Rattle.graph_walks.proofs.fresh.fresh_place.Given as goal
 
 abbrev pub invariant-loop-place : goal.invariant-loop-place

@@ -3,7 +3,7 @@ use Rattle.std.proofs.Common.{◌<◌, ℕ, Bool, List, [], ◌∷◌, length, l
 use Rattle.std.proofs.lemmas.List.Sums.{count_by-le-length}
 use Rattle.graph_walks.specs.Walks.{Walk, stays, goes_on}
 use Rattle.graph_walks.specs.WalkLaws.{walk_cons}
-use Rattle.graph_walks.specs.MarkLaws.{unmarked_is, marked_more}
+use Rattle.graph_walks.specs.MarkedNodeLaws.{unmarked_is, marked_more}
 use Rattle.graph_walks.specs.TableLaws.{rows_long}
 use Rattle.graph_walks.specs.Calls.{Calls, Reaches, calls_of}
 use Rattle.graph_walks.specs.CallLaws.{caller_low}

@@ -1,7 +1,7 @@
 -- What the loop of `search` keeps, and what it goes down by.
 use Rattle.std.proofs.Common.{◌+◌, ◌-◌, length}
 use Rattle.graph_walks.specs.Tables.{rows_of}
-use Rattle.graph_walks.specs.Marks.{marked_count}
+use Rattle.graph_walks.specs.MarkedNodes.{marked_count}
 use Rattle.graph_walks.specs.Searching.{IsSearch}
 use Rattle.graph_walks.proofs.search.search.Given as goal
 

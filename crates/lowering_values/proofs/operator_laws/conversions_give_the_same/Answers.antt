@@ -1,5 +1,5 @@
 use Rattle.lowering_values.proofs.Given.{extends_give, cuts_give, casts_give}
-use Rattle.lowering_values.proofs.Words.{word_cut}
+use Rattle.lowering_values.proofs.SameWords.{word_cut}
 use Rattle.lowering_values.proofs.operator_laws.conversions_give_the_same.Goals as goal
 
 pub returns : goal.returns

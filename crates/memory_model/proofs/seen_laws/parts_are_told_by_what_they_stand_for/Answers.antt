@@ -1,5 +1,5 @@
 -- What is left to show of `parts_are_told_by_what_they_stand_for`: facts of the specs, applied.
-use Rattle.memory_model.specs.PartsLaws.{parts_are, is_within, memory_is, made_is}
+use Rattle.memory_model.specs.KeptMemoryLaws.{parts_are, is_within, memory_is, made_is}
 use Rattle.memory_model.proofs.seen_laws.parts_are_told_by_what_they_stand_for.Goals as goal
 
 pub returns-clause-parts : goal.returns-clause-parts

@@ -1,7 +1,7 @@
 -- What is left to show of `advance`.
 use Rattle.std.proofs.Common.{◌*◌, ℕ, length, refl, sym, ap, subst, ◌∙◌, arith}
 use Rattle.domain_core.specs.Outlines.{shape_of}
-use Rattle.recorder_rules.specs.Marks.{AreOwned}
+use Rattle.recorder_rules.specs.BitWords.{AreOwned}
 use Rattle.recorder_rules.specs.Seen.{AreLeftRows, AreCollectedRows, AreEnteredRows}
 use Rattle.recorder_rules.specs.PairBits.{stepped, stepped_book}
 use Rattle.pair_recorder.proofs.advance.advance.Goals as goal

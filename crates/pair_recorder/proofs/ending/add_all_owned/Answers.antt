@@ -1,7 +1,7 @@
 -- What is left to show of `add_all_owned`.
 use Rattle.std.proofs.Common.{◌≡◌, ◌*◌, ℕ, List, [], drop, length, arith, ap, sym, ◌∙◌}
 use Rattle.std.proofs.lemmas.List.{drop_all}
-use Rattle.recorder_rules.specs.Marks.{is_marked}
+use Rattle.recorder_rules.specs.BitWords.{is_marked}
 use Rattle.recorder_rules.specs.EndedNodes.{after_each, each_after}
 use Rattle.pair_recorder.proofs.ending.add_all_owned.Goals as goal
 

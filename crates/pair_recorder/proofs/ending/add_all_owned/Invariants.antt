@@ -1,6 +1,6 @@
 -- What the loop over the scopes keeps.
 use Rattle.std.proofs.Common.{◌≡◌, ◌*◌, ◌<◌, ℕ, length, drop}
-use Rattle.recorder_rules.specs.Marks.{is_marked}
+use Rattle.recorder_rules.specs.BitWords.{is_marked}
 use Rattle.recorder_rules.specs.EndedNodes.{after_each}
 use Rattle.pair_recorder.proofs.ending.add_all_owned.Given as goal
 

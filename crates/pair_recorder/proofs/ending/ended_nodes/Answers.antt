@@ -4,7 +4,7 @@ use Rattle.std.specs.List.{list_any}
 use Rattle.std.proofs.lemmas.List.{with_items_is, length-replicate}
 use Rattle.lists.specs.Members.{all_members}
 use Rattle.domain_core.specs.Outlines.{shape_of}
-use Rattle.recorder_rules.specs.Marks.{is_marked}
+use Rattle.recorder_rules.specs.BitWords.{is_marked}
 use Rattle.recorder_rules.specs.EndedNodes.{ended_low, owned_ended}
 use Rattle.recorder_rules.specs.StepBits.{none_marked}
 use Rattle.flow_recorders.specs.Climbs.{own_low}

@@ -1,6 +1,6 @@
 -- What the walk along the rows keeps.
 use Rattle.std.proofs.Common.{◌-◌, length, bit_or, get_or}
-use Rattle.recorder_rules.specs.Marks.{IsRowwise}
+use Rattle.recorder_rules.specs.BitWords.{IsRowwise}
 use Rattle.pair_recorder.proofs.marked.add_marked.Given as goal
 
 abbrev pub invariant-loop-place : goal.invariant-loop-place

@@ -2,7 +2,7 @@
 use Rattle.std.proofs.Common.{◌≡◌, ◌*◌, ℕ, List, length, refl, ap, ◌∙◌, arith}
 use Rattle.std.proofs.lemmas.List.{with_items_is}
 use Rattle.domain_core.specs.Outlines.{shape_of}
-use Rattle.recorder_rules.specs.Marks.{is_marked}
+use Rattle.recorder_rules.specs.BitWords.{is_marked}
 use Rattle.recorder_rules.specs.Rows.{row_end}
 use Rattle.recorder_rules.specs.StepBits.{entered_seen, entered_rows}
 use Rattle.pair_recorder.proofs.Handed.{kept_by, added_by}

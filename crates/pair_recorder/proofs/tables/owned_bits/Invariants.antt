@@ -1,7 +1,7 @@
 -- What the loop over the nodes keeps.
 use Rattle.std.proofs.Common.{◌≡◌, ◌*◌, ◌<◌, ℕ, length}
 use Rattle.domain_core.specs.Outlines.{shape_of}
-use Rattle.recorder_rules.specs.Marks.{is_marked}
+use Rattle.recorder_rules.specs.BitWords.{is_marked}
 use Rattle.recorder_rules.specs.StepBits.{owned_before}
 use Rattle.pair_recorder.proofs.tables.owned_bits.Given as goal
 

@@ -1,6 +1,6 @@
 -- What the loop over the words keeps.
 use Rattle.std.proofs.Common.{◌+◌, ◌-◌, bit_or, get_or}
-use Rattle.recorder_rules.specs.Marks.{AreInRange}
+use Rattle.recorder_rules.specs.BitWords.{AreInRange}
 use Rattle.pair_recorder.proofs.words.add_words.Given as goal
 
 abbrev pub invariant-loop-j : goal.invariant-loop-j

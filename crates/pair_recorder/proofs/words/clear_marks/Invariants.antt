@@ -1,7 +1,7 @@
 -- What the loop over the words keeps.
 use Rattle.std.proofs.Common.{bit_and, get_or}
 use Rattle.std.specs.Int.{bit_not, w64}
-use Rattle.recorder_rules.specs.Marks.{AreInRange}
+use Rattle.recorder_rules.specs.BitWords.{AreInRange}
 use Rattle.pair_recorder.proofs.words.clear_marks.Given as goal
 
 abbrev pub invariant-loop-j : goal.invariant-loop-j

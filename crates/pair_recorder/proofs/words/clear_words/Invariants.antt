@@ -1,5 +1,5 @@
 -- What the loop over the words keeps.
-use Rattle.recorder_rules.specs.Marks.{AreInRange}
+use Rattle.recorder_rules.specs.BitWords.{AreInRange}
 use Rattle.pair_recorder.proofs.words.clear_words.Given as goal
 
 abbrev pub invariant-loop-j : goal.invariant-loop-j

@@ -1,6 +1,6 @@
 -- What the walk over the words keeps.
 use Rattle.std.proofs.Common.{◌≡◌, ◌-◌, ◌*◌, ◌<◌, ◌≤◌, ℕ, false, length}
-use Rattle.recorder_rules.specs.Marks.{is_marked}
+use Rattle.recorder_rules.specs.BitWords.{is_marked}
 use Rattle.pair_recorder.proofs.words.next_mark.Given as goal
 
 abbrev pub invariant-loop-place : goal.invariant-loop-place

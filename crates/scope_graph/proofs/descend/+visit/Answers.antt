@@ -7,7 +7,7 @@ use Rattle.graph_walks.specs.Walks.{Walk, goes_on}
 use Rattle.graph_walks.specs.Tables.{HasEdge, rows_of}
 use Rattle.scope_graph.specs.Descending.{IsDescent, IsVisited, IsChecked}
 use Rattle.std.proofs.lemmas.List.Sums.{count_by-le-length}
-use Rattle.graph_walks.specs.MarkLaws.{marked_more}
+use Rattle.graph_walks.specs.MarkedNodeLaws.{marked_more}
 use Rattle.graph_walks.specs.TableLaws.{row_is, row_edge, row_low}
 use Rattle.scope_graph.proofs.Descents.{IsDescending, descend_first, descend_on, descend_over, descend_all}
 use Rattle.scope_graph.proofs.descend.+visit.Goals as goal

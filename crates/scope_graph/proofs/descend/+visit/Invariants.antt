@@ -1,7 +1,7 @@
 -- What the loop of `visit` keeps, and what its recursion goes down by.
 use Rattle.std.proofs.Common.{◌-◌, length, take}
 use Rattle.graph_walks.specs.Tables.{rows_of}
-use Rattle.graph_walks.specs.Marks.{marked_count}
+use Rattle.graph_walks.specs.MarkedNodes.{marked_count}
 use Rattle.scope_graph.proofs.Descents.{IsDescending}
 use Rattle.scope_graph.proofs.descend.+visit.Given as goal
 

@@ -3,7 +3,7 @@ use Rattle.std.proofs.Common.{◌≡◌, ◌<◌, false, true, length, set, repl
 use Rattle.std.proofs.lemmas.Grind.{common_steps}
 use Rattle.graph_walks.specs.Tables.{HasEdge, rows_of}
 use Rattle.graph_walks.specs.TableLaws.{rows_long}
-use Rattle.graph_walks.specs.Marks.{IsBarred, IsPathPast}
+use Rattle.graph_walks.specs.MarkedNodes.{IsBarred, IsPathPast}
 use Rattle.scope_graph.proofs.Descents.{around_none, around_found}
 use Rattle.scope_graph.proofs.descend.walk_around.Goals as goal
 

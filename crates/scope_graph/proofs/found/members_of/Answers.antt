@@ -4,7 +4,7 @@ use Rattle.std.proofs.lemmas.List.{length-map}
 use Rattle.std.proofs.lemmas.Result.{IfOk-weaker}
 use Rattle.domain_core.specs.declared.scope_kind.ScopeKind.TheVariants.{Loop}
 use Rattle.graph_walks.specs.Tables.{rows_of}
-use Rattle.graph_walks.specs.Marks.{IsMarked}
+use Rattle.graph_walks.specs.MarkedNodes.{IsMarked}
 use Rattle.scope_graph.specs.LoopBodies.{IsBackward}
 use Rattle.scope_graph.specs.Placing.{plan_of}
 use Rattle.scope_graph.specs.Members.{MarksExactly, IsTaken}

@@ -1,6 +1,6 @@
 -- What the loop of `is_called` keeps.
 use Rattle.std.proofs.Common.{◌<◌, ℕ}
-use Rattle.graph_walks.specs.Marks.{IsMarked}
+use Rattle.graph_walks.specs.MarkedNodes.{IsMarked}
 use Rattle.domain_core.specs.Scopes.{IsCalledFrom}
 use Rattle.scope_graph.specs.Placing.{plan_of}
 use Rattle.scope_graph.proofs.members.is_called.Given as goal

@@ -1,6 +1,6 @@
 use Rattle.std.proofs.Common.{ℕ, List, sym, ap, subst, ◌∙◌}
 use Rattle.alf_check.specs.CheckedPrograms.{seen}
-use Rattle.memory_model.specs.Parts.{memory_in, rows_of}
+use Rattle.memory_model.specs.KeptMemories.{memory_in, rows_of}
 use Rattle.transfer_rules.specs.Filling.{with_arguments}
 use Rattle.step_statements.specs.Rooms.{HaveRoom}
 use Rattle.step_statements.specs.Arguments.{HaveFrames}

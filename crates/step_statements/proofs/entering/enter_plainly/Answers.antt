@@ -1,7 +1,7 @@
 use Rattle.std.proofs.Common.{List, sym, ap, subst, ◌∙◌}
 use Rattle.alf_check.specs.declared.rows.InitRow.{InitRow}
 use Rattle.alf_check.specs.CheckedPrograms.{CheckedParts, seen}
-use Rattle.memory_model.specs.Parts.{memory_in, rows_of}
+use Rattle.memory_model.specs.KeptMemories.{memory_in, rows_of}
 use Rattle.transfer_rules.specs.Filling.{with_inits}
 use Rattle.step_statements.specs.Rooms.{HaveRoom}
 use Rattle.step_statements.proofs.CallLaws.{plain_room, plain_is}

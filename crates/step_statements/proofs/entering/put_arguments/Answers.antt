@@ -1,6 +1,6 @@
 use Rattle.std.proofs.Common.{refl}
 use Rattle.alf_check.specs.CheckedPrograms.{seen}
-use Rattle.memory_model.specs.Parts.{memory_in, rows_of}
+use Rattle.memory_model.specs.KeptMemories.{memory_in, rows_of}
 use Rattle.step_statements.proofs.CallLaws.{first_argument, argument_there}
 use Rattle.step_statements.proofs.entering.put_arguments.Goals as goal
 

@@ -1,5 +1,5 @@
 use Rattle.std.proofs.Common.{◌<◌, ◌^◌, refl, rules}
-use Rattle.memory_model.specs.Parts.{memory_in, rows_of}
+use Rattle.memory_model.specs.KeptMemories.{memory_in, rows_of}
 use Rattle.transfer_rules.specs.Evaluating.{pointer_value}
 use Rattle.step_statements.proofs.RoomLaws.{filled_is}
 use Rattle.step_statements.proofs.filling.fill.Goals as goal

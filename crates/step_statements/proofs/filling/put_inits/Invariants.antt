@@ -1,5 +1,5 @@
 use Rattle.std.proofs.Common.{◌≡◌, length}
-use Rattle.memory_model.specs.Parts.{memory_in, IsMemory}
+use Rattle.memory_model.specs.KeptMemories.{memory_in, IsMemory}
 use Rattle.transfer_rules.specs.Filling.{with_inits}
 use Rattle.step_statements.specs.Rooms.{HaveRoom}
 use Rattle.step_statements.proofs.filling.put_inits.Given as goal

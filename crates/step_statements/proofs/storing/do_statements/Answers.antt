@@ -2,7 +2,7 @@ use Rattle.std.proofs.Common.{◌≡◌, ◌∷◌, List, Bool, true, map, sym, 
 use Rattle.std.specs.List.{AllByRecursion}
 use Rattle.alf_check.specs.declared.rows.Act.{Act}
 use Rattle.alf_check.specs.CheckedPrograms.{CheckedParts, act_of}
-use Rattle.memory_model.specs.Parts.{memory_in, rows_of}
+use Rattle.memory_model.specs.KeptMemories.{memory_in, rows_of}
 use Rattle.transfer_rules.specs.Doing.{after_statement, after_statements}
 use Rattle.step_statements.specs.Typed.{IsTypedStatement}
 use Rattle.step_statements.specs.Found.{done}

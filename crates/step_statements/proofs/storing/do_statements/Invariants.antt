@@ -1,7 +1,7 @@
 use Rattle.std.proofs.Common.{◌≡◌, length, map}
 use Rattle.std.specs.List.{AllByRecursion}
 use Rattle.alf_check.specs.CheckedPrograms.{act_of}
-use Rattle.memory_model.specs.Parts.{memory_in, rows_of, IsMemory}
+use Rattle.memory_model.specs.KeptMemories.{memory_in, rows_of, IsMemory}
 use Rattle.transfer_rules.specs.Remains.{with_faults}
 use Rattle.transfer_rules.specs.Doing.{after_statements}
 use Rattle.step_statements.specs.Typed.{IsTypedStatement}

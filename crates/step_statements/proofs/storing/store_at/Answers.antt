@@ -1,4 +1,4 @@
-use Rattle.memory_model.specs.Parts.{memory_in, rows_of}
+use Rattle.memory_model.specs.KeptMemories.{memory_in, rows_of}
 use Rattle.transfer_rules.specs.Evaluating.{pointer_value}
 use Rattle.transfer_rules.specs.Standing.{pointer_is}
 use Rattle.step_statements.proofs.FoundLaws.{store_told}

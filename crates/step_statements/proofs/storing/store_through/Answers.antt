@@ -1,4 +1,4 @@
-use Rattle.memory_model.specs.Parts.{memory_in, rows_of}
+use Rattle.memory_model.specs.KeptMemories.{memory_in, rows_of}
 use Rattle.step_statements.proofs.FoundLaws.{store_told}
 use Rattle.step_statements.proofs.storing.store_through.Goals as goal
 

@@ -1,5 +1,5 @@
 use Rattle.std.proofs.Common.{◌≢◌, ℕ, sym, subst}
-use Rattle.memory_model.specs.Parts.{MemoryParts, IsMemory}
+use Rattle.memory_model.specs.KeptMemories.{MemoryParts, IsMemory}
 use Rattle.transfer_tests.proofs.told.add_points.Goals as goal
 
 pub add_point-requires : goal.add_point-requires

@@ -1,7 +1,7 @@
 use Rattle.std.proofs.Common.{◌≡◌, ◌≢◌, ◌∙◌, ◌<◌, ℕ, List, length, sym, subst, arith}
 use Rattle.std.specs.Prelude.{All, Contains}
 use Rattle.lists.specs.Members.{all_members}
-use Rattle.memory_model.specs.Parts.{MemoryParts, IsMemory}
+use Rattle.memory_model.specs.KeptMemories.{MemoryParts, IsMemory}
 use Rattle.transfer_rules.specs.PartMachines.{is_part_machine}
 use Rattle.transfer_tests.proofs.walk.step.Goals as goal
 

@@ -7,7 +7,7 @@ use Rattle.alf_check.specs.Shapes.{shapes_of}
 use Rattle.memory_rules.specs.AbstractSets.{abstract_sets}
 use Rattle.memory_rules.specs.Memories.{entered}
 use Rattle.memory_model.specs.HeldMemories.{entered_frames}
-use Rattle.memory_model.specs.Parts.{MemoryParts, memory_in, rows_of, IsMemory}
+use Rattle.memory_model.specs.KeptMemories.{MemoryParts, memory_in, rows_of, IsMemory}
 use Rattle.abstract_memory.proofs.Entered.{kept_with, is_with}
 use Rattle.abstract_memory.proofs.memory.AMem.enter.Goals as goal
 

@@ -2,7 +2,7 @@
 use Rattle.std.proofs.Common.{◌∙◌, sym, subst, ap, ◌<◌, length, false}
 use Rattle.memory_rules.specs.AbstractSets.{abstract_sets}
 use Rattle.memory_rules.specs.Memories.{left}
-use Rattle.memory_model.specs.Parts.{MemoryParts, memory_in, IsMemory}
+use Rattle.memory_model.specs.KeptMemories.{MemoryParts, memory_in, IsMemory}
 use Rattle.abstract_memory.proofs.Started.{kept_after}
 use Rattle.abstract_memory.proofs.memory.AMem.leave.Goals as goal
 

@@ -7,7 +7,7 @@ use Rattle.pointer_rules.specs.AbstractValues.{Words, alone}
 use Rattle.memory_pages.specs.Slots.{HeldSlot}
 use Rattle.memory_rules.specs.AbstractSets.{abstract_sets}
 use Rattle.memory_rules.specs.Memories.{Mem, pinned_at}
-use Rattle.memory_model.specs.Parts.{MemoryParts}
+use Rattle.memory_model.specs.KeptMemories.{MemoryParts}
 use Rattle.abstract_memory.specs.Cells.{Changes}
 use Rattle.abstract_memory.proofs.Lent.{changed_in, kept_in}
 use Rattle.abstract_memory.proofs.memory.AMem.pin.Goals as goal

@@ -10,7 +10,7 @@ use Rattle.memory_pages.specs.Slots.{HeldSlot}
 use Rattle.memory_rules.specs.AbstractSets.{abstract_sets}
 use Rattle.memory_rules.specs.Addresses.{cells_of}
 use Rattle.memory_rules.specs.Memories.{Mem, stored}
-use Rattle.memory_model.specs.Parts.{MemoryParts}
+use Rattle.memory_model.specs.KeptMemories.{MemoryParts}
 use Rattle.abstract_memory.specs.Cells.{Changes}
 use Rattle.abstract_memory.proofs.Lent.{lent, kept_in}
 use Rattle.abstract_memory.proofs.memory.AMem.store.Goals as goal

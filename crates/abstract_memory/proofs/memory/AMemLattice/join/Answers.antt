@@ -4,7 +4,7 @@ use Rattle.alf_check.specs.declared.rows.FrameRow.{FrameRow}
 use Rattle.alf_check.specs.CheckedPrograms.{CheckedParts}
 use Rattle.memory_pages.specs.Slots.{HeldSlot}
 use Rattle.memory_model.specs.HeldMemories.{joined_frames}
-use Rattle.memory_model.specs.Parts.{MemoryParts}
+use Rattle.memory_model.specs.KeptMemories.{MemoryParts}
 use Rattle.abstract_memory.specs.Rows.{AreFrames}
 use Rattle.abstract_memory.proofs.Joined.{are_frames, joined_parts}
 use Rattle.abstract_memory.proofs.memory.AMemLattice.join.Goals as goal

@@ -1,6 +1,6 @@
 use Rattle.std.proofs.Common.{◌≡◌, ℕ, List, map, subst}
 use Rattle.alf_check.specs.CheckedPrograms.{seen}
-use Rattle.memory_model.specs.Parts.{MemoryParts, memory_in}
+use Rattle.memory_model.specs.KeptMemories.{MemoryParts, memory_in}
 use Rattle.memory_model.specs.Made.{made}
 use Rattle.transfer_rules.specs.Stepping.{goals_left}
 use Rattle.transfer_rules.specs.Machines.{goals_from, numbered_goal}

@@ -1,6 +1,6 @@
 -- What is left to show of `together`.
 use Rattle.std.proofs.Common.{◌*◌, ℕ, List, ap, ◌∙◌, arith}
-use Rattle.recorder_rules.specs.Marks.{words_for, is_marked}
+use Rattle.recorder_rules.specs.BitWords.{words_for, is_marked}
 use Rattle.pair_recorder.proofs.Handed.{told_count, told_low, told_first, told_second}
 use Rattle.pair_recorder.proofs.pairs.PairsBook.together.Goals as goal
 

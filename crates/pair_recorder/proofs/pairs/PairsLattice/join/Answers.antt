@@ -1,7 +1,7 @@
 -- What is left to show of `join`.
 use Rattle.std.proofs.Common.{◌≡◌, ◌*◌, ◌||◌, ℕ, List, length, sym, ap, ◌∙◌}
 use Rattle.recorder_rules.specs.PairRules.{Sightings, both_seen}
-use Rattle.recorder_rules.specs.Marks.{words_for, is_marked}
+use Rattle.recorder_rules.specs.BitWords.{words_for, is_marked}
 use Rattle.recorder_rules.specs.Seen.{sightings}
 use Rattle.recorder_rules.specs.PairBits.{joined}
 use Rattle.pair_recorder.proofs.Handed.{seen_count}

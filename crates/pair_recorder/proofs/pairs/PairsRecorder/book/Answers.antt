@@ -1,6 +1,6 @@
 -- What is left to show of `book`.
 use Rattle.std.proofs.Common.{◌*◌}
-use Rattle.recorder_rules.specs.Marks.{words_for}
+use Rattle.recorder_rules.specs.BitWords.{words_for}
 use Rattle.recorder_rules.specs.StepBits.{none_marked}
 use Rattle.recorder_rules.specs.PairBits.{begun_book}
 use Rattle.pair_recorder.proofs.pairs.PairsRecorder.book.Goals as goal

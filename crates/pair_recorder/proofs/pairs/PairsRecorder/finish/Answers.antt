@@ -1,7 +1,7 @@
 -- What is left to show of `finish`.
 use Rattle.std.proofs.Common.{◌*◌, ℕ, List, length, sym, ap, ◌∙◌}
 use Rattle.std.proofs.lemmas.List.{with_items_is}
-use Rattle.recorder_rules.specs.Marks.{words_for}
+use Rattle.recorder_rules.specs.BitWords.{words_for}
 use Rattle.recorder_rules.specs.Seen.{pair_book}
 use Rattle.recorder_rules.specs.PairBits.{nodes_of, book_nodes}
 use Rattle.pair_recorder.proofs.Handed.{added_rows_by, finished_collected}

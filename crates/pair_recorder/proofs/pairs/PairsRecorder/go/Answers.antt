@@ -4,7 +4,7 @@ use Rattle.std.proofs.lemmas.List.{with_items_is}
 use Rattle.recorder_rules.specs.TotalLaws.{node_low}
 use Rattle.domain_core.specs.Outlines.{shape_of}
 use Rattle.recorder_rules.specs.PairRules.{pair_recording}
-use Rattle.recorder_rules.specs.Marks.{words_for, AreOwned}
+use Rattle.recorder_rules.specs.BitWords.{words_for, AreOwned}
 use Rattle.recorder_rules.specs.Seen.{sightings, pair_book}
 use Rattle.recorder_rules.specs.PairBits.{nodes_of, book_nodes, book_scopes, book_owned}
 use Rattle.pair_recorder.proofs.Handed.{gone_recorder, gone_collected, sightings_same}

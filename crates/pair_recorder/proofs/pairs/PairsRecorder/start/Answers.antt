@@ -2,7 +2,7 @@
 use Rattle.std.proofs.Common.{◌≡◌, ◌*◌, ◌<◌, ◌==◌, ◌||◌, ℕ, Bool, List, length, sym, ap, ◌∙◌, arith}
 use Rattle.std.proofs.lemmas.List.{with_items_is, length-replicate}
 use Rattle.recorder_rules.specs.TotalLaws.{node_low}
-use Rattle.recorder_rules.specs.Marks.{is_marked}
+use Rattle.recorder_rules.specs.BitWords.{is_marked}
 use Rattle.recorder_rules.specs.Rows.{row_low}
 use Rattle.recorder_rules.specs.StepBits.{none_marked, first_set, first_marked}
 use Rattle.recorder_rules.specs.PairBits.{begun}

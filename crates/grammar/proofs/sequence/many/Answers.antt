@@ -2,7 +2,7 @@
 use Rattle.std.proofs.Common.{◌≡◌, ◌++◌, ◌∷◌, [], map, sym, ◌∙◌}
 use Rattle.std.proofs.lemmas.List.{map_push}
 use Rattle.grammar.specs.Rows.{row_goes_on, row_ends}
-use Rattle.grammar.proofs.parts.many.Goals as goal
+use Rattle.grammar.proofs.sequence.many.Goals as goal
 
 pub loop-reader-smaller : goal.loop-reader-smaller
 loop-reader-smaller g c =

@@ -10,8 +10,8 @@ use Rattle.c_unit.specs.declared.types.Integer.{Integer}
 use Rattle.c_rules.specs.Statements.{label_of}
 use Rattle.c_lowered.specs.Conditions.{Within, label_item}
 use Rattle.c_lowered.specs.Statements.{target}
-use Rattle.statement_lowering.specs.declared.marks.Mark.{Mark}
-use Rattle.statement_lowering.specs.declared.marks.Mark.TheVariants as marks
+use Rattle.statement_lowering.specs.declared.switch_labels.Mark.{Mark}
+use Rattle.statement_lowering.specs.declared.switch_labels.Mark.TheVariants as marks
 
 abbrev pub labels_by : Mark → ℕ
 labels_by (marks.Case c) = 1

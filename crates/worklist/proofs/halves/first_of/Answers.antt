@@ -2,7 +2,7 @@ use Rattle.std.proofs.Common.{rules, ◌≡◌, reverse, refl, true, false}
 use Rattle.worklist.specs.LeastLaws.{least_left}
 use Rattle.worklist.specs.Lines.{keys_of}
 use Rattle.worklist.proofs.Ends.{alone_earlier, alone_later, in_later}
-use Rattle.worklist.proofs.parts.first_of.Goals as goal
+use Rattle.worklist.proofs.halves.first_of.Goals as goal
 
 pub returns-then-is_empty : goal.returns-then-is_empty
 returns-then-is_empty g c = alone_earlier g.X.Keyed.key_of c.args.earlier.now c.args.later.now _ (search rules) c.least_earlier.ensures

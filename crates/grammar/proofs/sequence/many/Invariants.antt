@@ -2,7 +2,7 @@
 use Rattle.std.proofs.Common.{map}
 use Rattle.grammar.specs.Form.{left}
 use Rattle.grammar.specs.Rows.{RowSoFar}
-use Rattle.grammar.proofs.parts.many.Given as goal
+use Rattle.grammar.proofs.sequence.many.Given as goal
 
 abbrev pub invariant-loop-reader : goal.invariant-loop-reader
 invariant-loop-reader g l =

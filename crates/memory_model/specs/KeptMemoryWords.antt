@@ -7,7 +7,7 @@ use Rattle.std.specs.Prelude.{◌≡◌}
 use Rattle.alf_check.specs.CheckedPrograms.{CheckedParts}
 use Rattle.memory_rules.specs.AbstractSets.{abstract_sets}
 use Rattle.memory_rules.specs.Memories.{Mem, MemSized}
-use Rattle.memory_model.specs.Parts.{MemoryParts, memory_in, rows_of, functions_of, IsMemory}
+use Rattle.memory_model.specs.KeptMemories.{MemoryParts, memory_in, rows_of, functions_of, IsMemory}
 use Rattle.memory_model.specs.Made.{made}
 use Rattle.memory_model.specs.Within.{IsWithin}
 

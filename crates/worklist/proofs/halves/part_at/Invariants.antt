@@ -1,6 +1,6 @@
 use Rattle.std.proofs.Common.{◌≡◌, ◌+◌, ◌≤◌, length, reverse, vec_len}
 use Rattle.worklist.specs.Lines.{line_of, AreFirst, AreLeast}
-use Rattle.worklist.proofs.parts.part_at.Given as goal
+use Rattle.worklist.proofs.halves.part_at.Given as goal
 
 abbrev pub invariant-loop-earlier : goal.invariant-loop-earlier
 invariant-loop-earlier g l = record {

@@ -5,7 +5,7 @@ ghost use Rattle.std.specs.Option.{option_map};
 ghost use Rattle.c_unit.specs.Tree.{expression_of, effect_of};
 ghost use Rattle.c_rules.specs.Faults.{earliest};
 ghost use Rattle.c_rules.specs.Statements.{if_condition, if_effect};
-ghost use Rattle.c_scopes.specs.Told.{told};
+ghost use Rattle.c_scopes.specs.FirstFault.{told};
 
 use c_faults::{check_condition, check_effect};
 use c_scopes::{Definitions, Fault, Scopes};

@@ -13,7 +13,7 @@ use Rattle.std.proofs.lemmas.List.Elements.{Contains-push_cases}
 use Rattle.std.proofs.lemmas.List.Sums.{sum_by-cons}
 use Rattle.lists.specs.Tests.{by_test}
 use Rattle.graph_walks.specs.Walks.{Walk, goes_on}
-use Rattle.graph_walks.specs.Marks.{IsMarked, KeepsMarks, marked_count, ReachesPast, IsBarred}
+use Rattle.graph_walks.specs.MarkedNodes.{IsMarked, KeepsMarks, marked_count, ReachesPast, IsBarred}
 
 -- a node is marked or not
 pub by_mark : {A : Type 0} (marks : List Bool) (n : ℕ) → (IsMarked marks n → A) → ((IsMarked marks n → ⊥) → A) → A

@@ -6,7 +6,7 @@ ghost use Rattle.c_unit.specs.declared.types.Integer.{Integer};
 ghost use Rattle.c_unit.specs.Tree.{Statements, Then, statement_of};
 ghost use Rattle.c_lowered.specs.Conditions.{Within, label};
 ghost use Rattle.c_lowered.specs.Statements as laws;
-ghost use Rattle.statement_lowering.specs.Marks.{labels_by, targets_by, default_by, case_by};
+ghost use Rattle.statement_lowering.specs.SwitchMarks.{labels_by, targets_by, default_by, case_by};
 
 use c_unit::{Constant, Stmt};
 

@@ -23,7 +23,7 @@ use Rattle.memory_rules.specs.AbstractSets.{abstract_sets}
 use Rattle.memory_model.specs.HeldFrames.{is_cell_size, byte_held, cell_seen, cell_held, byte_in, cell_in, frame_of}
 use Rattle.memory_model.specs.HeldMemories.{runs_or}
 use Rattle.pointer_rules.specs.AbstractValues.{AbstractValue}
-use Rattle.memory_model.specs.Parts.{MemoryParts, memory_in, rows_of, functions_of, bytes_in, canonical, IsMemory}
+use Rattle.memory_model.specs.KeptMemories.{MemoryParts, memory_in, rows_of, functions_of, bytes_in, canonical, IsMemory}
 use Rattle.memory_model.specs.Made.{slot_at, slots_of, frames_from, made}
 use Rattle.memory_model.specs.Within.{bytes_at, IsFrameWithin, IsWithin}
 use Rattle.memory_model.specs.ReadOff.{get_in, get_out, get_past, length_off, read_off, each_same}

@@ -2,7 +2,7 @@
 use Rattle.std.proofs.Common.{◌≡◌, ◌++◌, map, drop}
 use Rattle.c_unit.specs.Tree.{local_of}
 use Rattle.c_rules.specs.Recursion.{calls_in_locals, numbers_at}
-use Rattle.c_check.proofs.call_parts.note_locals.Given as goal
+use Rattle.c_check.proofs.expression_calls.note_locals.Given as goal
 
 abbrev pub invariant-loop-local : goal.invariant-loop-local
 invariant-loop-local l =

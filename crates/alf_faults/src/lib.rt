@@ -6,9 +6,9 @@
 //! is empty. `frame_named`, `function_named` and `Labels` tell where a name stands first.
 //!
 //! No pass is quadratic in the number of items, labels or targets: labels are looked up in a table, while frames
-//! and functions, of which a program has at most 256 each, are looked through from the front. Programs are those
-//! of `alf_program`, and the sizes of operators those of `alf_ops`. Whether functions call one another in a circle
-//! is not judged here.
+//! and functions, of which a program that is read has at most 256 each, are looked through from the front.
+//! Programs are those of `alf_program`, and the sizes of operators those of `alf_ops`. Whether functions call one
+//! another in a circle is not judged here.
 #![tactic(auto)]
 
 // Where names stand first: frames, functions and labels.

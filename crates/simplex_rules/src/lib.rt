@@ -2,7 +2,7 @@
 //!
 //! A tableau has a line for each row and one for the objective, each divided by its common divisor. The openings
 //! are pivoted first; then rows with a negative right side leave, the one of least basic number first, for the
-//! column of least ratio, and ties go by the least number, in the manner of Bland's rule. Whatever the rule
+//! column of least ratio, and ties go by the least number, in the manner of Bland's rule (1977). Whatever the rule
 //! chooses, the multipliers that a tableau hands out bound the cost of each point that meets the rows of
 //! `ipet_rows`, and where no right side is negative a point has this cost. The functions do nothing, and their
 //! clauses are the laws.

@@ -17,10 +17,11 @@ use crate::heads::{declare, enter_function};
 use alf_program::Func;
 use c_scopes::Scopes;
 use c_unit::{CUnit, Declarator, External, Outcome, Parameter, Stmt};
+use condition_lowering::Code;
 use flow_base::Name;
 use frame_lowering::{Place, frames_in, parameter_frames};
 use object_layout::Table;
-use statement_lowering::{Code, put_body};
+use statement_lowering::put_body;
 use std::alloc::{AllocError, Global};
 
 // A function, where its parameters are known.

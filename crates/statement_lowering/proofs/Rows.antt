@@ -13,9 +13,10 @@ use Rattle.c_scopes.specs.Views.{Known, others}
 use Rattle.c_meaning.specs.Objects.{Program}
 use Rattle.c_lowered.specs.Conditions.{Within}
 use Rattle.c_lowered.specs.Statements.{Around, calls_in, calls_in_all, items_of, labels_in, labels_in_all}
+use Rattle.condition_lowering.specs.Views.{Makes}
 use Rattle.statement_lowering.specs.Afterwards.{Stays}
 use Rattle.statement_lowering.specs.Braces.{next_place, place_items, row_items}
-use Rattle.statement_lowering.specs.Views.{Makes, known_after}
+use Rattle.statement_lowering.specs.Views.{known_after}
 use Rattle.statement_lowering.proofs.Scopes.{others_after}
 
 abbrev rest_of : List Stmt → Statements

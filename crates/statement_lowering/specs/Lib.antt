@@ -1,7 +1,6 @@
 -- The files of this folder.
 pub mod Views
 pub mod Afterwards
-pub mod Joins
 pub mod SwitchMarks
 pub mod Arguments
 pub mod ValueParts

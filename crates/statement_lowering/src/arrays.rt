@@ -7,12 +7,11 @@ ghost use Rattle.c_meaning.specs.Values as sizes;
 ghost use Rattle.c_meaning.specs.Statements as meaning;
 ghost use Rattle.c_lowered.specs.Effects as laws;
 ghost use Rattle.object_layout.specs.Views.{program_in};
-ghost use Rattle.statement_lowering.specs.Views.{Makes};
+ghost use Rattle.condition_lowering.specs.Views.{Makes};
 
-use crate::code::Code;
-use crate::items::put_act;
 use alf_program::{Expr as Term, Item, Stmt as Act};
 use c_unit::{Constant, Integer};
+use condition_lowering::{Code, put_act};
 use object_layout::count_at;
 use operator_lowering::{address, bytes_of_type, constant_of, cut, negated, whole};
 use std::alloc::AllocError;

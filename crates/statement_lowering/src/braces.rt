@@ -5,16 +5,17 @@ ghost use Rattle.c_unit.specs.Tree.{expression_of, statement_of, statements_of};
 ghost use Rattle.c_unit.specs.Units.{unit_of};
 ghost use Rattle.c_scopes.specs.Views.{entered, left};
 ghost use Rattle.c_lowered.specs.Statements as laws;
+ghost use Rattle.condition_lowering.specs.Views.{Makes, within_of};
 ghost use Rattle.statement_lowering.specs.Braces.{after_row, around_row, before_row, close_of, labels_at_row, next_place, place_items, place_of};
-ghost use Rattle.statement_lowering.specs.Views.{Makes, around_of, within_of};
+ghost use Rattle.statement_lowering.specs.Views.{around_of};
 
-use crate::code::{Code, Targets, greater};
-use crate::items::put_label;
+use crate::context::Targets;
 use crate::switch_labels::{labels_of, mark_of};
 use crate::switches::{cases_in, put_mark, put_switch};
 use alf_program::Item;
 use c_scopes::Scopes;
 use c_unit::{Expr, Stmt};
+use condition_lowering::{Code, greater, put_label};
 use std::alloc::AllocError;
 
 /// What statements in braces are.

@@ -7,16 +7,16 @@ ghost use Rattle.c_unit.specs.Units.{unit_of};
 ghost use Rattle.c_lowered.specs.Names as names;
 ghost use Rattle.c_lowered.specs.Effects as laws;
 ghost use Rattle.object_layout.specs.Views.{program_in};
+ghost use Rattle.condition_lowering.specs.Views.{Makes, within_of};
 ghost use Rattle.statement_lowering.specs.Arguments as parts;
-ghost use Rattle.statement_lowering.specs.Views.{Makes, within_of};
 
-use crate::code::Code;
-use crate::items::{call_name, put_act};
 use alf_program::{Expr as Term, Item, Stmt as Act};
 use c_scopes::Scopes;
 use c_unit::{Call, Expr, Outcome, Parameter, Scalar};
+use condition_lowering::{Code, put_act};
 use expression_lowering::value_of;
 use flow_base::Name;
+use object_layout::numbered_name;
 use operator_lowering::{address, cut_to, loaded, whole};
 use std::alloc::AllocError;
 
@@ -82,6 +82,18 @@ fn others_of(parameters: &[Parameter]) -> &[Parameter]
         Some((_, others)) => others,
         None => parameters,
     }
+}
+
+// The name of the frame of the result of the function's call of this number.
+fn call_name(code: Code<'_, '_>, number: u64) -> Result<Name, AllocError>
+    ensures { IfOk result (λ name. name ≡ names.call_name (program_in code.entry.table.now) code.entry.function number) }
+{
+    numbered_name(
+        code.alloc,
+        code.table.function_name(code.function),
+        b"$",
+        number,
+    )
 }
 
 // The frame that a result goes to.

@@ -4,17 +4,17 @@ ghost use Rattle.std.specs.Prelude.{◌≡◌, IfOk, OnOk};
 ghost use Rattle.c_unit.specs.Units.{unit_of};
 ghost use Rattle.c_scopes.specs.Views.{entered, left};
 ghost use Rattle.object_layout.specs.Views.{program_in};
-ghost use Rattle.statement_lowering.specs.declared.code.Code as codes;
-ghost use Rattle.statement_lowering.specs.Views.{Makes, around_of, within_of};
+ghost use Rattle.condition_lowering.specs.declared.code.Code as codes;
+ghost use Rattle.condition_lowering.specs.Views.{Makes, within_of};
+ghost use Rattle.statement_lowering.specs.Views.{around_of};
 ghost use Rattle.statement_lowering.specs.Controls.{after_part, around_part, before_part, calls_at, labels_after, labels_at};
 
-use crate::branches::{begin_if, end_else, end_if, end_then};
-use crate::code::{Code, Next, Targets, greater};
-use crate::items::put_label;
+use crate::context::{Next, Targets};
 use crate::loops::{begin_for, begin_while, calls_if, end_do, end_for, end_while, loop_targets};
 use alf_program::Item;
 use c_scopes::Scopes;
 use c_unit::{Effect, Expr};
+use condition_lowering::{Code, begin_if, end_else, end_if, end_then, greater, put_label};
 use object_layout::Table;
 use std::alloc::AllocError;
 

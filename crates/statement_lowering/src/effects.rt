@@ -7,15 +7,15 @@ ghost use Rattle.c_unit.specs.Units.{unit_of};
 ghost use Rattle.c_meaning.specs.Statements as meaning;
 ghost use Rattle.c_lowered.specs.Effects as laws;
 ghost use Rattle.object_layout.specs.Views.{program_in};
-ghost use Rattle.statement_lowering.specs.Views.{Makes, within_of};
+ghost use Rattle.condition_lowering.specs.Views.{Makes, within_of};
 
 use crate::calls::{calls_of_outcome, put_call};
-use crate::code::Code;
 use crate::items::put_assign;
 use crate::values::{calls_in_value, put_value};
 use alf_program::{Expr as Term, Item};
 use c_scopes::Scopes;
 use c_unit::{Binary, Effect, Expr, Integer, Scalar};
+use condition_lowering::Code;
 use expression_lowering::{address_of, kind_or_int, value_of};
 use object_layout::Table;
 use operator_lowering::{binary_value, whole};

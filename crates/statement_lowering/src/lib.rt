@@ -1,16 +1,12 @@
 //! Statements of C, lowered to the items of a function.
 //!
-//! Items are put one after the other, and labels and calls are numbered as they come. What each function puts is
-//! said for any items that follow, as `c_lowered` defines it.
+//! Items are put one after the other, and labels and calls are numbered as they come. Conditions are those of
+//! `condition_lowering`. What each function puts is said for any items that follow, as `c_lowered` defines it.
 #![tactic(auto)]
 
-// The function whose code is lowered, and numbers of labels and calls.
-mod code;
+// Where `break` and `continue` lead, and the numbers of labels and calls; jumps and stores.
+mod context;
 mod items;
-
-// Conditions.
-mod conditions;
-mod joins;
 
 // Calls, and what is done without statements.
 mod arrays;
@@ -25,7 +21,6 @@ mod returns;
 
 // What is put before statements that stand in others, and after them.
 mod braces;
-mod branches;
 mod controls;
 mod loops;
 mod switch_labels;
@@ -34,5 +29,4 @@ mod switches;
 // Statements.
 mod statements;
 
-pub use code::Code;
 pub use statements::put_body;

@@ -8,15 +8,16 @@ ghost use Rattle.c_rules.specs.Statements as checks;
 ghost use Rattle.c_scopes.specs.Views.{bound_of};
 ghost use Rattle.c_lowered.specs.Effects as laws;
 ghost use Rattle.object_layout.specs.Views.{program_in};
-ghost use Rattle.statement_lowering.specs.Views.{Makes, with_declared, within_of};
+ghost use Rattle.condition_lowering.specs.Views.{Makes, within_of};
+ghost use Rattle.statement_lowering.specs.Views.{with_declared};
 
 use crate::arrays::put_array;
-use crate::code::{Code, greater};
 use crate::items::put_assign;
 use crate::values::{calls_in_first, put_value};
 use alf_program::Item;
 use c_scopes::{Bound, Scopes};
 use c_unit::{Integer, Local, LocalShape, Scalar, Value};
+use condition_lowering::{Code, greater};
 use object_layout::Table;
 use operator_lowering::address;
 use std::alloc::AllocError;

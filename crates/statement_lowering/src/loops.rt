@@ -7,16 +7,16 @@ ghost use Rattle.c_unit.specs.Units.{unit_of};
 ghost use Rattle.c_lowered.specs.Conditions as conditions;
 ghost use Rattle.c_lowered.specs.Statements as laws;
 ghost use Rattle.object_layout.specs.Views.{program_in};
-ghost use Rattle.statement_lowering.specs.Views.{Makes, within_of};
+ghost use Rattle.condition_lowering.specs.Views.{Makes, within_of};
 
-use crate::branches::put_checked;
-use crate::code::{Code, Next, Targets, greater};
-use crate::conditions::put_condition;
+use crate::context::{Next, Targets};
 use crate::effects::{calls_in_effect, put_effect};
-use crate::items::{label_name, put_jump, put_label};
 use alf_program::Item;
 use c_scopes::Scopes;
 use c_unit::{Effect, Expr};
+use condition_lowering::{
+    Code, greater, label_name, put_checked, put_condition, put_jump, put_label,
+};
 use object_layout::Table;
 use std::alloc::AllocError;
 

@@ -7,10 +7,11 @@ ghost use Rattle.c_unit.specs.Units.{unit_of};
 ghost use Rattle.c_lowered.specs.Effects as effects;
 ghost use Rattle.c_lowered.specs.Statements as laws;
 ghost use Rattle.object_layout.specs.Views.{program_in};
+ghost use Rattle.condition_lowering.specs.Views.{Makes, within_of};
 ghost use Rattle.statement_lowering.specs.Plain.{is_plain};
-ghost use Rattle.statement_lowering.specs.Views.{Makes, around_of, known_after, with_declared, within_of};
+ghost use Rattle.statement_lowering.specs.Views.{around_of, known_after, with_declared};
 
-use crate::code::{Code, Next, Targets, greater};
+use crate::context::{Next, Targets};
 use crate::effects::{calls_in_effect, put_effect};
 use crate::items::put_leaving;
 use crate::locals::put_locals;
@@ -19,6 +20,7 @@ use crate::values::calls_in_first;
 use alf_program::Item;
 use c_scopes::Scopes;
 use c_unit::{Effect, Integer, Local, Stmt, Value};
+use condition_lowering::{Code, greater};
 use std::alloc::AllocError;
 
 // Puts a `return`.

@@ -7,14 +7,13 @@ ghost use Rattle.c_unit.specs.Tree.{value_of};
 ghost use Rattle.c_unit.specs.Units.{unit_of};
 ghost use Rattle.c_lowered.specs.Statements as laws;
 ghost use Rattle.c_lowered.specs.Programs as programs;
-ghost use Rattle.statement_lowering.specs.Views.{Makes, within_of};
+ghost use Rattle.condition_lowering.specs.Views.{Makes, within_of};
 
-use crate::code::Code;
-use crate::items::put_act;
 use crate::values::put_value;
 use alf_program::{Expr as Term, Item, Stmt as Act};
 use c_scopes::Scopes;
 use c_unit::{Outcome, Value};
+use condition_lowering::{Code, put_act};
 use operator_lowering::{cut, whole};
 use std::alloc::AllocError;
 

@@ -6,19 +6,21 @@ ghost use Rattle.c_unit.specs.Units.{unit_of};
 ghost use Rattle.c_lowered.specs.Statements as laws;
 ghost use Rattle.c_lowered.specs.Programs as programs;
 ghost use Rattle.object_layout.specs.Views.{program_in};
+ghost use Rattle.condition_lowering.specs.Views.{Makes, within_of};
 ghost use Rattle.statement_lowering.specs.Afterwards.{Stays};
 ghost use Rattle.statement_lowering.specs.Braces.{braced_items, labels_at_row, row_items};
 ghost use Rattle.statement_lowering.specs.Controls.{calls_at, control_items, labels_after, labels_at};
-ghost use Rattle.statement_lowering.specs.Views.{Makes, around_of, known_after, within_of};
+ghost use Rattle.statement_lowering.specs.Views.{around_of, known_after};
 
 use crate::braces::{Braces, close_row, open_row, put_place};
-use crate::code::{Code, Next, Targets};
+use crate::context::{Next, Targets};
 use crate::controls::{Control, begin_part, end_part};
 use crate::plain::put_plain;
 use crate::returns::put_last_return;
 use alf_program::Item;
 use c_scopes::Scopes;
 use c_unit::{Outcome, Stmt};
+use condition_lowering::Code;
 use std::alloc::AllocError;
 
 /// Puts the items of a function's block and of its end. The scopes are those where the block begins, of which the

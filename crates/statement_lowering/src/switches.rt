@@ -8,16 +8,15 @@ ghost use Rattle.c_rules.specs.Names as worths;
 ghost use Rattle.c_rules.specs.Statements as checks;
 ghost use Rattle.c_lowered.specs.Conditions as names;
 ghost use Rattle.c_lowered.specs.Statements as laws;
-ghost use Rattle.statement_lowering.specs.Views.{Makes, within_of};
+ghost use Rattle.condition_lowering.specs.Views.{Makes, within_of};
 ghost use Rattle.statement_lowering.specs.SwitchMarks.{targets_by, case_by};
 
-use crate::code::{Code, greater};
-use crate::items::{label_name, put_act, put_label};
 use crate::switch_labels::{Mark, is_default, labels_of, mark_of};
 use alf_program::{Item, Num, Stmt as Act};
 use c_scopes::{Scopes, Words};
 use c_tokens::Worth;
 use c_unit::{Constant, Expr, Integer, Stmt};
+use condition_lowering::{Code, greater, label_name, put_act, put_label};
 use expression_lowering::{kind_or_int, value_of};
 use flow_base::Name;
 use operator_lowering::{is_signed, left_type};

@@ -7,14 +7,14 @@ ghost use Rattle.c_unit.specs.Tree.{value_of};
 ghost use Rattle.c_unit.specs.Units.{unit_of};
 ghost use Rattle.c_lowered.specs.Effects as laws;
 ghost use Rattle.object_layout.specs.Views.{program_in};
+ghost use Rattle.condition_lowering.specs.Views.{Makes, within_of};
 ghost use Rattle.statement_lowering.specs.ValueParts.{value_calls, value_term};
-ghost use Rattle.statement_lowering.specs.Views.{Makes, within_of};
 
 use crate::calls::{call_value, calls_of_outcome, put_call};
-use crate::code::Code;
 use alf_program::{Expr as Term, Item};
 use c_scopes::Scopes;
 use c_unit::Value;
+use condition_lowering::Code;
 use expression_lowering::value_of;
 use object_layout::Table;
 use std::alloc::AllocError;

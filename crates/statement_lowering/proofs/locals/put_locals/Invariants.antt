@@ -4,7 +4,8 @@ use Rattle.alf_program.specs.Tree.{BodyItem, item_of}
 use Rattle.c_unit.specs.Tree.{local_of}
 use Rattle.c_lowered.specs.Effects.{locals_items, calls_in_locals}
 use Rattle.object_layout.specs.Views.{program_in}
-use Rattle.statement_lowering.specs.Views.{with_declared, within_of}
+use Rattle.condition_lowering.specs.Views.{within_of}
+use Rattle.statement_lowering.specs.Views.{with_declared}
 use Rattle.statement_lowering.proofs.locals.put_locals.Given as goal
 
 abbrev pub invariant-locals : goal.invariant-locals

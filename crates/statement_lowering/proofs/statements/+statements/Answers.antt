@@ -6,9 +6,10 @@ use Rattle.c_unit.specs.declared.statement.Stmt.TheVariants as stmts
 use Rattle.c_unit.specs.Tree.{statement_of, statements_of}
 use Rattle.c_lowered.specs.Statements.{calls_in_all, labels_in_all}
 use Rattle.object_layout.specs.Views.{program_in}
+use Rattle.condition_lowering.specs.Views.{within_of}
 use Rattle.statement_lowering.specs.Braces.{row_items}
 use Rattle.c_scopes.specs.Views.{Known, entered, left}
-use Rattle.statement_lowering.specs.Views.{around_of, known_after, within_of}
+use Rattle.statement_lowering.specs.Views.{around_of, known_after}
 use Rattle.statement_lowering.proofs.Scopes.{left_after, for_after}
 use Rattle.statement_lowering.proofs.Rows.{row_put, row_labels, row_calls, row_stays}
 use Rattle.statement_lowering.proofs.statements.+statements.Goals as goal

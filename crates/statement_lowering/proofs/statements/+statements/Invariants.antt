@@ -4,9 +4,10 @@ use Rattle.alf_program.specs.Tree.{BodyItem, item_of}
 use Rattle.c_unit.specs.Tree.{statement_of, statements_of}
 use Rattle.c_lowered.specs.Statements.{labels_in_all, calls_in_all}
 use Rattle.object_layout.specs.Views.{program_in}
+use Rattle.condition_lowering.specs.Views.{within_of}
 use Rattle.statement_lowering.specs.Afterwards.{Stays}
 use Rattle.statement_lowering.specs.Braces.{row_items}
-use Rattle.statement_lowering.specs.Views.{around_of, within_of}
+use Rattle.statement_lowering.specs.Views.{around_of}
 use Rattle.statement_lowering.proofs.statements.+statements.Given as goal
 
 abbrev pub invariant-put_row-loop-statement : goal.invariant-put_row-loop-statement

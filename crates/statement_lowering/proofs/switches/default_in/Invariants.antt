@@ -2,7 +2,7 @@
 use Rattle.std.proofs.Common.{◌≡◌, map, length}
 use Rattle.c_unit.specs.Tree.{statement_of, statements_of}
 use Rattle.c_lowered.specs.Statements.{default_in}
-use Rattle.statement_lowering.specs.Views.{within_of}
+use Rattle.condition_lowering.specs.Views.{within_of}
 use Rattle.statement_lowering.proofs.switches.default_in.Given as goal
 
 abbrev pub invariant-labels : goal.invariant-labels

@@ -3,7 +3,7 @@
 ghost use Rattle.std.specs.Prelude.{◌≡◌, ℕ, List, if◌then◌else◌};
 ghost use Rattle.alf_program.specs.Tree.{BodyItem};
 ghost use Rattle.c_lowered.specs.Conditions.{by_unary, by_binary};
-ghost use Rattle.statement_lowering.specs.Joins.{by_join};
+ghost use Rattle.condition_lowering.specs.Joins.{by_join};
 
 use c_unit::{Binary, Unary};
 

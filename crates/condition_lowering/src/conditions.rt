@@ -8,11 +8,12 @@ ghost use Rattle.c_meaning.specs.Expressions.{kind_of};
 ghost use Rattle.c_lowered.specs.Values as values;
 ghost use Rattle.c_lowered.specs.Conditions as laws;
 ghost use Rattle.object_layout.specs.Views.{program_in};
-ghost use Rattle.statement_lowering.specs.Views.{Makes, within_of};
+ghost use Rattle.condition_lowering.specs.Views.{Makes, within_of};
 
 use crate::code::{Code, greater};
-use crate::items::{label_name, put_act, put_label};
+use crate::items::put_act;
 use crate::joins::{Join, is_not, join_of};
+use crate::labels::{label_name, put_label};
 use alf_program::{Expr as Term, Item, Num, Stmt as Act};
 use c_scopes::Scopes;
 use c_unit::{Binary, Expr};

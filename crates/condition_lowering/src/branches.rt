@@ -4,17 +4,18 @@ ghost use Rattle.std.specs.Prelude.{◌≡◌, ◌+◌, ◌∷◌, IfOk, OnOk};
 ghost use Rattle.c_unit.specs.Tree.{expression_of};
 ghost use Rattle.c_unit.specs.Units.{unit_of};
 ghost use Rattle.c_lowered.specs.Conditions as laws;
-ghost use Rattle.statement_lowering.specs.Views.{Makes, within_of};
+ghost use Rattle.condition_lowering.specs.Views.{Makes, within_of};
 
 use crate::code::{Code, greater};
 use crate::conditions::put_condition;
-use crate::items::{label_name, put_jump, put_label};
+use crate::labels::{label_name, put_jump, put_label};
 use alf_program::Item;
 use c_scopes::Scopes;
 use c_unit::Expr;
 use std::alloc::AllocError;
 
-/// Puts a condition, and the label to which it leads where it holds.
+/// Puts a condition, and then the label to which it leads where it holds. Its own labels are numbered from `next` on,
+/// and the number after the last is given.
 pub fn put_checked(
     code: Code<'_, '_>,
     scopes: &Scopes<'_>,
@@ -44,7 +45,8 @@ pub fn put_checked(
     Ok(labels)
 }
 
-/// Puts the condition of an `if` that has so many labels of its own, and the label of what is done where it holds.
+/// Puts the condition of an `if` that has `own` labels of its own, numbered from `labels` on, and the label of what
+/// is done where it holds. The number after the labels of the condition is given.
 pub fn begin_if(
     code: Code<'_, '_>,
     scopes: &Scopes<'_>,
@@ -64,7 +66,7 @@ pub fn begin_if(
     Ok(after)
 }
 
-/// Puts what stands after an `if` without an `else`.
+/// Puts what stands after an `if` without an `else`, whose labels are numbered from `labels` on.
 pub fn end_if(code: Code<'_, '_>, items: &mut Vec<Item>, labels: u64) -> Result<(), AllocError>
     ensures { OnOk result (Makes items.old.items items.new.items (λ rest. laws.jump (within_of code.entry) (1 + labels) ∷ laws.label_item (within_of code.entry) (1 + labels) ∷ rest)) }
 {
@@ -74,7 +76,7 @@ pub fn end_if(code: Code<'_, '_>, items: &mut Vec<Item>, labels: u64) -> Result<
     Ok(())
 }
 
-/// Puts what stands before an `else`.
+/// Puts what stands before the `else` of an `if`, whose labels are numbered from `labels` on.
 pub fn end_then(code: Code<'_, '_>, items: &mut Vec<Item>, labels: u64) -> Result<(), AllocError>
     ensures { OnOk result (Makes items.old.items items.new.items (λ rest. laws.jump (within_of code.entry) (2 + labels) ∷ laws.label_item (within_of code.entry) (1 + labels) ∷ rest)) }
 {
@@ -85,7 +87,7 @@ pub fn end_then(code: Code<'_, '_>, items: &mut Vec<Item>, labels: u64) -> Resul
     Ok(())
 }
 
-/// Puts the label after an `else`.
+/// Puts the label after the `else` of an `if`, whose labels are numbered from `labels` on.
 pub fn end_else(code: Code<'_, '_>, items: &mut Vec<Item>, labels: u64) -> Result<(), AllocError>
     ensures { OnOk result (Makes items.old.items items.new.items (λ rest. laws.label_item (within_of code.entry) (2 + labels) ∷ rest)) }
 {

@@ -1,4 +1,4 @@
-//! The function whose code is lowered, and numbers of labels and calls.
+//! The function whose code is lowered, and the numbers of what its code allocates.
 
 ghost use Rattle.std.specs.Prelude.{◌≡◌, ◌+◌, IfOk};
 
@@ -8,23 +8,12 @@ use std::alloc::{AllocError, Global};
 /// A function whose code is lowered: the table of its unit, and its number.
 #[derive(Clone, Copy)]
 pub struct Code<'b, 'a> {
+    /// Where memory comes from.
     pub alloc: Global,
+    /// The objects and functions of the unit.
     pub table: &'b Table<'a>,
+    /// The number of the function among those of the unit.
     pub function: u32,
-}
-
-/// The labels to which `break` and `continue` lead, where they may stand.
-#[derive(Clone, Copy, Debug)]
-pub struct Targets {
-    pub leave: Option<u64>,
-    pub again: Option<u64>,
-}
-
-/// The numbers of the next label and of the next call.
-#[derive(Clone, Copy, Debug)]
-pub struct Next {
-    pub labels: u64,
-    pub calls: u64,
 }
 
 /// A number that is so much greater. One beyond 64 bits is want of memory.

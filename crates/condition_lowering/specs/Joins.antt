@@ -1,7 +1,7 @@
 -- What operators make of conditions, in three cases.
 --   by_join join both either plain
-use Rattle.statement_lowering.specs.declared.joins.Join.{Join}
-use Rattle.statement_lowering.specs.declared.joins.Join.TheVariants as joins
+use Rattle.condition_lowering.specs.declared.joins.Join.{Join}
+use Rattle.condition_lowering.specs.declared.joins.Join.TheVariants as joins
 
 abbrev pub by_join : {A : Type 0} → Join → A → A → A → A
 by_join joins.Both both either plain = both

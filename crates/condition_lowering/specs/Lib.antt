@@ -1,0 +1,3 @@
+-- The files of this folder.
+pub mod Views
+pub mod Joins

@@ -29,12 +29,7 @@ mod printing;
 mod spelling_laws;
 
 pub use c_unit::CUnit;
-<<<<<<< Updated upstream
-pub use fault::TextFault;
-=======
-pub use externals::read_unit;
 pub use fault::CTextFault;
->>>>>>> Stashed changes
 pub use language::{one_meaning, read};
 pub use laws::spelled_units_are_read_back;
 pub use printing::print;

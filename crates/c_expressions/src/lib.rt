@@ -16,4 +16,4 @@ mod parts;
 
 pub use calls::{assigned, at_call, open_paren, read_call};
 pub use expressions::{close_paren, read_condition, read_target, whole_expr};
-pub use measures::{ends_with_name, is_postfix, rest_after_postfix, rest_of, rest_of_value};
+pub use measures::{is_postfix, rest_after_postfix, rest_of, rest_of_value};

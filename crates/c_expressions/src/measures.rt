@@ -2,7 +2,7 @@
 
 ghost use Rattle.std.specs.Prelude.{◌≡◌, ◌≤◌, ◌&&◌};
 ghost use Rattle.c_unit.specs.Tree.{expression_of, value_of};
-ghost use Rattle.c_grammar.specs.Expressions.{rank_of, joins_conditions, is_not, is_logical, is_unary, is_postfix, ends_with_name, rest_of, rest_after_postfix, rest_of_value, may_stand, takes_cast, cast_others};
+ghost use Rattle.c_grammar.specs.Expressions.{rank_of, joins_conditions, is_not, is_logical, is_unary, is_postfix, rest_of, rest_after_postfix, rest_of_value, may_stand, takes_cast, cast_others};
 
 use c_grammar::{Casts, Others};
 use c_unit::{Binary, Expr, Unary, Value};
@@ -112,28 +112,12 @@ pub fn is_postfix(expr: &Expr) -> bool
     }
 }
 
-/// Whether the last token is a name that is an operand.
-pub fn ends_with_name(expr: &Expr) -> bool
-    ensures { result ≡ ends_with_name (expression_of expr.now) }
-{
-    match expr {
-        Expr::Constant(_) => false,
-        Expr::Name(_) => true,
-        Expr::Parentheses(_, _) => false,
-        Expr::Unary(_, _, operand) => ends_with_name(operand),
-        Expr::Cast(_, _, operand) => ends_with_name(operand),
-        Expr::Index(_, _, _) => false,
-        Expr::Binary(_, _, _, right) => ends_with_name(right),
-    }
-}
-
 /// What C99 could go on with after an expression.
 pub fn rest_of(comma: bool, expr: &Expr) -> Others
     ensures { result ≡ rest_of comma (expression_of expr.now) }
 {
     Others::Rest {
         unary: is_unary(expr),
-        name: ends_with_name(expr),
         comma,
     }
 }
@@ -142,11 +126,7 @@ pub fn rest_of(comma: bool, expr: &Expr) -> Others
 pub fn rest_after_postfix(comma: bool) -> Others
     ensures { result ≡ rest_after_postfix comma }
 {
-    Others::Rest {
-        unary: true,
-        name: false,
-        comma,
-    }
+    Others::Rest { unary: true, comma }
 }
 
 /// What C99 could go on with after a value.

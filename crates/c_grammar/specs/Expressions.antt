@@ -83,23 +83,13 @@ is_postfix (WithCast n t e) = false
 is_postfix (WithBinary op n a b) = false
 is_postfix _ = true
 
--- the last token is a name that is an operand
-abbrev pub ends_with_name : Expression → Bool
-ends_with_name (OfConstant n) = false
-ends_with_name (OfName n) = true
-ends_with_name (InParentheses n e) = false
-ends_with_name (WithUnary op n e) = ends_with_name e
-ends_with_name (WithCast n t e) = ends_with_name e
-ends_with_name (AtIndex b n i) = false
-ends_with_name (WithBinary op n a b) = ends_with_name b
-
 -- what C99 could go on with after an expression, where a comma may be an operator or not
 abbrev pub rest_of : Bool → Expression → Others
-rest_of comma e = others.Rest (is_unary e) (ends_with_name e) comma
+rest_of comma e = others.Rest (is_unary e) comma
 
 -- what it could go on with after a call or a step
 abbrev pub rest_after_postfix : Bool → Others
-rest_after_postfix comma = others.Rest true false comma
+rest_after_postfix comma = others.Rest true comma
 
 -- ---- operators
 

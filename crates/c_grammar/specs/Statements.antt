@@ -22,7 +22,7 @@ use Rattle.c_grammar.specs.declared.specifiers.Setting.TheVariants as settings
 use Rattle.c_grammar.specs.Symbols.{is_specifier, is_step, is_label, is_brace, starts_statement}
 use Rattle.c_grammar.specs.Tokens.{Fault, Limit, Seen, Place, Rule, misfit, misfit_next, one, mark, name, at_text, at_symbol, next_number, sees, sees_symbol, before, before_either, either, some_frames, most_parens}
 use Rattle.c_grammar.specs.Types.{integer_type, star, signed_constant, at_assign, assign_mark, comma_mark, at_list_comma, array, close_brace}
-use Rattle.c_grammar.specs.Expressions.{rest_of, rest_after_postfix, rest_of_value, is_postfix, ends_with_name, close_paren, open_paren, whole_expr, condition, target, some_token, call, sees_call, assigned}
+use Rattle.c_grammar.specs.Expressions.{rest_of, rest_after_postfix, rest_of_value, is_postfix, close_paren, open_paren, whole_expr, condition, target, some_token, call, sees_call, assigned}
 
 -- ---- what a statement does
 
@@ -59,7 +59,7 @@ fits_assigning_of _ postfix o t = Err (misfit o t)
 
 -- =, an operator with =, or a step after a postfix expression
 unfoldable pub assigning_mark : Expression → Bool → Rule true (Assigning × ℕ)
-assigning_mark to last = one (λ t. fits_assigning_of t.symbol (is_postfix to) (others.RestOrEnd (ends_with_name to) last) t)
+assigning_mark to last = one (λ t. fits_assigning_of t.symbol (is_postfix to) (others.RestOrEnd last) t)
 
 unfoldable pub assign : ℕ → Bool → Expression → ℕ → Rule true EffectTree
 assign p last to n = do
@@ -194,7 +194,7 @@ unfoldable pub case_label : Rule true Statement
 case_label = do
   n ← mark (codes "case") others.Nothing
   c ← signed_constant others.Expressions
-  colon (others.Rest false false false)
+  colon (others.Rest false false)
   value (Case n c)
 
 unfoldable pub default_label : Rule true Statement
@@ -469,11 +469,11 @@ placed_statement inner standings.Item = item inner others.Labels
 placed_statement inner standings.SwitchItem = switch_item inner
 placed_statement inner standings.SwitchBlock = block others.Statements (inner standings.SwitchItem)
 
--- something begins that may stand there
+-- a statement or a label begins that may stand there
 abbrev pub may_begin : Standing → Symbol → Bool
 may_begin standings.Part s = starts_statement s
-may_begin standings.Item s = is_specifier s || starts_statement s
-may_begin standings.SwitchItem s = is_specifier s || is_label s || starts_statement s
+may_begin standings.Item s = starts_statement s
+may_begin standings.SwitchItem s = is_label s || starts_statement s
 may_begin standings.SwitchBlock s = is_brace s
 
 abbrev pub others_at : Standing → Others
@@ -485,7 +485,20 @@ others_at standings.SwitchBlock = others.Statements
 abbrev pub fits_too_nested : Standing → Seen → Result Statement Fault
 fits_too_nested s t = if may_begin s t.symbol then Err (Limit which.Nesting 33) else Err (misfit (others_at s) t)
 
+unfoldable pub innermost_item : Standing → Rule true Statement
+innermost_item s = do
+  d ← sees_symbol is_specifier
+  x ← either d declaration (one (fits_too_nested s))
+  value x
+
+-- what stands there, where statements may not be nested: a declaration, which is none
+unfoldable pub innermost : Standing → Rule true Statement
+innermost standings.Part = one (fits_too_nested standings.Part)
+innermost standings.Item = innermost_item standings.Item
+innermost standings.SwitchItem = innermost_item standings.SwitchItem
+innermost standings.SwitchBlock = one (fits_too_nested standings.SwitchBlock)
+
 -- what stands there, where statements may be nested so many times
 unfoldable pub standing : ℕ → Standing → Rule true Statement
-standing zero s = one (fits_too_nested s)
+standing zero s = innermost s
 standing (suc n) s = placed_statement (standing n) s

@@ -234,15 +234,15 @@ is_object_end symbols.OpenBracket = true
 is_object_end _ = false
 
 -- what an expression of C99 goes on with
-abbrev pub continues : Bool → Bool → Bool → Symbol → Bool
-continues unary name comma (symbols.Operator op) = true
-continues unary name comma symbols.OpenBracket = true
-continues unary name comma (symbols.Step up) = true
-continues unary name comma symbols.Assign = unary
-continues unary name comma (symbols.Update op) = unary
-continues unary name comma symbols.OpenParen = name
-continues unary name comma symbols.Comma = comma
-continues unary name comma _ = false
+abbrev pub continues : Bool → Bool → Symbol → Bool
+continues unary comma (symbols.Operator op) = true
+continues unary comma symbols.OpenBracket = true
+continues unary comma symbols.OpenParen = true
+continues unary comma (symbols.Step up) = true
+continues unary comma symbols.Assign = unary
+continues unary comma (symbols.Update op) = unary
+continues unary comma symbols.Comma = comma
+continues unary comma _ = false
 
 abbrev pub ends_effect : Bool → Symbol → Bool
 ends_effect last symbols.CloseParen = last
@@ -264,8 +264,8 @@ goes_with others.StepsAndBraces s = is_step s || is_brace s
 goes_with others.Expressions s = starts_expression s
 goes_with others.ExpressionsAndBraces s = starts_expression s || is_brace s
 goes_with others.Sizes s = starts_expression s || is_close_bracket s
-goes_with (others.Rest unary name comma) s = continues unary name comma s
-goes_with (others.RestOrEnd name last) s = continues true name true s || ends_effect last s
+goes_with (others.Rest unary comma) s = continues unary comma s
+goes_with (others.RestOrEnd last) s = continues true true s || ends_effect last s
 goes_with others.Object s = is_object_end s
 goes_with others.Parameter s = is_name s || is_star s || is_bracket s || is_comma s
 goes_with others.Stars s = is_star s

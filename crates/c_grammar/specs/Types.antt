@@ -31,7 +31,7 @@ use Rattle.c_grammar.specs.Tokens.{Fault, OutOfProfile, Seen, Place, Rule, misfi
 -- ---- the words of a type
 
 abbrev pub no_words : Specifiers
-no_words = record { base = bases.Unsaid; sign = signs.Unsaid; is_static = false }
+no_words = record { base = bases.Unsaid; sign = signs.Unsaid; is_static = false; is_const = false }
 
 abbrev pub fits_word_of : NextWord → Seen → Result Specifiers Fault
 fits_word_of (nexts.Fits w) t = Ok w
@@ -138,7 +138,7 @@ comma_mark = do
 
 -- what might stand after a constant
 abbrev pub after_constant : Others
-after_constant = others.Rest true false false
+after_constant = others.Rest true false
 
 -- a comma comes next, and then no brace
 abbrev pub at_further : Place → Bool
@@ -291,7 +291,7 @@ parameters_from n i = do
   right_paren others.Nothing
   value (p ∷ ps)
 
--- `void` alone says that there is none
+-- `void` alone, without `const`, says that there is none
 unfoldable pub void_parameters : Rule true (List Parameter)
 void_parameters = do
   right_paren others.Parameter

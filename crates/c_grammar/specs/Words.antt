@@ -1,7 +1,7 @@
 -- The words of a type, in any order.
 --   with_word setting words s   what a further symbol after these words comes to
 --   outcome_of words            the type that the words are, if they are one
-use Rattle.std.specs.Prelude.{Bool, true, false, Option, Some, None, if◌then◌else◌}
+use Rattle.std.specs.Prelude.{Bool, true, false, not, Option, Some, None, if◌then◌else◌}
 use Rattle.c_unit.specs.declared.types.Integer.{Integer}
 use Rattle.c_unit.specs.declared.types.Integer.TheVariants as integers
 use Rattle.c_unit.specs.declared.types.Outcome.{Outcome}
@@ -20,11 +20,16 @@ use Rattle.c_grammar.specs.declared.specifiers.Specifiers.{Specifiers}
 use Rattle.c_grammar.specs.declared.specifiers.NextWord.{NextWord}
 use Rattle.c_grammar.specs.declared.specifiers.NextWord.TheVariants as nexts
 
--- at file level a function may give nothing, and `(void)` says that there are no parameters
-abbrev pub takes_void : Setting → Bool
-takes_void settings.File = true
-takes_void settings.FirstParameter = true
-takes_void _ = false
+-- at file level a function may give nothing, and `(void)`, without `const`, says that there are no parameters
+abbrev pub takes_void : Setting → Bool → Bool
+takes_void settings.File is_const = true
+takes_void settings.FirstParameter is_const = not is_const
+takes_void _ is_const = false
+
+-- `const` stands with the words of each type, but not with the `void` of `(void)`
+abbrev pub takes_const : Setting → Base → Bool
+takes_const settings.FirstParameter bases.Void = false
+takes_const _ _ = true
 
 abbrev pub takes_static : Setting → Bool
 takes_static settings.File = true
@@ -36,11 +41,11 @@ knows_static settings.Cast = false
 knows_static _ = true
 
 abbrev pub with_base : Specifiers → Base → NextWord
-with_base w base = nexts.Fits (record { base = base; sign = w.sign; is_static = w.is_static })
+with_base w base = nexts.Fits (record { base = base; sign = w.sign; is_static = w.is_static; is_const = w.is_const })
 
 abbrev pub signed_base : Specifiers → Sign → Base → NextWord
 signed_base w sign bases.Void = nexts.Wrong
-signed_base w sign base = nexts.Fits (record { base = base; sign = sign; is_static = w.is_static })
+signed_base w sign base = nexts.Fits (record { base = base; sign = sign; is_static = w.is_static; is_const = w.is_const })
 
 abbrev pub signed_again : Specifiers → Sign → Sign → NextWord
 signed_again w sign signs.Unsaid = signed_base w sign w.base
@@ -51,7 +56,7 @@ abbrev pub with_sign : Specifiers → Sign → NextWord
 with_sign w sign = signed_again w sign w.sign
 
 abbrev pub void_alone : Setting → Specifiers → Base → Sign → NextWord
-void_alone setting w bases.Unsaid signs.Unsaid = if takes_void setting then with_base w bases.Void else nexts.Outside
+void_alone setting w bases.Unsaid signs.Unsaid = if takes_void setting w.is_const then with_base w bases.Void else nexts.Outside
 void_alone setting w _ _ = nexts.Wrong
 
 -- `void` stands with no other word
@@ -91,13 +96,18 @@ with_type_word setting w words.Unsigned = with_sign w signs.Unsigned
 
 abbrev pub with_static : Setting → Specifiers → NextWord
 with_static setting w =
-    if takes_static setting then (if w.is_static then nexts.Wrong else nexts.Fits (record { base = w.base; sign = w.sign; is_static = true }))
+    if takes_static setting then (if w.is_static then nexts.Wrong else nexts.Fits (record { base = w.base; sign = w.sign; is_static = true; is_const = w.is_const }))
     else if knows_static setting then nexts.Outside else nexts.Wrong
+
+abbrev pub with_const : Setting → Specifiers → NextWord
+with_const setting w =
+    if takes_const setting w.base then nexts.Fits (record { base = w.base; sign = w.sign; is_static = w.is_static; is_const = true })
+    else nexts.Outside
 
 -- what a further symbol after these words comes to
 abbrev pub with_word : Setting → Specifiers → Symbol → NextWord
 with_word setting w (symbols.Type word) = with_type_word setting w word
-with_word setting w symbols.Const = nexts.Fits w
+with_word setting w symbols.Const = with_const setting w
 with_word setting w symbols.Static = with_static setting w
 with_word setting w _ = nexts.Wrong
 

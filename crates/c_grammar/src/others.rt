@@ -24,19 +24,12 @@ pub enum Others {
     ExpressionsAndBraces,
     /// Any expression, or no size at all.
     Sizes,
-    /// What an expression goes on with: operators, brackets, steps. Where `unary` is true also an
-    /// assignment, where `name` is true also a call, and where `comma` is true also a comma.
-    Rest {
-        unary: bool,
-        name: bool,
-        comma: bool,
-    },
+    /// What an expression goes on with: operators, brackets, the parenthesis of a call, steps. Where
+    /// `unary` is true also an assignment, and where `comma` is true also a comma.
+    Rest { unary: bool, comma: bool },
     /// What a statement goes on with that is an expression, or its end: `)` where `last` is true, and
     /// otherwise `;`.
-    RestOrEnd {
-        name: bool,
-        last: bool,
-    },
+    RestOrEnd { last: bool },
     /// What declares an object: `;`, `,`, `=` or `[`.
     Object,
     /// What declares a parameter: a name, `*`, `[` or `,`.
@@ -160,16 +153,16 @@ fn is_object_end(symbol: Symbol) -> bool
     }
 }
 
-fn continues(unary: bool, name: bool, comma: bool, symbol: Symbol) -> bool
-    ensures { result ≡ continues unary name comma symbol }
+fn continues(unary: bool, comma: bool, symbol: Symbol) -> bool
+    ensures { result ≡ continues unary comma symbol }
 {
     match symbol {
         Symbol::Operator(_) => true,
         Symbol::OpenBracket => true,
+        Symbol::OpenParen => true,
         Symbol::Step(_) => true,
         Symbol::Assign => unary,
         Symbol::Update(_) => unary,
-        Symbol::OpenParen => name,
         Symbol::Comma => comma,
         _ => false,
     }
@@ -219,10 +212,8 @@ pub fn goes_with(others: Others, symbol: Symbol) -> bool
         Others::Expressions => starts_expression(symbol),
         Others::ExpressionsAndBraces => starts_expression(symbol) || is_brace(symbol),
         Others::Sizes => starts_expression(symbol) || is_close_bracket(symbol),
-        Others::Rest { unary, name, comma } => continues(unary, name, comma, symbol),
-        Others::RestOrEnd { name, last } => {
-            continues(true, name, true, symbol) || ends_effect(last, symbol)
-        }
+        Others::Rest { unary, comma } => continues(unary, comma, symbol),
+        Others::RestOrEnd { last } => continues(true, true, symbol) || ends_effect(last, symbol),
         Others::Object => is_object_end(symbol),
         Others::Parameter => is_name(symbol)
             || is_star(symbol)

@@ -1,7 +1,7 @@
 //! The words of a type, in any order.
 
 ghost use Rattle.std.specs.Prelude.{◌≡◌};
-ghost use Rattle.c_grammar.specs.Words.{takes_void, takes_static, knows_static, with_base, with_sign, with_void, with_char, with_short, with_int, with_type_word, with_static, with_word, is_unsigned, int_of, char_of, short_of, unsaid_of, outcome_of};
+ghost use Rattle.c_grammar.specs.Words.{takes_void, takes_const, takes_static, knows_static, with_base, with_sign, with_void, with_char, with_short, with_int, with_type_word, with_static, with_const, with_word, is_unsigned, int_of, char_of, short_of, unsaid_of, outcome_of};
 
 use crate::symbol::{Symbol, TypeWord};
 use c_unit::{Integer, Outcome};
@@ -13,7 +13,7 @@ pub enum Setting {
     File,
     /// In a block, or in the first part of a `for`.
     Block,
-    /// At the first parameter, which may be `void` alone.
+    /// At the first parameter, which may be `void` alone, without `const`.
     FirstParameter,
     Parameter,
     Cast,
@@ -44,6 +44,7 @@ pub struct Specifiers {
     pub base: Base,
     pub sign: Sign,
     pub is_static: bool,
+    pub is_const: bool,
 }
 
 /// What one more word comes to.
@@ -55,13 +56,26 @@ pub enum NextWord {
     Wrong,
 }
 
-fn takes_void(setting: Setting) -> bool
-    ensures { result ≡ takes_void setting }
+fn takes_void(setting: Setting, is_const: bool) -> bool
+    ensures { result ≡ takes_void setting is_const }
 {
     match setting {
         Setting::File => true,
-        Setting::FirstParameter => true,
+        Setting::FirstParameter => !is_const,
         _ => false,
+    }
+}
+
+// Whether `const` stands with such words: not with the `void` of an empty list of parameters.
+fn takes_const(setting: Setting, base: Base) -> bool
+    ensures { result ≡ takes_const setting base }
+{
+    match setting {
+        Setting::FirstParameter => match base {
+            Base::Void => false,
+            _ => true,
+        },
+        _ => true,
     }
 }
 
@@ -91,6 +105,7 @@ fn with_base(words: Specifiers, base: Base) -> NextWord
         base,
         sign: words.sign,
         is_static: words.is_static,
+        is_const: words.is_const,
     })
 }
 
@@ -105,6 +120,7 @@ fn with_sign(words: Specifiers, sign: Sign) -> NextWord
                 base: words.base,
                 sign,
                 is_static: words.is_static,
+                is_const: words.is_const,
             }),
         },
         _ => NextWord::Wrong,
@@ -117,7 +133,7 @@ fn with_void(setting: Setting, words: Specifiers) -> NextWord
     match words.base {
         Base::Unsaid => match words.sign {
             Sign::Unsaid => {
-                if takes_void(setting) {
+                if takes_void(setting, words.is_const) {
                     with_base(words, Base::Void)
                 } else {
                     NextWord::Outside
@@ -182,6 +198,7 @@ fn with_static(setting: Setting, words: Specifiers) -> NextWord
                 base: words.base,
                 sign: words.sign,
                 is_static: true,
+                is_const: words.is_const,
             })
         }
     } else if knows_static(setting) {
@@ -191,13 +208,28 @@ fn with_static(setting: Setting, words: Specifiers) -> NextWord
     }
 }
 
+fn with_const(setting: Setting, words: Specifiers) -> NextWord
+    ensures { result ≡ with_const setting words }
+{
+    if takes_const(setting, words.base) {
+        NextWord::Fits(Specifiers {
+            base: words.base,
+            sign: words.sign,
+            is_static: words.is_static,
+            is_const: true,
+        })
+    } else {
+        NextWord::Outside
+    }
+}
+
 /// What a further symbol after these words comes to.
 pub fn with_word(setting: Setting, words: Specifiers, symbol: Symbol) -> NextWord
     ensures { result ≡ with_word setting words symbol }
 {
     match symbol {
         Symbol::Type(word) => with_type_word(setting, words, word),
-        Symbol::Const => NextWord::Fits(words),
+        Symbol::Const => with_const(setting, words),
         Symbol::Static => with_static(setting, words),
         _ => NextWord::Wrong,
     }

@@ -1,9 +1,9 @@
 -- How many labels statements allocate, against their tokens.
 --   weight s     the labels of a statement, with those of a case, and of the cases in a block
 use Rattle.c_grammar.specs.Expressions.{close_paren, open_paren, some_token, rest_of, rest_of_value, whole_expr, assigned}
-use Rattle.c_grammar.specs.Statements.{Inside, after_word, at_else, block, break_after, case_label, colon, continue_after, controlling, declaration, declared_first, default_label, do_after, effect, effect_first, effect_statement, else_part, empty_condition, empty_first, empty_statement, fits_too_nested, for_after, for_condition, for_first, for_last, further_local, if_after, in_block, is_statement, item, items_of, label, leaving_after, local, may_begin, others_at, placed_statement, return_after, return_nothing, return_value, semicolon, some_condition, some_first, standing, statement, switch_after, switch_item, switch_value, unworded, unworded_long, while_after, while_word, worded, worded_after}
+use Rattle.c_grammar.specs.Statements.{Inside, after_word, at_else, block, break_after, case_label, colon, continue_after, controlling, declaration, declared_first, default_label, do_after, effect, effect_first, effect_statement, else_part, empty_condition, empty_first, empty_statement, fits_too_nested, for_after, for_condition, for_first, for_last, further_local, if_after, in_block, innermost, innermost_item, is_statement, item, items_of, label, leaving_after, local, may_begin, others_at, placed_statement, return_after, return_nothing, return_value, semicolon, some_condition, some_first, standing, statement, switch_after, switch_item, switch_value, unworded, unworded_long, while_after, while_word, worded, worded_after}
 use Rattle.c_grammar.specs.Symbols.{is_specifier, is_label}
-use Rattle.c_grammar.specs.Tokens.{Fault, Limit, Syntax, Place, Rule, Seen, mark, misfit, most_parens, next_number, sees, sees_symbol}
+use Rattle.c_grammar.specs.Tokens.{Fault, Limit, Syntax, Place, Rule, Seen, mark, misfit, most_parens, next_number, one, sees, sees_symbol}
 use Rattle.c_grammar.specs.Types.{at_list_comma, close_brace, integer_type, signed_constant}
 use Rattle.c_grammar.specs.declared.others.Others.{Others}
 use Rattle.c_grammar.specs.declared.standing.Standing.{Standing}
@@ -39,7 +39,7 @@ declaration_spends = less next_number >>- λ n. less (integer_type settings.Bloc
 
 case_label_spends : Spends 0 case_label.form weight
 unfolding case_label
-case_label_spends = strict (mark (codes "case") others.Nothing) >>! λ n. less (signed_constant others.Expressions) >>- λ c. less (colon (others.Rest false false false)) >>- λ _. done (omega arith)
+case_label_spends = strict (mark (codes "case") others.Nothing) >>! λ n. less (signed_constant others.Expressions) >>- λ c. less (colon (others.Rest false false)) >>- λ _. done (omega arith)
 
 default_label_spends : Spends 0 default_label.form weight
 unfolding default_label
@@ -219,7 +219,21 @@ no_first : {A : Type 0} (s : Standing) (ts : List Seen) (at : Place) (x : Statem
 no_first s [] at x e = ok_no_err x (Syntax None) e
 no_first s (t ∷ ts) at x e = none_fits (Limit which.Nesting 33) (misfit (others_at s) t) x (may_begin s t.symbol) e
 
+too_nested_spends : (s : Standing) → Spends 0 (one (fits_too_nested s)).form weight
+too_nested_spends s = record { each = λ at x rest spells. no_first s at.ahead at x spells.0 }
+
+innermost_item_spends : (s : Standing) → Spends 0 (innermost_item s).form weight
+unfolding innermost_item
+innermost_item_spends s = less (sees_symbol is_specifier) >>- λ d. either_spends d declaration (one (fits_too_nested s)) declaration_spends (too_nested_spends s) >>+ λ x. done (omega arith)
+
+innermost_spends : (s : Standing) → Spends 0 (innermost s).form weight
+unfolding innermost
+innermost_spends standings.Part = too_nested_spends standings.Part
+innermost_spends standings.Item = innermost_item_spends standings.Item
+innermost_spends standings.SwitchItem = innermost_item_spends standings.SwitchItem
+innermost_spends standings.SwitchBlock = too_nested_spends standings.SwitchBlock
+
 pub standing_spends : (n : ℕ) (s : Standing) → Spends 0 (standing n s).form weight
 unfolding standing
-standing_spends zero s = record { each = λ at x rest spells. no_first s at.ahead at x spells.0 }
+standing_spends zero s = innermost_spends s
 standing_spends (suc n) s = placed_spends (standing n) (standing_spends n) s

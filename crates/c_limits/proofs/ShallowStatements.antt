@@ -1,7 +1,7 @@
 -- In what rules of statements spell each value and each condition is shallow.
 use Rattle.c_grammar.specs.Expressions.{rest_after_postfix, rest_of, rest_of_value}
-use Rattle.c_grammar.specs.Statements.{Inside, after_local, after_word, array_local, assign, assigning_mark, at_else, block, break_after, call_effect, case_label, colon, continue_after, controlling, declaration, declared_first, default_label, do_after, effect, effect_after, effect_end, effect_first, effect_statement, else_part, empty_condition, empty_first, empty_last, empty_statement, fits_too_nested, for_after, for_condition, for_first, for_last, further_local, if_after, in_block, initial, integer_local, item, items_of, label, label_end, leaving_after, local, local_end, may_begin, other_effect, others_at, placed_statement, plain_local, pointer_local, postfix_step, prefix_step, return_after, return_nothing, return_value, semicolon, some_condition, some_first, some_last, standing, statement, step, switch_after, switch_item, switch_value, target_effect, unworded, unworded_long, update, while_after, while_word, worded, worded_after}
-use Rattle.c_grammar.specs.Tokens.{Fault, Limit, Rule, Seen, misfit, most_parens}
+use Rattle.c_grammar.specs.Statements.{Inside, after_local, after_word, array_local, assign, assigning_mark, at_else, block, break_after, call_effect, case_label, colon, continue_after, controlling, declaration, declared_first, default_label, do_after, effect, effect_after, effect_end, effect_first, effect_statement, else_part, empty_condition, empty_first, empty_last, empty_statement, fits_too_nested, for_after, for_condition, for_first, for_last, further_local, if_after, in_block, initial, innermost, innermost_item, integer_local, item, items_of, label, label_end, leaving_after, local, local_end, may_begin, other_effect, others_at, placed_statement, plain_local, pointer_local, postfix_step, prefix_step, return_after, return_nothing, return_value, semicolon, some_condition, some_first, some_last, standing, statement, step, switch_after, switch_item, switch_value, target_effect, unworded, unworded_long, update, while_after, while_word, worded, worded_after}
+use Rattle.c_grammar.specs.Tokens.{Fault, Limit, Rule, Seen, misfit, most_parens, one}
 use Rattle.c_grammar.specs.Types.{at_assign, at_list_comma}
 use Rattle.c_grammar.specs.declared.others.Others.{Others}
 use Rattle.c_grammar.specs.declared.standing.Assigning.{Assigning}
@@ -163,7 +163,7 @@ colon_keeps o = mark_keeps (codes ":") o >>> λ _. label_end_keeps >>> λ _. mad
 
 case_label_makes : Makes case_label.form StatementIsShallow
 unfolding case_label
-case_label_makes = mark_keeps (codes "case") others.Nothing >>- λ n. signed_constant_keeps others.Expressions >>- λ c. colon_keeps (others.Rest false false false) >>- λ _. done tt
+case_label_makes = mark_keeps (codes "case") others.Nothing >>- λ n. signed_constant_keeps others.Expressions >>- λ c. colon_keeps (others.Rest false false) >>- λ _. done tt
 
 default_label_makes : Makes default_label.form StatementIsShallow
 unfolding default_label
@@ -357,7 +357,21 @@ none_fits : (f g : Fault) (x : Statement) (b : Bool) → cond b (Err f) (Err g) 
 none_fits f g x true e = ok_no_err x f e
 none_fits f g x false e = ok_no_err x g e
 
+too_nested_makes : (s : Standing) → Makes (one (fits_too_nested s)).form StatementIsShallow
+too_nested_makes s = one_makes (fits_too_nested s) (λ t x fine e. none_fits (Limit which.Nesting 33) (misfit (others_at s) t) x (may_begin s t.symbol) e)
+
+innermost_item_makes : (s : Standing) → Makes (innermost_item s).form StatementIsShallow
+unfolding innermost_item
+innermost_item_makes s = judged_keeps >>- λ d. either_makes d declaration (one (fits_too_nested s)) declaration_makes (too_nested_makes s) >>+ λ x made. done made
+
+innermost_makes : (s : Standing) → Makes (innermost s).form StatementIsShallow
+unfolding innermost
+innermost_makes standings.Part = too_nested_makes standings.Part
+innermost_makes standings.Item = innermost_item_makes standings.Item
+innermost_makes standings.SwitchItem = innermost_item_makes standings.SwitchItem
+innermost_makes standings.SwitchBlock = too_nested_makes standings.SwitchBlock
+
 pub standing_makes : (n : ℕ) (s : Standing) → Makes (standing n s).form StatementIsShallow
 unfolding standing
-standing_makes zero s = one_makes (fits_too_nested s) (λ t x fine e. none_fits (Limit which.Nesting 33) (misfit (others_at s) t) x (may_begin s t.symbol) e)
+standing_makes zero s = innermost_makes s
 standing_makes (suc n) s = placed_makes (standing n) (standing_makes n) s

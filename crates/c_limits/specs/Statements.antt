@@ -20,7 +20,8 @@ use Rattle.c_grammar.specs.Statements.{effect_first, some_first, for_first, empt
 use Rattle.c_grammar.specs.Statements.{some_last, for_last, for_after, items_of, switch_value, switch_after, break_after}
 use Rattle.c_grammar.specs.Statements.{continue_after, return_nothing, return_value, return_after, leaving_after, worded_after, worded}
 use Rattle.c_grammar.specs.Statements.{empty_statement, in_block, block, effect_statement, unworded_long, unworded, statement, item}
-use Rattle.c_grammar.specs.Statements.{switch_item, placed_statement, may_begin, others_at, fits_too_nested, standing}
+use Rattle.c_grammar.specs.Statements.{switch_item, placed_statement, may_begin, others_at, fits_too_nested}
+use Rattle.c_grammar.specs.Statements.{innermost_item, innermost, standing}
 use Rattle.c_rules.specs.SpelledExpressions.{IfEffect, IfCondition, InStatement, InStatements}
 use Rattle.c_rules.specs.Counts.{tokens_in, all_tokens_in, elements_in, all_elements_in}
 use Rattle.c_limits.specs.Taking.{Later, Takes, judged_takes, made_takes, mark_takes, one_takes, ◌>>>◌}
@@ -68,7 +69,7 @@ module _ (words : List Word) where
   case_fits =
       fits_quiet words (q_then words (q_takes words (mark_takes (codes "case") others.Nothing))
       (λ n _. q_then words (q_takes words (signed_constant_takes others.Expressions)) (λ c _.
-      q_then words (q_takes words (colon_takes (others.Rest false false false))) (λ _ _. q_made words (Case n c) (refl, refl, refl, tt)))))
+      q_then words (q_takes words (colon_takes (others.Rest false false))) (λ _ _. q_made words (Case n c) (refl, refl, refl, tt)))))
 
   default_fits : Fits words default_label.form (IsStatement words)
   unfolding default_label
@@ -383,16 +384,33 @@ module _ (words : List Word) where
   never true f g x e = ok_no_err x f e
   never false f g x e = ok_no_err x g e
 
-  nothing_fits : (place : Standing) → Quietly words (one (fits_too_nested place)).form (λ s. IsStanding place s [] [] 0)
-  nothing_fits place = record { each = λ at x rest s. none at x rest at.ahead s.0 }
+  nothing_fits : (R : Statement → Type 0) (place : Standing) → Quietly words (one (fits_too_nested place)).form R
+  nothing_fits R place = record { each = λ at x rest s. none at x rest at.ahead s.0 }
     where
       none : (at : Place) (x : Statement) (rest : Place) (ts : List Seen)
           → fit_first (λ (at : Place). Syntax None) (λ (t : Seen) (at : Place). fits_too_nested place t) (first_of ts) at ≡ Ok x
-          → Later at rest × IsStanding place x [] [] 0
+          → Later at rest × R x
       none at x rest [] e = ok_no_err x (Syntax None) e
       none at x rest (t ∷ ts) e = never (may_begin place t.symbol) (Limit _ 33) (misfit (others_at place) t) x e
 
+  innermost_item_fits : (place : Standing) → Fits words (innermost_item place).form (IsStatement words)
+  unfolding innermost_item
+  innermost_item_fits place =
+      fits_after words (q_takes words judged_takes)
+      (λ d _. fits_last words (fits_either words d declaration (one (fits_too_nested place)) (declaration_fits words)
+      (fits_quiet words (nothing_fits (λ s. IsStatement words s [] [] 0) place)))
+      (λ s ds calls el is. q_made words s is))
+
+  innermost_fits : (place : Standing) → Fits words (innermost place).form (IsStanding place)
+  unfolding innermost
+  innermost_fits standings.Part = fits_quiet words (nothing_fits (λ s. IsStanding standings.Part s [] [] 0) standings.Part)
+  innermost_fits standings.Item = fits_as words (λ s ds calls el is. (is, tt)) (innermost_item_fits standings.Item)
+  innermost_fits standings.SwitchItem =
+      fits_as words (λ s ds calls el is. (is, tt)) (innermost_item_fits standings.SwitchItem)
+  innermost_fits standings.SwitchBlock =
+      fits_quiet words (nothing_fits (λ s. IsStanding standings.SwitchBlock s [] [] 0) standings.SwitchBlock)
+
   pub standing_fits : (n : ℕ) (place : Standing) → Fits words (standing n place).form (IsStanding place)
   unfolding standing
-  standing_fits zero place = fits_quiet words (nothing_fits place)
+  standing_fits zero place = innermost_fits place
   standing_fits (suc n) place = placed_fits (standing n) (λ p. standing_fits n p) place

@@ -20,7 +20,6 @@ pub fn after_constant() -> Others
 {
     Others::Rest {
         unary: true,
-        name: false,
         comma: false,
     }
 }
@@ -84,6 +83,7 @@ impl<'a> Reader<'a> {
             base: Base::Unsaid,
             sign: Sign::Unsaid,
             is_static: false,
+            is_const: false,
         };
         let first = self.specifier(setting, none)?;
         let words = grow(&Words { setting }, first, self)?;

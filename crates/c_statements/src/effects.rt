@@ -6,8 +6,8 @@ ghost use Rattle.c_grammar.specs.Statements.{effect_end, call_effect, step, pref
 ghost use Rattle.c_reader.specs.Reading.{Reads};
 
 use c_expressions::{
-    assigned, at_call, ends_with_name, is_postfix, read_call, read_target, rest_after_postfix,
-    rest_of, rest_of_value, whole_expr,
+    assigned, at_call, is_postfix, read_call, read_target, rest_after_postfix, rest_of,
+    rest_of_value, whole_expr,
 };
 use c_grammar::{Assigning, Casts, Others, Symbol};
 use c_reader::{Departure, Reader, misfit};
@@ -64,10 +64,7 @@ fn assigning_mark(
 ) -> Result<(Assigning, u32), Departure>
     ensures { Reads (assigning_mark (expression_of to.now) last) (λ x. x) result reader.old reader.new }
 {
-    let others = Others::RestOrEnd {
-        name: ends_with_name(to),
-        last,
-    };
+    let others = Others::RestOrEnd { last };
     let token = reader.token()?;
     match token.symbol {
         Symbol::Assign => Ok((Assigning::Assign, token.number)),

@@ -8,7 +8,7 @@ ghost use Rattle.c_grammar.specs.Tokens.{at_symbol, one};
 ghost use Rattle.c_grammar.specs.Statements.{label_end, colon, case_label, default_label, label, is_statement, may_begin, others_at, fits_too_nested};
 ghost use Rattle.c_reader.specs.Reading.{position, fault_of, Reads};
 
-use c_grammar::{Others, Standing, Symbol, is_specifier, starts_statement};
+use c_grammar::{Others, Standing, Symbol, starts_statement};
 use c_reader::{Departure, Reader, misfit};
 use c_unit::Stmt;
 use flow_base::Which;
@@ -66,7 +66,6 @@ fn case_label(reader: &mut Reader<'_>) -> Result<Stmt, Departure>
     let constant = reader.signed_constant(Others::Expressions)?;
     let others = Others::Rest {
         unary: false,
-        name: false,
         comma: false,
     };
     colon(reader, others)?;
@@ -114,16 +113,14 @@ fn is_brace(symbol: Symbol) -> bool
     }
 }
 
-// Whether something begins with the symbol that may stand there.
+// Whether a statement or a label begins with the symbol that may stand there.
 fn may_begin(standing: Standing, symbol: Symbol) -> bool
     ensures { result ≡ may_begin standing symbol }
 {
     match standing {
         Standing::Part => starts_statement(symbol),
-        Standing::Item => is_specifier(symbol) || starts_statement(symbol),
-        Standing::SwitchItem => {
-            is_specifier(symbol) || is_label(symbol) || starts_statement(symbol)
-        }
+        Standing::Item => starts_statement(symbol),
+        Standing::SwitchItem => is_label(symbol) || starts_statement(symbol),
         Standing::SwitchBlock => is_brace(symbol),
     }
 }

@@ -17,6 +17,7 @@ mod labels;
 // Statements: their heads, and what follows these.
 mod ends;
 mod heads;
+mod innermost;
 mod loops;
 mod made;
 mod simple;

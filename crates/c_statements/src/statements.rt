@@ -11,6 +11,7 @@ ghost use Rattle.c_statements.specs.Heads.{control_of, head_of, controlled, swit
 
 use crate::ends::{control_tail, is_if};
 use crate::heads::{Control, Head, read_head};
+use crate::innermost::read_innermost;
 use crate::labels::too_nested;
 use crate::made::control_statement;
 use c_grammar::{Others, Standing};
@@ -28,7 +29,7 @@ pub fn read_standing(
     ensures { Reads (standing nesting place) statement_of result reader.old reader.new }
 {
     if nesting == 0 {
-        return Err(too_nested(reader, place));
+        return read_innermost(reader, place);
     }
     let head = read_head(reader, place)?;
     let stmt = after_head(reader, nesting - 1, head)?;
@@ -72,7 +73,7 @@ fn switched(reader: &mut Reader<'_>, nesting: u32, value: Expr) -> Result<Stmt, 
 
 // The block of a switch.
 #[cycle(statement)]
-#[tactic(auto, using(crate::proofs::Levels::standing_none, crate::proofs::Levels::switch_more), unfolding(c_grammar::specs::Statements::block))]
+#[tactic(auto, using(crate::proofs::Levels::switch_none, crate::proofs::Levels::switch_more), unfolding(c_grammar::specs::Statements::block))]
 fn switch_block(reader: &mut Reader<'_>, nesting: u32) -> Result<Vec<Stmt>, Departure>
     ensures { Reads (standing nesting standings.SwitchBlock) (λ x. Block (statements_of (map statement_of x.items))) result reader.old reader.new }
 {

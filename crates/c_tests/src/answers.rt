@@ -1,6 +1,6 @@
 //! What the tests share: what is told of a text, and texts from a short notation.
 
-use c_text::{CUnit, TextFault, print, read};
+use c_text::{CTextFault, CUnit, print, read};
 use flow_base::Which;
 use std::alloc::{AllocError, Global};
 
@@ -23,28 +23,28 @@ fn quantity(which: &Which) -> &'static str {
 
 /// What is told of a text: `ok`, or the kind of the fault with its line and column and the token, or the
 /// quantity and its number.
-pub fn told(alloc: Global, answer: &Result<CUnit, TextFault>) -> Result<Vec<u8>, AllocError> {
+pub fn told(alloc: Global, answer: &Result<CUnit, CTextFault>) -> Result<Vec<u8>, AllocError> {
     match answer {
         Ok(_) => b"ok".as_slice().to_vec(alloc),
-        Err(TextFault::Syntax(place)) => {
+        Err(CTextFault::Syntax(place)) => {
             let text = format!(in alloc; "syntax {} {}", place.line, place.column)?;
             text.as_bytes().to_vec(alloc)
         }
-        Err(TextFault::Number(place)) => {
+        Err(CTextFault::Number(place)) => {
             let text = format!(in alloc; "number {} {}", place.line, place.column)?;
             text.as_bytes().to_vec(alloc)
         }
-        Err(TextFault::OutOfProfile(place, word)) => {
+        Err(CTextFault::OutOfProfile(place, word)) => {
             let text = format!(in alloc; "outside {} {} ", place.line, place.column)?;
             let mut all = text.as_bytes().to_vec(alloc)?;
             all.extend_from_slice(word.bytes())?;
             Ok(all)
         }
-        Err(TextFault::Limit(which, count)) => {
+        Err(CTextFault::Limit(which, count)) => {
             let text = format!(in alloc; "limit {} {}", quantity(which), count)?;
             text.as_bytes().to_vec(alloc)
         }
-        Err(TextFault::Memory) => b"memory".as_slice().to_vec(alloc),
+        Err(CTextFault::Memory) => b"memory".as_slice().to_vec(alloc),
     }
 }
 

@@ -1,6 +1,6 @@
 //! Programs of which each token in turn is left out, doubled, swapped with the next or replaced.
 
-use c_text::{TextFault, read};
+use c_text::{CTextFault, read};
 use flow_base::Place;
 use std::alloc::{AllocError, Global};
 use std::test::Fail;
@@ -400,15 +400,15 @@ fn push_answer(
 ) -> Result<(), AllocError> {
     match read(alloc, text.as_bytes()) {
         Ok(_) => row.push('o'),
-        Err(TextFault::Syntax(place)) => {
+        Err(CTextFault::Syntax(place)) => {
             row.push('s')?;
             push_distance(row, alloc, &place, number)
         }
-        Err(TextFault::Number(place)) => {
+        Err(CTextFault::Number(place)) => {
             row.push('n')?;
             push_distance(row, alloc, &place, number)
         }
-        Err(TextFault::OutOfProfile(place, _)) => {
+        Err(CTextFault::OutOfProfile(place, _)) => {
             row.push('p')?;
             push_distance(row, alloc, &place, number)
         }

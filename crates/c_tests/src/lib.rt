@@ -26,6 +26,8 @@ mod units;
 #[cfg(test)]
 mod answers;
 #[cfg(test)]
+mod corners;
+#[cfg(test)]
 mod edits;
 #[cfg(test)]
 mod limits;

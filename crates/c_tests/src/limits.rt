@@ -1,7 +1,7 @@
 //! Texts at limits and past them, and texts that are long or deep.
 
 use crate::answers::{field, push_times, text_of, told};
-use c_text::{TextFault, read};
+use c_text::{CTextFault, read};
 use std::alloc::{AllocError, Global};
 use std::test::Fail;
 
@@ -106,7 +106,7 @@ int f(){for(;;g( ~ 63#( ~ 1 ~ 63#) ~ ));} @ limit parens 65
 int f(){ ~ 31#{ ~ 31#} ~ } @ ok
 int f(){ ~ 31#{ ~ ; ~ 31#} ~ } @ limit nesting 33
 int f(){ ~ 32#{ ~ 32#} ~ } @ limit nesting 33
-int f(){ ~ 31#{ ~ int x; ~ 31#} ~ } @ limit nesting 33
+int f(){ ~ 31#{ ~ int x; ~ 31#} ~ } @ ok
 int f(){ ~ 30#{ ~ int x; ~ 30#} ~ } @ ok
 int f(){ ~ 30#if(1) ~ ;} @ ok
 int f(){ ~ 31#if(1) ~ ;} @ limit nesting 33
@@ -237,7 +237,7 @@ fn a_long_name_is_told_whole(rt: HostRuntime) -> Result<(), Fail> {
             let text = with_name(alloc, row, "n", count)?;
             let mut name = String::new(alloc);
             push_times(&mut name, "n", count)?;
-            let Err(TextFault::OutOfProfile(place, word)) = read(alloc, text.as_bytes()) else {
+            let Err(CTextFault::OutOfProfile(place, word)) = read(alloc, text.as_bytes()) else {
                 panic!(rt; "{row} {count}");
             };
             let column = format!(in alloc; "{}", place.column)?;

@@ -116,7 +116,7 @@ int f(int x()){} @ outside 1 12 (
 int f(int){} @ outside 1 11 {
 int f(int x,int){} @ outside 1 17 {
 int f(void){} @ ok
-int f(const void){} @ ok
+int f(const void){} @ outside 1 13 void
 int f(void x){} @ outside 1 12 x
 int f(void*x){} @ outside 1 11 *
 int f(int x,void){} @ outside 1 13 void
@@ -197,9 +197,9 @@ int f(){((int)a)=1;} @ ok
 int f(){++(int)a;} @ syntax 1 12
 int f(){5=3;*p=1;a[1][2]=3;!x=1;} @ ok
 int f(){f()=1;} @ outside 1 12 =
-int f(){f()();} @ syntax 1 12
+int f(){f()();} @ outside 1 12 (
 int f(){f(1)[2]=1;} @ outside 1 13 [
-int f(){(f)();} @ syntax 1 12
+int f(){(f)();} @ outside 1 12 (
 int f(){f(,1);} @ syntax 1 11
 int f(){f(1,);} @ syntax 1 13
 int f(){f(g());} @ outside 1 12 (

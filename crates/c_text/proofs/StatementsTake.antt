@@ -1,7 +1,7 @@
 -- The rules of statements take tokens that can be printed.
-use Rattle.c_grammar.specs.Expressions.{at_call, ends_with_name, is_postfix, rest_after_postfix, rest_of, rest_of_value, sees_call}
-use Rattle.c_grammar.specs.Statements.{Inside, after_local, after_word, array_local, assign, assigning_mark, at_else, block, break_after, call_effect, case_label, colon, continue_after, controlling, declaration, declared_first, default_label, do_after, effect, effect_after, effect_end, effect_first, effect_statement, else_part, empty_condition, empty_first, empty_last, empty_statement, fits_assigning_of, fits_step_of, fits_too_nested, for_after, for_condition, for_first, for_last, further_local, if_after, in_block, initial, integer_local, is_statement, item, label, label_end, leaving_after, local, local_end, may_begin, other_effect, others_at, placed_statement, plain_local, pointer_local, postfix_step, prefix_step, return_after, return_nothing, return_value, semicolon, some_condition, some_first, some_last, standing, statement, step, switch_after, switch_item, switch_value, target_effect, unworded, unworded_long, update, while_after, while_word, worded, worded_after}
-use Rattle.c_grammar.specs.Tokens.{Fault, Limit, Place, Rule, Seen, at_symbol, either, misfit, most_parens}
+use Rattle.c_grammar.specs.Expressions.{at_call, is_postfix, rest_after_postfix, rest_of, rest_of_value, sees_call}
+use Rattle.c_grammar.specs.Statements.{Inside, after_local, after_word, array_local, assign, assigning_mark, at_else, block, break_after, call_effect, case_label, colon, continue_after, controlling, declaration, declared_first, default_label, do_after, effect, effect_after, effect_end, effect_first, effect_statement, else_part, empty_condition, empty_first, empty_last, empty_statement, fits_assigning_of, fits_step_of, fits_too_nested, for_after, for_condition, for_first, for_last, further_local, if_after, in_block, initial, innermost, innermost_item, integer_local, is_statement, item, label, label_end, leaving_after, local, local_end, may_begin, other_effect, others_at, placed_statement, plain_local, pointer_local, postfix_step, prefix_step, return_after, return_nothing, return_value, semicolon, some_condition, some_first, some_last, standing, statement, step, switch_after, switch_item, switch_value, target_effect, unworded, unworded_long, update, while_after, while_word, worded, worded_after}
+use Rattle.c_grammar.specs.Tokens.{Fault, Limit, Place, Rule, Seen, at_symbol, either, misfit, most_parens, one}
 use Rattle.c_grammar.specs.Types.{at_assign, at_list_comma}
 use Rattle.c_grammar.specs.declared.others.Others.{Others}
 use Rattle.c_grammar.specs.declared.standing.Assigning.{Assigning}
@@ -39,8 +39,8 @@ prefix_step_takes p last = step_takes >>> λ s. target_takes p casts.Refused oth
 
 pub assigning_mark_takes : (to : Expression) (last : Bool) → Takes (assigning_mark to last).form
 unfolding assigning_mark
-assigning_mark_takes to last = one_takes (λ t. fits_assigning_of t.symbol (is_postfix to) (others.RestOrEnd (ends_with_name to) last) t)
-    (λ t x e. fitting (λ s t. fits_assigning_of s (is_postfix to) (others.RestOrEnd (ends_with_name to) last) t) t (misfit (others.RestOrEnd (ends_with_name to) last) t) x refl e)
+assigning_mark_takes to last = one_takes (λ t. fits_assigning_of t.symbol (is_postfix to) (others.RestOrEnd last) t)
+    (λ t x e. fitting (λ s t. fits_assigning_of s (is_postfix to) (others.RestOrEnd last) t) t (misfit (others.RestOrEnd last) t) x refl e)
 
 pub assign_takes : (p : ℕ) (last : Bool) (to : Expression) (n : ℕ) → Takes (assign p last to n).form
 unfolding assign
@@ -123,7 +123,7 @@ colon_takes o = mark_takes (codes ":") o colon_prints >>> λ _. label_end_takes 
 
 pub case_label_takes : Takes case_label.form
 unfolding case_label
-case_label_takes = mark_takes (codes "case") others.Nothing case_prints >>> λ n. signed_constant_takes others.Expressions >>> λ c. colon_takes (others.Rest false false false) >>> λ _. made_takes
+case_label_takes = mark_takes (codes "case") others.Nothing case_prints >>> λ n. signed_constant_takes others.Expressions >>> λ c. colon_takes (others.Rest false false) >>> λ _. made_takes
 
 pub default_label_takes : Takes default_label.form
 unfolding default_label
@@ -291,7 +291,21 @@ pub none_fits : (f g : Fault) (x : Statement) (t : Seen) (b : Bool) → cond b (
 none_fits f g x t true e = ok_no_err x f e
 none_fits f g x t false e = ok_no_err x g e
 
+too_nested_takes : (s : Standing) → Takes (one (fits_too_nested s)).form
+too_nested_takes s = one_takes (fits_too_nested s) (λ t x e. none_fits (Limit which.Nesting 33) (misfit (others_at s) t) x t (may_begin s t.symbol) e)
+
+innermost_item_takes : (s : Standing) → Takes (innermost_item s).form
+unfolding innermost_item
+innermost_item_takes s = judged_takes >>> λ d. either_takes d declaration (one (fits_too_nested s)) declaration_takes (too_nested_takes s) >>> λ x. made_takes
+
+innermost_takes : (s : Standing) → Takes (innermost s).form
+unfolding innermost
+innermost_takes standings.Part = too_nested_takes standings.Part
+innermost_takes standings.Item = innermost_item_takes standings.Item
+innermost_takes standings.SwitchItem = innermost_item_takes standings.SwitchItem
+innermost_takes standings.SwitchBlock = too_nested_takes standings.SwitchBlock
+
 pub standing_takes : (n : ℕ) (s : Standing) → Takes (standing n s).form
 unfolding standing
-standing_takes zero s = one_takes (fits_too_nested s) (λ t x e. none_fits (Limit which.Nesting 33) (misfit (others_at s) t) x t (may_begin s t.symbol) e)
+standing_takes zero s = innermost_takes s
 standing_takes (suc n) s = placed_takes (standing n) (standing_takes n) s

@@ -23,8 +23,8 @@ use Rattle.c_grammar.specs.Tokens.{Syntax, Number, OutOfProfile, Limit}
 use Rattle.c_grammar.specs.Tokens as grammar
 use Rattle.c_grammar.specs.Units.{unit}
 use Rattle.c_reader.specs.Reading.{numbered}
-use Rattle.c_text.specs.declared.fault.TextFault.{TextFault}
-use Rattle.c_text.specs.declared.fault.TextFault.TheVariants as faults
+use Rattle.c_text.specs.declared.fault.CTextFault.{CTextFault}
+use Rattle.c_text.specs.declared.fault.CTextFault.TheVariants as faults
 
 -- nothing is counted yet
 abbrev pub full_room : Room
@@ -100,7 +100,7 @@ pub record HasOneMeaning (bytes : List ℕ) : Type 0 where
   pub only : (other : Result UnitTree Departure) → Means bytes other → meaning ≡ other
 
 -- the departure that `read` tells
-abbrev pub departure_of : TextFault → Option Departure
+abbrev pub departure_of : CTextFault → Option Departure
 departure_of (faults.Syntax place) = Some (SyntaxAt place)
 departure_of (faults.Number place) = Some (NumberAt place)
 departure_of (faults.OutOfProfile place word) = Some (OutsideAt place word)

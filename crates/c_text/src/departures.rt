@@ -5,7 +5,7 @@ ghost use Rattle.c_unit.specs.Units.{word_of_span};
 ghost use Rattle.c_reader.specs.Reading.{fault_of};
 ghost use Rattle.c_text.specs.Language.{OutsideAt, words_of, end_of, word_at, word_told, placed, departure_of};
 
-use crate::fault::TextFault;
+use crate::fault::CTextFault;
 use c_reader::Departure;
 use c_tokens::place_of;
 use c_unit::{Span, range};
@@ -40,12 +40,12 @@ fn place_of_span(text: &[u8], span: Span) -> Place
     place_of(text, text.len().saturating_sub(span.start))
 }
 
-fn outside(alloc: Global, text: &[u8], span: Span) -> TextFault
+fn outside(alloc: Global, text: &[u8], span: Span) -> CTextFault
     ensures { IfSome (departure_of result) (λ told. told ≡ OutsideAt (word_of_span text.now span).place (word_of_span text.now span).text) }
 {
     match Name::new(alloc, range(text, span)) {
-        Ok(name) => TextFault::OutOfProfile(place_of_span(text, span), name),
-        Err(_) => TextFault::Memory,
+        Ok(name) => CTextFault::OutOfProfile(place_of_span(text, span), name),
+        Err(_) => CTextFault::Memory,
     }
 }
 
@@ -61,17 +61,17 @@ fn place_told(text: &[u8], spans: &[Span], number: Option<u32>) -> Place
 }
 
 /// The departure with its place in the text, whose tokens are these.
-pub fn told(alloc: Global, text: &[u8], spans: &[Span], departure: Departure) -> TextFault
+pub fn told(alloc: Global, text: &[u8], spans: &[Span], departure: Departure) -> CTextFault
     requires { map (word_of_span text.now) spans.now ≡ words_of text.now }
     ensures { IfSome (departure_of result) (λ told. IsSomeAnd (fault_of departure) (λ fault. told ≡ placed text.now fault)) }
 {
     match departure {
-        Departure::Syntax(number) => TextFault::Syntax(place_told(text, spans, number)),
+        Departure::Syntax(number) => CTextFault::Syntax(place_told(text, spans, number)),
         Departure::Number(number) => {
-            TextFault::Number(place_of_span(text, span_at(text, spans, number)))
+            CTextFault::Number(place_of_span(text, span_at(text, spans, number)))
         }
         Departure::OutOfProfile(number) => { outside(alloc, text, span_at(text, spans, number)) }
-        Departure::Limit(which, count) => TextFault::Limit(which, count),
-        Departure::Memory => TextFault::Memory,
+        Departure::Limit(which, count) => CTextFault::Limit(which, count),
+        Departure::Memory => CTextFault::Memory,
     }
 }

@@ -3,7 +3,7 @@ use thiserror::Error;
 
 /// Where a text departs from the grammar first, or want of memory.
 #[derive(Debug, Drop, Error)]
-pub enum TextFault {
+pub enum CTextFault {
     /// The token that begins here does not fit, or the text ends here.
     #[error("a token that does not fit")]
     Syntax(Place),

@@ -13,7 +13,7 @@ ghost use Rattle.c_text.specs.Language.{start, SpellsTrees, Means, HasOneMeaning
 
 use crate::departures::told;
 use crate::externals::read_unit;
-use crate::fault::TextFault;
+use crate::fault::CTextFault;
 use crate::laws::spelled_units_are_read_back;
 use c_reader::{Departure, Names, Reader, cut};
 use c_unit::{CUnit, External, Span, spans};
@@ -32,7 +32,7 @@ const MOST_ELEMENTS: u64 = 8_192;
 /// takes 48 bytes of memory at most while it is read, and 16 in the unit, beside the trees and the names
 /// of functions. Reading goes as deep as parentheses, operators and statements may be nested, and no
 /// deeper.
-pub fn read(alloc: Global, bytes: &[u8]) -> Result<CUnit, TextFault>
+pub fn read(alloc: Global, bytes: &[u8]) -> Result<CUnit, CTextFault>
     // A text means one thing (`one_meaning`), and this is it.
     ensures spelled { IfOk result (λ unit. Means bytes.now (Ok (unit_of unit))) }
     ensures departs { IfErr result (λ fault. IfSome (departure_of fault) (λ departure. Means bytes.now (Err departure))) }
@@ -41,7 +41,7 @@ pub fn read(alloc: Global, bytes: &[u8]) -> Result<CUnit, TextFault>
 {
     spelled_units_are_read_back();
     let Ok(tokens) = spans(alloc, bytes) else {
-        return Err(TextFault::Memory);
+        return Err(CTextFault::Memory);
     };
     match read_externals(alloc, bytes) {
         Ok(externals) => match whole_unit(alloc, bytes, tokens, externals) {
@@ -86,7 +86,7 @@ fn whole_unit(
     bytes: &[u8],
     tokens: Vec<Span>,
     externals: Vec<External>,
-) -> Result<CUnit, TextFault>
+) -> Result<CUnit, CTextFault>
     ensures unit { IfOk result (λ unit. unit_of unit ≡ record { words = map (word_of_span bytes.now) tokens.items; externals = map external_of externals.items }) }
     ensures memory { IfErr result (λ fault. departure_of fault ≡ None) }
 {
@@ -96,6 +96,6 @@ fn whole_unit(
             tokens,
             externals,
         }),
-        Err(_) => Err(TextFault::Memory),
+        Err(_) => Err(CTextFault::Memory),
     }
 }

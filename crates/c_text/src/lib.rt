@@ -29,7 +29,7 @@ mod printing;
 mod spelling_laws;
 
 pub use c_unit::CUnit;
-pub use fault::TextFault;
+pub use fault::CTextFault;
 pub use language::{one_meaning, read};
 pub use laws::spelled_units_are_read_back;
 pub use printing::print;

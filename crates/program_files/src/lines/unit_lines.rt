@@ -6,28 +6,28 @@ ghost use Rattle.program_files.specs.FaultLines.{place_text};
 ghost use Rattle.program_files.specs.UnitLines.{unit_limit_line, unit_line};
 
 use crate::lines::fault_lines::{place_text, which_word};
-use c_text::TextFault;
+use c_text::CTextFault;
 use flow_base::{Name, Place, Which};
 use std::alloc::{AllocError, Global};
 
 /// The line that tells where a text of C departs from the grammar. Want of memory has none.
-pub fn unit_line(alloc: Global, fault: &TextFault) -> Result<Vec<u8>, AllocError>
+pub fn unit_line(alloc: Global, fault: &CTextFault) -> Result<Vec<u8>, AllocError>
     ensures { IfOk result (λ line. IsSomeAnd (departure_of fault.now) (λ departure. line.items ≡ unit_line departure)) }
 {
     match fault {
-        TextFault::Syntax(place) => {
+        CTextFault::Syntax(place) => {
             let place = place_text(alloc, *place)?;
             let line = format!(in alloc; "fault 90 syntax {place}\n")?;
             Ok(line.into_bytes())
         }
-        TextFault::Number(place) => {
+        CTextFault::Number(place) => {
             let place = place_text(alloc, *place)?;
             let line = format!(in alloc; "fault 91 number {place}\n")?;
             Ok(line.into_bytes())
         }
-        TextFault::OutOfProfile(place, word) => outside_line(alloc, *place, word),
-        TextFault::Limit(which, count) => limit_line(alloc, *which, *count),
-        TextFault::Memory => Err(AllocError),
+        CTextFault::OutOfProfile(place, word) => outside_line(alloc, *place, word),
+        CTextFault::Limit(which, count) => limit_line(alloc, *which, *count),
+        CTextFault::Memory => Err(AllocError),
     }
 }
 

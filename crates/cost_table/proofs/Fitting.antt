@@ -5,7 +5,7 @@
 --   room_of          the cells lie in the first bytes of their frame
 --   rows_are         the rows of the entry are those from the first
 --   keep_more        with rows that keep the rules of rows and share no byte with them they keep these rules
-use Rattle.std.proofs.Common.{◌≡◌, ◌≤◌, ◌+◌, ◌*◌, ◌/◌, ◌⊎◌, ◌++◌, inl, ℕ, zero, suc, true, List, [], length, All, Contains, Option, Some, None, slice_get, refl, ap, sym, ◌∙◌, subst, arith}
+use Rattle.std.proofs.Common.{◌≡◌, ◌≤◌, ◌+◌, ◌*◌, ◌/◌, ◌⊎◌, ◌++◌, inl, ℕ, zero, suc, true, List, [], All, Option, None, slice_get, refl, ap, sym, ◌∙◌, subst, arith}
 use Rattle.std.specs.List.{AllPairs}
 use Rattle.std.specs.Option.{option_map_or}
 use Rattle.std.proofs.lemmas.Bool.Decides.{nat_tests}

@@ -1,6 +1,6 @@
 -- What an inputs file means keeps the rules of rows.
 --   means_keep   the rows of right entries do
-use Rattle.std.proofs.Common.{◌≡◌, ◌≤◌, ◌<◌, ◌+◌, ◌++◌, ◌⊎◌, ⊎_elim, ℕ, zero, suc, List, [], length, take, Option, None, Some, slice_get, get_or, refl, ap, sym, ◌∙◌, subst, arith}
+use Rattle.std.proofs.Common.{◌≡◌, ◌≤◌, ◌<◌, ◌+◌, ◌++◌, ⊎_elim, ℕ, zero, suc, List, [], length, take, Option, None, Some, slice_get, get_or, refl, ap, sym, ◌∙◌, subst, arith}
 use Rattle.std.specs.Option.{option_map_or}
 use Rattle.std.proofs.lemmas.List.{take_all}
 use Rattle.std.proofs.lemmas.List.Elements.{All-nil}
@@ -11,7 +11,7 @@ use Rattle.alf_check.specs.CheckedPrograms.{NumberedProgram}
 use Rattle.alf_check.specs.Inputs.{KeepsInput, KeepInputs}
 use Rattle.cost_table.specs.Entries.{AllRight}
 use Rattle.cost_table.specs.declared.input_entry.Cells.{Cells}
-use Rattle.cost_table.specs.Inputs.{AreApart, IsRightInput, MeansInputs, entry_rows, first_row, input_judging, rows_from, rows_in, rows_of}
+use Rattle.cost_table.specs.Inputs.{AreApart, IsRightInput, entry_rows, first_row, input_judging, rows_from, rows_in, rows_of}
 use Rattle.cost_table.specs.Laws.{RowsKeepTheRules}
 use Rattle.cost_table.proofs.Fitting.{Fits, keep_more, rows_are}
 use Rattle.cost_table.proofs.Steps.{more_made}

@@ -6,29 +6,23 @@
 --   free_apart       none shares a byte with an earlier row if no byte has a mark
 --   met_shares       one does if some byte has a mark
 --   marks_more       once their bytes are marked, the marks are those of all rows
-use Rattle.std.proofs.Common.{◌≡◌, ◌<◌, ◌≤◌, ◌+◌, ◌*◌, ◌/◌, ◌-◌, ◌⊎◌, ◌++◌, inl, inr, ⊎_elim, ℕ, zero, suc, true, List, [], length, All, Contains, Bool, Option, Some, None, slice_get, refl, ap, sym, ◌∙◌, subst, arith}
+use Rattle.std.proofs.Common.{◌≡◌, ◌<◌, ◌≤◌, ◌+◌, ◌*◌, ◌/◌, ◌-◌, ◌++◌, inl, inr, ⊎_elim, ℕ, true, List, length, All, Contains, Bool, Some, slice_get, sym, ◌∙◌, subst, arith}
 use Rattle.std.specs.Prelude.{max}
-use Rattle.std.specs.List.{AllPairs}
-use Rattle.std.specs.Option.{option_map_or}
-use Rattle.std.proofs.lemmas.Bool.Decides.{nat_tests}
-use Rattle.std.proofs.lemmas.Option.{same_Some, slice_get_within}
-use Rattle.std.proofs.lemmas.List.Elements.{All-append, All-contains, Contains-append_cases, Contains-append_left, Contains-append_right}
-use Rattle.std.proofs.lemmas.List.Kept.{AllPairs-cons}
+use Rattle.std.proofs.lemmas.Option.{slice_get_within}
+use Rattle.std.proofs.lemmas.List.Elements.{All-contains, Contains-append_cases, Contains-append_left, Contains-append_right}
 use Rattle.lists.specs.Members.{contained, all_members}
-use Rattle.alf_faults.specs.Sizes.{is_export_size}
-use Rattle.alf_check.specs.declared.rows.FrameRow.{FrameRow}
 use Rattle.alf_check.specs.declared.rows.InputRow.{InputRow}
 use Rattle.alf_check.specs.CheckedPrograms.{NumberedProgram}
 use Rattle.alf_check.specs.Inputs.{KeepsInput, KeepInputs, ShareNoByte}
 use Rattle.alf_check.specs.Kept.{KeepsFrame, IsKept}
 use Rattle.cost_table.specs.declared.input_entry.Cells.{Cells}
 use Rattle.cost_table.specs.declared.input_entry.Run.{Run}
-use Rattle.cost_table.specs.Inputs.{AreApart, IsRun, LiesIn, after, first_row, rows_from, rows_of, root_arguments, whole}
+use Rattle.cost_table.specs.Inputs.{AreApart, IsRun, LiesIn, first_row, rows_from, rows_of}
 use Rattle.cost_table.specs.Marks.{AreMarks, IsMarkedIn, IsTaken, MarksIn, end_of, start_of}
 use Rattle.cost_table.proofs.Fitting as fitting
 use Rattle.cost_table.proofs.Fitting.{Fits, eights}
 use Rattle.cost_table.proofs.Orders.{below_or_not}
-use Rattle.cost_table.proofs.RowsFrom.{IsCellOf, cell_of, taken_from, width}
+use Rattle.cost_table.proofs.RowsFrom.{IsCellOf, cell_of, taken_from}
 
 -- the entry is in range and its cells lie in a frame
 pub record Placed (program : NumberedProgram) (entry : List ℕ × Cells) (run : Run) (first : InputRow) : Type 0 where

@@ -1,13 +1,12 @@
 -- Each checked program to which a text of C is lowered has the outcome of the text.
 --   TextHasFewTokens        the tokens of a text are fewer than its labels may be
 --   SpelledProgramsAreRight the law for cells of the unit: faults included, in as many turns as steps
---   SpelledStartsAreRight   the law for each start of the program inside the ranges of its input rows
-use Rattle.std.specs.Prelude.{◌≤◌, ◌^◌, ℕ, List, length}
+--   SpelledStartsAreRight   the law for each list of numbers inside the ranges of the program's input rows
+use Rattle.std.specs.Prelude.{◌≤◌, ◌^◌, ℕ, ℤ, List, length}
 use Rattle.alf_check.specs.declared.rows.InputRow.{InputRow}
 use Rattle.alf_check.specs.CheckedPrograms.{NumberedProgram}
 use Rattle.alf_check.specs.Inputs.{KeepInputs}
-use Rattle.alf_runs.specs.Starts.{start, IsStart}
-use Rattle.alf_runs.specs.Steps.{Moment}
+use Rattle.alf_runs.specs.Starts.{start, AreWithin, words_of}
 use Rattle.c_unit.specs.Units.{UnitTree}
 use Rattle.c_text.specs.Language.{IsSpelled}
 use Rattle.c_rules.specs.Programs.{IsProgram}
@@ -33,11 +32,11 @@ SpelledProgramsAreRight = (unit : UnitTree) (name ranks : List ℕ) (program : N
     → IsSameOutcome program (start program rows words) (frame_number unit) (λ n. outcome unit name n cells)
 
 abbrev pub SpelledStartsAreRight : Type 0
-SpelledStartsAreRight = (unit : UnitTree) (name ranks : List ℕ) (program : NumberedProgram) (rows : List InputRow) (moment : Moment)
+SpelledStartsAreRight = (unit : UnitTree) (name ranks : List ℕ) (program : NumberedProgram) (rows : List InputRow) (numbers : List ℤ)
     → IsSpelled unit
     → TextHasFewTokens unit
     → IsProgram unit name ranks
     → IsLowered unit name program
     → KeepInputs program rows
-    → IsStart program rows moment
-    → HasOutcomeOfCells unit name program rows moment
+    → AreWithin rows numbers
+    → HasOutcomeOfCells unit name program rows (words_of rows numbers)

@@ -11,7 +11,8 @@ use lowering_simulation::each_program_has_the_outcome_of_its_unit;
 /// Where some text spells a unit and the checks of the unit pass, a checked program to which it is lowered has its
 /// outcome for each input: an outcome of the unit with some number of turns is that of the run by nodes; a run that
 /// is over after so many steps has the outcome of the unit with as many turns; and turns are used up for every number
-/// exactly where the run never ends. So it is of each start inside the ranges of the program's input rows.
+/// exactly where the run never ends. So it is of each list of numbers inside the ranges of the program's input rows,
+/// whose words one list of cells holds.
 pub fn spelled_programs_have_the_outcome_of_their_unit()
     ensures cells { SpelledProgramsAreRight }
     ensures starts { SpelledStartsAreRight }

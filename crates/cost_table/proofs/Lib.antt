@@ -5,9 +5,11 @@ pub mod Orders
 pub mod InputEntries
 pub mod Pairs
 pub mod FramesFound
+pub mod Fitting
 pub mod Placed
 pub mod Lying
 pub mod Steps
+pub mod KeptRows
 pub mod Numbers
 pub mod Functions
 pub mod Costing

@@ -3,9 +3,11 @@
 --   AnswersCosts bytes program answer    the answer to a costs file: its costs, or the fault
 --   IsOne Answers                        two answers are one
 --   InputsHaveOneAnswer, CostsHaveOneAnswer   for a program each file has one answer at most
+--   RowsKeepTheRules                     the rows that an inputs file means keep the rules that runs ask of rows
 use Rattle.std.specs.Prelude.{◌≡◌, ℕ, List, Result, Ok, Err}
 use Rattle.alf_check.specs.declared.rows.InputRow.{InputRow}
 use Rattle.alf_check.specs.CheckedPrograms.{NumberedProgram}
+use Rattle.alf_check.specs.Inputs.{KeepInputs}
 use Rattle.cost_table.specs.declared.fault.TableFault.{TableFault}
 use Rattle.cost_table.specs.Inputs.{MeansInputs, RefusesInputs}
 use Rattle.cost_table.specs.CostTables.{CostTable}
@@ -31,3 +33,7 @@ InputsHaveOneAnswer = (bytes : List ℕ) (program : NumberedProgram) → IsOne (
 
 abbrev pub CostsHaveOneAnswer : Type 0
 CostsHaveOneAnswer = (bytes : List ℕ) (program : NumberedProgram) → IsOne (AnswersCosts bytes program)
+
+-- the rows that an inputs file means for a program keep the rules that runs ask of rows
+abbrev pub RowsKeepTheRules : Type 0
+RowsKeepTheRules = (bytes : List ℕ) (program : NumberedProgram) (rows : List InputRow) → MeansInputs bytes program rows → KeepInputs program rows

@@ -1,10 +1,12 @@
 //! What the definitions promise, as functions that do nothing when they are called.
 
-ghost use Rattle.cost_table.specs.Laws.{InputsHaveOneAnswer, CostsHaveOneAnswer};
+ghost use Rattle.cost_table.specs.Laws.{InputsHaveOneAnswer, CostsHaveOneAnswer, RowsKeepTheRules};
 
 /// For a program an inputs file means one list of rows, or is refused for one fault, and not both; and a
-/// costs file one table or one fault. Does nothing when it is called.
+/// costs file one table or one fault. The rows keep the rules that runs ask of rows. Does nothing when it
+/// is called.
 pub fn a_file_has_one_answer()
     ensures inputs { InputsHaveOneAnswer }
     ensures costs { CostsHaveOneAnswer }
+    ensures keep { RowsKeepTheRules }
 {}

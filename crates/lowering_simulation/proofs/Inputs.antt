@@ -1,7 +1,9 @@
 -- The cells of input rows are those of objects.
+--   are_cells   words of input rows are held by cells of the unit
+--   one_cells   and by no others
 use Rattle.std.specs.Prelude.{slice_get}
 use Rattle.std.specs.Option.{option_map, option_map_or}
-use Rattle.std.proofs.Common.{◌≡◌, ℕ, List, [], ◌∷◌, map, All, Contains, Option, None, Some, sym, ap, ◌∙◌, subst, ⊎_elim}
+use Rattle.std.proofs.Common.{◌≡◌, ℕ, List, [], ◌∷◌, map, All, Contains, Option, None, Some, refl, sym, ap, ◌∙◌, subst, ⊎_elim}
 use Rattle.std.proofs.lemmas.Option.{none-some, same_Some, slice_get-map}
 use Rattle.std.proofs.lemmas.List.Elements.{All-head, All-tail}
 use Rattle.lists.specs.Members.{placed as member_at}
@@ -15,7 +17,7 @@ use Rattle.c_unit.specs.Units.{UnitTree}
 use Rattle.c_meaning.specs.Objects.{program_of, objects_of, object_at, function_at, token_of_parameter}
 use Rattle.c_meaning.specs.Programs.{Cell}
 use Rattle.lowering_layout.specs.Spelled.{HasNames}
-use Rattle.lowering_values.specs.Frames.{frame_number}
+use Rattle.lowering_values.specs.Frames.{frame_number, FramesStand}
 use Rattle.lowering_values.specs.Agreement.{IsLaidOut, AreCells, none, cell, parameter_frame}
 use Rattle.lowering_layout.specs.FrameLaws.{GlobalFramesAreObjects}
 
@@ -52,3 +54,12 @@ module _ (globals : GlobalFramesAreObjects) (unit : UnitTree) (program : Numbere
       let o = object_of row (All-head (KeepsInput program) row rows keep) in
       let rest = are_cells rows words (All-tail (KeepsInput program) row rows keep) are.1 in
       (record { object = o.0; offset = row.offset; size = row.size; word = word } ∷ rest.0, cell row rows word words o.0 rest.0 o.1 are.0 rest.1)
+
+-- objects lie in frames of their own, so that a row has one object
+module _ {unit : UnitTree} (frames : FramesStand unit) where
+  pub one_cells : (rows : List InputRow) (words : List ℕ) (these those : List Cell) → AreCells unit rows words these → AreCells unit rows words those → these ≡ those
+  one_cells _ _ _ _ none none = refl
+  one_cells _ _ _ _ (cell row rows word words o these at low is) (cell _ _ _ _ p those beside _ are) =
+      let object : o ≡ p = frames.apart o p (sym at ∙ beside) in
+      let rest : these ≡ those = one_cells rows words these those is are in
+      λ i. record { object = object i; offset = row.offset; size = row.size; word = word } ∷ rest i

@@ -1,13 +1,12 @@
 -- Each checked program to which a unit is lowered has the outcome of the unit.
---   HasOutcomeOfCells      what a start gives are cells of the unit, and both come to one outcome from there
+--   HasOutcomeOfCells      the run from these words of the input rows and the unit from the cells that hold them, and no other cells do, come to one outcome
 --   LoweringIsRight        the law for cells of the unit: faults included, in as many turns as steps
---   EachStartIsOfTheUnit   the law for each start of the program inside the ranges of its input rows: these are cells of the unit
-use Rattle.std.specs.Prelude.{◌≡◌, ℕ, List}
+--   EachStartIsOfTheUnit   the law for each list of numbers inside the ranges of the program's input rows: cells of the unit hold their words
+use Rattle.std.specs.Prelude.{◌≡◌, ℕ, ℤ, List}
 use Rattle.alf_check.specs.declared.rows.InputRow.{InputRow}
 use Rattle.alf_check.specs.CheckedPrograms.{NumberedProgram}
 use Rattle.alf_check.specs.Inputs.{KeepInputs}
-use Rattle.alf_runs.specs.Starts.{start, IsStart}
-use Rattle.alf_runs.specs.Steps.{Moment}
+use Rattle.alf_runs.specs.Starts.{start, AreWithin, words_of}
 use Rattle.c_unit.specs.Units.{UnitTree}
 use Rattle.c_rules.specs.Programs.{IsProgram}
 use Rattle.c_meaning.specs.Programs.{Cell, outcome}
@@ -28,20 +27,21 @@ LoweringIsRight = (unit : UnitTree) (name ranks : List ℕ) (program : NumberedP
     → AreCells unit rows words cells
     → IsSameOutcome program (start program rows words) (frame_number unit) (λ n. outcome unit name n cells)
 
--- the words of a start are those of these cells, and what comes of both is one outcome
-pub record HasOutcomeOfCells (unit : UnitTree) (name : List ℕ) (program : NumberedProgram) (rows : List InputRow) (moment : Moment) : Type 0 where
-  pub words : List ℕ
+-- the run that starts with these words of the input rows and the unit from the cells that hold these words come to one outcome; these are
+-- the only such cells, so that no other input has a part in it
+pub record HasOutcomeOfCells (unit : UnitTree) (name : List ℕ) (program : NumberedProgram) (rows : List InputRow) (words : List ℕ) : Type 0 where
   pub cells : List Cell
-  pub starts : moment ≡ start program rows words
-  pub same : AreCells unit rows words cells
-  pub outcomes : IsSameOutcome program moment (frame_number unit) (λ n. outcome unit name n cells)
+  pub hold : AreCells unit rows words cells
+  pub only : (others : List Cell) → AreCells unit rows words others → others ≡ cells
+  pub outcomes : IsSameOutcome program (start program rows words) (frame_number unit) (λ n. outcome unit name n cells)
 
+-- so it is with the words of each list of numbers inside the ranges of the rows
 abbrev pub EachStartIsOfTheUnit : Type 0
-EachStartIsOfTheUnit = (unit : UnitTree) (name ranks : List ℕ) (program : NumberedProgram) (rows : List InputRow) (moment : Moment)
+EachStartIsOfTheUnit = (unit : UnitTree) (name ranks : List ℕ) (program : NumberedProgram) (rows : List InputRow) (numbers : List ℤ)
     → IsProgram unit name ranks
     → NamesAreSpelled unit
     → UnitIsPlain unit
     → IsLowered unit name program
     → KeepInputs program rows
-    → IsStart program rows moment
-    → HasOutcomeOfCells unit name program rows moment
+    → AreWithin rows numbers
+    → HasOutcomeOfCells unit name program rows (words_of rows numbers)

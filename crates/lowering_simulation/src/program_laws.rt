@@ -13,7 +13,8 @@ use lowering_layout::{
 /// program to which it is lowered has its outcome for each input: an outcome of the unit with some number of
 /// turns is that of the run by nodes; a run that is over after so many steps has the outcome of the unit with
 /// as many turns; and turns are used up for every number exactly where the run never ends. So it is of each
-/// start inside the ranges of the program's input rows, whose cells are those of objects.
+/// list of numbers inside the ranges of the program's input rows: just one list of cells of the unit holds the
+/// words that the run starts with.
 pub fn each_program_has_the_outcome_of_its_unit()
     ensures cells { LoweringIsRight }
     ensures starts { EachStartIsOfTheUnit }

@@ -1,15 +1,18 @@
 -- The promises of the commands, and of a run.
 use Rattle.std.proofs.Common.{◌≡◌, ◌≤◌, ℕ, List, Vec, Global, Ok, Option, None, Some, IfSome, refl, sym, ◌∙◌, subst, arith}
+use Rattle.std.proofs.lemmas.List.Elements.{All-nil}
 use Rattle.flow_base.specs.Outside.{Files, Rose}
 use Rattle.flow_base.specs.Shelves.{ShelfState}
 use Rattle.flow_base.specs.Sinks.{SinkState}
 use Rattle.alf_program.specs.Tree.{WholeProgram}
 use Rattle.alf_text.specs.Language.{SpellsProgram}
 use Rattle.alf_check.specs.CheckedPrograms.{NumberedProgram}
+use Rattle.alf_check.specs.Inputs.{KeepsInput, KeepInputs}
 use Rattle.alf_check.specs.Checking.{Passes}
 use Rattle.alf_check.specs.declared.rows.InputRow.{InputRow}
 use Rattle.flow_graph.specs.Numbering.{IsGraph}
 use Rattle.cost_table.specs.CostTables.{CostTable}
+use Rattle.cost_table.specs.Laws.{RowsKeepTheRules}
 use Rattle.alf_text.specs.Canonical.{canonical_text}
 use Rattle.alf_text.specs.CanonicalLaws.{CanonicalTextsSpell}
 use Rattle.c_unit.specs.Units.{UnitTree}
@@ -69,6 +72,11 @@ told_tables program inputs costs files before tables after (rows, a, first, (spe
   subst (λ (t : Tables). AreCosts costs files program t.costs) (sym is) (told_costs program costs files a spent b second),
 )
 
+-- the rows keep the rules of rows
+pub inputs_keep : RowsKeepTheRules → (file : Option (List ℕ)) (files : Files) (program : NumberedProgram) (rows : List InputRow) → AreInputs file files program rows → KeepInputs program rows
+inputs_keep law None files program rows is = subst (KeepInputs program) (sym is) (record { each = All-nil (KeepsInput program); apart = λ i j d less low. absurd (omega arith) })
+inputs_keep law (Some file) files program rows (bytes, told, means) = law bytes program rows means
+
 -- ---- promises
 
 -- a text that was printed is that of the order of work
@@ -87,12 +95,12 @@ analysed given before mid end program tables report text first same later second
     }
 
 -- a report that was printed is sound
-pub prints_sound : (given : AnalyseWords) (told : Option Files) (before mid later : Log) (program : ScopedProgram) (tables : Tables) (report : Reported) (text : List ℕ)
+pub prints_sound : RowsKeepTheRules → (given : AnalyseWords) (told : Option Files) (before mid later : Log) (program : ScopedProgram) (tables : Tables) (report : Reported) (text : List ℕ)
     → (scoped_in given.program given.root).steps.Gives told before program mid → (tables_in program.expanded.program given.inputs given.costs).steps.Gives told mid tables later
     → IfSome told (λ files. IsToldProgram given.program given.root files program.expanded.program)
     → IsSoundOf program.expanded.program program.expanded.graph tables.rows tables.costs report → SpellsReport text report → IfSome told (λ files. IsSoundReport given files text)
-prints_sound given None before mid later program tables report text scopes read of sound spelled = tt
-prints_sound given (Some files) before mid later program tables report text scopes read of sound spelled =
+prints_sound law given None before mid later program tables report text scopes read of sound spelled = tt
+prints_sound law given (Some files) before mid later program tables report text scopes read of sound spelled =
     let expanded = program.expanded in
     let both = told_tables expanded.program given.inputs given.costs files mid tables later read in
     record {
@@ -104,18 +112,19 @@ prints_sound given (Some files) before mid later program tables report text scop
       program_told = of;
       graph_is = told_graph given.program given.root (Some files) before program mid scopes;
       rows_told = both.0;
+      rows_keep = inputs_keep law given.inputs files expanded.program tables.rows both.0;
       costs_told = both.1;
       shown = spelled;
       sound = sound;
     }
 
 -- a run that was told is that of the program
-pub tells_run : (given : RunWords) (told : Option Files) (before mid later : Log) (program : ScopedProgram) (tables : Tables) (text : List ℕ)
+pub tells_run : RowsKeepTheRules → (given : RunWords) (told : Option Files) (before mid later : Log) (program : ScopedProgram) (tables : Tables) (text : List ℕ)
     → (scoped_in given.program given.root).steps.Gives told before program mid → (tables_in program.expanded.program given.inputs given.costs).steps.Gives told mid tables later
     → IfSome told (λ files. IsToldProgram given.program given.root files program.expanded.program)
     → IsRunText program.expanded tables.rows tables.costs given.turns text → IfSome told (λ files. TellsRun given files text)
-tells_run given None before mid later program tables text scopes read of shown = tt
-tells_run given (Some files) before mid later program tables text scopes read of shown =
+tells_run law given None before mid later program tables text scopes read of shown = tt
+tells_run law given (Some files) before mid later program tables text scopes read of shown =
     let expanded = program.expanded in
     let both = told_tables expanded.program given.inputs given.costs files mid tables later read in
     record {
@@ -126,6 +135,7 @@ tells_run given (Some files) before mid later program tables text scopes read of
       program_told = of;
       graph_is = told_graph given.program given.root (Some files) before program mid scopes;
       rows_told = both.0;
+      rows_keep = inputs_keep law given.inputs files expanded.program tables.rows both.0;
       costs_told = both.1;
       shown = shown;
     }

@@ -10,6 +10,7 @@ use Rattle.std.specs.Prelude.{◌≡◌, ℕ, List, Result, Ok, Err}
 use Rattle.flow_base.specs.Outside.{Files}
 use Rattle.alf_check.specs.declared.rows.InputRow.{InputRow}
 use Rattle.alf_check.specs.CheckedPrograms.{NumberedProgram}
+use Rattle.alf_check.specs.Inputs.{KeepInputs}
 use Rattle.flow_graph.specs.Numbering.{GraphParts, IsGraph}
 use Rattle.cost_table.specs.CostTables.{CostTable}
 use Rattle.domain_core.specs.Outlines.{Outlined, shape_of}
@@ -71,7 +72,7 @@ pub record IsSoundOf (program : NumberedProgram) (graph : GraphParts) (rows : Li
 
 -- the text spells a report that is sound for the program that the file gives, with inputs and costs as the told files say:
 -- every run from inputs inside the ranges ends, meets each fact, has an alarm for its fault, and costs no more than each bound;
--- where the file is one of C, each run's outcome is that of the unit (`IsToldProgram`)
+-- where the file is one of C, each run's outcome is that of the unit from the cells that hold the run's own inputs (`IsToldProgram`)
 pub record IsSoundReport (given : AnalyseWords) (files : Files) (text : List ℕ) : Type 0 where
   pub program : NumberedProgram
   pub graph : GraphParts
@@ -81,6 +82,7 @@ pub record IsSoundReport (given : AnalyseWords) (files : Files) (text : List ℕ
   pub program_told : IsToldProgram given.program given.root files program
   pub graph_is : IsGraph program graph
   pub rows_told : AreInputs given.inputs files program rows
+  pub rows_keep : KeepInputs program rows
   pub costs_told : AreCosts given.costs files program costs
   pub shown : SpellsReport text report
   pub sound : IsSoundOf program graph rows costs report

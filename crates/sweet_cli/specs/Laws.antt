@@ -1,11 +1,18 @@
 -- Laws of answers.
 --   ReportsStay     a report that is printed in so many turns is printed in more
 --   HaveOneAnswer   told files have one answer to the words, and one list of names read, but for failed reads
-use Rattle.std.specs.Prelude.{◌≤◌, ℕ, List, Some}
+--   RunsOfCHaveTheirOwnOutcome   each run of what a told file of C is lowered to has the outcome of the unit from the cells that hold its own numbers
+use Rattle.std.specs.Prelude.{◌≤◌, ℕ, ℤ, List, Option, Some}
 use Rattle.flow_base.specs.Outside.{Files}
+use Rattle.alf_check.specs.declared.rows.InputRow.{InputRow}
+use Rattle.alf_check.specs.CheckedPrograms.{NumberedProgram}
+use Rattle.alf_runs.specs.Starts.{AreWithin}
+use Rattle.c_lower.specs.Outcomes.{HasUnitsOutcomeFrom}
 use Rattle.command_plans.specs.Log.{Log}
 use Rattle.command_plans.specs.Work.{HasOneEnding}
+use Rattle.program_files.specs.Told.{IsProgramOfUnit}
 use Rattle.sweet_cli.specs.Words.{AnalyseWords}
+use Rattle.sweet_cli.specs.Tables.{AreInputs}
 use Rattle.sweet_cli.specs.Analyse.{analysing}
 use Rattle.sweet_cli.specs.Table.{task_of}
 
@@ -29,3 +36,12 @@ with_turns given turns = record {
 abbrev pub ReportsStay : Type 0
 ReportsStay = (given : AnalyseWords) (more : ℕ) (files : Files) (before after : Log) (text : List ℕ) → given.turns ≤ more
     → (analysing given).steps.Gives (Some files) before text after → (analysing (with_turns given more)).steps.Gives (Some files) before text after
+
+-- where a told file of C gives the program and a told file of inputs its rows, the run from each list of numbers inside the ranges of these
+-- rows has the outcome of the unit from the cells that hold these very numbers, and no other cells hold them
+abbrev pub RunsOfCHaveTheirOwnOutcome : Type 0
+RunsOfCHaveTheirOwnOutcome = (file root : List ℕ) (inputs : Option (List ℕ)) (files : Files) (program : NumberedProgram) (rows : List InputRow) (numbers : List ℤ)
+    → (of_unit : IsProgramOfUnit file root files program)
+    → AreInputs inputs files program rows
+    → AreWithin rows numbers
+    → HasUnitsOutcomeFrom of_unit.unit root program rows numbers

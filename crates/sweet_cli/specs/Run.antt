@@ -10,6 +10,7 @@ use Rattle.std.specs.Prelude.{◌≡◌, ◌≤◌, ℕ, List, length, map, Resu
 use Rattle.flow_base.specs.Outside.{Files}
 use Rattle.alf_check.specs.declared.rows.InputRow.{InputRow}
 use Rattle.alf_check.specs.CheckedPrograms.{NumberedProgram}
+use Rattle.alf_check.specs.Inputs.{KeepInputs}
 use Rattle.flow_graph.specs.Numbering.{GraphParts, IsGraph}
 use Rattle.alf_runs.specs.Outcomes.{Outcome as RunOutcome}
 use Rattle.alf_runs.specs.Steps.{Moment}
@@ -64,7 +65,7 @@ running given = do
   done text
 
 -- the text tells this run of the program that the file gives, by the files that the words name; where the file is one of C, its
--- outcome is that of the unit (`IsToldProgram`)
+-- outcome is that of the unit from the cells that hold its inputs (`IsToldProgram`)
 pub record TellsRun (given : RunWords) (files : Files) (text : List ℕ) : Type 0 where
   pub program : NumberedProgram
   pub graph : GraphParts
@@ -73,6 +74,7 @@ pub record TellsRun (given : RunWords) (files : Files) (text : List ℕ) : Type 
   pub program_told : IsToldProgram given.program given.root files program
   pub graph_is : IsGraph program graph
   pub rows_told : AreInputs given.inputs files program rows
+  pub rows_keep : KeepInputs program rows
   pub costs_told : AreCosts given.costs files program costs
   pub shown : IsRunText (record { program = program; graph = graph }) rows costs given.turns text
 

@@ -1,9 +1,10 @@
 //! What the definitions promise, as functions that do nothing when they are called.
 
 ghost use Rattle.sweet_cli.specs.Exact.{OneInputIsToldExactly};
-ghost use Rattle.sweet_cli.specs.Laws.{HaveOneAnswer, ReportsStay};
+ghost use Rattle.sweet_cli.specs.Laws.{HaveOneAnswer, ReportsStay, RunsOfCHaveTheirOwnOutcome};
 
 use bounded_analyses::{a_program_has_one_bounded_analysis, bounds_of_an_input_alone_agree};
+use cost_table::a_file_has_one_answer;
 use scope_graph::a_graph_has_one_outline;
 use unranked_analyses::an_input_alone_is_told_exactly;
 
@@ -29,4 +30,13 @@ pub fn one_input_is_told_exactly()
     a_graph_has_one_outline();
     an_input_alone_is_told_exactly();
     bounds_of_an_input_alone_agree();
+}
+
+/// Where a told file of C gives the program and a told file of inputs its rows, the run from each list of
+/// numbers inside the ranges of these rows has the outcome of the unit from the cells that hold these very
+/// numbers, and no other cells hold them. Does nothing when it is called.
+pub fn each_run_of_c_has_the_outcome_from_its_own_cells()
+    ensures { RunsOfCHaveTheirOwnOutcome }
+{
+    a_file_has_one_answer();
 }

@@ -24,5 +24,8 @@ mod top;
 mod laws;
 
 pub use command_plans::Status;
-pub use laws::{one_answer, one_input_is_told_exactly, reports_stay};
+pub use laws::{
+    each_run_of_c_has_the_outcome_from_its_own_cells, one_answer, one_input_is_told_exactly,
+    reports_stay,
+};
 pub use top::{run, run_in_memory};

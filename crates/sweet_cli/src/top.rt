@@ -6,7 +6,7 @@ ghost use Rattle.flow_base.specs.Held.{content_of};
 ghost use Rattle.command_plans.specs.Outcome.{Ending, ending_status, ending_text};
 ghost use Rattle.command_plans.specs.Run.{Answers, IsAnswered, Wrote, CutShort, WroteNothing, IsAnswerOf};
 ghost use Rattle.sweet_cli.specs.Table.{task_of};
-ghost use Rattle.sweet_cli.specs.Task.{Promised};
+ghost use Rattle.sweet_cli.specs.Task.{KeepsPromise, Promised};
 
 use crate::commands::words_answer;
 use command_plans::Status;
@@ -16,13 +16,16 @@ use std::alloc::Global;
 /// Answers the words: reads the files that they name, each in its turn, makes one text and writes it
 /// once.
 ///
-/// The words are judged first, then the length of the file, then its text, then its run. A file has
-/// at most 1,048,576 bytes, and without `--turns` the turns are 100,000. `Memory` comes where memory
-/// runs out; a read may have failed before.
+/// The words are judged first, then of the program's file its length, its text and its checks, then its
+/// graph and scopes, then the inputs, then the costs, then its runs. A file has at most 1,048,576 bytes,
+/// and without `--turns` the turns are 100,000. `Memory` comes where memory runs out; a read may have
+/// failed before.
 pub fn run<F: Shelf, W: Sink>(alloc: Global, words: &[String], shelf: &mut F, out: &mut W) -> Status
-    // One write was made, of the text of the answer, and no file was read but in its turn.
+    // One write was made, of the text of the answer, and no file was read but in its turn; this very text keeps the
+    // promise of the command.
     ensures answer { IsAnswered result → (ending : Ending) × (result ≡ ending_status ending)
         × Answers (task_of (map string_bytes words.now)).work (F.state shelf.old) ending (F.state shelf.new)
+        × IfSome (F.state shelf.old).files (λ files. KeepsPromise (task_of (map string_bytes words.now)) files ending)
         × Wrote (ending_text ending) (W.state out.old) (W.state out.new) }
 
     // After `Done` what was written keeps the promise of the command.
@@ -38,6 +41,7 @@ pub fn run<F: Shelf, W: Sink>(alloc: Global, words: &[String], shelf: &mut F, ou
     // The answer whose text was cut short is the answer.
     ensures write_failed { result ≡ Status.WriteFailed → (ending : Ending)
         × Answers (task_of (map string_bytes words.now)).work (F.state shelf.old) ending (F.state shelf.new)
+        × IfSome (F.state shelf.old).files (λ files. KeepsPromise (task_of (map string_bytes words.now)) files ending)
         × CutShort (ending_text ending) (W.state out.old) (W.state out.new) }
 
     ensures nothing_written { result ≡ Status.Memory → WroteNothing (W.state out.old) (W.state out.new) }

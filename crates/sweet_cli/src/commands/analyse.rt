@@ -18,7 +18,7 @@ use crate::lines::left_line;
 use crate::words::{AnalyseWords, Merging};
 use bounded_analyses::{a_program_has_one_bounded_analysis, found_reports_are_right};
 use command_plans::{Stop, Why};
-use cost_table::Costs;
+use cost_table::{Costs, a_file_has_one_answer};
 use fact_text::print;
 use flow_base::Shelf;
 use flow_facts::Report;
@@ -38,6 +38,7 @@ pub fn analyse<F: Shelf>(
     ensures promise { IfOk result (λ text. IfSome (F.state shelf.old).files (λ files. IsSoundReport (analyse_meant given.entry) files text.items)) }
 {
     found_reports_are_right();
+    a_file_has_one_answer();
     let program = scoped_in(alloc, given.program, given.root, shelf)?;
     let tables = tables_in(
         alloc,

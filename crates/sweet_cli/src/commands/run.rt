@@ -20,6 +20,7 @@ use alf_check::InputRow;
 use alf_interp::Counted;
 use alf_runs::{a_run_has_one_end, active_frames_follow_the_call_path};
 use command_plans::{Stop, Why};
+use cost_table::a_file_has_one_answer;
 use flow_base::Shelf;
 use flow_graph::graphs_are_expansions;
 use std::alloc::{AllocError, Global};
@@ -31,6 +32,7 @@ pub fn run<F: Shelf>(alloc: Global, given: RunWords<'_>, shelf: &mut F) -> Resul
     ensures work { Works (running (run_meant given.entry)) (λ text. text.items) (F.state shelf.old) result (F.state shelf.new) }
     ensures promise { IfOk result (λ text. IfSome (F.state shelf.old).files (λ files. TellsRun (run_meant given.entry) files text.items)) }
 {
+    a_file_has_one_answer();
     let program = scoped_in(alloc, given.program, given.root, shelf)?;
     let tables = tables_in(
         alloc,

@@ -14,7 +14,7 @@ returns c = record { cells = cells; starts = starts }
         (unit_plain c.spelled_units_are_plain.ensures c.spelled_units_have_few_labels.ensures unit spelled short) lowered are
 
     starts : SpelledStartsAreRight
-    starts unit name ranks program rows moment spelled short is lowered keep begins =
-        c.each_program_has_the_outcome_of_its_unit.ensures.starts unit name ranks program rows moment is
+    starts unit name ranks program rows numbers spelled short is lowered keep within =
+        c.each_program_has_the_outcome_of_its_unit.ensures.starts unit name ranks program rows numbers is
         (c.counted_units_have_spelled_names.ensures unit (c.spelled_units_are_counted.ensures unit spelled) (unit_stands unit is.no_faults))
-        (unit_plain c.spelled_units_are_plain.ensures c.spelled_units_have_few_labels.ensures unit spelled short) lowered keep begins
+        (unit_plain c.spelled_units_are_plain.ensures c.spelled_units_have_few_labels.ensures unit spelled short) lowered keep within

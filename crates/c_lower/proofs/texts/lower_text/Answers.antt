@@ -24,6 +24,6 @@ returns c =
       lowered = whole;
       writable = subst IsWritable (sym whole) (c.spelled_programs_pass.ensures.written unit root ranks passes spelled few);
       passes = c.spelled_programs_pass.ensures.passes unit root ranks passes spelled few;
-      outcomes = λ program is rows moment keep begins.
-          c.spelled_programs_have_the_outcome_of_their_unit.ensures.starts unit root ranks program rows moment spelled few passes is keep begins;
+      outcomes = λ program is rows numbers keep within.
+          c.spelled_programs_have_the_outcome_of_their_unit.ensures.starts unit root ranks program rows numbers spelled few passes is keep within;
     }

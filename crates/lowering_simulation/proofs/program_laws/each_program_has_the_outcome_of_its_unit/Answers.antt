@@ -1,13 +1,8 @@
-use Rattle.std.proofs.Common.{sym, subst}
 use Rattle.alf_runs.specs.Starts.{words_of}
-use Rattle.alf_runs.specs.Steps.{Moment}
-use Rattle.c_meaning.specs.Programs.{outcome}
 use Rattle.lowering_layout.specs.Checked.{program_has_names}
-use Rattle.lowering_values.specs.Frames.{frame_number}
-use Rattle.lowering_simulation.specs.Outcomes.{IsSameOutcome}
 use Rattle.lowering_simulation.specs.Lowering.{LoweringIsRight, EachStartIsOfTheUnit}
 use Rattle.lowering_simulation.proofs.Placed.{placed}
-use Rattle.lowering_simulation.proofs.Inputs.{are_cells}
+use Rattle.lowering_simulation.proofs.Inputs.{are_cells, one_cells}
 use Rattle.lowering_simulation.proofs.program_laws.each_program_has_the_outcome_of_its_unit.Goals as goal
 
 pub returns : goal.returns
@@ -21,17 +16,15 @@ returns c = record { cells = cells; starts = starts }
         unit name program names lowered) are
 
     starts : EachStartIsOfTheUnit
-    starts unit name ranks program rows moment is spelled plain lowered keep begins =
+    starts unit name ranks program rows numbers is spelled plain lowered keep within =
         let names = program_has_names unit name ranks is spelled in
         let frames = placed c.each_object_has_its_frame.ensures.places c.functions_keep_their_number.ensures c.names_stand_for_their_frames.ensures c.programs_are_laid_out.ensures unit name program names lowered in
-        let words = words_of rows begins.numbers in
+        let words = words_of rows numbers in
         let given = are_cells c.each_object_has_its_frame.ensures.globals unit program names frames.laid rows words keep.each
-        (c.active_frames_follow_the_call_path.ensures.inputs rows begins.numbers begins.within) in
+        (c.active_frames_follow_the_call_path.ensures.inputs rows numbers within) in
         record {
-          words = words;
           cells = given.0;
-          starts = begins.starts;
-          same = given.1;
-          outcomes = subst (λ (m : Moment). IsSameOutcome program m (frame_number unit) (λ n. outcome unit name n given.0)) (sym begins.starts)
-              (c.lowered_programs_have_the_units_outcome.ensures unit name ranks program rows words given.0 is names plain lowered frames given.1);
+          hold = given.1;
+          only = λ others hold. one_cells frames.laid.frames rows words others given.0 hold given.1;
+          outcomes = c.lowered_programs_have_the_units_outcome.ensures unit name ranks program rows words given.0 is names plain lowered frames given.1;
         }

@@ -25,7 +25,7 @@ returns-clause-promise g c =
     c.in_ok-tables.ensures.work.ends.0 in
     let sound = sound_of c.found_reports_are_right.ensures program.expanded.program program.expanded.graph tables.rows tables.costs (policy_of given.merging) given.turns given.pivots report
     c.in_ok-report.ensures.means.means in
-    prints_sound given start.files (log_of start) (log_of mid) (log_of end) program tables report c.in_ok-text.text.items first.ends.0 read c.in_ok-program.ensures.told sound
+    prints_sound c.a_file_has_one_answer.ensures.keep given start.files (log_of start) (log_of mid) (log_of end) program tables report c.in_ok-text.text.items first.ends.0 read c.in_ok-program.ensures.told sound
     (c.in_ok-text.ensures.spelled c.in_ok-report.ensures.writable)
 
 pub returns-clause-work : goal.returns-clause-work

@@ -19,4 +19,4 @@ returns-clause-promise g c =
     let first = c.in_ok-program.ensures.work in
     let read = subst (λ (told : Option Files). (tables_in program.expanded.program given.inputs given.costs).steps.Gives told (log_of mid) tables (log_of end)) first.same
     c.in_ok-tables.ensures.work.ends.0 in
-    tells_run given start.files (log_of start) (log_of mid) (log_of end) program tables c.in_ok-text.text.items first.ends.0 read c.in_ok-program.ensures.told c.in_ok-text.ensures.means
+    tells_run c.a_file_has_one_answer.ensures.keep given start.files (log_of start) (log_of mid) (log_of end) program tables c.in_ok-text.text.items first.ends.0 read c.in_ok-program.ensures.told c.in_ok-text.ensures.means

@@ -224,11 +224,13 @@ one_analysis parts o other policy turns a b alike first second = one_answer part
 -- and each number of turns that is not below the steps finds the same report
 pub longer_analysis : StaysFound
 longer_analysis parts o policy turns report closed =
-    let within = run_within stepped_by parts_order four_order four_recording policy turns closed.events (first_pool parts o) closed.pool (omega arith) closed.explored in
-    (within, λ more enough. record {
-      events = closed.events;
-      pool = closed.pool;
-      explored = closed_longer stepped_by parts_order four_order four_recording policy turns more closed.events (first_pool parts o) closed.pool enough closed.explored closed.empty;
-      empty = closed.empty;
-      told = closed.told;
-    })
+    let within = run_within stepped_by parts_order four_order four_recording policy turns closed.events (first_pool parts o) closed.pool (omega arith) closed.explored in (
+      within,
+      λ more enough. record {
+        events = closed.events;
+        pool = closed.pool;
+        explored = closed_longer stepped_by parts_order four_order four_recording policy turns more closed.events (first_pool parts o) closed.pool enough closed.explored closed.empty;
+        empty = closed.empty;
+        told = closed.told;
+      },
+    )

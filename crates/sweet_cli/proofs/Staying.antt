@@ -23,7 +23,10 @@ stays one longer given files before after text (program, mid, first, (tables, en
       report = report;
       found = only.means;
       text_is = is;
-    } in
-    (printed, kept.0, λ more enough.
-        let again : IsOnly (ReportMeans program rows costs policy more given.pivots) (Ok report) = report_only one program rows costs policy more given.pivots report (kept.1 more enough) in
-        (program, mid, first, (tables, end, read, (report, last, (again, still), (is, over)))))
+    } in (
+      printed,
+      kept.0,
+      λ more enough.
+          let again : IsOnly (ReportMeans program rows costs policy more given.pivots) (Ok report) = report_only one program rows costs policy more given.pivots report (kept.1 more enough) in
+          (program, mid, first, (tables, end, read, (report, last, (again, still), (is, over)))),
+    )

@@ -112,17 +112,19 @@ one_analysis one alike program graph rows costs policy turns a b h k =
 
 pub longer_analysis : StaysFound → StaysAnalysed
 longer_analysis stays program graph rows costs policy turns report h =
-    let found = stays (record { checked = h.checked; graph = graph; rows = rows }) h.outline policy turns report h.found in
-    (found.0, λ more enough. record {
-      checked = h.checked;
-      keeps = h.keeps;
-      graph_is = h.graph_is;
-      inputs = h.inputs;
-      outline = h.outline;
-      program_is = h.program_is;
-      outline_kept = h.outline_kept;
-      outline_is = h.outline_is;
-      names = h.names;
-      costs_are = h.costs_are;
-      found = found.1 more enough;
-    })
+    let found = stays (record { checked = h.checked; graph = graph; rows = rows }) h.outline policy turns report h.found in (
+      found.0,
+      λ more enough. record {
+        checked = h.checked;
+        keeps = h.keeps;
+        graph_is = h.graph_is;
+        inputs = h.inputs;
+        outline = h.outline;
+        program_is = h.program_is;
+        outline_kept = h.outline_kept;
+        outline_is = h.outline_is;
+        names = h.names;
+        costs_are = h.costs_are;
+        found = found.1 more enough;
+      },
+    )

@@ -34,3 +34,4 @@ mod pool;
 pub use explored::Explored;
 pub use fault::ExecFault;
 pub use pool::Pool;
+pub use worklist_rules::Policy;

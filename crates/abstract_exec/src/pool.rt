@@ -1,6 +1,6 @@
 //! Pools.
 
-ghost use Rattle.std.specs.Prelude.{◌≡◌, ◌<◌, ◌≤◌, ◌-◌, ◌^◌, Err, length, map, slice_get, Some, IfOk, OnOk};
+ghost use Rattle.std.specs.Prelude.{◌≡◌, ◌<◌, ◌≤◌, ◌-◌, ◌^◌, ℕ, Err, length, map, slice_get, Some, IfOk, OnOk};
 ghost use Rattle.domain_core.specs.Outlines.{shape_of};
 ghost use Rattle.domain_core.specs.Machines.{IsAlong};
 ghost use Rattle.worklist_rules.specs.Pools.{Pooled, alarm_at};
@@ -89,7 +89,7 @@ impl<'a, S: Stepper, R: Recorder> Pool<'a, S, R> {
     /// Applies an event.
     pub fn apply(&mut self, alloc: Global, event: Event) -> Result<(), ExecFault>
         requires kept { IsPool S.machine R.recording self.old }
-        requires room { self.old.steps < 2 ^ 32 - 2 }
+        requires room { (place : ℕ) → event ≡ Event.Step place → self.old.steps < 2 ^ 32 - 2 }
         ensures happens { OnOk result (Happens S.machine S.State.order R.order R.recording self.old event self.new) }
         ensures kept { OnOk result (IsPool S.machine R.recording self.new) }
         ensures going_on { OnOk result (IsOneOn self.old self.new) }

@@ -80,9 +80,13 @@ one_bounded one alike program graph rows costs policy turns pivots (Unbounded sc
 
 -- more turns find the same report
 pub longer_bounded : StaysAnalysed → HasOneAlike → StaysBounded
-longer_bounded stays alike program graph rows costs policy turns pivots more report few h =
-    let k = stays program graph rows costs policy turns more h.given few h.analysis in
-    record { given = h.given; analysis = k; bounded = h.bounded ∙ same_bound alike program graph rows costs policy turns more pivots h.given h.analysis k }
+longer_bounded stays alike program graph rows costs policy turns pivots report h =
+    let kept = stays program graph rows costs policy turns h.given h.analysis in (
+      kept.0,
+      λ more enough.
+          let k = kept.1 more enough in
+          record { given = h.given; analysis = k; bounded = h.bounded ∙ same_bound alike program graph rows costs policy turns more pivots h.given h.analysis k },
+    )
 
 -- where there is one input alone, both bounds are one number
 pub lone_bounds : ToldBoundsAreRight → PartsFit → LoneBoundsAgree

@@ -4,7 +4,7 @@
 --   IsBoundedReport program graph rows costs policy turns pivots report   an analysis of the program finds the report but for its path bound, which is that of the facts
 --   IsBoundedAnalysis program graph rows costs policy turns pivots answer   so it is, or an analysis finds that places are left in the scope
 --   HasOneBoundedAnalysis   a program has one such answer
---   StaysBounded            and a report that is one in so many turns is one in more
+--   StaysBounded            and a report is one in each number of turns that is not below the steps of its exploration
 use Rattle.std.specs.Prelude.{◌≡◌, ◌≤◌, ℕ, List}
 use Rattle.alf_check.specs.declared.rows.InputRow.{InputRow}
 use Rattle.alf_check.specs.CheckedPrograms.{NumberedProgram}
@@ -48,7 +48,8 @@ abbrev pub HasOneBoundedAnalysis : Type 0
 HasOneBoundedAnalysis = (program : NumberedProgram) (graph : GraphParts) (rows : List InputRow) (costs : CostTable) (policy : Policy) (turns pivots : ℕ) (a b : Answer)
     → IsBoundedAnalysis program graph rows costs policy turns pivots a → IsBoundedAnalysis program graph rows costs policy turns pivots b → a ≡ b
 
--- and a report that is one in so many turns is one in more
+-- and a report is one in no fewer turns than its exploration makes steps, and in each number of turns that is not below them
 abbrev pub StaysBounded : Type 0
-StaysBounded = (program : NumberedProgram) (graph : GraphParts) (rows : List InputRow) (costs : CostTable) (policy : Policy) (turns pivots more : ℕ) (report : Reported) → turns ≤ more
-    → IsBoundedReport program graph rows costs policy turns pivots report → IsBoundedReport program graph rows costs policy more pivots report
+StaysBounded = (program : NumberedProgram) (graph : GraphParts) (rows : List InputRow) (costs : CostTable) (policy : Policy) (turns pivots : ℕ) (report : Reported)
+    (bounded : IsBoundedReport program graph rows costs policy turns pivots report)
+    → (bounded.analysis.found.pool.steps ≤ turns) × ((more : ℕ) → bounded.analysis.found.pool.steps ≤ more → IsBoundedReport program graph rows costs policy more pivots report)

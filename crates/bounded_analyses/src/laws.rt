@@ -24,8 +24,8 @@ pub(crate) fn parts_fit()
     values_have_their_size();
 }
 
-/// A program has one answer with a path bound, whatever ranks its functions have, and a report that was found in so many
-/// turns is found in more.
+/// A program has one answer with a path bound, whatever ranks its functions have, and a report is found in each number
+/// of turns that is not below the steps of its exploration.
 pub fn a_program_has_one_bounded_analysis()
     ensures one { HasOneBoundedAnalysis }
     ensures longer { StaysBounded }

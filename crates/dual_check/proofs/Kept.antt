@@ -1,5 +1,5 @@
 -- What the program that is made keeps.
-use Rattle.std.proofs.Common.{◌≡◌, ◌==◌, ◌<◌, ◌≤◌, ◌^◌, ℕ, zero, suc, ℤ, List, [], ◌∷◌, map, length, refl, ap, sym, ◌∙◌, subst, arith, Option, Some, None}
+use Rattle.std.proofs.Common.{◌≡◌, ◌==◌, ◌<◌, ◌≤◌, ◌^◌, ◌-◌, ℕ, zero, suc, ℤ, List, [], ◌∷◌, map, length, refl, ap, sym, ◌∙◌, subst, arith, Option, Some, None}
 use Rattle.std.specs.List.{flat_map, range_with_len}
 use Rattle.std.proofs.lemmas.List.{length-map, length-append}
 use Rattle.std.proofs.lemmas.List.FromFn.{length-range_with_len}
@@ -46,7 +46,7 @@ few_openings : (columns : List Column) (ks : List Constraint) (n : ℕ) → leng
 few_openings columns ks n = omega (arith, few_flat columns ks (range_with_len 0 n), length-range_with_len 0 n)
 
 -- what the program keeps
-pub system_is : (o : Outlined) (columns : List Column) (ks : List Constraint) → length columns < 2 ^ 32 → length ks < 2 ^ 32 → length o.nodes < 2 ^ 32 → IsSystem (system_from o columns ks)
+pub system_is : (o : Outlined) (columns : List Column) (ks : List Constraint) → length columns < 2 ^ 32 - 1 → length ks < 2 ^ 32 - 1 → length o.nodes < 2 ^ 32 - 1 → IsSystem (system_from o columns ks)
 system_is o columns ks few_columns few_rows few_nodes =
     let long : length (map (λ c. cost_of (costs_of o) c) columns) ≡ length columns = length-map columns (λ c. cost_of (costs_of o) c) in
     let tall : length (map (λ k. row_of columns (weighing_of (shape_of o) k)) ks) ≡ length ks = length-map ks (λ k. row_of columns (weighing_of (shape_of o) k)) in
@@ -80,7 +80,7 @@ system_parts o columns ks costs rows openings a b d = rw (a, b, d) refl
 -- and keep what every program keeps
 pub system_kept : (o : Outlined) (columns : List Column) (ks : List Constraint) (costs : List ℕ) (rows : List Row) (openings : List (ℕ × ℕ)) (lists : List (List (ℕ × ℤ)))
     → costs ≡ map (λ c. cost_of (costs_of o) c) columns → rows ≡ map (λ k. row_of columns (weighing_of (shape_of o) k)) ks → openings ≡ openings_of columns ks (length o.nodes)
-    → AreColumns (length columns) rows lists → length columns < 2 ^ 32 → length ks < 2 ^ 32 → length o.nodes < 2 ^ 32
+    → AreColumns (length columns) rows lists → length columns < 2 ^ 32 - 1 → length ks < 2 ^ 32 - 1 → length o.nodes < 2 ^ 32 - 1
     → IsSystem (record { program = record { costs = costs; rows = rows }; openings = openings }) × AreColumns (length costs) rows lists
 system_kept o columns ks costs rows openings lists a b d e few_columns few_rows few_nodes = (
   subst IsSystem (sym (system_parts o columns ks costs rows openings a b d)) (system_is o columns ks few_columns few_rows few_nodes),

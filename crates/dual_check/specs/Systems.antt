@@ -1,10 +1,10 @@
 -- A linear program with its openings, as contracts see it, and what every one keeps.
 --   System              the program, and for each opening a row and a column
---   IsSystem s          the numbers fit 32 bits, terms are of the columns and ascend
+--   IsSystem s          fewer than 4294967295 rows, columns and openings; terms are of the columns and ascend
 --   AreOf n rows        each row's terms are of the first n columns, ascend, and none is 0
 --   columns_from n e rows     the terms of columns e to e + n - 1, by column
 --   AreColumns n rows columns   the lists are the terms of columns 0 to n - 1
-use Rattle.std.specs.Prelude.{◌≡◌, ◌<◌, ◌^◌, ◌+◌, ℕ, zero, suc, ℤ, List, [], ◌∷◌, length}
+use Rattle.std.specs.Prelude.{◌≡◌, ◌<◌, ◌^◌, ◌+◌, ◌-◌, ℕ, zero, suc, ℤ, List, [], ◌∷◌, length}
 use Rattle.ipet_rows.specs.Sums.{IsAscending}
 use Rattle.ipet_rows.specs.Programs.{Row, Program, IsProgram, IsWithin, row_at}
 use Rattle.ipet_rows.specs.PathSparseLaws.{AreSome}
@@ -21,9 +21,9 @@ AreAscending rows = (k : ℕ) → IsAscending (row_at rows k).terms
 
 -- what every one keeps
 pub record IsSystem (s : System) : Type 0 where
-  pub few_columns : length s.program.costs < 2 ^ 32
-  pub few_rows : length s.program.rows < 2 ^ 32
-  pub few_openings : length s.openings < 2 ^ 32
+  pub few_columns : length s.program.costs < 2 ^ 32 - 1
+  pub few_rows : length s.program.rows < 2 ^ 32 - 1
+  pub few_openings : length s.openings < 2 ^ 32 - 1
   pub within : IsProgram s.program
   pub ascending : AreAscending s.program.rows
 

@@ -1,6 +1,6 @@
 //! The program that an outline and a report's facts make.
 
-ghost use Rattle.std.specs.Prelude.{◌≡◌, ◌==◌, ◌<◌, ◌++◌, ◌^◌, ◌↔◌, IsTrue, map, All, OnOk, IfOk, length};
+ghost use Rattle.std.specs.Prelude.{◌≡◌, ◌==◌, ◌<◌, ◌++◌, ◌^◌, ◌-◌, ◌↔◌, IsTrue, map, All, OnOk, IfOk, length};
 ghost use Rattle.domain_core.specs.Outlines.{shape_of};
 ghost use Rattle.flow_facts.specs.Facts.{IsAbout};
 ghost use Rattle.ipet_rows.specs.Rows.{row_of, cost_of};
@@ -165,11 +165,12 @@ fn system(
     columns: &[Column],
     constraints: &[Constraint],
 ) -> Result<Rows, AllocError>
-    requires columns { length columns.now < 2 ^ 32 }
-    requires constraints { length constraints.now < 2 ^ 32 }
+    requires columns { length columns.now < 2 ^ 32 - 1 }
+    requires constraints { length constraints.now < 2 ^ 32 - 1 }
     requires nodes { AreFrom (length outline.now.nodes) columns.now }
     ensures { IfOk result (λ rows. rows ≡ system_from outline.now columns.now constraints.now) }
 {
+    outline.kept();
     let costs = cost_list(alloc, outline, columns)?;
     let rows = row_list(alloc, outline, constraints, columns)?;
     let lists = by_columns(alloc, columns.len() as u32, &rows)?;
@@ -182,11 +183,11 @@ fn system(
     })
 }
 
-/// Whether 32 bits number so many.
+/// Whether 32 bits number so many, and one more.
 fn is_few(count: usize) -> bool
-    ensures { IsTrue result ↔ count < 2 ^ 32 }
+    ensures { IsTrue result ↔ count < 2 ^ 32 - 1 }
 {
-    count <= u32::MAX as usize
+    count < u32::MAX as usize
 }
 
 /// The program of an outline and facts.
@@ -207,8 +208,8 @@ fn rows_of(alloc: Global, outline: &Outline, facts: &[Fact]) -> Result<Rows, All
 /// The linear program that an outline and a report's facts make: a cost for each column, the rows in
 /// their order, and the openings. The costs are those of the outline's nodes.
 ///
-/// It takes memory by its terms, twice: by rows, and by columns. Where 32 bits do not number its rows
-/// or its columns, memory is said to be wanting.
+/// It takes memory by its terms, twice: by rows, and by columns. Where there are 4,294,967,295 rows or
+/// more, or so many columns, memory is said to be wanting.
 pub fn rows(alloc: Global, outline: &Outline, report: &Report) -> Result<Rows, AllocError>
     requires { All (λ f. IsAbout (shape_of outline.now) f) report.now.facts.items }
     ensures { IfOk result (λ rows. rows ≡ system_of outline.now report.now.facts.items) }

@@ -1,6 +1,6 @@
 //! Texts and what they mean.
 
-ghost use Rattle.std.specs.Prelude.{◌≡◌, ◌-◌, ◌≤◌, ℕ, not, List, length, filter, reverse, Ok, Err, IfOk, IfErr, IfSome, IsSomeAnd};
+ghost use Rattle.std.specs.Prelude.{◌≡◌, ◌-◌, ◌<◌, ◌≤◌, ◌^◌, ◌↔◌, ℕ, IsTrue, not, List, length, filter, reverse, Ok, Err, IfOk, IfErr, IfSome, IsSomeAnd};
 ghost use Rattle.std.specs.List.{prefix_len};
 ghost use Rattle.flow_facts.specs.Reports.{reported};
 ghost use Rattle.flow_facts.specs.Writable.{IsWritable};
@@ -18,12 +18,36 @@ use std::alloc::Global;
 ///
 /// The text is read from its first byte in one pass, in time in proportion to it, and what it takes
 /// of memory is the report alone. The words of a line are tested in their order; then that the line
-/// stands after the one before it, then that its least count is not above its greatest.
+/// stands after the one before it, then that its least count is not above its greatest. Where 4,294,967,295
+/// nodes or scopes or more stand in the text, memory is said to be wanting.
 pub fn read(alloc: Global, bytes: &[u8]) -> Result<Report, ReportFault>
     // A text means one thing (`one_meaning`), and this is it.
     ensures spelled { IfOk result (λ report. Means bytes.now (Ok (reported report))) }
     ensures departs { IfErr result (λ fault. IfSome (departure_of fault) (λ departure. Means bytes.now (Err departure))) }
     // The condition of `print`.
+    ensures writable { IfOk result (λ report. IsWritable (reported report)) }
+    // Numbers of 32 bits count the nodes and the scopes, with one number left over.
+    ensures few_nodes { IfOk result (λ report. length report.nodes.items < 2 ^ 32 - 1) }
+    ensures few_scopes { IfOk result (λ report. length report.scopes.items < 2 ^ 32 - 1) }
+{
+    let report = spelled(alloc, bytes)?;
+    if !is_few(report.nodes.len()) || !is_few(report.scopes.len()) {
+        return Err(ReportFault::Memory);
+    }
+    Ok(report)
+}
+
+// Whether 32 bits number so many, and one more.
+fn is_few(count: usize) -> bool
+    ensures { IsTrue result ↔ count < 2 ^ 32 - 1 }
+{
+    count < u32::MAX as usize
+}
+
+// The report that the text spells, however many lines it has.
+fn spelled(alloc: Global, bytes: &[u8]) -> Result<Report, ReportFault>
+    ensures spelled { IfOk result (λ report. Means bytes.now (Ok (reported report))) }
+    ensures departs { IfErr result (λ fault. IfSome (departure_of fault) (λ departure. Means bytes.now (Err departure))) }
     ensures writable { IfOk result (λ report. IsWritable (reported report)) }
 {
     writable_reports_are_spelled();

@@ -30,6 +30,7 @@ mod laws;
 mod report_laws;
 
 pub use fact_words::ReportFault;
+pub use flow_facts::{BoundWord, Cert, Fact, NodeLine, Report, RunKind, holds};
 pub use language::{one_meaning, read};
 pub use laws::{two_reports_have_two_texts, writable_reports_are_spelled};
 pub use printing::print;

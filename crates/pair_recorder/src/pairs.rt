@@ -52,8 +52,8 @@ impl Model for PairsBook {
 }
 
 impl PairsBook {
-    /// Whether an iteration of their scope was collected that has both nodes. False where the two
-    /// nodes do not have the same scope.
+    /// Whether an iteration of their scope was collected that has both nodes. Recorders enter pairs
+    /// of one scope alone, which no clause says of a book.
     pub fn together(&self, a: u32, b: u32) -> bool
         requires a { a < length self.now.pairs }
         requires b { b < length self.now.pairs }

@@ -31,10 +31,10 @@ no_cost [] e past = omega arith
 no_cost (c ∷ cs) zero past = absurd (omega arith)
 no_cost (c ∷ cs) (suc e) past = no_cost cs e (omega arith)
 
-pub small_is : (p : Program) (n : ℕ) → length p.rows ≤ n → length p.rows < 4294967296 → ((k : ℕ) → IsAscending (row_at p.rows k).terms)
+pub small_is : (p : Program) (n : ℕ) → length p.rows ≤ n → length p.rows < 4294967295 → ((k : ℕ) → IsAscending (row_at p.rows k).terms)
     → ((e : ℕ) → e < length p.costs → cost_at p.costs e < 4294967296) → ((k : ℕ) → k < n → IsSmallRow (row_at p.rows k)) → IsSmall p
 small_is p n all few rises costs rows = record {
-  rows = few;
+  rows = omega (arith, few);
   costs = λ e. ⊎_elim (λ (below : e < length p.costs). costs e below) (λ (past : length p.costs ≤ e). no_cost p.costs e past) (cases_lt e (length p.costs));
   numbers = λ k e. ⊎_elim
       (λ (below : k < length p.rows). small_number (row_at p.rows k).terms e (rises k) (rows k (omega (arith, all, below))).terms)

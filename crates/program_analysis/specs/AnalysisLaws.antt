@@ -1,7 +1,7 @@
 -- A program has one analysis.
 --   AreAlike o other     the outlines have one shape, and each node has one name and one cost in both
 --   HasOneAnalysis       along such outlines one policy finds one answer in so many turns
---   StaysFound           a report that was found in so many turns is found in more
+--   StaysFound           a report is found in each number of turns that is not below the steps of its exploration
 --   HasOneAlike          outlines of one graph with the same costs are alike
 --   one_analysis, longer_analysis, alike_outlines   why
 use Rattle.std.specs.Prelude.{slice_index, nat_lt, not, if◌then◌else◌}
@@ -26,7 +26,7 @@ use Rattle.recorder_rules.specs.PairRules.{together}
 use Rattle.worklist_rules.specs.declared.policy.Policy.{Policy}
 use Rattle.worklist_rules.specs.Pools.{Spot}
 use Rattle.worklist_rules.specs.Policies.{IsPolicyRun}
-use Rattle.worklist_rules.specs.PolicyLaws.{run_unique, closed_longer}
+use Rattle.worklist_rules.specs.PolicyLaws.{run_unique, run_within, closed_longer}
 use Rattle.abstract_exec.specs.Explorations.{IsLeftIn}
 use Rattle.memory_model.specs.KeptMemories.{MemoryParts}
 use Rattle.memory_model.specs.SeenOrders.{parts_order}
@@ -53,9 +53,10 @@ pub record AreAlike (o other : Outlined) : Type 0 where
 abbrev pub HasOneAnalysis : Type 0
 HasOneAnalysis = (parts : StepperParts) (o other : Outlined) (policy : Policy) (turns : ℕ) (a b : Answer) → AreAlike o other → IsFound parts o policy turns a → IsFound parts other policy turns b → a ≡ b
 
--- a report that was found in so many turns is found in more
+-- a report is found in no fewer turns than its exploration makes steps, and in each number of turns that is not below them
 abbrev pub StaysFound : Type 0
-StaysFound = (parts : StepperParts) (o : Outlined) (policy : Policy) (turns more : ℕ) (report : Reported) → turns ≤ more → IsFound parts o policy turns (Told report) → IsFound parts o policy more (Told report)
+StaysFound = (parts : StepperParts) (o : Outlined) (policy : Policy) (turns : ℕ) (report : Reported) (closed : IsClosed parts o policy turns report)
+    → (closed.pool.steps ≤ turns) × ((more : ℕ) → closed.pool.steps ≤ more → IsClosed parts o policy more report)
 
 -- outlines of one graph with the same names and costs are alike
 abbrev pub HasOneAlike : Type 0
@@ -220,12 +221,16 @@ one_answer parts o policy turns (Unbounded scope) (Unbounded other) first second
 pub one_analysis : HasOneAnalysis
 one_analysis parts o other policy turns a b alike first second = one_answer parts other policy turns a b (found_along parts o other policy turns alike a first) second
 
--- and more turns find the same report
+-- and each number of turns that is not below the steps finds the same report
 pub longer_analysis : StaysFound
-longer_analysis parts o policy turns more report longer closed = record {
-  events = closed.events;
-  pool = closed.pool;
-  explored = closed_longer stepped_by parts_order four_order four_recording policy turns more closed.events (first_pool parts o) closed.pool longer (omega arith) closed.explored closed.empty;
-  empty = closed.empty;
-  told = closed.told;
-}
+longer_analysis parts o policy turns report closed =
+    let within = run_within stepped_by parts_order four_order four_recording policy turns closed.events (first_pool parts o) closed.pool (omega arith) closed.explored in (
+      within,
+      λ more enough. record {
+        events = closed.events;
+        pool = closed.pool;
+        explored = closed_longer stepped_by parts_order four_order four_recording policy turns more closed.events (first_pool parts o) closed.pool enough closed.explored closed.empty;
+        empty = closed.empty;
+        told = closed.told;
+      },
+    )

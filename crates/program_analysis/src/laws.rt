@@ -9,8 +9,8 @@ use flow_graph::graphs_are_expansions;
 use program_machines::a_graph_has_one_ranking;
 
 /// A program has one analysis: along outlines of one shape, with the same names and costs, a policy finds one answer in
-/// so many turns, and a report that was found is found in more turns. Outlines of one graph with the same names and
-/// costs are alike.
+/// so many turns, and a report is found in each number of turns that is not below the steps of its exploration. Outlines
+/// of one graph with the same names and costs are alike.
 pub fn a_program_has_one_analysis()
     ensures one { HasOneAnalysis }
     ensures longer { StaysFound }

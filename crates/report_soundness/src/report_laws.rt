@@ -44,13 +44,13 @@ pub fn told_reports_are_writable()
         → length o.nodes * k ≤ 2 ^ 31 → IsWritable (told_report o found) }
 {}
 
-/// Two runs of one policy from one pool leave one report. Where no place is left, more turns leave none
-/// either, and the same report.
+/// Two runs of one policy from one pool leave one report. Where no place is left, each number of turns that
+/// is not below the steps leaves none either, and the same report.
 pub fn analyses_agree<S: Stepper>(policy: Policy)
     ensures one { (turns : ℕ) (old new other : Pooled S S.State FourRecorders FourBooks) (events others : List Event)
         → IsPolicyRun S.machine S.State.order four_order four_recording policy turns old events new → IsPolicyRun S.machine S.State.order four_order four_recording policy turns old others other
         → told_report new.outline (found_of new) ≡ told_report other.outline (found_of other) }
-    ensures longer { (turns more : ℕ) (old new other : Pooled S S.State FourRecorders FourBooks) (events others : List Event) → turns ≤ more → old.steps ≤ turns
+    ensures longer { (turns more : ℕ) (old new other : Pooled S S.State FourRecorders FourBooks) (events others : List Event) → new.steps ≤ more
         → IsPolicyRun S.machine S.State.order four_order four_recording policy turns old events new → new.spots ≡ []
         → IsPolicyRun S.machine S.State.order four_order four_recording policy more old others other
         → (other.spots ≡ []) × (told_report new.outline (found_of new) ≡ told_report other.outline (found_of other)) }

@@ -1,19 +1,24 @@
 -- Laws of answers.
---   ReportsStay     a report that is printed in so many turns is printed in more
+--   IsReportOf given files before text   the text is that of the report that is found of the program, the inputs and the costs of the files
+--   ReportsStay     a report is printed with each number of turns that is not below the steps of its exploration
 --   HaveOneAnswer   told files have one answer to the words, and one list of names read, but for failed reads
 --   RunsOfCHaveTheirOwnOutcome   each run of what a told file of C is lowered to has the outcome of the unit from the cells that hold its own numbers
-use Rattle.std.specs.Prelude.{◌≤◌, ℕ, ℤ, List, Option, Some}
+use Rattle.std.specs.Prelude.{◌≡◌, ◌≤◌, ℕ, ℤ, List, Option, Some}
 use Rattle.flow_base.specs.Outside.{Files}
+use Rattle.flow_facts.specs.Reports.{Reported}
+use Rattle.fact_words.specs.Canonical.{report_text}
 use Rattle.alf_check.specs.declared.rows.InputRow.{InputRow}
 use Rattle.alf_check.specs.CheckedPrograms.{NumberedProgram}
 use Rattle.alf_runs.specs.Starts.{AreWithin}
 use Rattle.c_lower.specs.Outcomes.{HasUnitsOutcomeFrom}
+use Rattle.bounded_analyses.specs.Analyses.{IsBoundedReport}
 use Rattle.command_plans.specs.Log.{Log}
 use Rattle.command_plans.specs.Work.{HasOneEnding}
 use Rattle.program_files.specs.Told.{IsProgramOfUnit}
 use Rattle.sweet_cli.specs.Words.{AnalyseWords}
-use Rattle.sweet_cli.specs.Tables.{AreInputs}
-use Rattle.sweet_cli.specs.Analyse.{analysing}
+use Rattle.sweet_cli.specs.Scopes.{ScopedProgram, scoped_in}
+use Rattle.sweet_cli.specs.Tables.{Tables, tables_in, AreInputs}
+use Rattle.sweet_cli.specs.Analyse.{analysing, policy_of}
 use Rattle.sweet_cli.specs.Table.{task_of}
 
 -- whatever was read before, told files have one answer to the words, but for a line that gives one example of several; and the same names are read, but for failed reads
@@ -32,10 +37,24 @@ with_turns given turns = record {
   pivots = given.pivots;
 }
 
--- a report that is printed in so many turns is printed in more: the turns are no part of what it tells
+-- the text is that of the report that is found of what the files tell, in the given turns
+pub record IsReportOf (given : AnalyseWords) (files : Files) (before : Log) (text : List ℕ) : Type 0 where
+  pub program : ScopedProgram
+  pub after_program : Log
+  pub program_told : (scoped_in given.program given.root).steps.Gives (Some files) before program after_program
+  pub tables : Tables
+  pub after_tables : Log
+  pub tables_told : (tables_in program.expanded.program given.inputs given.costs).steps.Gives (Some files) after_program tables after_tables
+  pub report : Reported
+  pub found : IsBoundedReport program.expanded.program program.expanded.graph tables.rows tables.costs (policy_of given.merging) given.turns given.pivots report
+  pub text_is : text ≡ report_text report
+
+-- a printed report is found in no fewer turns than its exploration makes steps, and is printed with each number of turns that is not below
+-- them: the turns are no part of what it tells
 abbrev pub ReportsStay : Type 0
-ReportsStay = (given : AnalyseWords) (more : ℕ) (files : Files) (before after : Log) (text : List ℕ) → given.turns ≤ more
-    → (analysing given).steps.Gives (Some files) before text after → (analysing (with_turns given more)).steps.Gives (Some files) before text after
+ReportsStay = (given : AnalyseWords) (files : Files) (before after : Log) (text : List ℕ) → (analysing given).steps.Gives (Some files) before text after
+    → (printed : IsReportOf given files before text) × (printed.found.analysis.found.pool.steps ≤ given.turns)
+    × ((more : ℕ) → printed.found.analysis.found.pool.steps ≤ more → (analysing (with_turns given more)).steps.Gives (Some files) before text after)
 
 -- where a told file of C gives the program and a told file of inputs its rows, the run from each list of numbers inside the ranges of these
 -- rows has the outcome of the unit from the cells that hold these very numbers, and no other cells hold them

@@ -14,7 +14,8 @@ pub fn one_answer()
     ensures { HaveOneAnswer }
 {}
 
-/// A report that `analyse` prints in so many turns is printed in more. Does nothing when it is called.
+/// A report that `analyse` prints is printed with each number of turns that is not below the steps of its
+/// exploration. Does nothing when it is called.
 pub fn reports_stay()
     ensures { ReportsStay }
 {

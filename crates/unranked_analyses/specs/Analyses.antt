@@ -1,7 +1,7 @@
 -- What an analysis finds of a program with numbers in place of names.
 --   IsAnalysis program graph rows costs policy turns answer   an exploration of the program, by the policy in so many turns, finds this answer
 --   HasOneAnalysis                so finds each other one
---   StaysAnalysed                 a report that was found in so many turns is found in more
+--   StaysAnalysed                 a report is found in each number of turns that is not below the steps of its exploration
 --   found_of_other                what is found of a program is found of it with other ranks
 --   one_analysis, longer_analysis why
 -- A checked program has ranks of its functions, which differ with the search for cycles: here any will do.
@@ -53,10 +53,11 @@ abbrev pub HasOneAnalysis : Type 0
 HasOneAnalysis = (program : NumberedProgram) (graph : GraphParts) (rows : List InputRow) (costs : CostTable) (policy : Policy) (turns : ℕ) (a b : Answer)
     → IsAnalysis program graph rows costs policy turns a → IsAnalysis program graph rows costs policy turns b → a ≡ b
 
--- a report that was found in so many turns is found in more
+-- a report is found in no fewer turns than its exploration makes steps, and in each number of turns that is not below them
 abbrev pub StaysAnalysed : Type 0
-StaysAnalysed = (program : NumberedProgram) (graph : GraphParts) (rows : List InputRow) (costs : CostTable) (policy : Policy) (turns more : ℕ) (report : Reported) → turns ≤ more
-    → IsAnalysis program graph rows costs policy turns (Told report) → IsAnalysis program graph rows costs policy more (Told report)
+StaysAnalysed = (program : NumberedProgram) (graph : GraphParts) (rows : List InputRow) (costs : CostTable) (policy : Policy) (turns : ℕ) (report : Reported)
+    (analysis : IsAnalysis program graph rows costs policy turns (Told report))
+    → (analysis.found.pool.steps ≤ turns) × ((more : ℕ) → analysis.found.pool.steps ≤ more → IsAnalysis program graph rows costs policy more (Told report))
 
 module _ (program : NumberedProgram) (graph : GraphParts) (rows : List InputRow) (checked other : CheckedParts) (first : IsProgramOf program checked) (second : IsProgramOf program other) (o : Outlined) (policy : Policy) (turns : ℕ) where
   -- the two as steppers
@@ -110,16 +111,20 @@ one_analysis one alike program graph rows costs policy turns a b h k =
     (alike program graph costs h.outline k.outline has h.outline_is h.names h.costs_are k.outline_is k.names k.costs_are) found k.found
 
 pub longer_analysis : StaysFound → StaysAnalysed
-longer_analysis stays program graph rows costs policy turns more report few h = record {
-  checked = h.checked;
-  keeps = h.keeps;
-  graph_is = h.graph_is;
-  inputs = h.inputs;
-  outline = h.outline;
-  program_is = h.program_is;
-  outline_kept = h.outline_kept;
-  outline_is = h.outline_is;
-  names = h.names;
-  costs_are = h.costs_are;
-  found = stays (record { checked = h.checked; graph = graph; rows = rows }) h.outline policy turns more report few h.found;
-}
+longer_analysis stays program graph rows costs policy turns report h =
+    let found = stays (record { checked = h.checked; graph = graph; rows = rows }) h.outline policy turns report h.found in (
+      found.0,
+      λ more enough. record {
+        checked = h.checked;
+        keeps = h.keeps;
+        graph_is = h.graph_is;
+        inputs = h.inputs;
+        outline = h.outline;
+        program_is = h.program_is;
+        outline_kept = h.outline_kept;
+        outline_is = h.outline_is;
+        names = h.names;
+        costs_are = h.costs_are;
+        found = found.1 more enough;
+      },
+    )

@@ -9,8 +9,8 @@ use alf_runs::{
 };
 use flow_graph::graphs_are_expansions;
 
-/// A program has one analysis, whatever ranks its functions have, and a report that was found in so many
-/// turns is found in more.
+/// A program has one analysis, whatever ranks its functions have, and a report is found in each number of
+/// turns that is not below the steps of its exploration.
 pub fn ranks_have_no_part()
     ensures one { HasOneAnalysis }
     ensures longer { StaysAnalysed }

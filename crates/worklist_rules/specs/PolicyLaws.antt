@@ -3,11 +3,14 @@
 --   happens_unique   an event has one outcome
 --   run_unique       so a pool has one policy run
 --   run_happens      its events happen one after another
---   closed_longer    where it leaves no place, more turns give the same run
+--   run_within       its steps are at most the turns
+--   closed_longer    where it leaves no place, each number of turns that is not below its steps gives the same run
 --   IsPolicyStart    the policy's first events lead from the old pool to the new one
 --   start_more, start_done   one event more, and the end
-use Rattle.std.proofs.Common.{◌≡◌, ◌≢◌, ℕ, ◌<◌, ◌≤◌, List, [], ◌∷◌, ◌++◌, ◌⊎◌, inl, inr, Some, slice_get, refl, sym, subst, ap, ◌∙◌, arith}
+use Rattle.std.specs.Prelude.{remove}
+use Rattle.std.proofs.Common.{◌≡◌, ◌≢◌, ℕ, ◌<◌, ◌≤◌, ◌+◌, List, [], ◌∷◌, ◌++◌, ◌⊎◌, inl, inr, Some, slice_get, slice_set, Contains, refl, sym, subst, ap, ◌∙◌, arith}
 use Rattle.std.proofs.lemmas.Option.{same_Some}
+use Rattle.lists.specs.Members.{no_member}
 use Rattle.worklist.specs.Least.{IsNextSame}
 use Rattle.worklist.specs.LeastLaws.{least_unique, next_unique}
 use Rattle.domain_core.specs.declared.event.Event.{Event}
@@ -18,8 +21,9 @@ use Rattle.domain_core.specs.Machines.{Machine}
 use Rattle.domain_core.specs.Recordings.{Recording}
 use Rattle.worklist_rules.specs.declared.policy.Policy.{Policy}
 use Rattle.worklist_rules.specs.Pools.{Spot, Pooled, positions_of}
-use Rattle.worklist_rules.specs.Events.{Happens, HappenAll, IsOneOn, stepped_at, merged_at}
+use Rattle.worklist_rules.specs.Events.{Happens, HappenAll, IsOneOn, stepped_at, met, merged_at}
 use Rattle.worklist_rules.specs.EventLaws.{event_one_on}
+use Rattle.worklist_rules.specs.Places.{stays_written}
 use Rattle.worklist_rules.specs.Policies.{IsMergePoint, IsChoice, merges, steps, IsPolicyRun}
 
 same_spot : {X : Type 0} (xs : List X) (i j : ℕ) (a b : X) → i ≡ j → slice_get xs i ≡ Some a → slice_get xs j ≡ Some b → a ≡ b
@@ -62,6 +66,20 @@ module _ {S T C R B : Type 0} (machine : S → Machine T C) (states : Order T) (
       is ∙ ap (λ (q : Spot T R). merged_at states recorders old i j q b) (same_spot old.spots i i a c refl at_a at_c)
       ∙ ap (merged_at states recorders old i j c) (same_spot old.spots j j b d refl at_b at_d) ∙ sym was
 
+  -- an event takes no step back
+  event_grows : (old new : Pooled S T R B) (event : Event) → Happens machine states recorders z old event new → old.steps ≤ new.steps
+  event_grows old new (Step i) (spot, found, is) = let one : new.steps ≡ old.steps + 1 = ap (λ (p : Pooled S T R B). p.steps) is in omega (arith, one)
+  event_grows old new (Merge i j) (a, b, before, first, second, same, is) = let none : new.steps ≡ old.steps = ap (λ (p : Pooled S T R B). p.steps) is in omega (arith, none)
+
+  -- only a step leaves no place, since the join of two places is one
+  emptied_by_step : (old new : Pooled S T R B) (event : Event) → Happens machine states recorders z old event new → new.spots ≡ [] → old.steps < new.steps
+  emptied_by_step old new (Step i) (spot, found, is) none = let one : new.steps ≡ old.steps + 1 = ap (λ (p : Pooled S T R B). p.steps) is in omega (arith, one)
+  emptied_by_step old new (Merge i j) (a, b, before, first, second, same, is) none =
+      let joined : Spot T R = met states recorders a b in
+      let there : Contains (remove (slice_set old.spots i joined) j) joined = stays_written old.spots i j joined a before first in
+      let gone : remove (slice_set old.spots i joined) j ≡ [] = ap (λ (p : Pooled S T R B). p.spots) (sym is) ∙ none in
+      no_member joined (subst (λ (xs : List (Spot T R)). Contains xs joined) gone there)
+
   module _ (policy : Policy) (turns : ℕ) where
     -- a pool has one policy run
     pub run_unique : (events others : List Event) (old new other : Pooled S T R B) → IsPolicyRun machine states recorders z policy turns old events new
@@ -82,15 +100,34 @@ module _ {S T C R B : Type 0} (machine : S → Machine T C) (states : Order T) (
     run_happens [] old new (is, end) = is
     run_happens (event ∷ events) old new (more, choice, mid, happens, rest) = (mid, happens, run_happens events mid new rest)
 
-    -- where it leaves no place, more turns give the same run
-    pub closed_longer : (longer : ℕ) (events : List Event) (old new : Pooled S T R B) → turns ≤ longer → old.steps ≤ turns → IsPolicyRun machine states recorders z policy turns old events new → new.spots ≡ []
-        → IsPolicyRun machine states recorders z policy longer old events new
-    closed_longer longer [] old new more low (is, end) none = (is, inl (ap (λ (p : Pooled S T R B). p.spots) (sym is) ∙ none))
-    closed_longer longer (event ∷ events) old new more low (other, choice, mid, happens, rest) none =
+    -- its steps are at most the turns
+    pub run_within : (events : List Event) (old new : Pooled S T R B) → old.steps ≤ turns → IsPolicyRun machine states recorders z policy turns old events new → new.steps ≤ turns
+    run_within [] old new low (is, end) = let same : new.steps ≡ old.steps = ap (λ (p : Pooled S T R B). p.steps) is in omega (arith, same, low)
+    run_within (event ∷ events) old new low (other, choice, mid, happens, rest) =
         let on : IsOneOn old mid = event_one_on machine states recorders z old mid event happens in
         let one = on.steps in
         let below : old.steps < turns = omega arith in
-        ((λ e. omega arith), choice, mid, happens, closed_longer longer events mid new more (omega arith) rest none)
+        run_within events mid new (omega arith) rest
+
+    -- before each event of a run that leaves no place there are fewer steps than in the end
+    run_past : (event : Event) (events : List Event) (old new : Pooled S T R B) → IsPolicyRun machine states recorders z policy turns old (event ∷ events) new → new.spots ≡ [] → old.steps < new.steps
+    run_past event [] old new (other, choice, mid, happens, (is, end)) none =
+        let gone : mid.spots ≡ [] = ap (λ (p : Pooled S T R B). p.spots) (sym is) ∙ none in
+        let past : old.steps < mid.steps = emptied_by_step old mid event happens gone in
+        let same : new.steps ≡ mid.steps = ap (λ (p : Pooled S T R B). p.steps) is in
+        omega (arith, past, same)
+    run_past event (next ∷ events) old new (other, choice, mid, happens, rest) none =
+        let past : mid.steps < new.steps = run_past next events mid new rest none in
+        let grows : old.steps ≤ mid.steps = event_grows old mid event happens in
+        omega (arith, past, grows)
+
+    -- where it leaves no place, each number of turns that is not below its steps gives the same run
+    pub closed_longer : (longer : ℕ) (events : List Event) (old new : Pooled S T R B) → new.steps ≤ longer → IsPolicyRun machine states recorders z policy turns old events new → new.spots ≡ []
+        → IsPolicyRun machine states recorders z policy longer old events new
+    closed_longer longer [] old new more (is, end) none = (is, inl (ap (λ (p : Pooled S T R B). p.spots) (sym is) ∙ none))
+    closed_longer longer (event ∷ events) old new more (other, choice, mid, happens, rest) none =
+        let past : old.steps < new.steps = run_past event events old new (other, choice, mid, happens, rest) none in
+        ((λ e. omega (arith, e, past, more)), choice, mid, happens, closed_longer longer events mid new more rest none)
 
     -- the policy's first events lead from the old pool to the new one
     abbrev pub IsPolicyStart : Pooled S T R B → List Event → Pooled S T R B → Type 0

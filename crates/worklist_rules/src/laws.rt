@@ -36,15 +36,18 @@ pub fn a_sharp_pool_follows_its_run<S: Stepper, R: Recorder>()
         → HappenAll S.machine S.State.order R.order R.recording (opened S.machine R.recording stepper o) events w → IsSharp (S.machine stepper) R.recording w run }
 {}
 
-/// A pool has one run of a policy, whose events happen one after another. Where it leaves no place,
-/// more turns give the same run.
+/// A pool has one run of a policy, whose events happen one after another, and whose steps are at most
+/// the turns. Where it leaves no place, each number of turns that is not below its steps gives the same
+/// run.
 pub fn a_pool_has_one_policy_run<S: Stepper, R: Recorder>(policy: Policy)
     ensures one { (turns : ℕ) (old new other : Pooled S S.State R R.Book) (events others : List Event)
         → IsPolicyRun S.machine S.State.order R.order R.recording policy turns old events new → IsPolicyRun S.machine S.State.order R.order R.recording policy turns old others other
         → (events ≡ others) × (new ≡ other) }
     ensures happens { (turns : ℕ) (old new : Pooled S S.State R R.Book) (events : List Event) → IsPolicyRun S.machine S.State.order R.order R.recording policy turns old events new
         → HappenAll S.machine S.State.order R.order R.recording old events new }
-    ensures longer { (turns more : ℕ) (old new : Pooled S S.State R R.Book) (events : List Event) → turns ≤ more → old.steps ≤ turns
+    ensures within { (turns : ℕ) (old new : Pooled S S.State R R.Book) (events : List Event) → old.steps ≤ turns
+        → IsPolicyRun S.machine S.State.order R.order R.recording policy turns old events new → new.steps ≤ turns }
+    ensures longer { (turns more : ℕ) (old new : Pooled S S.State R R.Book) (events : List Event) → new.steps ≤ more
         → IsPolicyRun S.machine S.State.order R.order R.recording policy turns old events new → new.spots ≡ [] → IsPolicyRun S.machine S.State.order R.order R.recording policy more old events new }
 {
     let _ = policy;

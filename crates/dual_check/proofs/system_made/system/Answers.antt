@@ -1,5 +1,7 @@
 -- What was made keeps what every program keeps.
-use Rattle.std.proofs.Common.{rules, ◌∙◌, ◌<◌, ◌^◌, ℕ, List, ap, refl, subst, arith, length}
+use Rattle.std.proofs.Common.{◌≡◌, ◌∙◌, ℕ, List, ap, refl, subst, arith, length, map}
+use Rattle.std.proofs.lemmas.List.{length-map}
+use Rattle.domain_core.specs.declared.outline.NodeRow.{NodeRow}
 use Rattle.domain_core.specs.Outlines.{shape_of}
 use Rattle.ipet_rows.specs.Programs.{Row}
 use Rattle.dual_check.specs.Systems.{AreColumns}
@@ -13,9 +15,11 @@ by_columns-requires-clause-rows c =
 
 pub invariant_of-result : goal.invariant_of-result
 invariant_of-result c =
-    let few : c.node_count.result < 2 ^ 32 = search rules in
+    let nodes = c.args.outline.now.nodes in
+    let few = c.kept.ensures.few_nodes in
+    let own : length (map (λ (row : NodeRow). row.scope) nodes) ≡ length nodes = length-map nodes (λ (row : NodeRow). row.scope) in
     let openings = c.in_ok-openings.ensures ∙ ap (λ (n : ℕ). openings_of c.args.columns.now c.args.constraints.now n) c.node_count.ensures in
     let lists : AreColumns (length c.args.columns.now) c.in_ok-rows.rows.items c.in_ok-lists.lists.items =
     subst (λ (rs : List Row). AreColumns (length c.args.columns.now) rs c.in_ok-lists.lists.items) c.deref.ensures.value c.in_ok-lists.ensures in
     system_kept c.args.outline.now c.args.columns.now c.args.constraints.now c.in_ok-costs.costs.items c.in_ok-rows.rows.items c.in_ok-openings.openings.items c.in_ok-lists.lists.items
-    c.in_ok-costs.ensures c.in_ok-rows.ensures openings lists c.requires.columns c.requires.constraints (omega (arith, few, c.node_count.ensures))
+    c.in_ok-costs.ensures c.in_ok-rows.ensures openings lists c.requires.columns c.requires.constraints (omega (arith, few, own))

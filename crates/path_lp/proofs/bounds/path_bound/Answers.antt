@@ -1,5 +1,5 @@
 -- What is left to show of `path_bound`.
-use Rattle.std.proofs.Common.{◌<◌, ◌^◌, List, All, length, subst}
+use Rattle.std.proofs.Common.{◌<◌, ◌^◌, List, All, length, subst, arith}
 use Rattle.flow_facts.specs.declared.fact.Fact.{Fact}
 use Rattle.dual_check.specs.Systems.{System}
 use Rattle.path_lp.specs.Sizes.{NumbersFit}
@@ -50,4 +50,6 @@ returns-clause-small c =
     let o = c.args.outline.now in
     let facts = c.args.report.now.facts.items in
     let fit : All NumbersFit facts = subst (λ (fs : List Fact). All NumbersFit fs) c.deref.ensures.value c.facts_fit.ensures in
-    rows_small o facts c.costs_fit.ensures fit (subst (λ (s : System). length s.program.rows < 2 ^ 32) c.in_ok-rows.ensures c.kept-2.ensures.few_rows)
+    let few = c.kept-2.ensures.few_rows in
+    let low : length c.in_ok-rows.rows.program.rows < 2 ^ 32 = omega (arith, few) in
+    rows_small o facts c.costs_fit.ensures fit (subst (λ (s : System). length s.program.rows < 2 ^ 32) c.in_ok-rows.ensures low)

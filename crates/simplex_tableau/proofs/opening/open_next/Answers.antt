@@ -1,5 +1,5 @@
 -- The row and the place are those of the opening, and the tableau is ready for the pivot.
-use Rattle.std.proofs.Common.{rules, ◌≡◌, ◌∙◌, sym, suc, Some, true}
+use Rattle.std.proofs.Common.{rules, ◌≡◌, ◌∙◌, ◌<◌, sym, suc, Some, true, length, arith}
 use Rattle.std.proofs.lemmas.Bool.{false≢true}
 use Rattle.simplex_rules.specs.Tableaus.{held_at}
 use Rattle.simplex_tableau.specs.Stepped.{exchange_wide, IsOpened}
@@ -28,8 +28,10 @@ pub unreachable-requires : goal.unreachable-requires
 unreachable-requires c =
     let place : c.in-Some.place ≡ suc (suc c.opening-row.result.1) = search (rules) in
     let wide : exchange_wide c.line_of-line.result c.in-Some.place (held_at c.args.tableau.tableau.rows c.line_of-line.result).line c.args.tableau.tableau ≡ true = search (rules) in
+    let openings = c.kept.ensures.few_openings in
+    let few : length c.args.rows.now.openings < 4294967296 = omega (arith, openings) in
     let narrow = never_wide c.args.rows.now.program c.args.rows.now.openings c.args.i c.line_of-line.result c.in-Some.place c.opening-row.result c.args.tableau
-    c.kept.ensures.within c.requires.opens c.requires.small c.kept.ensures.few_openings c.requires.i c.opening-row.ensures c.line_of-line.ensures place c.requires.so in
+    c.kept.ensures.within c.requires.opens c.requires.small few c.requires.i c.opening-row.ensures c.line_of-line.ensures place c.requires.so in
     absurd (false≢true (sym narrow ∙ wide))
 
 pub returns : goal.returns

@@ -1,4 +1,4 @@
--- A report that was found in so many turns is found in more.
+-- A report is printed with each number of turns that is not below the steps of its exploration.
 use Rattle.sweet_cli.proofs.Staying.{stays}
 use Rattle.sweet_cli.proofs.laws.reports_stay.Goals as goal
 

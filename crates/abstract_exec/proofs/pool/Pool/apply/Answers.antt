@@ -7,6 +7,9 @@ use Rattle.worklist_rules.specs.EventLaws.{event_one_on}
 use Rattle.abstract_exec.proofs.Moves.{on_ok_first, pool_kept, merge_few}
 use Rattle.abstract_exec.proofs.pool.Pool.apply.Goals as goal
 
+pub step-requires-clause-room : goal.step-requires-clause-room
+step-requires-clause-room g c = c.requires.room c.in-Step.place c.in-Step.is
+
 pub returns-in-Step-clause-happens : goal.returns-in-Step-clause-happens
 returns-in-Step-clause-happens g c = rw c.in-Step.is (on_ok_first c.step.result _ _ c.step.ensures.happens)
 

@@ -7,7 +7,7 @@ use Rattle.fact_words.specs.Numbers.{Fault}
 use Rattle.fact_text.specs.Reading.{position, fault_of}
 use Rattle.fact_text.specs.Language.{start, Departure, departure_of, placed, Means}
 use Rattle.fact_text.proofs.Meaning.{read_means}
-use Rattle.fact_text.proofs.language.read.Goals as goal
+use Rattle.fact_text.proofs.language.spelled.Goals as goal
 
 pub returns-in-Ok : goal.returns-in-Ok
 returns-in-Ok c =

@@ -1,6 +1,0 @@
--- The copy stays beside the memory.
-use Rattle.memory_model.specs.SeenOrders.{AreAlike}
-use Rattle.amem_bench.proofs.changed.Given as goal
-
-abbrev pub invariant-loop-number : goal.invariant-loop-number
-invariant-loop-number l = AreAlike l.copy l.memory

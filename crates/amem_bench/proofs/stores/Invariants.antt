@@ -1,6 +1,0 @@
--- The memory stays one.
-use Rattle.memory_model.specs.KeptMemories.{IsMemory}
-use Rattle.amem_bench.proofs.stores.Given as goal
-
-abbrev pub invariant-loop-round : goal.invariant-loop-round
-invariant-loop-round l = IsMemory l.memory

@@ -1,5 +1,0 @@
--- What the loop keeps.
-use Rattle.recorder_bench.proofs.calls.rounds.Given as goal
-
-abbrev pub invariant-loop : goal.invariant-loop
-invariant-loop g l = g.R.Recorder.recording.book_is_of l.outline l.book

@@ -1,5 +1,0 @@
-use Rattle.alf_interp.specs.Machines.{IsStanding}
-use Rattle.run_bench.proofs.count.Given as goal
-
-abbrev pub invariant-loop-steps : goal.invariant-loop-steps
-invariant-loop-steps l = IsStanding l.machine

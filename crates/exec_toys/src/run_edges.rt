@@ -10,5 +10,8 @@ pub fn has_edge_to_node(outline: &Outline, from: u32, to: u32) -> bool
     ensures edge { IsTrue result → Contains outline.now.edges (from, to) }
     ensures node { IsTrue result → to < length outline.now.nodes }
 {
-    to < outline.node_count() && has_edge(outline, from, to)
+    if to >= outline.node_count() {
+        return false;
+    }
+    has_edge(outline, from, to)
 }

@@ -84,8 +84,9 @@ fn judge_line(
     trace: &[u32],
     line: &str,
 ) -> Result<(), AllocError> {
+    let facts = facts_of(alloc, line.split(": ").nth(0).unwrap_or(""))?;
     let due = line.split(": ").nth(1).unwrap_or("");
-    for fact in &facts_of(alloc, line.split(": ").nth(0).unwrap_or(""))? {
+    for fact in &facts {
         assert_eq!(rt; judged(fact, outline, trace), due, "{trace:?} {fact:?}");
     }
     Ok(())

@@ -8,8 +8,8 @@ ghost use Rattle.worklist_rules.specs.Pools.{Spot, positions_of};
 ghost use Rattle.worklist_rules.specs.Policies.{IsChoice};
 ghost use Rattle.abstract_exec.specs.Points.{AreMergePoints};
 
-use crate::Place;
 use crate::joins::is_same_position;
+use crate::place::Place;
 use domain_core::Event;
 use std::alloc::AllocError;
 use worklist::Line;

@@ -4,7 +4,7 @@ ghost use Rattle.std.specs.Prelude.{◌≡◌, ◌<◌, ◌↔◌, length, remov
 ghost use Rattle.worklist_rules.specs.Pools.{Spot};
 ghost use Rattle.worklist_rules.specs.Events.{met};
 
-use crate::Place;
+use crate::place::Place;
 use domain_core::{Lattice, Recorder};
 use std::alloc::{AllocError, Global};
 use worklist::Line;

@@ -1,22 +1,15 @@
-//! The exploration of a graph from a pool of places.
-//!
-//! ## Pool places
-//!
-//! Places of a pool: the functions that move them on, join them, and choose among them.
-//!
-//! What each function gives is a definition of `worklist_rules`. A place keeps its position as a list,
-//! from which that of each successor is made; no function reads a whole list of places.
-//!
-//! ## Abstract exec
-//!
 //! Abstract execution: a pool of places, moved on by events until none is left.
 //!
-//! A pool explores what a `Stepper` gives along an `Outline`, and a `Recorder` collects what runs do.
-//! Whatever the events, no run is lost: the laws stand in `worklist_rules`, and `apply` and `explore`
-//! cite the definitions of that crate. The crate knows nothing of programs, memories or words.
+//! A place is a node with its position, a state of a `Stepper` and a `Recorder`. A pool explores what the stepper
+//! gives along an `Outline`, while the recorders collect what runs do. What an event makes of the places, and which
+//! event a policy gives, are definitions of `worklist_rules`, and the clauses of `Pool` cite them; there it is
+//! proved that no run is lost, whatever the events. Nothing here knows of programs, memories or words.
+//!
+//! A place keeps its position as a list, from which that of each successor is made. The places stand in a list of
+//! `worklist`, so that no function reads all of them.
 #![tactic(auto)]
 
-// Pool places: a place, and its position.
+// A place, and its position.
 mod numbers;
 mod place;
 mod position;
@@ -31,18 +24,11 @@ mod step;
 mod choice;
 mod points;
 
-// Abstract exec: the pool.
-mod pool;
-
-// What it answers.
+// The pool, and what it answers.
 mod explored;
 mod fault;
+mod pool;
 
-pub use choice::next_event;
 pub use explored::Explored;
 pub use fault::ExecFault;
-pub use joins::{are_one_position, merge_places};
-pub use place::Place;
-pub use points::merge_points;
 pub use pool::Pool;
-pub use step::{first_place, step_place};

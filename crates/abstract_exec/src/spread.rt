@@ -6,7 +6,7 @@ ghost use Rattle.worklist_rules.specs.Positions.{turn_in};
 ghost use Rattle.worklist_rules.specs.Events.{spots_after, book_after, spread_spots, spread_book};
 ghost use Rattle.worklist_rules.specs.Successors.{AreAlong};
 
-use crate::Place;
+use crate::place::Place;
 use crate::position::position_along;
 use domain_core::{Outline, Recorder};
 use std::alloc::{AllocError, Global};

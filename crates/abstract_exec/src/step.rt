@@ -8,7 +8,7 @@ ghost use Rattle.worklist_rules.specs.Kept.{IsPlaced};
 ghost use Rattle.worklist_rules.specs.Pools.{Spot, may_fault};
 ghost use Rattle.worklist_rules.specs.Positions.{position_of};
 
-use crate::Place;
+use crate::place::Place;
 use crate::position::first_position;
 use crate::room::put_all;
 use crate::spread::spread;

@@ -1,23 +1,16 @@
-//! The abstract memory of a program, and the cells that an address may mean.
+//! The abstract memory of a program: which functions run, and what the bytes and cells of its frames may hold.
 //!
-//! ## Address cells
+//! `AMem` keeps a flag for each function and the slots of each frame, in the shared pages of `memory_pages`. It
+//! stands for a memory of the rules (`memory_in` of `memory_model`), and what each call makes of it is said by the
+//! definitions of `memory_rules`, of which it is proved there that they cover each run, and are exact where one run
+//! is followed.
 //!
-//! The cells that an abstract address may mean, and its faults.
-//!
-//! `cells` gives the cells one by one in ascending order, in time of the cells and not of the frames that they lie
-//! in. What they are is said by the definitions of `memory_rules`, on which loads and stores through the address
-//! rest. The crate rests on abstract values and on the frames of checked programs.
-//!
-//! ## Abstract memory
-//!
-//! The abstract memory of a program.
-//!
-//! `AMem` keeps which functions run and the slots of each frame. What its calls make of it is said by the
-//! definitions of `memory_rules`, of the memory that the lists stand for. The crate rests on checked programs and
-//! on the shared pages of `memory_pages`.
+//! Loads and stores go through an abstract address, which may mean several cells. `cells` gives these one by one in
+//! ascending order, in time of the cells and not of the frames that they lie in; most addresses of a program mean
+//! one cell alone, which `lone_cell` finds without memory.
 #![tactic(auto)]
 
-// Address cells: frames that are active, and the offsets of a pointer one after the other.
+// Frames that are active, and the offsets of a pointer one after the other.
 mod active;
 mod offsets;
 
@@ -28,7 +21,7 @@ mod fault;
 // Addresses that mean one cell alone.
 mod lone;
 
-// Abstract memory: what a memory begins with.
+// What a memory begins with.
 mod start;
 
 // What its frames become, and what loads give.

@@ -1,31 +1,21 @@
-//! The first fault of names and sizes of a program of ALF.
+//! The first fault of names and sizes of a program of ALF, and where each of its names stands first.
 //!
-//! ## Alf names
+//! `first_fault` goes through a program in the order of its text and tells the first name that stands twice or
+//! nowhere, or the first place that breaks a size rule. All faults of a program are defined as one list,
+//! `faults_in`, and what is told is its head; `no_fault_is_by_parts` says, rule by rule, what holds where the list
+//! is empty. `frame_named`, `function_named` and `Labels` tell where a name stands first.
 //!
-//! Names of a program, and where each stands first.
-//!
-//! A program has at most 256 frames and 256 functions, which are looked through from the front. The
-//! labels of a function may be many: `Labels` keeps them in a table.
-//!
-//! ## Alf faults
-//!
-//! The first fault of a program's names and sizes.
-//!
-//! `first_fault` goes through a program in the order of its text and tells the first name that
-//! stands twice or nowhere, or the first place that breaks a size rule. All faults of a program are
-//! defined as one list on the whole program, `faults_in`, and what is told is its head. No pass is
-//! quadratic in the number of items, labels or targets: labels are looked up in a table, and of
-//! frames and functions a program has few. Whether functions call one another in a circle is not
-//! judged here.
+//! No pass is quadratic in the number of items, labels or targets: labels are looked up in a table, while frames
+//! and functions, of which a program that is read has at most 256 each, are looked through from the front.
+//! Programs are those of `alf_program`, and the sizes of operators those of `alf_ops`. Whether functions call one
+//! another in a circle is not judged here.
 #![tactic(auto)]
 
-// Alf names: frames and functions.
+// Where names stand first: frames, functions and labels.
+mod label_table;
 mod places;
 
-// Labels.
-mod label_table;
-
-// Alf faults: what is found, and what is told of it.
+// What is found, and what is told of it.
 mod findings;
 mod item_faults;
 mod item_places;

@@ -1,24 +1,15 @@
-//! Runs of a program, made step by step and counted.
+//! Runs of a checked program: a machine that makes them step by step, and the one run from given inputs, counted.
 //!
-//! ## Alf interp
+//! A `Machine` stands at a node of the program's graph. Its memory stands for histories, so the machine stands for
+//! every run that has come to this node with such a history. `Machine::start` stands where the runs with given
+//! inputs start, and `step` goes where each of these runs goes, or tells how all of them end. `count` makes the
+//! run by a machine, turn by turn, and counts for each node of the graph how often the run stands there.
 //!
-//! Runs of a checked program, made step by step.
-//!
-//! A `Machine` stands at a node of the program's graph. Its memory stands for histories, so the machine
-//! stands for every run that has come to this node with such a history. `Machine::start` stands where the
-//! runs with given inputs start, and `step` goes where each of these runs goes, or tells how all of
-//! them end. What a run is, is defined in `alf_runs`, apart from all code.
-//!
-//! ## Run counts
-//!
-//! The one run of a program from given inputs, counted.
-//!
-//! `count` makes the run by a machine, turn by turn, and counts for each node of the graph how often
-//! the run stands there. What it gives is told in terms of the run alone, which `alf_runs` defines:
-//! the definitions here number its nodes, as the graph does.
+//! What a run is, is defined in `alf_runs`, apart from all code, and what a memory stands for in `alf_values`;
+//! nodes and edges are those of `flow_graph`.
 #![tactic(auto)]
 
-// Alf interp: what is told of a step.
+// What is told of a step.
 mod moved;
 
 // What a step is made of.
@@ -31,11 +22,9 @@ mod values;
 // The machine.
 mod machine;
 
-// Run counts: what is counted.
-mod tally;
-
-// The run, turn by turn.
+// The run, turn by turn, and what is counted of it.
 mod counting;
+mod tally;
 
 pub use counting::count;
 pub use machine::Machine;

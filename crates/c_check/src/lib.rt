@@ -1,64 +1,39 @@
-//! The checks of a unit of C.
-//!
-//! ## C calls
-//!
-//! Who calls whom in a unit of C.
-//!
-//! Functions are counted by the order of their definitions. `function_ranks` gives each a rank, so that each call
-//! leads to a lower one, or the first cycle of calls.
-//!
-//! ## C bodies
-//!
-//! Statements of C: their faults in the order of the text.
-//!
-//! One walk over a statement gives its first fault, as `c_rules` defines it, or says that memory ran out.
-//!
-//! ## C files
-//!
-//! The first fault of a whole unit of C, in the order of the text.
-//!
-//! What stands at file level is gone through once: declarations, and functions with their heads and bodies.
-//!
-//! ## C check
-//!
 //! The checks of a unit of C, and what passes them.
 //!
-//! Names, types and counts are checked first, in the order of the text, then that no function calls itself, also
-//! through others, and then that the root is defined. What is told is what `c_rules` says of the unit.
+//! `check` gives the program whose root has a name, or why the unit is none. Names, types and counts are checked
+//! first, in the order of the text, then that no function calls itself, also through others, and then that the
+//! root is defined. What is told is what `c_rules` says of the unit, by names and places in place of tokens.
+//!
+//! The text is gone through once for its faults: `check_unit` for what stands at file level, and `check_body` for
+//! the statements of a function, over the checks of expressions and declarations in `c_faults`. Functions are
+//! counted by the order of their definitions, as in `c_scopes`; `function_ranks` gives each a rank, so that each
+//! call leads to a lower one, or the first cycle of calls, by `graph_walks`.
 #![tactic(auto)]
 
-// C calls: calls in statements.
+// Statements: what stands around them, those in which none stand, and all others.
+mod body_statements;
+mod for_parts;
+mod labels;
+mod leaving;
+mod place;
+
+// What stands at file level, and functions with their bodies.
+mod externals;
+mod functions;
+
+// Calls in statements, and the table of who calls whom.
 mod call_statements;
 mod expression_calls;
 mod noting;
-
-// Calls of functions, and ranks.
-mod ranks;
 mod tables;
 
-// C bodies: what stands around a statement.
-mod labels;
-mod place;
+// Ranks of functions, or a cycle of calls.
+mod ranks;
 
-// Statements in which none stand.
-mod for_parts;
-mod leaving;
-
-// Statements.
-mod body_statements;
-
-// C files: functions.
-mod functions;
-
-// What stands at file level.
-mod externals;
-
-// C check: why a unit does not pass, and what passes.
+// The checks in their order, what passes, and what is told where one does not.
+mod checking;
 mod fault;
 mod program;
-
-// The checks.
-mod checking;
 mod telling;
 
 pub use body_statements::check_body;
@@ -66,5 +41,4 @@ pub use checking::check;
 pub use externals::check_unit;
 pub use fault::CFault;
 pub use program::CProgram;
-pub use ranks::{function_ranks, names_along};
-pub use tables::call_table;
+pub use ranks::function_ranks;

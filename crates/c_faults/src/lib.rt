@@ -1,72 +1,39 @@
-//! The first fault of expressions, of locals and of what is declared at file level.
+//! The first fault of expressions, of what statements do, and of what is declared in C.
 //!
-//! ## C faults
+//! All faults of a part of a unit stand in one list, in the order of the text, which `c_rules` defines. Each check
+//! tells the first of the list of its part, and tells none exactly where that list is empty. One walk over an
+//! expression gives its type or its first fault; calls, values and effects are checked over it. A local and a
+//! global are known from their declarator on, a local also in its own initialiser.
 //!
-//! The type of an expression of C, or its first fault.
-//!
-//! One walk over an expression gives its type, or the first of its faults in the order of the text, as
-//! `c_rules` defines both. So do the checks of conditions, of what is assigned, and of what stands where a type
-//! is wanted. No function takes memory, and each goes as deep as the expression.
-//!
-//! ## C effects
-//!
-//! The first fault of calls, of values and of what statements do, in C.
-//!
-//! A call names a function that is defined, its use suits what the function gives, and its arguments suit the
-//! parameters. All is told in the order of the text, as `c_rules` has it. No function takes memory.
-//!
-//! ## C locals
-//!
-//! Locals of C that are declared: their faults, and the scopes with them.
-//!
-//! A local is known from its declarator on, also in its own initialiser. A check gives the first fault, as
-//! `c_rules` defines them, or says that memory ran out.
-//!
-//! ## C globals
-//!
-//! What is declared at file level in C: globals, prototypes, and the heads of functions.
-//!
-//! A name is known from its declarator on. A check gives the first fault, as `c_rules` defines them, or says that
-//! memory ran out.
+//! The checks of expressions, calls and effects take no memory and go as deep as the expression. Those of
+//! declarations put names into scopes (`c_scopes`), so they stop with a fault or with want of memory (`Stop`).
 #![tactic(auto)]
 
-// C faults: names and constants.
-mod leaves;
-
-// Operators over operands that have types.
-mod operators;
-
-// Expressions.
+// Expressions: names and constants, operators over operands that have types, and where a type is wanted.
 mod expressions;
+mod leaves;
+mod operators;
 mod wanted;
 
-// C effects: calls.
+// Calls, values, and what statements do.
 mod arguments;
 mod calls;
-mod uses;
-
-// Values, and what is assigned.
 mod effects;
+mod uses;
 mod values;
 
-// C locals: why a check stops.
+// Why a check stops that takes memory.
 mod stop;
 
-// Arrays and their initialisers.
+// Locals, arrays and their initialisers.
 mod arrays;
-
-// Locals.
 mod locals;
 
-// C globals: parameters.
-mod params;
-
-// Functions.
+// What is declared at file level: parameters, heads of functions, and declarators.
 mod agreement;
-mod heads;
-
-// Declarations.
 mod declarators;
+mod heads;
+mod params;
 
 pub use arrays::{check_array, number_of};
 pub use calls::check_call;

@@ -1,40 +1,28 @@
-//! What the limits of the grammar of C mean for a unit that some text spells.
+//! What the limits of the grammar of C mean for a unit that some text spells, as laws.
 //!
-//! ## Spelled sizes
+//! The grammar counts functions, frames and elements of arrays while a text is read, bounds how deep operators are
+//! nested, and lets `&&` and `||` stand in conditions alone. Here what each rule of `c_grammar` spells is measured
+//! against what it takes of the room and of the tokens: so a unit that some text spells is counted (`IsCounted` of
+//! `c_rules`), its functions allocate few labels, and its conditions are plain.
 //!
-//! Sizes of objects of a counted unit, and how many bytes its lowered program has, as laws.
-//!
-//! ## Spelled names
-//!
-//! The names of a counted unit are spelled.
-//!
-//! ## Spelled labels
-//!
-//! A unit that some text spells allocates at most four labels for each token.
-//!
-//! ## Spelled counts
-//!
-//! What the rules of C count, as laws: frames, elements and depths of what they spell, and the tokens that declare.
-//!
-//! ## Plain spellings
-//!
-//! In a unit that some text spells `&&` and `||` stand in conditions alone, and at most ten operators are nested.
+//! What follows of counted units are the premises of the laws of lowering: names are spelled, objects are small,
+//! frames are few, and so are the bytes of the lowered program. `c_lower` draws on them for each text.
 #![tactic(auto)]
 
-// Spelled sizes.
-mod size_laws;
-
-// Spelled names: what the definitions promise.
-mod name_laws;
-
-// Spelled labels: what the definitions promise.
-mod label_laws;
-
-// Spelled counts.
+// What the rules count while a text is read.
 mod count_laws;
 
-// Plain spellings: what the definitions promise.
+// Labels, weighed against tokens.
+mod label_laws;
+
+// Where `&&` and `||` stand, and how deep operators are nested.
 mod plain_laws;
+
+// Names and frames of a counted unit.
+mod name_laws;
+
+// Sizes of its objects, and the bytes of its lowered program.
+mod size_laws;
 
 pub use count_laws::{
     expressions_are_shallow, spelled_units_are_counted, statements_count_what_they_declare,

@@ -1,48 +1,27 @@
-//! Programs of C, lowered to programs of ALF.
+//! Programs of C, lowered to programs of ALF, and that lowering is right for each text of C.
 //!
-//! ## Unit writer
+//! `lower_text` makes of a unit that passes the checks the program of ALF that `c_lowered` says, and `lower`
+//! checks that program. Whatever passes the checks of C passes those of ALF, and each run of what is made has the
+//! outcome of the unit, faults and endless runs included.
 //!
-//! Units of C, lowered to programs of ALF.
-//!
-//! `lower_unit` makes of a unit the program that `c_lowered` says: it walks over the unit once for its objects, once
-//! for what globals hold, and for each function once for its frames and once for its items.
-//!
-//! ## Spelled texts
-//!
-//! The lowered program of a unit that some text spells and that the checks pass can be written, and passes the
-//! checks of ALF: a law.
-//!
-//! ## Spelled programs
-//!
-//! Lowering is right for each text of C.
-//!
-//! ## C lower
-//!
-//! Programs of C, lowered to programs of ALF.
-//!
-//! `lower_text` makes of a unit that passes the checks the program of ALF that `c_lowered` says, and `lower` checks
-//! that program. Whatever passes the checks of C passes those of ALF, and each run of what is made has the outcome of
-//! the unit.
+//! `lower_unit` makes the program: it walks over the unit once for its objects (`object_layout`), once for what
+//! globals hold, and for each function once for its frames (`frame_lowering`) and once for its items
+//! (`statement_lowering`). The laws of lowering (`lowering_checks`, `lowering_simulation`) have premises on the
+//! unit; `c_limits` shows that each unit keeps them that some text spells.
 #![tactic(auto)]
 
-// Unit writer: functions.
+// The program of a unit: functions, and what is known at their heads.
 mod functions;
 mod heads;
-
-// Whole units.
 mod lowering;
 
-// Spelled texts.
+// What lowering promises of each text of C.
+mod program_laws;
 mod text_laws;
 
-// Spelled programs: what the definitions promise.
-mod program_laws;
-
-// C lower: the program, with names.
-mod texts;
-
-// The program with numbers in place of names.
+// Programs with names, and checked programs with numbers in place of names.
 mod programs;
+mod texts;
 
 pub use lowering::lower_unit;
 pub use program_laws::spelled_programs_have_the_outcome_of_their_unit;

@@ -1,20 +1,16 @@
-//! What makes a unit of C a program.
+//! What makes a unit of C a program: types, names, and faults in the order of the text.
 //!
-//! ## C checks
+//! Expressions are typed by cases on their trees, with the integer promotions and the usual arithmetic conversions
+//! of C. All faults of a unit stand in one list, and the first counts; where there is none, the first cycle of
+//! calls counts, and then the root. What the trees of a unit keep that some text spells is said here too, as
+//! counts and limits.
 //!
-//! What makes a C unit a program: types, names, and faults in the order of the text.
-//!
-//! Expressions are typed by cases on their trees, with the integer promotions and the usual arithmetic
-//! conversions of C. All faults of a unit stand in one list, and the first counts; where there is none, the
-//! first cycle of calls counts, and then the root. Here is no code but functions that do nothing, whose
-//! clauses say what every program keeps, and what comes of small units.
-//!
-//! ## Spelled trees
-//!
-//! What the trees of a unit keep that some text spells.
+//! The trees are those of `c_unit`, the worth of constants is that of `c_tokens`, and calls that form a cycle are
+//! those of `graph_walks`. All here are definitions and laws: the functions do nothing, and their clauses say what
+//! every program keeps, and what comes of small units.
 #![tactic(auto)]
 
-// C checks: what the definitions promise.
+// What the definitions promise.
 mod laws;
 
 // Small units, worked out.

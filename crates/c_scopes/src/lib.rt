@@ -1,52 +1,35 @@
-//! What names of C are bound to, the types of expressions, and the functions that are defined.
+//! What names of C are bound to, the types that operators give, and the functions that are defined.
 //!
-//! ## C names
-//!
-//! Names of C: what each is bound to where something stands.
-//!
-//! `Words` are the tokens of a unit. `Scopes` are the scopes in a row around a part of the unit; a name
-//! is looked up from the innermost scope outward, by a table.
-//!
-//! ## C types
-//!
-//! Types of C's expressions: conversions, and what each operator gives.
-//!
-//! Each function is a definition of `c_rules` as code: the integer promotions, the usual arithmetic
-//! conversions, what suits where a type is wanted, and the type that each operator gives, or `None` where its
-//! operands do not fit. No function takes memory. `Fault` is what checks of units tell.
-//!
-//! ## C definitions
-//!
-//! Functions that are defined in a unit of C, by their names.
-//!
+//! Each function is a definition of `c_rules` as code. `Words` are the tokens of a unit. `Scopes` are the scopes
+//! in a row around a part of the unit; a name is looked up from the innermost scope outward, by a table.
 //! `Definitions` has the names of all definitions of a unit in their order, with a table of the first of each
 //! name, which gives the function its number.
+//!
+//! Types are told after C99, 6.3.1: the integer promotions, the usual arithmetic conversions, what suits where a
+//! type is wanted, and the type that each operator gives, or `None` where its operands do not fit. No function on
+//! types takes memory. `Fault` is what checks of units tell, and `c_faults` and `c_check` are those checks.
 #![tactic(auto)]
 
-// C names: tokens.
+// The tokens of a unit.
 mod unit_tokens;
 
-// What names are bound to.
+// What names are bound to: entries, names in a row, and scopes.
 mod entry;
 mod row;
 mod scopes;
 
-// C types: types that are the same, and conversions.
+// Types that are the same, conversions, and what each operator gives.
+mod binary_operators;
 mod conversions;
+mod other_operators;
 mod sameness;
 
 // What checks tell.
 mod fault;
 
-// What each operator gives.
-mod binary_operators;
-mod other_operators;
-
-// C definitions: the names, in order.
-mod made;
-
-// The table over them.
+// The functions that are defined, in order, and the table over them.
 mod definitions;
+mod made;
 mod table;
 
 pub use binary_operators::binary_type;
@@ -55,6 +38,6 @@ pub use definitions::Definitions;
 pub use entry::{Bound, Entry};
 pub use fault::Fault;
 pub use other_operators::{cast_type, index_type, unary_type};
-pub use sameness::{is_integer, same_integer, same_outcome, same_scalar, suits};
+pub use sameness::{same_outcome, same_scalar, suits};
 pub use scopes::Scopes;
 pub use unit_tokens::Words;

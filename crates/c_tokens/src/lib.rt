@@ -1,23 +1,16 @@
 //! Tokens of C, and what constants are worth.
 //!
-//! ## C tokens
+//! Tokens are the preprocessing tokens of C99, each the longest that begins at its place. Cutting a text is total:
+//! white space is a kind of piece, a byte that is in no other token is a token of its own, and so is a comment
+//! that is not closed, which no grammar takes. A `Cursor` cuts tokens as they are asked for and takes no memory.
+//! Each token tells how many bytes of the text are left where it begins.
 //!
-//! The tokens of C: the preprocessing tokens of C99, each the longest that begins at its place.
-//!
-//! Cutting a text is total. White space is a kind of piece, a byte that is in no other token is a
-//! token of its own, and so is a comment that is not closed, which no grammar takes. A `Cursor`
-//! cuts tokens as they are asked for and takes no memory. Each token tells how many bytes of the text
-//! are left where it begins.
-//!
-//! ## C constants
-//!
-//! Constants of C: what a token is worth, if it is a constant of the profile.
-//!
-//! Constants are decimal, octal and hexadecimal numbers of at most 32 bits, with `u` or `U` at the
-//! end or without, and characters: printable bytes of ASCII and five escapes.
+//! `worth_of` tells what a token is worth, if it is a constant of the profile: a decimal, octal or hexadecimal
+//! number of at most 32 bits, with `u` or `U` at the end or without, or a character, which is a printable byte of
+//! ASCII or one of five escapes. No grammar is known here.
 #![tactic(auto)]
 
-// C tokens: what is cut.
+// What is cut.
 mod token;
 
 // Where single pieces end.
@@ -31,14 +24,14 @@ mod punctuators;
 mod cursor;
 mod lexer;
 
-// What is said of tokens: which are keywords, and where they stand.
+// Which tokens are keywords, and where they stand.
 mod keywords;
 mod places;
 
-// What the definitions promise.
+// What the definitions promise of tokens.
 mod laws;
 
-// C constants.
+// What constants are worth: numbers and characters.
 mod characters;
 mod constant_numbers;
 mod worth;

@@ -1,20 +1,14 @@
 //! Units of C as trees over tokens, and their canonical text.
 //!
-//! ## C unit
+//! A unit has its tokens, as ranges of the text, and trees over them. Where a part of a tree is a token, it is the
+//! number of the token, from 0 on in the order of the text. What of this some text spells is said by the grammar
+//! (`c_grammar`).
 //!
-//! What is read of a C text: the types of units, and the trees that they stand for.
-//!
-//! A unit has its tokens, as ranges of the text, and trees over them. Where a part of a tree is a
-//! token, it is the number of the token, from 0 on in the order of the text. What of this some text
-//! spells is the grammar's to say.
-//!
-//! ## C printer
-//!
-//! The canonical text of a unit of C: its tokens in order, each as it was spelled, with one space
-//! between two of them and one line feed at the end.
+//! `print` writes the canonical text of a unit: its tokens in order, each as it was spelled, with one space
+//! between two of them and one line feed at the end. Tokens are those of `c_tokens`.
 #![tactic(auto)]
 
-// C unit: trees.
+// Trees.
 mod expression;
 mod external;
 mod statement;
@@ -24,7 +18,7 @@ mod types;
 mod tokens;
 mod unit;
 
-// C printer.
+// The canonical text.
 mod printing;
 
 pub use expression::{Binary, Expr, Unary};

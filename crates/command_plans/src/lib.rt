@@ -1,10 +1,12 @@
-//! A command as a plan of reads and judgements, which has one answer by its type.
+//! The order of work of a command line tool, as combinators: a command as a plan of reads and judgements.
 //!
-//! The order of work of a command line tool, as combinators.
+//! Work over files gives a value, or stops with an outcome: a cause, and the line that tells it. Each combinator
+//! carries the proof that told files have one value or one outcome, so a command that is written in them has one
+//! answer by its type. In code a function answers `Result<_, Stop>` and goes on by `?`; its clause says which work
+//! it does.
 //!
-//! Work over files gives a value, or stops with an outcome: a cause, and the line that tells it.
-//! Each combinator carries the proof that told files have one value or one outcome, so a command
-//! that is written in them has one answer by its type. This crate knows no command.
+//! No command is known here: `sweet_cli` and `program_files` write theirs in these. Files are read through the
+//! shelf of `flow_base`.
 #![tactic(auto)]
 
 // How a tool ends, and why work stops.

@@ -26,3 +26,4 @@ pub mod FaultLaws
 pub mod Parts
 pub mod PartLaws
 pub mod IterationLaws
+pub mod SystemRuns

@@ -16,6 +16,10 @@ pub trait Domain: Lattice {
     /// The size and the words of a value, and what each call answers.
     ghost sets: { WordSets Self };
 
+    /// What the laws ask of the value.
+    fn kept(&self)
+        ensures { sets.kept self.now };
+
     /// The one word.
     fn single(size: u32, bits: u64) -> Self
         requires size { IsWordSize size }

@@ -1,30 +1,19 @@
-//! Texts of reports, read and printed.
+//! Texts of reports: reports read from them, and reports printed.
 //!
-//! ## Fact text
+//! A text spells one report or has one first departure, by a grammar whose rules are each exact by their type;
+//! `read` gives which of the two it is, and where. Words are cut from the rest of the text as they are wanted, so
+//! a report of millions of lines takes no memory beside its lists. `print` writes the text of a report, which is
+//! read back to the same report, and no other bytes spell it: a report has one text.
 //!
-//! The text of a report, and what it means.
-//!
-//! The grammar stands in `specs/Grammar.antt`, rule by rule; each rule is exact by its type, so a
-//! text spells one report or has one first departure. `read` gives which of the two it is, and where.
-//! Words are cut from the rest of the text as they are wanted, so a report of millions of lines takes
-//! no memory beside its lists. `print` writes the text of a report, which is read back to the same
-//! report; so two reports have two texts. Which reports some text spells is a condition on reports
-//! alone, `IsWritable` of `flow_facts`. The rules stand in words in `docs/formats/report.md`.
-//!
-//! ## Report laws
-//!
-//! A report has one text: no bytes but those that `print` writes for it spell it.
-//!
-//! The law holds of reports with counts and without. It follows from the grammar of `fact_text`, rule by
-//! rule: the words that a rule takes where it spells a value are those that the printer writes for that
-//! value. As the words of a text are cut so that none of its bytes is left out, the words are the text.
-//! The crate has no code that runs.
+//! It stands on `grammar` for rules, lists and chains, and on `fact_words` for the words of lines and the printer.
+//! Which reports some text spells is a condition on reports alone, `IsWritable` of `flow_facts`. The rules stand
+//! in words in `docs/formats/report.md`.
 #![tactic(auto)]
 
-// Fact text: single words.
+// Single words.
 mod reader;
 
-// Lines and lists of them.
+// Lines and lists of them, and whole reports.
 mod certificates;
 mod facts;
 mod nodes;
@@ -32,12 +21,12 @@ mod order;
 mod reports;
 mod sequences;
 
-// Texts and reports.
+// What a text means, and the text that is written.
 mod language;
-mod laws;
 mod printing;
 
-// Report laws.
+// What the definitions promise: of the texts of reports, and that a report has one.
+mod laws;
 mod report_laws;
 
 pub use fact_words::ReportFault;

@@ -1,33 +1,23 @@
-//! One word or every word: the flat domain, and sets for the operands of an operator.
+//! Sets of words that are one word or every word of a size: the flat domain, the smallest of all.
 //!
-//! ## Flat domain
+//! `Flat` implements `Lattice` and `Domain` of `domain_core`, and is the tutorial for the next implementation. A
+//! contract sees a value as its size and its word, if it has one alone. What each call answers is a definition of
+//! `specs/Flats`: the code is proved against it, and the laws of the traits are proved of the definitions.
 //!
-//! Flat sets of words: one word, or every word of a size.
-//!
-//! `Flat` is the smallest implementation of `Lattice` and `Domain`, and a tutorial for the next one.
-//! A contract sees a value as its size and its word, if it has one alone. What each call answers is a
-//! definition, the code is proved against it, and the laws of the traits are proved of the definitions.
-//! No call takes memory. Nothing is trusted but the standard library.
-//!
-//! ## Operands
-//!
-//! What each domain asks of the operands of an operator: which operators divide, how many bits the
-//! result has, which sizes are written, and whether there is one set of its size for each operand.
-//!
-//! The table of operators decides, and nothing else is trusted. No call takes memory.
+//! Beside it stands what any domain asks of the operands of an operator, by the table of `alf_ops` alone: whether
+//! the operator divides, how many bits its result has, which bits it selects, and whether there is one set of its
+//! size for each operand. No call takes memory.
 #![tactic(auto)]
-
-// Flat domain: what an operator gives where each operand is one word.
-mod known;
 
 // The sets.
 mod set;
 
-// Operands: the operator and its sizes.
+// The operator, and sets for its operands.
 mod row;
-
-// Sets for the operands.
 mod sizes;
+
+// What an operator gives where each operand is one word.
+mod known;
 
 pub use known::fit;
 pub use row::{divides, places, size_of};

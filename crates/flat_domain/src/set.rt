@@ -80,6 +80,10 @@ impl Domain for Flat {
 
     ghost is_sets = { flat_is_sets };
 
+    fn kept(&self) {
+        let _ = self.size;
+    }
+
     fn single(size: u32, bits: u64) -> Self {
         Flat {
             size,

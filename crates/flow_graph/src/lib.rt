@@ -1,29 +1,30 @@
-//! The nodes and edges of a program, expanded by its calls.
-//!
-//! ## Flow graph
-//!
 //! The control flow graph of a whole program, expanded by its calls.
 //!
-//! ## Graph edges
-//!
-//! The edges from a node of a graph.
+//! A node is a call path with the entry of a function or one of its blocks, so each call of a function has nodes of
+//! its own. Kept are the nodes that walks along edges reach from the root's entry, in the order of their call
+//! paths; at most 512 nodes and 1,024 edges. What the graph of a program is, is defined from the blocks of the
+//! checked program (of `alf_check`), with nothing of the search that finds it.
 //!
 //! Whoever steps from node to node knows the number of the first edge from each node, and looks for a next node
 //! among the edges from there, by its block alone. Nothing is looked up by a name or by a call path.
 #![tactic(auto)]
 
-// Flow graph.
-mod edges;
-mod fault;
+// Nodes: where they lead, which are kept, and their names.
 mod goals;
-mod graph;
 mod kept;
-mod laws;
 mod names;
 mod place;
 
-// Graph edges.
+// The graph, and why there is none.
+mod edges;
+mod fault;
+mod graph;
+
+// The edges from a node.
 mod node_edges;
+
+// What is true of every graph.
+mod laws;
 
 pub use fault::GraphFault;
 pub use graph::{Graph, NodeRef};

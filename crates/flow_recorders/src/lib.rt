@@ -1,18 +1,16 @@
-//! What is counted along runs: totals, loops and counts.
+//! Recorders of how often runs visit nodes: totals, loops and counts, and two recorders side by side.
 //!
-//! ## Scope steps
-//!
-//! The scopes that a step of a run leaves, for recorders of what is over where a scope is left.
-//!
-//! ## Flow recorders
-//!
-//! Recorders of totals, loops, counts and pairs.
+//! `Totals` counts the visits of each node in a whole run, `Loops` those of the header in each execution of a
+//! scope, and `Counts` those of the other nodes of loops in each execution. `Both` makes one recorder of two. Each
+//! has the laws of `Lattice` and `Recorder` of `domain_core`, and what its calls answer is said by the records of
+//! `recorder_rules`. An execution is over where a step leaves its scope: `left_scopes` finds those scopes by the
+//! walk up from the step's source.
 #![tactic(auto)]
 
-// Scope steps.
+// The scopes that a step leaves.
 mod leaving;
 
-// Flow recorders: counts.
+// Counts in a whole run.
 mod spans;
 mod totals;
 
@@ -24,7 +22,7 @@ mod loops;
 mod tallies;
 mod walked;
 
-// Recorders side by side.
+// Two recorders side by side.
 mod both;
 
 pub use both::{Both, BothBook};

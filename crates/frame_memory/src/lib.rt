@@ -1,45 +1,25 @@
-//! Frames of an abstract memory as slots: what stands in a cell, loads, stores and joins.
+//! One frame of an abstract memory, kept as slots: its cells as they stand, loads, stores and joins.
 //!
-//! ## Frame cells
+//! A load and a weak store begin with the cell as it stands: as it is kept, or else what the flags of its bytes say
+//! of it. What a load gives is joined onto what was loaded before, so that a load through an address with several
+//! possible cells goes from cell to cell. A store goes from place to place and puts a slot only where something of
+//! it changes, since frames that were copied share the slots that none of them changed. A join leaves shared what
+//! both sides have.
 //!
-//! One cell of a frame as it stands, kept or not.
-//!
-//! A load and a weak store begin with the cell as it stands: as it is kept, or else what the flags of its bytes
-//! say of it. Each call gives exactly what the definitions of `memory_rules` say of the frame that the slots stand
-//! for. The crate rests on the slots of `memory_pages` and on `memory_model`, which says what they stand for.
-//!
-//! ## Frame stores
-//!
-//! What a store makes of the slots of one frame.
-//!
-//! Each call goes from place to place, and puts a slot only where something of it changes, since frames that were
-//! copied share the slots that none of them changed. A call gives exactly the frame that the definitions of
-//! `memory_rules` give. The crate rests on them, on the slots of `memory_pages`, on what slots stand for in
-//! `memory_model`, and on the cell as it stands of Frame cells.
-//!
-//! ## Frame loads
-//!
-//! Loads of cells of a frame.
-//!
-//! What a load of a cell may give is joined onto what was loaded before, so a load through an address with several
-//! possible cells goes from cell to cell. The results and their order are those of `memory_rules`: a kept cell
-//! gives its value, and its bytes are looked at only where it has `x`. The crate rests on the cells of
-//! Frame cells and on abstract values.
-//!
-//! ## Frame joins
-//!
-//! Two frames joined, slot by slot.
-//!
-//! Pages that hold the same on both sides are shared as they stand, and so is each slot. Of the others the join is
-//! the one that `memory_rules` gives: byte by byte, and cell by cell over those that either side keeps. The crate
-//! rests on Frame cells, a cell as it stands, and on `memory_model`, which says what slots stand for.
+//! Each call gives exactly what the definitions of `memory_rules` say of the frame that the slots stand for
+//! (`frame_of` of `memory_model`). The slots are those of `memory_pages`.
 #![tactic(auto)]
 
-// Frame cells: what a frame holds at one place.
+// A byte and a cell as they stand.
 mod byte;
 mod cell;
 
-// Frame stores: the places where something may change, and how a slot is put.
+// Loads: what a cell gives, and what was loaded.
+mod load;
+mod loaded;
+mod word;
+
+// Stores: the places where something may change, and how a slot is put.
 mod overlapping;
 mod slots;
 mod stored;
@@ -49,7 +29,7 @@ mod joined;
 mod stored_byte;
 mod stored_cell;
 
-// What it makes of other cells.
+// What it makes of the other cells.
 mod dropped;
 mod marked;
 mod mixed;
@@ -59,20 +39,11 @@ mod pins;
 mod strong;
 mod weak;
 
-// Frame loads: what was loaded.
-mod loaded;
-
-// What a cell gives.
-mod load;
-mod word;
-
-// Frame joins: what one slot becomes.
+// Joins: of two slots, and of two frames.
+mod frame;
 mod joined_byte;
 mod joined_cell;
 mod slot;
-
-// What the frame becomes.
-mod frame;
 
 pub use byte::byte_of;
 pub use cell::{cell_of_bytes, kept_cell, standing_cell};

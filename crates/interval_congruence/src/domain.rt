@@ -110,6 +110,10 @@ impl Domain for Strided {
 
     ghost is_sets = { stride_is_sets };
 
+    fn kept(&self) {
+        let _numbers = self.numbers();
+    }
+
     fn single(size: u32, bits: u64) -> Self {
         Strided::one_word(size, bits)
     }

@@ -1,31 +1,21 @@
-//! The rows of the linear program of a report (IPET), and what multipliers bound.
+//! The linear program of implicit path enumeration (Li and Malik 1995), and what multipliers bound.
 //!
-//! ## Path rows
+//! An outline and a report's facts make the program: a column for each way that leads on from a node, and rows for
+//! the flow and for each fact. How often a run that meets the facts uses each column is a point that meets the
+//! rows, and it is worth the run's cost. Multipliers of the rows bound every such point. A verdict on them is the
+//! first of the tests in a stated order; where it is `Holds`, each point that meets the rows is worth less than one
+//! more than the number that it tells. Whoever found the multipliers is not trusted.
 //!
-//! The linear program of implicit path enumeration (Li and Malik 1995) that an outline and a
-//! report's facts make, as definitions, and its first law: how often a run that meets the facts
-//! uses each edge is a feasible point, whose value is the run's cost.
-//!
-//! There is no code here that runs: the functions do nothing, and their clauses are the laws.
-//!
-//! ## Dual rules
-//!
-//! Multipliers that bound the cost of each point of a linear program, as definitions with their laws.
-//!
-//! A verdict on multipliers is the first of the tests in a stated order. Where it is `Holds`, each point
-//! that meets the rows is worth less than one more than the number that it tells. Whoever found the
-//! multipliers is not trusted. There is no code here that runs: the functions do nothing, and their
-//! clauses are the laws.
+//! The functions do nothing, and their clauses are the laws; `dual_check` makes the rows and tests multipliers by
+//! them.
 #![tactic(auto)]
 
-// Path rows: what the definitions promise.
+// The program, and the point that a run is.
 mod path_laws;
 
-// Dual rules: the answer of a test.
-mod verdict;
-
-// What the definitions promise.
+// What multipliers bound.
 mod dual_laws;
+mod verdict;
 
 pub use dual_laws::verdicts_bound_each_point;
 pub use path_laws::{

@@ -1,23 +1,19 @@
-//! Lowered programs pass the checks of ALF.
+//! Lowered programs pass the checks of ALF, as laws.
 //!
-//! ## Lowered terms
+//! Each expression of a lowered program is a term: it has the size that is wanted, can be written, is not too
+//! deep, and names frames that its function sees. Each item stands: its labels are the function's own, its terms
+//! have the right sizes, and its calls go to functions that are there. So the lowered program of a unit that the
+//! checks of C pass, and that is measured, can be written, and no part of it has a fault by `alf_faults`.
 //!
-//! Expressions of a lowered program, as laws: each has the size that is wanted, can be written, is not too deep,
-//! and names frames that its function sees.
-//!
-//! ## Lowered items
-//!
-//! Items of a lowered program: each passes the checks of ALF.
-//!
-//! ## Lowered texts
-//!
-//! The lowered program of a unit can be written and passes the checks of ALF, as a law.
+//! Programs are those of `c_lowered`. That names differ and frames lie where they should comes from
+//! `lowering_layout`, and that labels stand once from `lowering_simulation`; `c_limits` shows that each unit is
+//! measured that some text spells.
 #![tactic(auto)]
 
-// Lowered terms.
+// Expressions of a lowered program.
 mod term_laws;
 
-// Lowered texts.
+// Items, and the whole program.
 mod text_laws;
 
 pub use term_laws::{constants_are_words, values_are_terms};

@@ -1,30 +1,22 @@
-//! The names and the frames of lowered objects and functions.
+//! The names and the frames of lowered objects and functions, as laws.
 //!
-//! ## Declared functions
+//! No two frames of a lowered program have one name, nor have two functions, or two labels of a function, and each
+//! name is one of ALF. So a row of the program's table that has the name of an object is its row, and each object
+//! has a frame of its own, which is found whichever way its number was asked for. Each declaration of a function
+//! has the type of its definition, wherever a function's block sees it.
 //!
-//! Each declaration of a function has the type of its definition, wherever a function's block sees it.
-//!
-//! ## Lowered names
-//!
-//! Names in a lowered program, as laws: no two frames have one name, nor have two functions, or two labels of a
-//! function, and each name is one of ALF.
-//!
-//! ## Lowered frames
-//!
-//! Where the objects of a unit lie among the frames of the program that it is lowered to.
-//!
-//! `lowering_values` says what code of the lowered program computes where frames stand, names are
-//! numbered and the program is laid out so. Here is that each lowered program is so, since the names
-//! of its frames differ. Nothing is said here of values.
+//! `lowering_values` says what code of the lowered program computes where frames stand, names are numbered and the
+//! program is laid out so. Here is that each lowered program is so whose unit has names as the grammar has them;
+//! nothing is said here of values.
 #![tactic(auto)]
 
-// Declared functions: what the definitions promise.
+// Declarations of functions, and their definitions.
 mod function_laws;
 
-// Lowered names.
+// Names of frames, functions, labels and objects.
 mod name_laws;
 
-// Lowered frames: what the frames of a lowered program keep.
+// Where the objects lie among the frames of the lowered program.
 mod frame_laws;
 
 pub use frame_laws::{

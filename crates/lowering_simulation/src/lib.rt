@@ -1,48 +1,26 @@
-//! Lowered programs do what their unit does: the forward simulation.
+//! Lowered programs do what their unit does: the forward simulation, as laws.
 //!
-//! ## Lowered labels
+//! A checked program to which a unit is lowered has the outcome of the unit for each input, faults and endless
+//! runs included (`each_program_has_the_outcome_of_its_unit`). What stands in statements without statements of its
+//! own, a test, a store, the arguments of a call, is a leaf. Where each leaf does what the unit says, so do
+//! conditions, loops, switches, functions and the program. Leaves do so by the laws of `lowering_values`, since
+//! frames lie where `lowering_layout` says.
 //!
-//! Labels of a lowered function: each stands once, and leads to what stands after it.
-//!
-//! Labels are counted as they are allocated, so the items of a statement have just those of its range. The items
-//! after a statement are an argument of its lowering, so that "it stands here" says that a function's items end
-//! with its items and those.
-//!
-//! ## Lowered runs
-//!
-//! Runs of lowered programs: conditions, loops, switches, calls and whole programs do what the unit does.
-//!
-//! What stands in statements without statements of its own, a test, a store, the arguments of a call, is a leaf.
-//! Where each leaf does what the unit says, so do statements, functions and the program, and the run by nodes has
-//! the outcome of the unit, faults included.
-//!
-//! ## Lowered leaves
-//!
-//! Lowered programs have the outcome of the unit.
-//!
-//! The leaves of statements, tests, stores, arguments and results, do what the unit says: this is shown by cases on
-//! the tree from the laws of values and memories, from what the checks of the unit keep, and from where frames lie.
-//! With the law of runs it follows that a checked program to which a unit is lowered has the unit's outcome for each
-//! input, faults included.
-//!
-//! ## Lowered programs
-//!
-//! Lowering is right: a checked program to which a unit is lowered has the outcome of the unit.
-//!
-//! Here the parts are put together: what statements do (Lowered leaves), where frames lie
-//! (`lowering_layout`) and that names differ (`lowering_layout`).
+//! Runs are followed by items, through `item_runs`. Labels are counted as they are allocated, so the items of a
+//! statement have just those of its range. The items after a statement are an argument of its lowering, so that
+//! "it stands here" says that a function's items end with its items and those.
 #![tactic(auto)]
 
-// Lowered labels: what the definitions promise.
+// Labels: each stands once, and leads to what stands after it.
 mod label_laws;
 
-// Lowered runs: what the definitions promise.
+// Runs, where leaves do what the unit says.
 mod run_laws;
 
-// Lowered leaves: what the definitions promise.
+// That leaves do what the unit says.
 mod leaf_laws;
 
-// Lowered programs: the theorem.
+// The theorem.
 mod program_laws;
 
 pub use label_laws::{

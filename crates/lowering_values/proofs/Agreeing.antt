@@ -33,7 +33,7 @@ use Rattle.lowering_values.specs.Frames.{frame_number, is_object_frame, frames_o
 use Rattle.lowering_values.specs.Agreement.{Here, value_in, Gives, IsPlain}
 use Rattle.lowering_values.proofs.Fitting.{Sizes, value_fits}
 
--- laws of the crates below
+-- laws of loads and of operators: what they give agrees
 pub record Operators : Type 0 where
   pub loads : LoadsAgree
   pub binary : OperatorsGive

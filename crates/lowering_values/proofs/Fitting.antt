@@ -19,7 +19,7 @@ use Rattle.c_meaning.specs.Expressions.{kind_of, pointee, place_of, loaded, boun
 use Rattle.lowering_values.specs.OperatorLaws.{FitsResult, OperatorsFit, UnariesFit, ExtendsFit, CastsFit, ElementsFit}
 use Rattle.lowering_values.proofs.Constants.{worth_small}
 
--- laws of the crates below
+-- laws of loads and of operators: what they give has its size
 pub record Sizes : Type 0 where
   pub loads : LoadFits
   pub operators : OperatorsFit

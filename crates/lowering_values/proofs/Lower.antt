@@ -1,4 +1,4 @@
--- Laws of the crates below, together.
+-- Laws of loads and of operators, together.
 use Rattle.alf_ops.specs.HistoryLaws.{LoadFits}
 use Rattle.lowering_values.specs.EmbeddingLaws.{LoadsAgree}
 use Rattle.lowering_values.specs.OperatorLaws.{OperatorsGive, ComparisonsGive, TestsGive, UnariesGive, ExtendsGive, CutsGive, CastsGive, ElementsGive, OperatorsFit, UnariesFit, ExtendsFit, CastsFit, ElementsFit}

@@ -1,28 +1,19 @@
-//! What the code of an abstract memory keeps, as values of the rules: the representation relation.
+//! What the code of an abstract memory keeps, and the memory of the rules that it stands for.
 //!
-//! ## Held memories
+//! Code keeps a program, a flag for each function and the slots of each frame (`MemoryParts`). `frame_of` is the
+//! frame that slots stand for, and `memory_in` the memory of all of them; `made` goes the other way, and each
+//! undoes the other where nothing is held outside the frames. So memories of code may be told apart by what they
+//! stand for. A store changes slots one by one: `slot_stored` says what becomes of the slot at an offset, and the
+//! frame of the changed slots is the frame after the store.
 //!
-//! Slots as the frame that the definitions of memory speak of, and what a store makes of each slot.
-//!
-//! A store changes slots one by one. `slot_stored` says what becomes of the slot at an offset, and it is proved
-//! that the frame of the changed slots is the frame after the store. Here is no code but functions that do
-//! nothing, whose clauses are the laws. The crate rests on `memory_rules`, whose stores these are, and on the
-//! slots of `memory_pages`.
-//!
-//! ## Seen memories
-//!
-//! What the code of an abstract memory keeps, and the memory that it stands for.
-//!
-//! Code keeps a program, a flag for each function and the slots of each frame. `memory_in` is the memory that they
-//! stand for, `made` goes the other way, and each undoes the other where nothing is held outside the frames. So
-//! memories of code may be told apart by what they stand for. Here is no code but functions that do nothing, whose
-//! clauses are the laws. The crate rests on Held memories, the lists of slots as memories.
+//! The functions do nothing, and their clauses are the laws. They rest on the definitions of `memory_rules`, the
+//! slots of `memory_pages` and the programs of `alf_check`.
 #![tactic(auto)]
 
-// Held memories: what the definitions promise.
+// Slots as a frame, and what stores make of them.
 mod held_laws;
 
-// Seen memories: what the definitions promise.
+// What code keeps, as a memory.
 mod seen_laws;
 
 pub use held_laws::{

@@ -1,33 +1,24 @@
-//! The rules of an abstract memory.
+//! The abstract memory of a run, as rules with their laws.
 //!
-//! ## Memory rules
+//! A memory keeps bytes and cells of frames. A byte knows the words that its newest store may have left in it; a
+//! cell knows more, the values that one store of exactly this cell may have left. Loads, stores, functions entered
+//! and left, joins and pins are definitions over any sets of values (`ValueSets`), of which abstract values are
+//! one. It is proved of them that a memory covers what a run's memory holds, that it is exact where one run is
+//! followed, and that a value joined with itself is the value, so that a join may leave alone what both sides
+//! share.
 //!
-//! The abstract memory of a run, as definitions, and its laws.
-//!
-//! A memory keeps bytes and cells of frames. A byte knows the words that its newest store may have left in it;
-//! a cell knows more, the values that one store of exactly this cell may have left. Loads, stores, functions
-//! entered and left, joins and pins are definitions over any sets of values, and it is proved of them that a
-//! memory covers what a run's memory holds, and that it is exact where one run is followed. Here is no code
-//! but functions that do nothing, whose clauses are the laws. The crate rests on the histories of runs and on
-//! the laws of abstract values.
-//!
-//! ## Self joins
-//!
-//! Values joined with themselves.
-//!
-//! The join of a strided value, or of an abstract value, with itself is the value. Here is no code but a function
-//! that does nothing, whose clauses are the laws. The crate rests on the rules of joins in `strided_rules` and
-//! `pointer_rules`.
+//! The functions do nothing, and their clauses are the laws. They rest on the histories of `alf_ops` and on the
+//! rules of values in `pointer_rules` and `strided_rules`.
 #![tactic(auto)]
 
-// Memory rules: what the memory promises.
+// What a memory promises of runs.
 mod laws;
+
+// Values joined with themselves.
+mod join_laws;
 
 // Stores and loads, worked out.
 mod worked;
-
-// Self joins: what the rules promise.
-mod join_laws;
 
 pub use join_laws::a_join_with_itself_changes_nothing;
 pub use laws::{

@@ -1,26 +1,25 @@
 //! Operators and conversions of C as expressions of ALF.
 //!
 //! Each function makes of expressions the one that `c_lowered` defines under the same name. What an operator is
-//! lowered to is told by the types of its operands; what these are lowered to is handed in.
+//! lowered to is told by the types of its operands, as `c_scopes` has them; what these are lowered to is handed
+//! in.
 #![tactic(auto)]
 
-// Parts of expressions.
+// Parts of expressions: numbers, addresses, and operators of ALF.
 mod terms;
 
-// Types.
+// Sizes and signs of types, and conversions between words and the bits of types.
+mod conversions;
 mod widths;
 
-// Conversions, and what objects hold.
-mod conversions;
-
-// Operators.
+// Operators, by the types of their operands, and tests.
 mod arithmetic;
 mod operators;
 mod prefixes;
 mod tests;
 
 pub use arithmetic::{element_address, pointee};
-pub use conversions::{cast_to, cut, cut_to, extended, loaded};
+pub use conversions::{cast_to, cut, cut_to, loaded};
 pub use operators::binary_value;
 pub use prefixes::unary_value;
 pub use terms::{address, constant_of, negated, whole};

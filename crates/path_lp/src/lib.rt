@@ -1,38 +1,27 @@
-//! The solver of a linear program, and the path bound that it gives.
+//! The path bound of an outline and a report's facts, by a dual simplex method in whole numbers.
 //!
-//! ## Path lp
-//!
-//! The path bound's solver: a linear program with openings, by the pivot rule of `simplex_rules`.
-//!
-//! `solve` pivots the program's tableau until no right side is negative, a number is wide or the limit is
-//! reached, and hands out multipliers, and at the end a point. All of it is what the rule gives: who reads a
-//! bound needs none of this, since `dual_check` tests the multipliers.
-//!
-//! ## Path bounds
-//!
-//! The path bound of an outline and a report's facts.
-//!
-//! `path_bound` makes the rows, solves them by the pivot rule, and tests the multipliers: the bound is what the
-//! test answers for them. The word is `Least` where the rule's run ended so, and `Stopped` where it did not.
-//! What is promised of the answer holds of each path bound that the rule tells: that is a law.
+//! `path_bound` makes the rows (of `dual_check`), solves them, and tests the multipliers: the bound is what the
+//! test answers for them. Its word is `Least` where the rule's run ended so, and `Stopped` where it did not.
+//! `solve` pivots the program's tableau by the rule of `simplex_rules` until no right side is negative, a number is
+//! wide or the limit is reached, and hands out multipliers, and at the end a point. Who reads a bound needs none of
+//! this, since the test of `dual_check` decides. What is promised of the answer holds of each path bound that the
+//! rule tells: that is a law.
 #![tactic(auto)]
 
-// Path lp: what is told.
+// What is told of a run.
 mod solved;
 
 // What a tableau hands out.
 mod handing;
 mod reading;
 
-// Whether numbers are small.
+// How great the numbers are: of rows, and of facts and costs.
+mod sizes;
 mod small;
 
 // The run.
 mod running;
 mod stepping;
-
-// Path bounds: how great the numbers are.
-mod sizes;
 
 // The bound.
 mod bounds;

@@ -34,7 +34,7 @@ use Rattle.worklist_rules.specs.Events.{HappenAll, IsOneOn}
 use Rattle.worklist_rules.specs.EventLaws.{event_one_on}
 use Rattle.worklist_rules.specs.Policies.{IsPolicyRun}
 use Rattle.worklist_rules.specs.PolicyLaws.{run_happens}
-use Rattle.worklist_rules.specs.Runs.{IsRun, GoesOn, trace_to}
+use Rattle.domain_core.specs.SystemRuns.{IsRun, GoesOn, trace_to}
 use Rattle.worklist_rules.specs.Sharp.{IsSharp, IsSharpAt, IsSharpOver}
 use Rattle.worklist_rules.specs.SharpLaws.{sharp_start, sharp_events}
 use Rattle.worklist_rules.specs.EventLaws.{start_kept}

@@ -20,7 +20,7 @@ use Rattle.alf_runs.specs.Runs.{after, trace}
 use Rattle.alf_runs.specs.Starts.{IsStart, start_history, words_of}
 use Rattle.alf_interp.specs.Traces.{Runs, IsNodeAt, AreNumbersOf}
 use Rattle.domain_core.specs.Machines.{System}
-use Rattle.worklist_rules.specs.Runs.{IsRun, GoesOn, trace_to, with_node}
+use Rattle.domain_core.specs.SystemRuns.{IsRun, GoesOn, trace_to, with_node}
 use Rattle.transfer_rules.specs.NodeNumbers.{number_of}
 use Rattle.transfer_rules.specs.Points.{run_system, moment_at, point_of, points, IsOneWay}
 use Rattle.transfer_rules.specs.PointLaws.{Promises, point_run, has_one_way, stands_at}

@@ -15,7 +15,7 @@ use Rattle.alf_runs.specs.Steps.{Moment}
 use Rattle.alf_runs.specs.Starts.{IsStart}
 use Rattle.alf_interp.specs.Traces.{Runs}
 use Rattle.domain_core.specs.Machines.{System}
-use Rattle.worklist_rules.specs.Runs.{IsRun, trace_to}
+use Rattle.domain_core.specs.SystemRuns.{IsRun, trace_to}
 use Rattle.transfer_rules.specs.Points.{run_system, points}
 use Rattle.transfer_rules.specs.PartMachines.{part_machine}
 

@@ -25,7 +25,8 @@ use Rattle.ipet_rows.specs.Feasible.{MeetFacts}
 use Rattle.simplex_rules.specs.OutlineOpenings.{AreLimited}
 use Rattle.worklist_rules.specs.Pools.{Spot, Pooled}
 use Rattle.worklist_rules.specs.Events.{opened, HappenAll}
-use Rattle.worklist_rules.specs.Runs.{IsRun, IsHandled, waits, passed}
+use Rattle.domain_core.specs.SystemRuns.{IsRun}
+use Rattle.worklist_rules.specs.Runs.{IsHandled, waits, passed}
 use Rattle.worklist_rules.specs.Kept.{IsKept}
 use Rattle.path_lp.specs.Bounding.{opening_sum, told_path_bound, IsAbove}
 use Rattle.report_soundness.specs.ReportTold.{FourRecorders, FourBooks, four_order, four_recording, found_of, costs_of, told_report}

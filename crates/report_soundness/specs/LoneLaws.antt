@@ -24,7 +24,7 @@ use Rattle.std.specs.declared.cmp.Ordering.TheVariants.{Less}
 use Rattle.worklist_rules.specs.Pools.{Spot, Pooled, alarm_at}
 use Rattle.worklist_rules.specs.Events.{opened, HappenAll}
 use Rattle.worklist_rules.specs.EventLaws.{start_kept}
-use Rattle.worklist_rules.specs.Runs.{trace_to}
+use Rattle.domain_core.specs.SystemRuns.{trace_to}
 use Rattle.worklist_rules.specs.Sharp.{IsSharp, IsSharpOver}
 use Rattle.worklist_rules.specs.SharpLaws.{sharp_start, sharp_events}
 use Rattle.report_soundness.specs.ReportTold.{FourRecorders, FourBooks, four_order, four_recording, found_of, told_report}

@@ -9,7 +9,7 @@ use Rattle.std.proofs.lemmas.Option.{none-some, same_Some}
 use Rattle.std.proofs.lemmas.List.{reverse-append, reverse-reverse}
 use Rattle.alf_ops.specs.declared.history.RunFault.{RunFault}
 use Rattle.domain_core.specs.Machines.{System}
-use Rattle.worklist_rules.specs.Runs.{GoesOn, IsRun, trace_to, with_node}
+use Rattle.domain_core.specs.SystemRuns.{GoesOn, IsRun, trace_to, with_node}
 use Rattle.report_soundness.specs.Runs.{EndsWith, Passes, stops, moves}
 
 module _ {C : Type 0} (system : System C) where

@@ -14,7 +14,7 @@ use Rattle.flow_facts.specs.declared.fact.Fact.TheVariants.{Alarm}
 use Rattle.flow_facts.specs.Facts.{Meets}
 use Rattle.flow_facts.specs.Reports.{Reported}
 use Rattle.ipet_rows.specs.Uses.{run_cost}
-use Rattle.worklist_rules.specs.Runs.{IsRun}
+use Rattle.domain_core.specs.SystemRuns.{IsRun}
 use Rattle.report_soundness.specs.ReportTold.{costs_of}
 
 -- a run ends at the node with the value, with this fault if with one

@@ -28,7 +28,8 @@ use Rattle.recorder_rules.specs.BookLaws.{total_bounds}
 use Rattle.report_soundness.specs.BookTold.{SumUp}
 use Rattle.report_soundness.specs.BookToldLaws.{places_are_visits, turned, told_is_met}
 use Rattle.worklist_rules.specs.Pools.{Spot, Pooled}
-use Rattle.worklist_rules.specs.Runs.{IsRun, IsHandled, waits, passed, AllStepped, EachIsHandled}
+use Rattle.domain_core.specs.SystemRuns.{IsRun}
+use Rattle.worklist_rules.specs.Runs.{IsHandled, waits, passed, AllStepped, EachIsHandled}
 use Rattle.worklist_rules.specs.RunLaws.{each_run_is_over}
 use Rattle.report_soundness.specs.ReportTold.{FourRecorders, FourBooks, four_recording, Found, found_of, is_stepped, told_facts, greatest_total, costs_of, count_bound, told_report}
 use Rattle.report_soundness.specs.Lines.{IsLine}

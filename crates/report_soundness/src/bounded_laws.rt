@@ -11,7 +11,7 @@ ghost use Rattle.ipet_rows.specs.Shaped.{FitOutline};
 ghost use Rattle.ipet_rows.specs.Feasible.{MeetFacts};
 ghost use Rattle.worklist_rules.specs.Pools.{Pooled};
 ghost use Rattle.worklist_rules.specs.Events.{opened, HappenAll};
-ghost use Rattle.worklist_rules.specs.Runs.{IsRun};
+ghost use Rattle.domain_core.specs.SystemRuns.{IsRun};
 ghost use Rattle.worklist_rules.specs.Kept.{IsKept};
 ghost use Rattle.path_lp.specs.Bounding.{IsAbove};
 ghost use Rattle.report_soundness.specs.ReportTold.{FourRecorders, FourBooks, four_order, four_recording, found_of, costs_of, told_report};

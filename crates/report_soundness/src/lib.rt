@@ -1,55 +1,28 @@
-//! Why the report of a closed exploration is sound, with its path bound.
+//! Why the report of a closed exploration is sound, and stays so with its path bound.
 //!
-//! ## Book facts
+//! The books of totals, loops, counts and pairs tell facts, kind by kind, and each run that the books sum up meets
+//! each of them. `told_report` is the report of what an exploration collected: of the books, the faults told at
+//! each node, and the nodes that were stepped. Where no place of a pool is left, it is sound for each run of the
+//! stepper's system.
 //!
-//! What the books of an exploration tell of every run that they have: the facts of a report.
-//!
-//! A book of totals, of loops, of counts and of pairs each tell facts, kind by kind (`Tells`). Each run that the books
-//! sum up meets each fact that they tell. There is no code here that runs: the function does nothing, and its clause is
-//! the law.
-//!
-//! ## Told reports
-//!
-//! The report of an exploration: which lines it has, and what they promise of runs.
-//!
-//! `told_report` is the report of what an exploration collected: the books of totals, loops, counts and
-//! pairs, the faults told at each node, and the nodes that were stepped. Where no place of a pool is left,
-//! the report is sound for each run of the stepper's system. The crate has definitions and laws, and no
-//! code that runs: `flow_reports` makes the report.
-//!
-//! ## Told bounds
-//!
-//! What a told report has for the path bound of its facts.
-//!
-//! `path_bound` of `path_lp` asks that the facts are about the outline, that of each node some fact says
-//! how often a run leaves it at most, and that the sum over the openings fits 64 bits. The facts of
-//! Told reports have all three, and the bound is at most the count bound. It holds of each run of the system,
-//! where the report is sound. There is no code here that runs:
-//! the functions do nothing, and their clauses are the laws.
-//!
-//! ## Bounded reports
-//!
-//! The report of an exploration with its path bound.
-//!
-//! `bounded_report` gives a told report the path bound of its facts. Nothing else of the report changes, some text
-//! spells it still, and each run that the report is sound for costs at most the path bound, which is at most the
-//! count bound.
+//! Its facts have what `path_bound` of `path_lp` asks for, and the path bound is at most the count bound.
+//! `bounded_report` puts it in: nothing else of the report changes, some text spells it still, and each run that
+//! the report is sound for costs at most the path bound. This is the one call that computes; the other functions do
+//! nothing, and their clauses are the laws.
 #![tactic(auto)]
 
-// Book facts: what the definitions promise.
+// The facts that books tell.
 mod book_laws;
 
-// Told reports: what the definitions promise.
+// The report of an exploration.
 mod report_laws;
 
-// Told bounds: what the definitions promise.
+// What it has for a path bound.
 mod bound_laws;
 
-// Bounded reports: the report.
-mod reports;
-
-// What the definitions promise.
+// The report with its path bound.
 mod bounded_laws;
+mod reports;
 
 pub use book_laws::told_facts_are_met;
 pub use bound_laws::{path_bounds_hold_of_runs, told_facts_bound_paths};

@@ -1,32 +1,14 @@
-//! The tableau of the simplex method: its lines, its first form and the pivot.
+//! Tableaus of the dual simplex method by their terms: the first one, the choices of the rule, and the pivot.
 //!
-//! ## Tableau lines
-//!
-//! Lines of a tableau by their terms, and the two things that a pivot does with a line.
-//!
-//! A line has the right side at place 0, the objective's scale at place 1, and the number of variable v at
-//! place 2 + v. It is kept as its numbers other than 0, each with its place, by ascending place. A pivot
-//! turns the row that leaves, and frees each other line of the place that enters; both are tested at 128
-//! bits, and both are proved to be what `simplex_rules` defines over whole lines.
-//!
-//! ## Pivot steps
-//!
-//! Tableaus by terms, and the steps of the pivot rule on them.
-//!
-//! A tableau has its rows, each with its basic place, and the objective, all as `Line`s of Tableau lines:
-//! numbers other than 0, by ascending place. What a call does is what `simplex_rules` defines over whole lines:
-//! the row that leaves, the place that enters, and the pivot, each with its test of 128 bits. A pivot touches
-//! the lines alone that have the place.
-//!
-//! ## First tableaus
-//!
-//! The tableau that a linear program with openings starts from, by terms.
-//!
-//! `first_tableau` makes the tableau of the rows' lines and their slacks, and `started` makes the pivots of the opening.
-//! Both are what `simplex_rules` defines.
+//! A line has the right side at place 0, the objective's scale at place 1, and the variables' numbers from place 2
+//! on. It is kept as its numbers other than 0, each with its place, by ascending place. A tableau has its rows,
+//! each with its basic place, and the objective. `first_tableau` makes that of a program's rows and their slacks,
+//! and `started` makes the pivots of the opening. A pivot turns the row that leaves, and frees each other line of
+//! the place that enters; it touches those lines alone that have the place. All of it is proved to be what
+//! `simplex_rules` defines over whole lines, with its tests of 128 bits.
 #![tactic(auto)]
 
-// Tableau lines: a line, and what is read from it.
+// A line, and what is read from it.
 mod line;
 mod reading;
 
@@ -38,7 +20,7 @@ mod turning;
 mod merging;
 mod reducing;
 
-// Pivot steps: a row, and all rows but one, freed of a place.
+// A row, and all rows but one, freed of a place.
 mod row;
 mod rows;
 
@@ -51,14 +33,12 @@ mod choosing;
 mod pivot;
 mod tableau;
 
-// First tableaus: the first tableau.
+// The first tableau of a program, and its opening.
 mod costs;
 mod first;
 mod lines;
-mod places;
-
-// The opening.
 mod opening;
+mod places;
 
 pub use choice::{first_number, from_place};
 pub use first::first_tableau;

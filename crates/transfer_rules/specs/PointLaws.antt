@@ -20,7 +20,7 @@ use Rattle.alf_runs.specs.Runs.{after}
 use Rattle.alf_runs.specs.Starts.{IsStart, start_history, words_of}
 use Rattle.alf_runs.specs.LeadLaws.{LeadsTo, StepsGoAlong, StandsAtKeptNodes}
 use Rattle.alf_runs.specs.PlaceLaws.{NeverLost, InputsAreWords}
-use Rattle.worklist_rules.specs.Runs.{IsRun, GoesOn as GoesFrom}
+use Rattle.domain_core.specs.SystemRuns.{IsRun, GoesOn as GoesFrom}
 use Rattle.transfer_rules.specs.NodeNumbers.{number_of}
 use Rattle.transfer_rules.specs.NumberLaws.{numbered}
 use Rattle.transfer_rules.specs.Points.{moment_at, run_system, point_of, points, IsOneWay}

@@ -10,7 +10,7 @@ use Rattle.flow_graph.specs.Numbering.{GraphParts}
 use Rattle.alf_runs.specs.Outcomes.{Outcome}
 use Rattle.alf_runs.specs.Steps.{Moment, At, Over, step}
 use Rattle.alf_runs.specs.Runs.{after, trace}
-use Rattle.worklist_rules.specs.Runs.{with_node, trace_to}
+use Rattle.domain_core.specs.SystemRuns.{with_node, trace_to}
 use Rattle.transfer_rules.specs.NodeNumbers.{number_of}
 use Rattle.transfer_rules.specs.Points.{point_of, points}
 

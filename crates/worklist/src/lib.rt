@@ -1,7 +1,9 @@
 //! A list that is changed about one place, and that knows its first least element.
 //!
-//! Each element has a key, a list of numbers. Changes take time by how far they stand from the last
-//! change, and the first element of least key is had without reading the others.
+//! Each element has a key, a list of numbers, and keys are compared as lists. The list stands in two parts that
+//! meet where it was changed last; each entry tells where the first least on its far side stands. So a change takes
+//! time by how far it stands from the last one, and the first element of least key is had without reading the
+//! others. Contracts see one list, and nothing of the parts.
 #![tactic(auto)]
 
 // An element and its key.

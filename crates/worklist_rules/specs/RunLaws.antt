@@ -6,7 +6,8 @@ use Rattle.lists.specs.Members.{no_member}
 use Rattle.domain_core.specs.Machines.{Machine}
 use Rattle.domain_core.specs.Recordings.{Recording}
 use Rattle.worklist_rules.specs.Pools.{Spot, Pooled}
-use Rattle.worklist_rules.specs.Runs.{IsHandled, waits, passed, EachIsHandled, EachRun, EachRunIsOver, IsRun, IsWaited, IsOver, trace_to, AllStepped}
+use Rattle.domain_core.specs.SystemRuns.{IsRun, trace_to}
+use Rattle.worklist_rules.specs.Runs.{IsHandled, waits, passed, EachIsHandled, EachRun, EachRunIsOver, IsWaited, IsOver, AllStepped}
 
 module _ {S T C R B : Type 0} (m : Machine T C) (z : Recording R B) (w : Pooled S T R B) (run : ℕ → Option (ℕ × C)) (is_run : IsRun m.system run) where
   follow : {past : List ℕ} {n : ℕ} {c : C} → IsHandled m z w past n c → (k : ℕ) → run k ≡ Some (n, c) → past ≡ trace_to run k → AllStepped w.stepped past → IsWaited m z w run ⊎ IsOver m z w run

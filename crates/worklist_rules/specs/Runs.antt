@@ -1,6 +1,4 @@
 -- What a pool has of the runs of the concrete system.
---   IsRun system run     a run: its point at each moment, and None once it is over
---   trace_to run k       the nodes of its first k moments, the newest first
 --   Stands .. spot past n c   the place stands at the node with its position, and covers the value and the trace
 --   IsWaited, IsOver     a place waits for the run; the run is over, and what it did was collected
 --   EachRun, EachRunIsOver   so is each run
@@ -11,28 +9,10 @@ use Rattle.domain_core.specs.FaultSets.{has_fault}
 use Rattle.domain_core.specs.Outlines.{Outlined, shape_of}
 use Rattle.domain_core.specs.Traces.{IsTrace}
 use Rattle.domain_core.specs.Machines.{System, Machine}
+use Rattle.domain_core.specs.SystemRuns.{GoesOn, IsRun, with_node, trace_to}
 use Rattle.domain_core.specs.Recordings.{Recording}
 use Rattle.worklist_rules.specs.Positions.{position_of}
 use Rattle.worklist_rules.specs.Pools.{Spot, Pooled, alarm_at}
-
--- the run goes on from the point of moment k, or is over there
-abbrev pub GoesOn : {C : Type 0} → System C → (ℕ → Option (ℕ × C)) → ℕ → ℕ → C → Type 0
-GoesOn {C} system run k n c =
-    ((j : ℕ) × (d : C) × system.goes n c j d × (run (suc k) ≡ Some (j, d))) ⊎ ((system.ends n c ⊎ ((kind : RunFault) × system.fails n c kind)) × (run (suc k) ≡ None))
-
--- a run: its point at each moment, and None once it is over
-pub record IsRun {C : Type 0} (system : System C) (run : ℕ → Option (ℕ × C)) : Type 0 where
-  pub first : (c : C) × (run 0 ≡ Some (0, c)) × system.starts c
-  pub on : (k n : ℕ) (c : C) → run k ≡ Some (n, c) → GoesOn system run k n c
-
-abbrev pub with_node : {C : Type 0} → Option (ℕ × C) → List ℕ → List ℕ
-with_node None past = past
-with_node (Some point) past = point.0 ∷ past
-
--- the nodes of the first k moments of a run, the newest first
-abbrev pub trace_to : {C : Type 0} → (ℕ → Option (ℕ × C)) → ℕ → List ℕ
-trace_to run zero = []
-trace_to run (suc k) = with_node (run k) (trace_to run k)
 
 -- the place stands at the node with its position, and covers the value and the trace, whose newest node it is
 pub record Stands {T C R B : Type 0} (o : Outlined) (m : Machine T C) (z : Recording R B) (book : B) (spot : Spot T R) (past : List ℕ) (n : ℕ) (c : C) : Type 0 where

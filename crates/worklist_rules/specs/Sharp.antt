@@ -13,7 +13,8 @@ use Rattle.domain_core.specs.Machines.{Machine}
 use Rattle.domain_core.specs.Recordings.{Recording}
 use Rattle.worklist_rules.specs.Positions.{position_of}
 use Rattle.worklist_rules.specs.Pools.{Spot, Pooled, alarm_at}
-use Rattle.worklist_rules.specs.Runs.{AllStepped, trace_to}
+use Rattle.domain_core.specs.SystemRuns.{trace_to}
+use Rattle.worklist_rules.specs.Runs.{AllStepped}
 
 -- no fault was told
 abbrev pub IsQuiet : {S T R B : Type 0} → Pooled S T R B → Type 0

@@ -21,7 +21,8 @@ use Rattle.worklist_rules.specs.Positions.{position_of, moved_position}
 use Rattle.worklist_rules.specs.PositionLaws.{next_position}
 use Rattle.worklist_rules.specs.Pools.{Spot, Pooled, alarm_at, with_alarm, may_fault}
 use Rattle.worklist_rules.specs.Events.{opened, Happens, HappenAll, stepped_at, spread_spots, spread_book, book_at_faults, next_spot}
-use Rattle.worklist_rules.specs.Runs.{IsRun, trace_to, with_node, AllStepped}
+use Rattle.domain_core.specs.SystemRuns.{IsRun, trace_to, with_node}
+use Rattle.worklist_rules.specs.Runs.{AllStepped}
 use Rattle.worklist_rules.specs.Kept.{IsPlaced, IsKept}
 use Rattle.worklist_rules.specs.Places.{still_set, now_set}
 use Rattle.worklist_rules.specs.EventLaws.{event_kept}

@@ -8,7 +8,8 @@ ghost use Rattle.domain_core.specs.Recordings.{IsSuited};
 ghost use Rattle.worklist_rules.specs.Pools.{Pooled};
 ghost use Rattle.worklist_rules.specs.Events.{opened, HappenAll};
 ghost use Rattle.worklist_rules.specs.Policies.{IsPolicyRun};
-ghost use Rattle.worklist_rules.specs.Runs.{IsRun, EachRun, EachRunIsOver};
+ghost use Rattle.domain_core.specs.SystemRuns.{IsRun};
+ghost use Rattle.worklist_rules.specs.Runs.{EachRun, EachRunIsOver};
 ghost use Rattle.worklist_rules.specs.Sharp.{IsSharp};
 
 use crate::Policy;

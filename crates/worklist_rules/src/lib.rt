@@ -1,8 +1,10 @@
 //! Pools of places, the events that move them on, and what follows of the runs of a concrete system.
 //!
-//! The crate has definitions and laws, and no code that explores. A place has a position, which says
-//! where it stands in the iterations of the scopes around its node; events step a place or join two
-//! of one position; a policy says which event is next. The laws hold for every stepper and recorder.
+//! A place has a position, which says where it stands in the iterations of the scopes around its node. An event
+//! steps a place, or joins two of one position; a policy says which event is next. Whatever the events, no run is
+//! lost, and where a system has one start the pool is exactly where its run is. The laws hold for every `Stepper`
+//! and every `Recorder` of `domain_core`. All of this is definitions and laws but the enum `Policy`; the code that
+//! explores by them is `abstract_exec`.
 #![tactic(auto)]
 
 // Where places may be merged.

@@ -7,11 +7,16 @@ use std::alloc::{AllocError, Global};
 use std::test::Fail;
 
 // `main` around its items, the function `leaf`, and a global frame that is exported and holds 7 at first.
-const HEAD: &str =
-    "{ alf { macro_defs } { least_addr_unit 8 } little_endian { exports { frefs { fref 32 \"shared\" } } { lrefs } } { imports { frefs } { lrefs } } { decls { alloc 32 \"shared\" 64 } } { inits { init { ref \"shared\" { dec_unsigned 32 4 } } { dec_unsigned 32 7 } } } { funcs { func { label 32 { lref 32 \"main\" } { dec_unsigned 32 0 } } { arg_decls } { scope { decls { alloc 32 \"own\" 32 } } { inits } { stmts ";
+const HEAD: &str = "\
+{ alf { macro_defs } { least_addr_unit 8 } little_endian { exports { frefs { fref 32 \"shared\" } } { lrefs } } { \
+imports { frefs } { lrefs } } { decls { alloc 32 \"shared\" 64 } } { inits { init { ref \"shared\" { dec_unsigned \
+32 4 } } { dec_unsigned 32 7 } } } { funcs { func { label 32 { lref 32 \"main\" } { dec_unsigned 32 0 } } { \
+arg_decls } { scope { decls { alloc 32 \"own\" 32 } } { inits } { stmts ";
 
-const TAIL: &str =
-    "} } } { func { label 32 { lref 32 \"leaf\" } { dec_unsigned 32 0 } } { arg_decls } { scope { decls { alloc 32 \"other\" 32 } } { inits } { stmts { store { addr 32 { fref 32 \"shared\" } { dec_unsigned 32 0 } } with { dec_unsigned 32 2 } } { return } } } } } }";
+const TAIL: &str = "\
+} } } { func { label 32 { lref 32 \"leaf\" } { dec_unsigned 32 0 } } { arg_decls } { scope { decls { alloc 32 \
+\"other\" 32 } } { inits } { stmts { store { addr 32 { fref 32 \"shared\" } { dec_unsigned 32 0 } } with { \
+dec_unsigned 32 2 } } { return } } } } } }";
 
 // `@A` is the label A, `^A` a jump to it, `=x` a store in the frame x, `!f` a call of f; after `/f`
 // stand the items of a further function f.

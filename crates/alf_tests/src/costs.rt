@@ -1,6 +1,6 @@
 //! Costs files of a small program.
 
-use crate::table_sketch::{costs_text, fault_text, loop_program, told_costs};
+use crate::tables::{costs_text, fault_text, loop_program, told_costs};
 use cost_table::{Costs, costs};
 use std::test::Fail;
 

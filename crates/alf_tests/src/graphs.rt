@@ -1,7 +1,48 @@
 //! Graphs of small programs.
 
-use crate::graph_sketch::{checked_text, program, told};
+use alf_check::Checked;
+use exec_toys::{checked_text, program_of};
+use flow_base::Which;
+use flow_graph::{Graph, GraphFault};
+use std::alloc::{AllocError, Global};
 use std::test::Fail;
+
+// What is told of the graph: the names of its nodes and its edges, or the fault.
+fn told(alloc: Global, checked: &Checked) -> Result<String, AllocError> {
+    match Graph::expand(alloc, checked) {
+        Ok(graph) => graph_text(alloc, &graph),
+        Err(fault) => fault_text(alloc, &fault),
+    }
+}
+
+fn graph_text(alloc: Global, graph: &Graph) -> Result<String, AllocError> {
+    graph.keeps();
+    let mut text = String::new(alloc);
+    for n in 0..graph.node_count() {
+        let name = graph.name(alloc, n)?;
+        let Ok(name) = std::str::from_utf8(&name) else {
+            return String::from_str(alloc, "a name is no text");
+        };
+        text.push_str(name)?;
+        text.push_str(" ")?;
+    }
+    text.push_str("|")?;
+    for e in 0..graph.edge_count() {
+        let (from, to) = graph.edge(e);
+        let edge = format!(in alloc; " {from}-{to}")?;
+        text.push_str(edge.as_str())?;
+    }
+    Ok(text)
+}
+
+fn fault_text(alloc: Global, fault: &GraphFault) -> Result<String, AllocError> {
+    match fault {
+        GraphFault::Limit(Which::Nodes, count) => format!(in alloc; "nodes {count}"),
+        GraphFault::Limit(Which::Edges, count) => format!(in alloc; "edges {count}"),
+        GraphFault::Limit(_, count) => format!(in alloc; "other {count}"),
+        GraphFault::Memory => String::from_str(alloc, "memory"),
+    }
+}
 
 // The items of a program, ` => `, and what is told of its graph.
 const GRAPHS: &str = "\
@@ -32,7 +73,7 @@ fn each_program_has_its_graph(rt: HostRuntime) -> Result<(), Fail> {
     for line in GRAPHS.lines() {
         let items = line.split(" => ").nth(0).unwrap_or("");
         let wanted = line.split(" => ").nth(1).unwrap_or("");
-        let checked = program(alloc, items)?;
+        let checked = program_of(alloc, items)?;
         let found = told(alloc, &checked)?;
         assert_eq!(rt; found.as_str(), wanted, "{line}");
     }
@@ -40,8 +81,16 @@ fn each_program_has_its_graph(rt: HostRuntime) -> Result<(), Fail> {
 }
 
 // Two calls of one function with an argument and a result.
-const CALLS: &str =
-    "{ alf { macro_defs } { least_addr_unit 8 } little_endian { exports { frefs { fref 32 \"r\" } } { lrefs } } { imports { frefs } { lrefs } } { decls { alloc 32 \"r\" 32 } } { inits } { funcs { func { label 32 { lref 32 \"main\" } { dec_unsigned 32 0 } } { arg_decls } { scope { decls } { inits } { stmts { call { label 32 { lref 32 \"f\" } { dec_unsigned 32 0 } } { dec_unsigned 32 4 } result { addr 32 { fref 32 \"r\" } { dec_unsigned 32 0 } } } { call { label 32 { lref 32 \"f\" } { dec_unsigned 32 0 } } { load 32 { addr 32 { fref 32 \"r\" } { dec_unsigned 32 0 } } } result { addr 32 { fref 32 \"r\" } { dec_unsigned 32 0 } } } { return { load 32 { addr 32 { fref 32 \"r\" } { dec_unsigned 32 0 } } } } } } } { func { label 32 { lref 32 \"f\" } { dec_unsigned 32 0 } } { arg_decls { alloc 32 \"x\" 32 } } { scope { decls } { inits } { stmts { return { add 32 { load 32 { addr 32 { fref 32 \"x\" } { dec_unsigned 32 0 } } } { dec_unsigned 32 1 } { dec_unsigned 1 0 } } } } } } } }";
+const CALLS: &str = "\
+{ alf { macro_defs } { least_addr_unit 8 } little_endian { exports { frefs { fref 32 \"r\" } } { lrefs } } { \
+imports { frefs } { lrefs } } { decls { alloc 32 \"r\" 32 } } { inits } { funcs { func { label 32 { lref 32 \
+\"main\" } { dec_unsigned 32 0 } } { arg_decls } { scope { decls } { inits } { stmts { call { label 32 { lref 32 \
+\"f\" } { dec_unsigned 32 0 } } { dec_unsigned 32 4 } result { addr 32 { fref 32 \"r\" } { dec_unsigned 32 0 } } } \
+{ call { label 32 { lref 32 \"f\" } { dec_unsigned 32 0 } } { load 32 { addr 32 { fref 32 \"r\" } { dec_unsigned 32 \
+0 } } } result { addr 32 { fref 32 \"r\" } { dec_unsigned 32 0 } } } { return { load 32 { addr 32 { fref 32 \"r\" } \
+{ dec_unsigned 32 0 } } } } } } } { func { label 32 { lref 32 \"f\" } { dec_unsigned 32 0 } } { arg_decls { alloc \
+32 \"x\" 32 } } { scope { decls } { inits } { stmts { return { add 32 { load 32 { addr 32 { fref 32 \"x\" } { \
+dec_unsigned 32 0 } } } { dec_unsigned 32 1 } { dec_unsigned 1 0 } } } } } } } }";
 
 #[test]
 fn a_function_called_twice_has_two_instances(rt: HostRuntime) -> Result<(), Fail> {

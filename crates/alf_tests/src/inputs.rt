@@ -1,6 +1,6 @@
 //! Inputs files of a small program.
 
-use crate::table_sketch::{program, told_inputs};
+use crate::tables::{program, told_inputs};
 use std::test::Fail;
 
 // A file, ` => `, and what is told of it.

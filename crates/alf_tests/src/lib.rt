@@ -1,33 +1,18 @@
-//! Tests of texts of ALF, of their checks, graphs, memories, tables and runs.
+//! Tests of texts of ALF, of their checks, graphs and outlines, of memories, tables and runs: `alf_text`, `alf_faults`,
+//! `alf_check`, `flow_graph`, `scope_graph`, `alf_values`, `cost_table` and `alf_interp`. Without tests this library is empty.
 //!
-//! ## Alf tests
-//!
-//! Tests of `alf_text`, `alf_faults` and `alf_check`. Without tests this library is empty.
-//!
-//! ## Memory tests
-//!
-//! Tests of `alf_values`. Without tests this library is empty.
-//!
-//! ## Table tests
-//!
-//! Tests of `cost_table`. Without tests this library is empty.
-//!
-//! ## Graph tests
-//!
-//! Tests of `flow_graph` and `scope_graph`. Without tests this library is empty.
-//!
-//! ## Run tests
-//!
-//! Tests of `alf_interp`, with `flow_graph`. Without tests this library is empty.
+//! - `printed_texts`: texts that are read and printed.
+//! - `names`, `faults`, `checks`: names, each fault of names and sizes, and whole checks. `sketch`: programs as values, from a
+//!   short notation.
+//! - `graphs`, `limits`, `outlines`: graphs of small programs, programs at the limits, and outlines.
+//! - `memory`: scripts of stores and loads, and what each gives.
+//! - `costs`, `inputs`: files of costs and of inputs. `tables`: such files in a short notation, and what is told of them.
+//! - `runs`: runs of small programs.
 #![tactic(auto)]
 
-// Alf tests: texts that are read and printed.
+// Texts.
 #[cfg(test)]
 mod printed_texts;
-
-// Programs from a short notation.
-#[cfg(test)]
-mod sketch;
 
 // Names, faults of names and sizes, and checks.
 #[cfg(test)]
@@ -36,39 +21,27 @@ mod checks;
 mod faults;
 #[cfg(test)]
 mod names;
-
-// Memory tests: scripts of events, and what each gives.
 #[cfg(test)]
-mod memory;
+mod sketch;
 
-// Table tests: a program, files and answers in a short notation.
-#[cfg(test)]
-mod table_sketch;
-
-// Costs files.
-#[cfg(test)]
-mod costs;
-
-// Inputs files.
-#[cfg(test)]
-mod inputs;
-
-// Graph tests: programs in a short notation, and graphs as text.
-#[cfg(test)]
-mod graph_sketch;
-
-// Graphs of small programs.
+// Graphs and outlines.
 #[cfg(test)]
 mod graphs;
-
-// Outlines of small programs.
+#[cfg(test)]
+mod limits;
 #[cfg(test)]
 mod outlines;
 
-// Programs at the limits.
+// Memories and runs.
 #[cfg(test)]
-mod limits;
-
-// Run tests: runs of small programs.
+mod memory;
 #[cfg(test)]
 mod runs;
+
+// Files of costs and of inputs.
+#[cfg(test)]
+mod costs;
+#[cfg(test)]
+mod inputs;
+#[cfg(test)]
+mod tables;

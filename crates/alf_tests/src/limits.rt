@@ -1,6 +1,6 @@
 //! Programs at the limits.
 
-use crate::graph_sketch::program;
+use exec_toys::program_of;
 use flow_base::Which;
 use flow_graph::{Graph, GraphFault};
 use std::alloc::{AllocError, Global};
@@ -38,7 +38,7 @@ fn chain(alloc: Global, depth: u32) -> Result<String, AllocError> {
 
 // How many nodes and edges a graph has, or which limit is passed and its count.
 fn sizes(alloc: Global, items: &str) -> Result<(&'static str, u64, u64), Fail> {
-    let checked = program(alloc, items)?;
+    let checked = program_of(alloc, items)?;
     let sizes = match Graph::expand(alloc, &checked) {
         Ok(graph) => (
             "graph",

@@ -1,7 +1,7 @@
 //! Outlines of small programs.
 
-use crate::graph_sketch::program;
 use domain_core::{Outline, ScopeKind};
+use exec_toys::program_of;
 use flow_graph::Graph;
 use scope_graph::{OutlineFault, outline};
 use std::alloc::{AllocError, Global};
@@ -33,7 +33,7 @@ const OUTLINES: &str = "\
 
 // What is told of the outline of a program's graph.
 fn told(alloc: Global, items: &str) -> Result<String, Fail> {
-    let checked = program(alloc, items)?;
+    let checked = program_of(alloc, items)?;
     let Ok(graph) = Graph::expand(alloc, &checked) else {
         return Err("the program has no graph".into());
     };

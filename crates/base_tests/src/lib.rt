@@ -1,31 +1,17 @@
-//! Tests of files and names, of operators, of whole numbers and of walks.
+//! Tests of files and names, of words of the command line, of operators, of numbers and of walks: `flow_base`, `sweet_words`,
+//! `alf_ops`, `whole_numbers`, `progressions` and `graph_walks`. Without tests this library is empty.
 //!
-//! ## Number tests
-//!
-//! Tests of `whole_numbers` and `progressions`. Without tests this library is empty.
-//!
-//! ## Base tests
-//!
-//! Tests of `flow_base`, `alf_ops`, `graph_walks` and `sweet_words`. Without tests this library is empty.
+//! - `outside`: shelves and sinks, names and digits. `words`: words that are a command, and words that are none.
+//! - `operators`, `values`: sizes, loads, operators at pointers, and the values of operators.
+//! - `numbers`: quotients, rests and common divisors; progressions.
+//! - `tables`, `cycles`: walks over tables, and cycles of calls.
 #![tactic(auto)]
 
-// Number tests: quotients, rests and common divisors.
-#[cfg(test)]
-mod wholes;
-
-// Hulls and images, parts and pieces.
-#[cfg(test)]
-mod given;
-#[cfg(test)]
-mod images;
-#[cfg(test)]
-mod parts;
-#[cfg(test)]
-mod pieces;
-
-// Base tests: files and sinks, names and digits.
+// Files and words.
 #[cfg(test)]
 mod outside;
+#[cfg(test)]
+mod words;
 
 // Operators and their values, loads and stores.
 #[cfg(test)]
@@ -33,12 +19,12 @@ mod operators;
 #[cfg(test)]
 mod values;
 
+// Numbers.
+#[cfg(test)]
+mod numbers;
+
 // Walks over tables, and cycles of calls.
 #[cfg(test)]
 mod cycles;
 #[cfg(test)]
 mod tables;
-
-// Words of the command line.
-#[cfg(test)]
-mod words;

@@ -1,4 +1,4 @@
-//! Values from outside: each is computed by hand or by the rules' own words.
+//! Names and sizes of operators, loads after events, and operators at pointers, by hand or by the rules' own words.
 
 use crate::values::part;
 use alf_ops::{

@@ -1,7 +1,8 @@
-//! What the tests share: what is told of a text, and texts from a short notation.
+//! What the tests share: what is told of a text by the reader and by the checks, and texts from a short notation.
 
+use c_check::{CFault, CProgram, check};
 use c_text::{CTextFault, CUnit, print, read};
-use flow_base::Which;
+use flow_base::{Name, Which};
 use std::alloc::{AllocError, Global};
 
 /// A part of a line, where ` @ ` stands between two parts. Empty where it is not there.
@@ -78,4 +79,48 @@ pub fn text_of(alloc: Global, parts: &str) -> Result<String, AllocError> {
         }
     }
     Ok(text)
+}
+
+/// Whether the checks tell of the text of a line what is due, which stands after ` @ `.
+pub fn stands(alloc: Global, row: &str) -> Result<bool, AllocError> {
+    let found = checked(alloc, field(row, 0))?;
+    Ok(found.as_slice() == field(row, 1).as_bytes())
+}
+
+// What the checks tell of a text whose root is `main`.
+fn checked(alloc: Global, text: &str) -> Result<Vec<u8>, AllocError> {
+    match read(alloc, text.as_bytes()) {
+        Ok(unit) => judged(alloc, &check(alloc, unit, "main")),
+        Err(_) => b"unread".as_slice().to_vec(alloc),
+    }
+}
+
+fn judged(alloc: Global, found: &Result<CProgram, CFault>) -> Result<Vec<u8>, AllocError> {
+    match found {
+        Ok(_) => b"ok".as_slice().to_vec(alloc),
+        Err(CFault::UnknownName(name)) => named(alloc, b"unknown ", name),
+        Err(CFault::Duplicate(name)) => named(alloc, b"twice ", name),
+        Err(CFault::Mistyped(place)) => {
+            let text = format!(in alloc; "wrong {} {}", place.line, place.column)?;
+            text.as_bytes().to_vec(alloc)
+        }
+        Err(CFault::Recursion(names)) => cycle(alloc, names),
+        Err(CFault::Root(name)) => named(alloc, b"root ", name),
+        Err(CFault::Memory) => b"memory".as_slice().to_vec(alloc),
+    }
+}
+
+fn named(alloc: Global, word: &[u8], name: &Name) -> Result<Vec<u8>, AllocError> {
+    let mut all = word.to_vec(alloc)?;
+    all.extend_from_slice(name.bytes())?;
+    Ok(all)
+}
+
+fn cycle(alloc: Global, names: &[Name]) -> Result<Vec<u8>, AllocError> {
+    let mut all = b"cycle".as_slice().to_vec(alloc)?;
+    for name in names {
+        all.push(b' ')?;
+        all.extend_from_slice(name.bytes())?;
+    }
+    Ok(all)
 }

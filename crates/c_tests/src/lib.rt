@@ -1,30 +1,24 @@
-//! Tests of texts of C and of their checks.
+//! Tests of texts of C and of their checks: `c_tokens`, `c_unit`, `c_text` and `c_check`. Without tests this library is empty.
 //!
-//! ## C tests
-//!
-//! Tests of `c_tokens`, `c_unit` and `c_text`. Without tests this library is
-//! empty.
-//!
-//! ## Check tests
-//!
-//! Tests of `c_check` on texts that `c_text` reads. Without tests this library is empty.
+//! - `tokens`, `constants`, `units`: tokens and their places, what constants are worth, ranges and trees.
+//! - `readings`, `edits`, `limits`: texts, texts with one token changed, and texts at the limits, and what is told of them.
+//! - `names`, `types`, `orders`: texts that are read, and what the checks tell of them.
+//! - `answers`: what the tests share.
 #![tactic(auto)]
 
-// C tests: tokens and their places.
+// What the tests share.
 #[cfg(test)]
-mod tokens;
+mod answers;
 
-// What constants are worth.
+// Tokens, constants and trees.
 #[cfg(test)]
 mod constants;
-
-// Ranges and trees.
+#[cfg(test)]
+mod tokens;
 #[cfg(test)]
 mod units;
 
-// Texts, and what is read of them.
-#[cfg(test)]
-mod answers;
+// What is told of a text where it is read.
 #[cfg(test)]
 mod corners;
 #[cfg(test)]
@@ -34,11 +28,7 @@ mod limits;
 #[cfg(test)]
 mod readings;
 
-// Check tests: what is told of a text.
-#[cfg(test)]
-mod check_answers;
-
-// Texts, and what is told of them.
+// What the checks tell of it.
 #[cfg(test)]
 mod names;
 #[cfg(test)]

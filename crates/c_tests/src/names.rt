@@ -1,6 +1,6 @@
 //! Names: which are known, and which stand twice.
 
-use crate::check_answers::stands;
+use crate::answers::stands;
 use std::test::Fail;
 
 // A text in each line, and after ` @ ` what is told of it.

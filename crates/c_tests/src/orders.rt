@@ -1,6 +1,6 @@
 //! What is told first.
 
-use crate::check_answers::stands;
+use crate::answers::stands;
 use std::test::Fail;
 
 // Refusals that are known.

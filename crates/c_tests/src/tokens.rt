@@ -1,10 +1,7 @@
 //! Texts and their tokens, worked out by hand from the rules of C99.
 
 use crate::answers::field;
-use c_tokens::{
-    Cursor, Kind, Token, is_keyword, place_of, printed_texts_are_cut, texts_are_their_pieces,
-    tokens_are_known_by_their_texts,
-};
+use c_tokens::{Cursor, Kind, Token, is_keyword, place_of};
 use std::alloc::{AllocError, Global};
 use std::test::Fail;
 
@@ -257,13 +254,5 @@ fn a_token_tells_its_place(rt: HostRuntime) -> Result<(), Fail> {
         assert_eq!(rt; place.line, *line, "offset {offset}");
         assert_eq!(rt; place.column, *column, "offset {offset}");
     }
-    Ok(())
-}
-
-#[test]
-fn the_laws_may_be_called(_rt: HostRuntime) -> Result<(), Fail> {
-    texts_are_their_pieces();
-    tokens_are_known_by_their_texts();
-    printed_texts_are_cut();
     Ok(())
 }

@@ -1,6 +1,6 @@
 //! Types: each rule kept, and broken more than once.
 
-use crate::check_answers::stands;
+use crate::answers::stands;
 use std::test::Fail;
 
 // Operands, and what is assigned.

@@ -1,15 +1,13 @@
-//! Tests of abstract values: sets of words, strided values and pointers.
+//! Tests of abstract values: sets of words, strided values and pointers, as `flat_domain`, `interval_congruence` and
+//! `pointer_domain` have them. Without tests this library is empty.
 //!
-//! ## Domain tests
-//!
-//! Tests of the implementations of `Domain`. Without tests this library is empty.
-//!
-//! ## Value tests
-//!
-//! Tests of abstract values. Without tests this library is empty.
+//! - `flat`: sets of one word, or of every word.
+//! - `strided`: joins, words left out, and relations of strided values.
+//! - `operators`: what operators give at strided values, by the lines of `rows` and `further_rows`.
+//! - `pointers`: operators at words and pointers.
 #![tactic(auto)]
 
-// Domain tests: sets of one word, or of every word.
+// Sets of one word, or of every word.
 #[cfg(test)]
 mod flat;
 
@@ -23,6 +21,6 @@ mod rows;
 #[cfg(test)]
 mod strided;
 
-// Value tests: words and pointers.
+// Words and pointers.
 #[cfg(test)]
 mod pointers;

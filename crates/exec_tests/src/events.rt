@@ -8,11 +8,10 @@ ghost use Rattle.exec_toys.specs.declared.span.Span.{Span};
 ghost use Rattle.exec_toys.specs.Charts.{chart_machine};
 
 use crate::charts::chart_of;
-use crate::sketch::outline_of;
 use crate::told::{Numbers, add_book, add_nodes, add_places};
 use abstract_exec::{ExecFault, Pool};
 use domain_core::{Event, Outline, Recorder, Stepper};
-use exec_toys::Chart;
+use exec_toys::{Chart, outline_of};
 use std::alloc::{AllocError, Global};
 use std::test::Fail;
 

@@ -1,48 +1,27 @@
-//! Tests of explorations and of what they record.
+//! Tests of explorations, of what they record, and of their reports: `abstract_exec`, `flow_recorders`, `pair_recorder` and
+//! `flow_reports`, at the flow charts and walks of `exec_toys`. Without tests this library is empty.
 //!
-//! ## Exec tests
-//!
-//! Tests of `abstract_exec` and `flow_reports` at the toys of `exec_toys`. Without tests this library is empty.
-//!
-//! ## Recorder tests
-//!
-//! Tests of `flow_recorders` and `pair_recorder`. Without tests this library is empty.
+//! - `policies`: whole explorations of small flow charts by each policy.
+//! - `events`: events one by one, allowed and not.
+//! - `reports`: the reports of explorations, as text.
+//! - `runs`: what books tell of runs that are written by hand.
+//! - `charts`, `told`, `books`: flow charts, what a pool tells, and what books tell, as text.
 #![tactic(auto)]
 
-// Exec tests: outlines of programs, and flow charts, in short notations.
+// Explorations.
 #[cfg(test)]
 mod charts;
 #[cfg(test)]
-mod sketch;
-
-// What a pool and its books tell, as text.
+mod events;
+#[cfg(test)]
+mod policies;
+#[cfg(test)]
+mod reports;
 #[cfg(test)]
 mod told;
 
-// Explorations by policies.
+// Runs and their books.
 #[cfg(test)]
-mod policies;
-
-// Events one by one.
-#[cfg(test)]
-mod events;
-
-// Reports of explorations.
-#[cfg(test)]
-mod reports;
-
-// Recorder tests: outlines of programs in a short notation.
-#[cfg(test)]
-mod recorder_sketch;
-
-// Runs as text, what the books tell of them, and what they do.
-#[cfg(test)]
-mod recorder_told;
-#[cfg(test)]
-mod slow;
-
-// Runs that are written by hand, and walks.
+mod books;
 #[cfg(test)]
 mod runs;
-#[cfg(test)]
-mod sample_walks;

@@ -7,11 +7,10 @@ ghost use Rattle.exec_toys.specs.declared.span.Span.{Span};
 ghost use Rattle.exec_toys.specs.Charts.{chart_machine};
 
 use crate::charts::chart_of;
-use crate::sketch::outline_of;
 use crate::told::{Numbers, add_book, add_explored, add_nodes};
 use abstract_exec::Pool;
 use domain_core::Outline;
-use exec_toys::{Chart, Silent};
+use exec_toys::{Chart, Silent, outline_of};
 use std::alloc::Global;
 use std::test::Fail;
 use worklist_rules::Policy;

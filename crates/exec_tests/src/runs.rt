@@ -1,8 +1,7 @@
 //! Runs that are written by hand.
 
-use crate::recorder_sketch::outline_of;
-use crate::recorder_told::told;
-use crate::slow::counted;
+use crate::books::told;
+use exec_toys::outline_of;
 use std::test::Fail;
 
 // The items of a program, its runs, and what is told: of each node in a run, of each scope's header and
@@ -38,19 +37,6 @@ fn books_tell_what_runs_do(rt: HostRuntime) -> Result<(), Fail> {
         let runs = line.split(" => ").nth(1).unwrap_or("");
         let outline = outline_of(alloc, items)?;
         let found = told(alloc, &outline, runs)?;
-        assert_eq!(rt; found.as_str(), wanted_of(line), "{line}");
-    }
-    Ok(())
-}
-
-#[test]
-fn what_is_counted_place_by_place_is_what_was_counted_by_hand(rt: HostRuntime) -> Result<(), Fail> {
-    let alloc = rt.alloc();
-    for line in RUNS.lines() {
-        let items = line.split(" => ").nth(0).unwrap_or("");
-        let runs = line.split(" => ").nth(1).unwrap_or("");
-        let outline = outline_of(alloc, items)?;
-        let found = counted(alloc, &outline, runs)?;
         assert_eq!(rt; found.as_str(), wanted_of(line), "{line}");
     }
     Ok(())

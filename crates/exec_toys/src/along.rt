@@ -2,7 +2,7 @@
 
 ghost use Rattle.std.specs.Prelude.{◌≤◌, ◌<◌, ◌+◌, ◌-◌, ◌^◌, OnOk, length};
 
-use crate::run_edges::has_edge;
+use crate::run_edges::has_edge_to_node;
 use domain_core::{Outline, Recorder};
 use std::alloc::{AllocError, Global};
 
@@ -28,7 +28,7 @@ pub fn go_along<R: Recorder>(
     }
     outline.kept();
     for i in 1..walk.len() {
-        if !has_edge(outline, walk[i - 1], walk[i]) {
+        if !has_edge_to_node(outline, walk[i - 1], walk[i]) {
             return Ok(false);
         }
         recorder.go(alloc, outline, book, walk[i - 1], walk[i])?;

@@ -6,8 +6,8 @@ ghost use Rattle.exec_toys.specs.Charts.{IsWayAlong, AreForksAlong};
 use crate::{Fork, Way};
 use domain_core::Outline;
 
-/// Whether the outline has the edge.
-fn has_edge(outline: &Outline, from: u32, to: u32) -> bool
+/// Whether the outline has the edge, to a node or to the end.
+pub fn has_edge(outline: &Outline, from: u32, to: u32) -> bool
     ensures { IsTrue result → Contains outline.now.edges (from, to) }
 {
     for e in 0..outline.edge_count() {

@@ -1,43 +1,28 @@
-//! Tests of facts, of reports as texts, and of path bounds.
+//! Tests of facts, of reports as texts, and of path bounds: `flow_facts`, `fact_text`, `dual_check` and `path_lp`.
 //!
-//! ## Fact tests
+//! - `traces`, `reports`: which traces meet which facts, one by one and as whole reports. `order`: the order of facts. `facts`:
+//!   facts and traces in a short notation.
+//! - `lines`, `further_lines`, `swaps`: reports with another text in place of a line, or with two lines in each other's
+//!   place, and what is told of them. `texts`: reports that are cut short, or printed again. `edits`: how such texts are made.
+//! - `duals`: rows that were written out by hand, and verdicts on multipliers. `rows`: rows as text.
+//! - `bounds`: path bounds of small programs.
 //!
-//! Tests of `flow_facts`. Without tests this library is empty.
-//!
-//! ## Report tests
-//!
-//! Tests of `fact_text`, and of the crates that it is made of. Without tests this library is empty.
-//!
-//! ## Dual tests
-//!
-//! Tests of `dual_check`. Without tests this library is empty.
-//!
-//! ## Path tests
-//!
-//! Tests of `path_lp`. Without tests this library has `ready_bound` alone.
+//! Without tests this library has `ready_bound` alone, which `bench/paths` takes too.
 #![tactic(auto)]
 
-// Fact tests: outlines of programs in a short notation.
+// Facts on traces.
 #[cfg(test)]
-mod sketch;
-
-// Facts on traces that are written by hand.
+mod facts;
+#[cfg(test)]
+mod order;
+#[cfg(test)]
+mod reports;
 #[cfg(test)]
 mod traces;
 
-// The facts of whole reports on the traces of their programs.
-#[cfg(test)]
-mod reports;
-
-// The order of facts.
-#[cfg(test)]
-mod order;
-
-// Report tests: reports that are made of a report.
+// Reports as texts.
 #[cfg(test)]
 mod edits;
-
-// Lines, and whole texts.
 #[cfg(test)]
 mod further_lines;
 #[cfg(test)]
@@ -47,35 +32,15 @@ mod swaps;
 #[cfg(test)]
 mod texts;
 
-// Dual tests: outlines of programs in a short notation.
+// Rows and verdicts.
 #[cfg(test)]
-mod dual_sketch;
-
-// Programs of outlines and facts, as text.
+mod duals;
 #[cfg(test)]
-mod told;
+mod rows;
 
-// Rows that were written out by hand.
-#[cfg(test)]
-mod programs;
-
-// Verdicts, each just at and past its limit.
-#[cfg(test)]
-mod verdicts;
-
-// Path tests: path bounds, where they may be asked for.
-mod ready;
-
-// Outlines of programs in a short notation.
-#[cfg(test)]
-mod path_sketch;
-
-// Outlines with costs, facts, and path bounds, as texts.
-#[cfg(test)]
-mod words;
-
-// Bounds in tables.
+// Path bounds, where they may be asked for.
 #[cfg(test)]
 mod bounds;
+mod ready;
 
 pub use ready::ready_bound;

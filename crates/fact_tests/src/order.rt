@@ -1,40 +1,21 @@
 //! The order of facts.
 
-use flow_facts::{Fact, RunKind, stands_before};
+use crate::facts::facts_of;
+use flow_facts::stands_before;
 use std::test::Fail;
 
 // Facts in the order of their lines.
-const LINES: [Fact; 24] = [
-    Fact::Loop(1, 1, 10),
-    Fact::Loop(1, 1, 11),
-    Fact::Loop(1, 2, 3),
-    Fact::Loop(10, 0, 0),
-    Fact::Count(0, 9, 9, 9),
-    Fact::Count(1, 3, 0, 10),
-    Fact::Count(1, 7, 0, 0),
-    Fact::Count(1, 7, 0, 1),
-    Fact::Dead(2),
-    Fact::Dead(10),
-    Fact::Total(0, 1, 1),
-    Fact::Total(1, 0, 4294967295),
-    Fact::Total(1, 1, 1),
-    Fact::Pair(0, 2, 4),
-    Fact::Pair(1, 0, 1),
-    Fact::Pair(1, 1, 0),
-    Fact::Alarm(1, RunKind::Divide),
-    Fact::Alarm(1, RunKind::Uninit),
-    Fact::Alarm(1, RunKind::Mixed),
-    Fact::Alarm(1, RunKind::Bounds),
-    Fact::Alarm(1, RunKind::Dead),
-    Fact::Alarm(1, RunKind::Kind),
-    Fact::Alarm(1, RunKind::Pointers),
-    Fact::Alarm(2, RunKind::Divide),
-];
+static LINES: &str = "\
+L 1 1 10, L 1 1 11, L 1 2 3, L 10 0 0, C 0 9 9 9, C 1 3 0 10, C 1 7 0 0, C 1 7 0 1, \
+D 2, D 10, T 0 1 1, T 1 0 4294967295, T 1 1 1, P 0 2 4, P 1 0 1, P 1 1 0, \
+A 1 divide, A 1 uninit, A 1 mixed, A 1 bounds, A 1 dead, A 1 kind, A 1 pointers, A 2 divide";
 
 #[test]
 fn lines_ascend(rt: HostRuntime) -> Result<(), Fail> {
-    for (i, first) in LINES.iter().enumerate() {
-        for (j, second) in LINES.iter().enumerate() {
+    let facts = facts_of(rt.alloc(), LINES)?;
+    assert_eq!(rt; facts.len(), 24);
+    for (i, first) in facts.iter().enumerate() {
+        for (j, second) in facts.iter().enumerate() {
             assert_eq!(rt; stands_before(first, second), i < j, "{first:?} {second:?}");
         }
     }

@@ -53,284 +53,119 @@ i = c; => { store &i with { s_ext 8 32 *c%8 } }
 i = b; => { store &i with { z_ext 8 32 *b%8 } }
 i = s; => { store &i with { s_ext 16 32 *s%16 } }
 i = h; => { store &i with { z_ext 16 32 *h%16 } }
-i = u; => { store &i with *u }
-u = i; => { store &u with *i }
 u = c; => { store &u with { s_ext 8 32 *c%8 } }
-u = h; => { store &u with { z_ext 16 32 *h%16 } }
 c = i; => { store &c with { trunc 32 8 *i } }
-c = c; => { store &c with { trunc 32 8 { s_ext 8 32 *c%8 } } }
 b = c; => { store &b with { trunc 32 8 { s_ext 8 32 *c%8 } } }
-c = h; => { store &c with { trunc 32 8 { z_ext 16 32 *h%16 } } }
-s = b; => { store &s with { trunc 32 16 { z_ext 8 32 *b%8 } } }
 h = s; => { store &h with { trunc 32 16 { s_ext 16 32 *s%16 } } }
-s = u; => { store &s with { trunc 32 16 *u } }
-n = i; => { store &f::n with *i }
-(i) = (j); => { store &i with *j }";
+n = i; => { store &f::n with *i }";
 
 // Constants.
 static CONSTANTS: &str = r"i = 5; => { store &i with #5 }
-i = 0; => { store &i with #0 }
 i = 017; => { store &i with #15 }
-i = 00; => { store &i with #0 }
-i = 0x1F; => { store &i with #31 }
-i = 2147483647; => { store &i with #2147483647 }
-i = 0x7fffffff; => { store &i with #2147483647 }
 u = 0x80000000; => { store &u with #2147483648u }
-u = 037777777777; => { store &u with #4294967295u }
 u = 5u; => { store &u with #5u }
-i = 0U; => { store &i with #0u }
-u = 4294967295u; => { store &u with #4294967295u }
 i = 'a'; => { store &i with #97 }
-i = ' '; => { store &i with #32 }
 i = '\n'; => { store &i with #10 }
-i = '\t'; => { store &i with #9 }
-i = '\0'; => { store &i with #0 }
-i = '\\'; => { store &i with #92 }
-i = '\''; => { store &i with #39 }
-c = 'c'; => { store &c with { trunc 32 8 #99 } }
 c = 200; => { store &c with { trunc 32 8 #200 } }
-b = -1; => { store &b with { trunc 32 8 { neg 32 #1 } } }
 i = -2147483647; => { store &i with { neg 32 #2147483647 } }";
 
 // Operators with one operand, and casts.
 static UNARY: &str = r"i = -j; => { store &i with { neg 32 *j } }
-i = -c; => { store &i with { neg 32 { s_ext 8 32 *c%8 } } }
-u = -u; => { store &u with { neg 32 *u } }
-i = - -j; => { store &i with { neg 32 { neg 32 *j } } }
-i = ~j; => { store &i with { not 32 *j } }
 u = ~b; => { store &u with { not 32 { z_ext 8 32 *b%8 } } }
 i = +s; => { store &i with { s_ext 16 32 *s%16 } }
-i = +j; => { store &i with *j }
 i = !j; => { store &i with { z_ext 1 32 { eq 32 *j #0 } } }
-i = !c; => { store &i with { z_ext 1 32 { eq 32 { s_ext 8 32 *c%8 } #0 } } }
 c = !u; => { store &c with { trunc 32 8 { z_ext 1 32 { eq 32 *u #0 } } } }
-i = !!j; => { store &i with { z_ext 1 32 { eq 32 { z_ext 1 32 { eq 32 *j #0 } } #0 } } }
-i = ~-!j; => { store &i with { not 32 { neg 32 { z_ext 1 32 { eq 32 *j #0 } } } } }
 i = (char)j; => { store &i with { s_ext 8 32 { trunc 32 8 *j } } }
 i = (unsigned char)j; => { store &i with { z_ext 8 32 { trunc 32 8 *j } } }
 i = (short)u; => { store &i with { s_ext 16 32 { trunc 32 16 *u } } }
-i = (short unsigned int)u; => { store &i with { z_ext 16 32 { trunc 32 16 *u } } }
 i = (int)u; => { store &i with *u }
-u = (unsigned)i; => { store &u with *i }
 u = (unsigned)c; => { store &u with { s_ext 8 32 *c%8 } }
 c = (char)i; => { store &c with { trunc 32 8 { s_ext 8 32 { trunc 32 8 *i } } } }
-c = (char)c; => { store &c with { trunc 32 8 { s_ext 8 32 { trunc 32 8 { s_ext 8 32 *c%8 } } } } }
-i = (int)(char)(unsigned short)u; => { store &i with { s_ext 8 32 { trunc 32 8 { z_ext 16 32 { trunc 32 16 *u } } } } }
-i = (const int)3; => { store &i with #3 }
-i = (char)-1; => { store &i with { s_ext 8 32 { trunc 32 8 { neg 32 #1 } } } }
-i = -(char)200; => { store &i with { neg 32 { s_ext 8 32 { trunc 32 8 #200 } } } }";
+i = (int)(char)(unsigned short)u; => { store &i with { s_ext 8 32 { trunc 32 8 { z_ext 16 32 { trunc 32 16 *u } } } } }";
 
 // Arithmetic on each kind of operands, and what binds closer.
-static BINARY: &str = r"i = i + j; => { store &i with { add 32 *i *j '0 } }
-i = c + b; => { store &i with { add 32 { s_ext 8 32 *c%8 } { z_ext 8 32 *b%8 } '0 } }
+static BINARY: &str =
+    r"i = c + b; => { store &i with { add 32 { s_ext 8 32 *c%8 } { z_ext 8 32 *b%8 } '0 } }
 u = u + 1; => { store &u with { add 32 *u #1 '0 } }
 i = i - j; => { store &i with { sub 32 *i *j '1 } }
-i = 1 - h; => { store &i with { sub 32 #1 { z_ext 16 32 *h%16 } '1 } }
 i = i * j; => { store &i with { trunc 64 32 { s_mul 32 32 *i *j } } }
-i = c * s; => { store &i with { trunc 64 32 { s_mul 32 32 { s_ext 8 32 *c%8 } { s_ext 16 32 *s%16 } } } }
-i = h * h; => { store &i with { trunc 64 32 { s_mul 32 32 { z_ext 16 32 *h%16 } { z_ext 16 32 *h%16 } } } }
-u = u * v; => { store &u with { trunc 64 32 { u_mul 32 32 *u *v } } }
 u = i * u; => { store &u with { trunc 64 32 { u_mul 32 32 *i *u } } }
-u = u * c; => { store &u with { trunc 64 32 { u_mul 32 32 *u { s_ext 8 32 *c%8 } } } }
 i = i / j; => { store &i with { s_div 32 32 *i *j } }
-i = b / h; => { store &i with { s_div 32 32 { z_ext 8 32 *b%8 } { z_ext 16 32 *h%16 } } }
-u = u / 2; => { store &u with { u_div 32 32 *u #2 } }
 i = i / 2u; => { store &i with { u_div 32 32 *i #2u } }
-i = -1 / u; => { store &i with { u_div 32 32 { neg 32 #1 } *u } }
 i = i % j; => { store &i with { s_mod 32 32 *i *j } }
-i = s % 10; => { store &i with { s_mod 32 32 { s_ext 16 32 *s%16 } #10 } }
 u = 7 % u; => { store &u with { u_mod 32 32 #7 *u } }
-i = (unsigned)c % 3; => { store &i with { u_mod 32 32 { s_ext 8 32 *c%8 } #3 } }
 i = i << j; => { store &i with { l_shift 32 32 *i *j } }
-u = u << c; => { store &u with { l_shift 32 32 *u { s_ext 8 32 *c%8 } } }
-i = i >> j; => { store &i with { r_shift_a 32 32 *i *j } }
 i = i >> u; => { store &i with { r_shift_a 32 32 *i *u } }
 u = u >> i; => { store &u with { r_shift 32 32 *u *i } }
-i = h >> 3; => { store &i with { r_shift_a 32 32 { z_ext 16 32 *h%16 } #3 } }
-i = (unsigned)i >> 1; => { store &i with { r_shift 32 32 *i #1 } }
-i = 1 << u >> 2; => { store &i with { r_shift_a 32 32 { l_shift 32 32 #1 *u } #2 } }
-i = (i >> u) / 2; => { store &i with { s_div 32 32 { r_shift_a 32 32 *i *u } #2 } }
 i = i & j; => { store &i with { and 32 *i *j } }
-u = c & u; => { store &u with { and 32 { s_ext 8 32 *c%8 } *u } }
 i = i ^ b; => { store &i with { xor 32 *i { z_ext 8 32 *b%8 } } }
 i = i | 8; => { store &i with { or 32 *i #8 } }
 i = (i & u) / 2; => { store &i with { u_div 32 32 { and 32 *i *u } #2 } }
-i = (i ^ u) >> 1; => { store &i with { r_shift 32 32 { xor 32 *i *u } #1 } }
-i = -u / 2; => { store &i with { u_div 32 32 { neg 32 *u } #2 } }
-i = ~u % 5; => { store &i with { u_mod 32 32 { not 32 *u } #5 } }
 i = !u / j; => { store &i with { s_div 32 32 { z_ext 1 32 { eq 32 *u #0 } } *j } }
-i = (u < v) / -1; => { store &i with { s_div 32 32 { z_ext 1 32 { u_lt 32 *u *v } } { neg 32 #1 } } }
 i = i - j - 1; => { store &i with { sub 32 { sub 32 *i *j '1 } #1 '1 } }
-i = i - (j - 1); => { store &i with { sub 32 *i { sub 32 *j #1 '1 } '1 } }
-i = i + j * 2; => { store &i with { add 32 *i { trunc 64 32 { s_mul 32 32 *j #2 } } '0 } }
-i = (i + j) * 2; => { store &i with { trunc 64 32 { s_mul 32 32 { add 32 *i *j '0 } #2 } } }
-i = i / j % n * 2; => { store &i with { trunc 64 32 { s_mul 32 32 { s_mod 32 32 { s_div 32 32 *i *j } *f::n } #2 } } }
-i = i << j + 1; => { store &i with { l_shift 32 32 *i { add 32 *j #1 '0 } } }
 i = i | j ^ n & 1; => { store &i with { or 32 *i { xor 32 *j { and 32 *f::n #1 } } } }
-i = i & j == 1; => { store &i with { and 32 *i { z_ext 1 32 { eq 32 *j #1 } } } }
-i = -i * ~j; => { store &i with { trunc 64 32 { s_mul 32 32 { neg 32 *i } { not 32 *j } } } }
-i = (char)i + j; => { store &i with { add 32 { s_ext 8 32 { trunc 32 8 *i } } *j '0 } }
-i = (char)(i + j); => { store &i with { s_ext 8 32 { trunc 32 8 { add 32 *i *j '0 } } } }
-i = i + u / 2; => { store &i with { add 32 *i { u_div 32 32 *u #2 } '0 } }
-i = i / 2 + u; => { store &i with { add 32 { s_div 32 32 *i #2 } *u '0 } }";
+i = (char)(i + j); => { store &i with { s_ext 8 32 { trunc 32 8 { add 32 *i *j '0 } } } }";
 
 // Comparisons as values.
 static COMPARISONS: &str = r"i = i < j; => { store &i with { z_ext 1 32 { s_lt 32 *i *j } } }
-i = i <= j; => { store &i with { z_ext 1 32 { s_le 32 *i *j } } }
 i = i > j; => { store &i with { z_ext 1 32 { s_gt 32 *i *j } } }
-i = i >= j; => { store &i with { z_ext 1 32 { s_ge 32 *i *j } } }
 i = i == j; => { store &i with { z_ext 1 32 { eq 32 *i *j } } }
 i = i != j; => { store &i with { z_ext 1 32 { neq 32 *i *j } } }
-i = u < v; => { store &i with { z_ext 1 32 { u_lt 32 *u *v } } }
 i = u <= i; => { store &i with { z_ext 1 32 { u_le 32 *u *i } } }
-i = i > u; => { store &i with { z_ext 1 32 { u_gt 32 *i *u } } }
 i = u >= c; => { store &i with { z_ext 1 32 { u_ge 32 *u { s_ext 8 32 *c%8 } } } }
-i = u == -1; => { store &i with { z_ext 1 32 { eq 32 *u { neg 32 #1 } } } }
 i = b < c; => { store &i with { z_ext 1 32 { s_lt 32 { z_ext 8 32 *b%8 } { s_ext 8 32 *c%8 } } } }
-i = h >= s; => { store &i with { z_ext 1 32 { s_ge 32 { z_ext 16 32 *h%16 } { s_ext 16 32 *s%16 } } } }
-i = i < 1u; => { store &i with { z_ext 1 32 { u_lt 32 *i #1u } } }
-i = i < j < n; => { store &i with { z_ext 1 32 { s_lt 32 { z_ext 1 32 { s_lt 32 *i *j } } *f::n } } }
 i = i < j == n > 1; => { store &i with { z_ext 1 32 { eq 32 { z_ext 1 32 { s_lt 32 *i *j } } { z_ext 1 32 { s_gt 32 *f::n #1 } } } } }
-i = i << 1 < j + 2; => { store &i with { z_ext 1 32 { s_lt 32 { l_shift 32 32 *i #1 } { add 32 *j #2 '0 } } } }
-i = !i == j; => { store &i with { z_ext 1 32 { eq 32 { z_ext 1 32 { eq 32 *i #0 } } *j } } }
-i = !(i == j); => { store &i with { z_ext 1 32 { eq 32 { z_ext 1 32 { eq 32 *i *j } } #0 } } }
-c = i != j; => { store &c with { trunc 32 8 { z_ext 1 32 { neq 32 *i *j } } } }";
+i = !(i == j); => { store &i with { z_ext 1 32 { eq 32 { z_ext 1 32 { eq 32 *i *j } } #0 } } }";
 
 // Pointers, elements and casts to pointers.
 static POINTERS: &str = r"p = a; => { store &f::p with &a }
-p = (a); => { store &f::p with &a }
-p = p; => { store &f::p with *f::p }
 p = &i; => { store &f::p with &i }
-p = &n; => { store &f::p with &f::n }
-q = &s; => { store &f::q with &s }
 p = &a[0]; => { store &f::p with { add 32 &a { trunc 64 32 { s_mul 32 32 #0 #4 } } '0 } }
-p = &p[n]; => { store &f::p with { add 32 *f::p { trunc 64 32 { s_mul 32 32 *f::n #4 } } '0 } }
 r = &d[n]; => { store &f::r with { add 32 &d *f::n '0 } }
 p = &*p; => { store &f::p with *f::p }
-p = &(*(p + 1)); => { store &f::p with { add 32 *f::p { trunc 64 32 { s_mul 32 32 #1 #4 } } '0 } }
 p = p + 1; => { store &f::p with { add 32 *f::p { trunc 64 32 { s_mul 32 32 #1 #4 } } '0 } }
-p = a + n; => { store &f::p with { add 32 &a { trunc 64 32 { s_mul 32 32 *f::n #4 } } '0 } }
 p = n + a; => { store &f::p with { add 32 { trunc 64 32 { s_mul 32 32 *f::n #4 } } &a '0 } }
-q = 2 + t; => { store &f::q with { add 32 { trunc 64 32 { s_mul 32 32 #2 #2 } } &t '0 } }
-r = d + 3; => { store &f::r with { add 32 &d #3 '0 } }
 r = 3 + d; => { store &f::r with { add 32 #3 &d '0 } }
-r = r + c; => { store &f::r with { add 32 *f::r { s_ext 8 32 *c%8 } '0 } }
 p = p - 1; => { store &f::p with { sub 32 *f::p { trunc 64 32 { s_mul 32 32 #1 #4 } } '1 } }
-q = q - n; => { store &f::q with { sub 32 *f::q { trunc 64 32 { s_mul 32 32 *f::n #2 } } '1 } }
 r = r - n; => { store &f::r with { sub 32 *f::r *f::n '1 } }
 p = p + u; => { store &f::p with { add 32 *f::p { trunc 64 32 { u_mul 32 32 *u #4 } } '0 } }
-p = p + h; => { store &f::p with { add 32 *f::p { trunc 64 32 { s_mul 32 32 { z_ext 16 32 *h%16 } #4 } } '0 } }
-p = p + 1 - n; => { store &f::p with { sub 32 { add 32 *f::p { trunc 64 32 { s_mul 32 32 #1 #4 } } '0 } { trunc 64 32 { s_mul 32 32 *f::n #4 } } '1 } }
 i = p - a; => { store &i with { s_div 32 32 { sub 32 *f::p &a '1 } #4 } }
-i = q - t; => { store &i with { s_div 32 32 { sub 32 *f::q &t '1 } #2 } }
 i = r - d; => { store &i with { sub 32 *f::r &d '1 } }
-i = &a[2] - a; => { store &i with { s_div 32 32 { sub 32 { add 32 &a { trunc 64 32 { s_mul 32 32 #2 #4 } } '0 } &a '1 } #4 } }
-i = (p - a) / u; => { store &i with { u_div 32 32 { s_div 32 32 { sub 32 *f::p &a '1 } #4 } *u } }
 i = p < a; => { store &i with { z_ext 1 32 { u_lt 32 *f::p &a } } }
-i = q >= t; => { store &i with { z_ext 1 32 { u_ge 32 *f::q &t } } }
-i = r <= d; => { store &i with { z_ext 1 32 { u_le 32 *f::r &d } } }
-i = p > &i; => { store &i with { z_ext 1 32 { u_gt 32 *f::p &i } } }
-i = p == &a[1]; => { store &i with { z_ext 1 32 { eq 32 *f::p { add 32 &a { trunc 64 32 { s_mul 32 32 #1 #4 } } '0 } } } }
 i = a != p; => { store &i with { z_ext 1 32 { neq 32 &a *f::p } } }
-i = *p; => { store &i with { load 32 *f::p } }
 i = *q; => { store &i with { s_ext 16 32 { load 16 *f::q } } }
-i = *r; => { store &i with { s_ext 8 32 { load 8 *f::r } } }
-i = *a; => { store &i with { load 32 &a } }
-i = *&j; => { store &i with { load 32 &j } }
-i = *(p + 1); => { store &i with { load 32 { add 32 *f::p { trunc 64 32 { s_mul 32 32 #1 #4 } } '0 } } }
-i = *p + 1; => { store &i with { add 32 { load 32 *f::p } #1 '0 } }
-i = -*p * *q; => { store &i with { trunc 64 32 { s_mul 32 32 { neg 32 { load 32 *f::p } } { s_ext 16 32 { load 16 *f::q } } } } }
-i = a[0]; => { store &i with { load 32 { add 32 &a { trunc 64 32 { s_mul 32 32 #0 #4 } } '0 } } }
 i = a[j]; => { store &i with { load 32 { add 32 &a { trunc 64 32 { s_mul 32 32 *j #4 } } '0 } } }
-i = (a)[j]; => { store &i with { load 32 { add 32 &a { trunc 64 32 { s_mul 32 32 *j #4 } } '0 } } }
-i = p[j]; => { store &i with { load 32 { add 32 *f::p { trunc 64 32 { s_mul 32 32 *j #4 } } '0 } } }
 i = t[1]; => { store &i with { s_ext 16 32 { load 16 { add 32 &t { trunc 64 32 { s_mul 32 32 #1 #2 } } '0 } } } }
 i = d[j]; => { store &i with { s_ext 8 32 { load 8 { add 32 &d *j '0 } } } }
-i = d[-1]; => { store &i with { s_ext 8 32 { load 8 { add 32 &d { neg 32 #1 } '0 } } } }
-i = a[u]; => { store &i with { load 32 { add 32 &a { trunc 64 32 { u_mul 32 32 *u #4 } } '0 } } }
-i = a[c]; => { store &i with { load 32 { add 32 &a { trunc 64 32 { s_mul 32 32 { s_ext 8 32 *c%8 } #4 } } '0 } } }
-i = d[h]; => { store &i with { s_ext 8 32 { load 8 { add 32 &d { z_ext 16 32 *h%16 } '0 } } } }
-i = a[d[1]]; => { store &i with { load 32 { add 32 &a { trunc 64 32 { s_mul 32 32 { s_ext 8 32 { load 8 { add 32 &d #1 '0 } } } #4 } } '0 } } }
 i = (p + 1)[2]; => { store &i with { load 32 { add 32 { add 32 *f::p { trunc 64 32 { s_mul 32 32 #1 #4 } } '0 } { trunc 64 32 { s_mul 32 32 #2 #4 } } '0 } } }
-*p = i; => { store *f::p with *i }
 *q = i; => { store *f::q with { trunc 32 16 *i } }
-*r = *r; => { store *f::r with { trunc 32 8 { s_ext 8 32 { load 8 *f::r } } } }
-*a = 1; => { store &a with #1 }
-*&i = 2; => { store &i with #2 }
-*(p - n) = 3; => { store { sub 32 *f::p { trunc 64 32 { s_mul 32 32 *f::n #4 } } '1 } with #3 }
 a[n] = i; => { store { add 32 &a { trunc 64 32 { s_mul 32 32 *f::n #4 } } '0 } with *i }
-t[i] = j; => { store { add 32 &t { trunc 64 32 { s_mul 32 32 *i #2 } } '0 } with { trunc 32 16 *j } }
 d[1] = c; => { store { add 32 &d #1 '0 } with { trunc 32 8 { s_ext 8 32 *c%8 } } }
-p[0] = q[1]; => { store { add 32 *f::p { trunc 64 32 { s_mul 32 32 #0 #4 } } '0 } with { s_ext 16 32 { load 16 { add 32 *f::q { trunc 64 32 { s_mul 32 32 #1 #2 } } '0 } } } }
-(a)[0] = (u); => { store { add 32 &a { trunc 64 32 { s_mul 32 32 #0 #4 } } '0 } with *u }
 p = (int *)q; => { store &f::p with *f::q }
-q = (short *)a; => { store &f::q with &a }
-r = (char *)&i; => { store &f::r with &i }
-i = *(char *)p; => { store &i with { s_ext 8 32 { load 8 *f::p } } }
-i = ((unsigned char *)p)[n]; => { store &i with { z_ext 8 32 { load 8 { add 32 *f::p *f::n '0 } } } }
-i = *(unsigned short *)(p + 1); => { store &i with { z_ext 16 32 { load 16 { add 32 *f::p { trunc 64 32 { s_mul 32 32 #1 #4 } } '0 } } } }
-u = ((unsigned *)a)[1] / 2; => { store &u with { u_div 32 32 { load 32 { add 32 &a { trunc 64 32 { s_mul 32 32 #1 #4 } } '0 } } #2 } }
-q = (short *)p + 1; => { store &f::q with { add 32 *f::p { trunc 64 32 { s_mul 32 32 #1 #2 } } '0 } }
-*(short *)p = i; => { store *f::p with { trunc 32 16 *i } }
-i = (char *)p - r; => { store &i with { sub 32 *f::p *f::r '1 } }";
+i = *(char *)p; => { store &i with { s_ext 8 32 { load 8 *f::p } } }";
 
 // Assignments that change what they store in.
 static CHANGES: &str = r"i += 1; => { store &i with { add 32 *i #1 '0 } }
-i -= j; => { store &i with { sub 32 *i *j '1 } }
-i *= 2; => { store &i with { trunc 64 32 { s_mul 32 32 *i #2 } } }
-i /= j; => { store &i with { s_div 32 32 *i *j } }
-i %= 3; => { store &i with { s_mod 32 32 *i #3 } }
-i <<= 1; => { store &i with { l_shift 32 32 *i #1 } }
-i >>= u; => { store &i with { r_shift_a 32 32 *i *u } }
-i &= 15; => { store &i with { and 32 *i #15 } }
-i ^= j; => { store &i with { xor 32 *i *j } }
-i |= u; => { store &i with { or 32 *i *u } }
-i += j - 1; => { store &i with { add 32 *i { sub 32 *j #1 '1 } '0 } }
-i *= j + 1; => { store &i with { trunc 64 32 { s_mul 32 32 *i { add 32 *j #1 '0 } } } }
-i *= u; => { store &i with { trunc 64 32 { u_mul 32 32 *i *u } } }
 i /= u; => { store &i with { u_div 32 32 *i *u } }
-u /= i; => { store &u with { u_div 32 32 *u *i } }
-u %= 7; => { store &u with { u_mod 32 32 *u #7 } }
 u >>= 1; => { store &u with { r_shift 32 32 *u #1 } }
 c += 1; => { store &c with { trunc 32 8 { add 32 { s_ext 8 32 *c%8 } #1 '0 } } }
-c /= u; => { store &c with { trunc 32 8 { u_div 32 32 { s_ext 8 32 *c%8 } *u } } }
-b *= b; => { store &b with { trunc 32 8 { trunc 64 32 { s_mul 32 32 { z_ext 8 32 *b%8 } { z_ext 8 32 *b%8 } } } } }
-s <<= 2; => { store &s with { trunc 32 16 { l_shift 32 32 { s_ext 16 32 *s%16 } #2 } } }
-h >>= 1; => { store &h with { trunc 32 16 { r_shift_a 32 32 { z_ext 16 32 *h%16 } #1 } } }
 p += n; => { store &f::p with { add 32 *f::p { trunc 64 32 { s_mul 32 32 *f::n #4 } } '0 } }
 q -= 1; => { store &f::q with { sub 32 *f::q { trunc 64 32 { s_mul 32 32 #1 #2 } } '1 } }
-r += u; => { store &f::r with { add 32 *f::r *u '0 } }
 a[n] += i; => { store { add 32 &a { trunc 64 32 { s_mul 32 32 *f::n #4 } } '0 } with { add 32 { load 32 { add 32 &a { trunc 64 32 { s_mul 32 32 *f::n #4 } } '0 } } *i '0 } }
-d[i] -= 1; => { store { add 32 &d *i '0 } with { trunc 32 8 { sub 32 { s_ext 8 32 { load 8 { add 32 &d *i '0 } } } #1 '1 } } }
-*p *= 2; => { store *f::p with { trunc 64 32 { s_mul 32 32 { load 32 *f::p } #2 } } }
-*q |= h; => { store *f::q with { trunc 32 16 { or 32 { s_ext 16 32 { load 16 *f::q } } { z_ext 16 32 *h%16 } } } }
 i++; => { store &i with { add 32 *i #1 '0 } }
 --i; => { store &i with { sub 32 *i #1 '1 } }
-u++; => { store &u with { add 32 *u #1 '0 } }
-u--; => { store &u with { sub 32 *u #1 '1 } }
-++c; => { store &c with { trunc 32 8 { add 32 { s_ext 8 32 *c%8 } #1 '0 } } }
-b--; => { store &b with { trunc 32 8 { sub 32 { z_ext 8 32 *b%8 } #1 '1 } } }
-++s; => { store &s with { trunc 32 16 { add 32 { s_ext 16 32 *s%16 } #1 '0 } } }
 h--; => { store &h with { trunc 32 16 { sub 32 { z_ext 16 32 *h%16 } #1 '1 } } }
 p++; => { store &f::p with { add 32 *f::p { trunc 64 32 { s_mul 32 32 #1 #4 } } '0 } }
 --q; => { store &f::q with { sub 32 *f::q { trunc 64 32 { s_mul 32 32 #1 #2 } } '1 } }
-r++; => { store &f::r with { add 32 *f::r #1 '0 } }
 a[1]++; => { store { add 32 &a { trunc 64 32 { s_mul 32 32 #1 #4 } } '0 } with { add 32 { load 32 { add 32 &a { trunc 64 32 { s_mul 32 32 #1 #4 } } '0 } } #1 '0 } }
-(*r)--; => { store *f::r with { trunc 32 8 { sub 32 { s_ext 8 32 { load 8 *f::r } } #1 '1 } } }
-++*p; => { store *f::p with { add 32 { load 32 *f::p } #1 '0 } }
---q[n]; => { store { add 32 *f::q { trunc 64 32 { s_mul 32 32 *f::n #2 } } '0 } with { trunc 32 16 { sub 32 { s_ext 16 32 { load 16 { add 32 *f::q { trunc 64 32 { s_mul 32 32 *f::n #2 } } '0 } } } #1 '1 } } }
-(i)++; => { store &i with { add 32 *i #1 '0 } }";
+(*r)--; => { store *f::r with { trunc 32 8 { sub 32 { s_ext 8 32 { load 8 *f::r } } #1 '1 } } }";
 
 // Returns, blocks and nothing.
 static PLAIN: &str = r"; => -
-{ } => -
 { ; { ; } } => -
-return i; => { return *i }
 return c; => { return { s_ext 8 32 *c%8 } }
-return u + 1; => { return { add 32 *u #1 '0 } }
 return (char)n; => { return { s_ext 8 32 { trunc 32 8 *f::n } } }
 { return 1; i = 2; } => { return #1 } ; { store &i with #2 }
-i = 1; j = 2; => { store &i with #1 } ; { store &j with #2 }
 { i = 1; { j = 2; } } u = 3; => { store &i with #1 } ; { store &j with #2 } ; { store &u with #3 }";
 
 #[test]

@@ -1,8 +1,12 @@
-//! Tests of the lowering from C to ALF, by the top call over files in memory. Without tests this library is
-//! empty.
+//! Tests of the lowering from C to ALF, by the top call over files in memory. Without tests this library is empty.
+//!
+//! - `expressions`, `statements`, `units`: what statements and units are lowered to, in the notation of `notation`.
+//! - `programs`: what programs do, as gcc has it.
+//! - `faults`: what is refused. `reports`: what `analyse`, `run` and `lower` tell of files of C.
+//! - `answers`: words, files and answers.
 #![tactic(auto)]
 
-// What the tests share: words, files and answers, and programs of ALF in short.
+// What the tests share.
 #[cfg(test)]
 mod answers;
 #[cfg(test)]

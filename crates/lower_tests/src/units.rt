@@ -10,14 +10,6 @@ func main
   { return #7 }
   { return #0 }
 
-int main(){}
-func main
-  { return #0 }
-
-void main(void) { }
-func main
-  { return }
-
 void main(int n) { if (n) return; n = 1; }
 func main
 args main::n%32
@@ -35,63 +27,16 @@ args main::n%32
   { return { trunc 32 8 *main::n } }
   { return { trunc 32 8 #0 } }
 
-unsigned char main(signed char n) { return n; }
-func main
-args main::n%8
-  { return { trunc 32 8 { s_ext 8 32 *main::n%8 } } }
-  { return { trunc 32 8 #0 } }
-
-short main(unsigned short n) { return n + 1; }
-func main
-args main::n%16
-  { return { trunc 32 16 { add 32 { z_ext 16 32 *main::n%16 } #1 '0 } } }
-  { return { trunc 32 16 #0 } }
-
-unsigned short main(unsigned n) { return n; }
-func main
-args main::n%32
-  { return { trunc 32 16 *main::n } }
-  { return { trunc 32 16 #0 } }
-
-unsigned main(int n) { return n; }
-func main
-args main::n%32
-  { return *main::n }
-  { return #0 }
-
 short int main(int a, char b, unsigned short c, int *p, char *q, short r[]) { return *p; }
 func main
 args main::a%32 main::b%8 main::c%16 main::p%32 main::q%32 main::r%32
   { return { trunc 32 16 { load 32 *main::p } } }
   { return { trunc 32 16 #0 } }
 
-int main(short r[], int n) { return r[n]; }
-func main
-args main::r%32 main::n%32
-  { return { s_ext 16 32 { load 16 { add 32 *main::r { trunc 64 32 { s_mul 32 32 *main::n #2 } } '0 } } } }
-  { return #0 }
-
-int x; int main(void) { x = 1; return x; }
-exports x
-frames x%32
-inits x+0=#0
-func main
-  { store &x with #1 }
-  { return *x }
-  { return #0 }
-
 int x = 5, y = -5, z = 'a', w = 2147483647, v = 0x80000000, u = -2147483647, t = 4294967295u; int main(void) { return 0; }
 exports x y z w v u t
 frames x%32 y%32 z%32 w%32 v%32 u%32 t%32
 inits x+0=#5 y+0=#-5 z+0=#97 w+0=#2147483647 v+0=#-2147483648 u+0=#-2147483647 t+0=#-1
-func main
-  { return #0 }
-  { return #0 }
-
-unsigned x = 5, y = -5, z = 0xffffffff; unsigned int w = 2147483647; int main(void) { return 0; }
-exports x y z w
-frames x%32 y%32 z%32 w%32
-inits x+0=#5u y+0=#4294967291u z+0=#4294967295u w+0=#2147483647u
 func main
   { return #0 }
   { return #0 }
@@ -102,29 +47,6 @@ frames a%8 b%8 c%8 d%8 e%8 f%8 g%8
 inits a+0=#127%8 b+0=#-128%8 c+0=#-128%8 d+0=#-1%8 e+0=#0%8 f+0=#10%8 g+0=#127%8
 func main
   { return #0 }
-  { return #0 }
-
-unsigned char a = 127, b = 128, c = -1, d = 511; int main(void) { return 0; }
-exports a b c d
-frames a%8 b%8 c%8 d%8
-inits a+0=#127u%8 b+0=#128u%8 c+0=#255u%8 d+0=#255u%8
-func main
-  { return #0 }
-  { return #0 }
-
-short a = 32767, b = 32768, c = -32769; unsigned short d = 65535, e = -1, f = 65536; int main(void) { return 0; }
-exports a b c d e f
-frames a%16 b%16 c%16 d%16 e%16 f%16
-inits a+0=#32767%16 b+0=#-32768%16 c+0=#32767%16 d+0=#65535u%16 e+0=#65535u%16 f+0=#0u%16
-func main
-  { return #0 }
-  { return #0 }
-
-int a[3]; int main(void) { return a[2]; }
-frames a%96
-inits a+0=#0 a+4=#0 a+8=#0
-func main
-  { return { load 32 { add 32 &a { trunc 64 32 { s_mul 32 32 #2 #4 } } '0 } } }
   { return #0 }
 
 int a[3] = {1, -2}; short b[2] = {40000, 3,}; unsigned char c[1] = {-1}; int main(void) { return 0; }
@@ -183,40 +105,6 @@ locals main::a%96 main::p%32 main::q%32
   { return { load 32 *main::q } }
   { return #0 }
 
-int main(void) { char a[2] = {200, 'a'}; unsigned short b[3] = {1, 70000, 5u}; unsigned u[1] = {0x80000000}; return 0; }
-func main
-locals main::a%16 main::b%48 main::u%32
-  { store &main::a with { trunc 32 8 #200 } }
-  { store &main::a+1 with { trunc 32 8 #97 } }
-  { store &main::b with { trunc 32 16 #1 } }
-  { store &main::b+2 with { trunc 32 16 #70000 } }
-  { store &main::b+4 with { trunc 32 16 #5u } }
-  { store &main::u with #2147483648u }
-  { return #0 }
-  { return #0 }
-
-int main(void) { int a[2] = {-1, -2}; signed char c[3] = {-128, 1,}; return 0; }
-func main
-locals main::a%64 main::c%24
-  { store &main::a with { neg 32 #1 } }
-  { store &main::a+4 with { neg 32 #2 } }
-  { store &main::c with { trunc 32 8 { neg 32 #128 } } }
-  { store &main::c+1 with { trunc 32 8 #1 } }
-  { store &main::c+2 with { trunc 32 8 #0 } }
-  { return #0 }
-  { return #0 }
-
-int main(void) { int x = 1; { int x = 2; x = 3; } { int x; x = x; } x = 4; return x; }
-func main
-locals main::x%32 main::x::1%32 main::x::2%32
-  { store &main::x with #1 }
-  { store &main::x::1 with #2 }
-  { store &main::x::1 with #3 }
-  { store &main::x::2 with *main::x::2 }
-  { store &main::x with #4 }
-  { return *main::x }
-  { return #0 }
-
 int x; int main(int y) { { int x = 1; int y = x; { char y = 2; x = y; } y = 3; } x = y; return 0; }
 exports x
 frames x%32
@@ -231,17 +119,6 @@ locals main::x%32 main::y::1%32 main::y::2%8
   { store &main::y::1 with #3 }
   { store &x with *main::y }
   { return #0 }
-  { return #0 }
-
-int x = 9; int main(void) { int x = x; x++; return x; }
-exports x
-frames x%32
-inits x+0=#9
-func main
-locals main::x%32
-  { store &main::x with *main::x }
-  { store &main::x with { add 32 *main::x #1 '0 } }
-  { return *main::x }
   { return #0 }
 
 int main(void) { int s = 0; for (int i = 0; i < 3; i++) { int i = 5; s += i; } for (int i = 1, j = i; j; j--) s++; return s; }
@@ -269,45 +146,6 @@ locals main::s%32 main::i%32 main::i::1%32 main::i::2%32 main::j%32
   goto>main::L4
   @main::L7
   { return *main::s }
-  { return #0 }
-
-int main(int n) { switch (n) { int k; case 1: k = 1; int m = 2; case 2: { int k = 3; } default: ; char k2; } return 0; }
-func main
-args main::n%32
-locals main::k%32 main::m%32 main::k::1%32 main::k2%8
-  { switch *main::n #1>main::L0 #2>main::L1 else>main::L2 }
-  @main::L0
-  { store &main::k with #1 }
-  { store &main::m with #2 }
-  @main::L1
-  { store &main::k::1 with #3 }
-  @main::L2
-  @main::L3
-  { return #0 }
-  { return #0 }
-
-int main(int n) { if (n) { int a = 1; } else { int a = 2; } while (n) { int a; a = n; } do { char a; } while (n); return 0; }
-func main
-args main::n%32
-locals main::a%32 main::a::1%32 main::a::2%32 main::a::3%8
-  { switch { neq 32 *main::n #0 } '1>main::L0 else>main::L1 }
-  @main::L0
-  { store &main::a with #1 }
-  goto>main::L2
-  @main::L1
-  { store &main::a::1 with #2 }
-  @main::L2
-  @main::L3
-  { switch { neq 32 *main::n #0 } '1>main::L4 else>main::L5 }
-  @main::L4
-  { store &main::a::2 with *main::n }
-  goto>main::L3
-  @main::L5
-  @main::L6
-  @main::L7
-  { switch { neq 32 *main::n #0 } '1>main::L6 else>main::L8 }
-  @main::L8
-  { return #0 }
   { return #0 }
 
 void v(void) { } int main(void) { v(); return 0; }
@@ -366,60 +204,6 @@ locals main::x%8 main::$0%8 main::y%16 main::$1%8 main::z%32 main::$2%8 main::$3
   { return { s_ext 8 32 *main::$3%8 } }
   { return #0 }
 
-unsigned char b(void) { return 200; } short s(void) { return -1; } unsigned short h(void) { return 65535; } unsigned u(void) { return 1; } char main(void) { int i; i = b(); i = s(); i = h(); i = u(); s(); return h(); }
-func b
-  { return { trunc 32 8 #200 } }
-  { return { trunc 32 8 #0 } }
-func s
-  { return { trunc 32 16 { neg 32 #1 } } }
-  { return { trunc 32 16 #0 } }
-func h
-  { return { trunc 32 16 #65535 } }
-  { return { trunc 32 16 #0 } }
-func u
-  { return #1 }
-  { return #0 }
-func main
-locals main::i%32 main::$0%8 main::$1%16 main::$2%16 main::$3%32 main::$4%16 main::$5%16
-  { call @b result &main::$0 }
-  { store &main::i with { z_ext 8 32 *main::$0%8 } }
-  { call @s result &main::$1 }
-  { store &main::i with { s_ext 16 32 *main::$1%16 } }
-  { call @h result &main::$2 }
-  { store &main::i with { z_ext 16 32 *main::$2%16 } }
-  { call @u result &main::$3 }
-  { store &main::i with *main::$3 }
-  { call @s result &main::$4 }
-  { call @h result &main::$5 }
-  { return { trunc 32 8 { z_ext 16 32 *main::$5%16 } } }
-  { return { trunc 32 8 #0 } }
-
-int a[4]; int g(int *p, int n) { return p[n]; } int main(void) { int x; int *q; x = g(a, 1); x = g(&x, x); x = g(q + 1, 0); x = g(&a[2], 'b'); q[1] = g(q, 2); a[x] = g(a, x); *q = g(a + x, x); return x; }
-frames a%128
-inits a+0=#0 a+4=#0 a+8=#0 a+12=#0
-func g
-args g::p%32 g::n%32
-  { return { load 32 { add 32 *g::p { trunc 64 32 { s_mul 32 32 *g::n #4 } } '0 } } }
-  { return #0 }
-func main
-locals main::x%32 main::q%32 main::$0%32 main::$1%32 main::$2%32 main::$3%32 main::$4%32 main::$5%32 main::$6%32
-  { call @g &a #1 result &main::$0 }
-  { store &main::x with *main::$0 }
-  { call @g &main::x *main::x result &main::$1 }
-  { store &main::x with *main::$1 }
-  { call @g { add 32 *main::q { trunc 64 32 { s_mul 32 32 #1 #4 } } '0 } #0 result &main::$2 }
-  { store &main::x with *main::$2 }
-  { call @g { add 32 &a { trunc 64 32 { s_mul 32 32 #2 #4 } } '0 } #98 result &main::$3 }
-  { store &main::x with *main::$3 }
-  { call @g *main::q #2 result &main::$4 }
-  { store { add 32 *main::q { trunc 64 32 { s_mul 32 32 #1 #4 } } '0 } with *main::$4 }
-  { call @g &a *main::x result &main::$5 }
-  { store { add 32 &a { trunc 64 32 { s_mul 32 32 *main::x #4 } } '0 } with *main::$5 }
-  { call @g { add 32 &a { trunc 64 32 { s_mul 32 32 *main::x #4 } } '0 } *main::x result &main::$6 }
-  { store *main::q with *main::$6 }
-  { return *main::x }
-  { return #0 }
-
 int f(int a) { return a; } int main(void) { int i; int j; for (i = f(1); i < 9; i = f(i)) { j = f(2); f(3); } return f(4); }
 func f
 args f::a%32
@@ -442,91 +226,6 @@ locals main::i%32 main::j%32 main::$0%32 main::$1%32 main::$2%32 main::$3%32 mai
   @main::L3
   { call @f #4 result &main::$4 }
   { return *main::$4 }
-  { return #0 }
-
-void v(int a) { a = 1; } int main(void) { for (v(1); ; v(2)) { v(3); } }
-func v
-args v::a%32
-  { store &v::a with #1 }
-  { return }
-func main
-  { call @v #1 result }
-  @main::L0
-  goto>main::L1
-  @main::L1
-  { call @v #3 result }
-  @main::L2
-  { call @v #2 result }
-  goto>main::L0
-  @main::L3
-  { return #0 }
-
-int f(void) { return 1; } int main(void) { for (int i = f(), j = f(); i; f()) { int k = f(); } return 0; }
-func f
-  { return #1 }
-  { return #0 }
-func main
-locals main::i%32 main::$0%32 main::j%32 main::$1%32 main::$2%32 main::k%32 main::$3%32
-  { call @f result &main::$0 }
-  { store &main::i with *main::$0 }
-  { call @f result &main::$1 }
-  { store &main::j with *main::$1 }
-  @main::L0
-  { switch { neq 32 *main::i #0 } '1>main::L1 else>main::L3 }
-  @main::L1
-  { call @f result &main::$3 }
-  { store &main::k with *main::$3 }
-  @main::L2
-  { call @f result &main::$2 }
-  goto>main::L0
-  @main::L3
-  { return #0 }
-  { return #0 }
-
-int g(void) { return 1; } int f(void) { int a = g(); { int a = g(); a = g(); } return a; } int main(void) { int a = f(); return g(); }
-func g
-  { return #1 }
-  { return #0 }
-func f
-locals f::a%32 f::$0%32 f::a::1%32 f::$1%32 f::$2%32
-  { call @g result &f::$0 }
-  { store &f::a with *f::$0 }
-  { call @g result &f::$1 }
-  { store &f::a::1 with *f::$1 }
-  { call @g result &f::$2 }
-  { store &f::a::1 with *f::$2 }
-  { return *f::a }
-  { return #0 }
-func main
-locals main::a%32 main::$0%32 main::$1%32
-  { call @f result &main::$0 }
-  { store &main::a with *main::$0 }
-  { call @g result &main::$1 }
-  { return *main::$1 }
-  { return #0 }
-
-void set(short *p, short v) { *p = v; } int main(void) { short s; short t[2]; set(&s, 1); set(t, s); set(t + 1, t[0]); return s; }
-func set
-args set::p%32 set::v%16
-  { store *set::p with { trunc 32 16 { s_ext 16 32 *set::v%16 } } }
-  { return }
-func main
-locals main::s%16 main::t%32
-  { call @set &main::s { trunc 32 16 #1 } result }
-  { call @set &main::t { trunc 32 16 { s_ext 16 32 *main::s%16 } } result }
-  { call @set { add 32 &main::t { trunc 64 32 { s_mul 32 32 #1 #2 } } '0 } { trunc 32 16 { s_ext 16 32 { load 16 { add 32 &main::t { trunc 64 32 { s_mul 32 32 #0 #2 } } '0 } } } } result }
-  { return { s_ext 16 32 *main::s%16 } }
-  { return #0 }
-
-int f(int, char *); int f(int x, char *y) { return x; } int f(int, char p[]); int main(void) { char c; return f(1, &c); }
-func f
-args f::x%32 f::y%32
-  { return *f::x }
-  { return #0 }
-func main
-locals main::c%8 main::$0%32
-  { call @f #1 &main::c result &main::$0 }
-  { return *main::$0 }
   { return #0 }
 
 int f(int n) { while (n) n--; return n; } int g(int n) { if (n) return 1; return f(n); } int main(void) { return g(3); }

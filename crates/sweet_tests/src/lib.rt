@@ -1,4 +1,10 @@
-//! Tests of the top call, with files and a sink in memory. Without tests this library is empty.
+//! Tests of the top call `run`, with files and a sink in memory. Without tests this library is empty.
+//!
+//! - `words`: words that are no command, and the options of each command. `codes`: the exit code of each status.
+//! - `texts`, `c_texts`: texts of ALF and of C, read, printed and refused. `faults`: programs and tables that are refused.
+//! - `reports`, `ranges`: `analyse` without inputs and with inputs. `runs`: `run`.
+//! - `outside`: files at the limit, reads and writes that fail.
+//! - `answers`, `notation`, `programs`: words, files and answers, programs in a short notation, and programs of C as ALF.
 #![tactic(auto)]
 
 // What the tests share.
@@ -9,23 +15,28 @@ mod notation;
 #[cfg(test)]
 mod programs;
 
-// Words, texts of ALF and of C, faults of what is read, reports without and with inputs, runs, files and
-// sinks that fail, and the codes of all answers.
-#[cfg(test)]
-mod c_texts;
+// Words and codes.
 #[cfg(test)]
 mod codes;
 #[cfg(test)]
+mod words;
+
+// Texts, and what of them is refused.
+#[cfg(test)]
+mod c_texts;
+#[cfg(test)]
 mod faults;
 #[cfg(test)]
-mod outside;
+mod texts;
+
+// Reports and runs.
 #[cfg(test)]
 mod ranges;
 #[cfg(test)]
 mod reports;
 #[cfg(test)]
 mod runs;
+
+// Files and sinks that fail.
 #[cfg(test)]
-mod texts;
-#[cfg(test)]
-mod words;
+mod outside;

@@ -1,7 +1,7 @@
 //! The cells of addresses and their faults, by frames of the program.
 
 use crate::program::checked_text;
-use crate::values::{is_cell, tell_faults, value};
+use crate::values::{field, is_cell, small, tell_faults, value};
 use abstract_memory::{address_faults, cells, has_cell};
 use alf_check::Checked;
 use std::alloc::{AllocError, Global};
@@ -37,30 +37,33 @@ fn told_address(
 }
 
 // An address, the size of its cells, and what is told.
-type Case = (&'static str, u32, &'static str);
-
-static CASES: [Case; 12] = [
-    ("p0:0,4,8,12", 32, "0:0 0:4 0:8 0:12 "),
-    ("p0:0,4,8,12", 64, "0:0 0:4 0:8  bounds"),
-    ("p0:12", 40, " bounds"),
-    ("p1:8|p0:4", 8, "0:4 1:8 "),
-    ("p2:0,1", 64, "2:0  bounds"),
-    ("p3:0", 8, " dead"),
-    ("p3:9|p0:0", 8, "0:0  dead"),
-    ("p7:0", 8, " dead"),
-    ("w32:0", 8, " kind"),
-    ("w32:0|p0:3", 8, "0:3  kind"),
-    ("p0:4294967292,0,4", 32, "0:0 0:4  bounds"),
-    ("p1:60,64,68", 64, "1:60 1:64 1:68 "),
-];
+static CASES: &str = "\
+p0:0,4,8,12 32 => 0:0 0:4 0:8 0:12\x20
+p0:0,4,8,12 64 => 0:0 0:4 0:8  bounds
+p0:12 40 =>  bounds
+p1:8|p0:4 8 => 0:4 1:8\x20
+p2:0,1 64 => 2:0  bounds
+p3:0 8 =>  dead
+p3:9|p0:0 8 => 0:0  dead
+p7:0 8 =>  dead
+w32:0 8 =>  kind
+w32:0|p0:3 8 => 0:3  kind
+p0:4294967292,0,4 32 => 0:0 0:4  bounds
+p1:60,64,68 64 => 1:60 1:64 1:68\x20";
 
 #[test]
 fn addresses_have_the_cells_that_the_rules_say(rt: HostRuntime) -> Result<(), Fail> {
     let alloc = rt.alloc();
     let checked = checked_text(alloc)?;
-    for (text, size, answer) in &CASES {
-        let told = told_address(alloc, &checked, text, *size)?;
-        assert_eq!(rt; told.as_str(), *answer, "{text}");
+    for row in CASES.lines() {
+        let (asked, answer) = (field(row, " => ", 0), field(row, " => ", 1));
+        let told = told_address(
+            alloc,
+            &checked,
+            field(asked, " ", 0),
+            small(field(asked, " ", 1)),
+        )?;
+        assert_eq!(rt; told.as_str(), answer, "{row}");
     }
     let running = [true, false];
     assert!(rt; has_cell(checked.frames(), &running, 2, 0, 64));

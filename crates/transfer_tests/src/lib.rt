@@ -1,60 +1,46 @@
-//! Tests of abstract memories and of steps over them.
+//! Tests of abstract memories and of steps over them: `abstract_memory` and the crates that it stands on, `step_statements`,
+//! and `abstract_step`. Without tests this library is empty.
 //!
-//! ## Amem tests
+//! Memories, of one program (`program`), with values as texts (`values`):
 //!
-//! Tests of the abstract memory. Without tests this library is empty.
+//! - `scripts`, `cells`: scripts of calls, and what each call tells; whether a cell is there. `sides`, `steps`: two memories, and
+//!   the steps of a script on them.
+//! - `addresses`, `frames`, `statements`: the calls of the crates between, one by one.
 //!
-//! ## Step tests
+//! Steps, of programs and inputs in a short notation (`sketch`):
 //!
-//! Tests of `abstract_step`: steps of small programs. Without tests this library is empty.
+//! - `conditions`, `cases`: conditions of every comparison, single cases, and whole programs. `walk`, `told`: steps along chosen
+//!   successors, and what is told of them.
 #![tactic(auto)]
 
-// Amem tests: programs, and values as texts.
+// Memories.
 #[cfg(test)]
-mod program;
-#[cfg(test)]
-mod values;
-
-// Two memories, and scripts of calls.
+mod addresses;
 #[cfg(test)]
 mod cells;
+#[cfg(test)]
+mod frames;
+#[cfg(test)]
+mod program;
 #[cfg(test)]
 mod scripts;
 #[cfg(test)]
 mod sides;
 #[cfg(test)]
-mod steps;
-
-// The definition as a slow program, and lists of calls by chance.
-#[cfg(test)]
-mod chance;
-#[cfg(test)]
-mod plain;
-
-// Calls of the crates between.
-#[cfg(test)]
-mod addresses;
-#[cfg(test)]
-mod frames;
-#[cfg(test)]
 mod statements;
-
-// Step tests: programs and inputs in a short notation.
 #[cfg(test)]
-mod sketch;
-
-// What memories hold and which faults there are, as text.
+mod steps;
 #[cfg(test)]
-mod told;
+mod values;
 
-// Steps along chosen successors.
-#[cfg(test)]
-mod walk;
-
-// Conditions of every comparison.
-#[cfg(test)]
-mod conditions;
-
-// Single cases, and whole programs.
+// Steps.
 #[cfg(test)]
 mod cases;
+#[cfg(test)]
+mod conditions;
+#[cfg(test)]
+mod sketch;
+#[cfg(test)]
+mod told;
+#[cfg(test)]
+mod walk;

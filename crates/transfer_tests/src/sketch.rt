@@ -5,8 +5,11 @@
 
 use std::alloc::{AllocError, Global};
 
-const HEAD: &str =
-    "{ alf { macro_defs } { least_addr_unit 8 } little_endian { exports { frefs } { lrefs } } { imports { frefs } { lrefs } } { decls { alloc 32 \"x\" 32 } { alloc 32 \"y\" 32 } { alloc 32 \"r\" 32 } { alloc 32 \"p\" 32 } { alloc 32 \"c\" 8 } { alloc 32 \"h\" 16 } { alloc 32 \"w\" 64 } } { inits } { funcs { func { label 32 { lref 32 \"main\" } { dec_unsigned 32 0 } } { arg_decls } ";
+const HEAD: &str = "\
+{ alf { macro_defs } { least_addr_unit 8 } little_endian { exports { frefs } { lrefs } } { imports { frefs } { \
+lrefs } } { decls { alloc 32 \"x\" 32 } { alloc 32 \"y\" 32 } { alloc 32 \"r\" 32 } { alloc 32 \"p\" 32 } { alloc \
+32 \"c\" 8 } { alloc 32 \"h\" 16 } { alloc 32 \"w\" 64 } } { inits } { funcs { func { label 32 { lref 32 \"main\" } \
+{ dec_unsigned 32 0 } } { arg_decls } ";
 
 const OWN: &str = "{ scope { decls { alloc 32 \"own\" 32 } } { inits } { stmts ";
 

@@ -188,12 +188,3 @@ pub(crate) fn told(
     tell_faults(&mut text, faults)?;
     Ok(text)
 }
-
-/// Both have the same value, or none.
-pub(crate) fn same_value(a: &Option<AVal>, b: &Option<AVal>) -> bool {
-    match (a, b) {
-        (None, None) => true,
-        (Some(a), Some(b)) => a.is_same(b),
-        _ => false,
-    }
-}

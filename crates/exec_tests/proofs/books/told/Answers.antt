@@ -2,7 +2,7 @@ use Rattle.std.proofs.Common.{◌≡◌, Some, length, arith}
 use Rattle.domain_core.specs.Outlines.{shape_of}
 use Rattle.recorder_rules.specs.Generated.{length-generated}
 use Rattle.recorder_rules.specs.LoopRules.{loop_tally, count_tally, counted_scope}
-use Rattle.exec_tests.proofs.recorder_told.told.Goals as goal
+use Rattle.exec_tests.proofs.books.told.Goals as goal
 
 pub loop_of-requires : goal.loop_of-requires
 loop_of-requires c =

@@ -6,8 +6,8 @@ use flow_facts::{Fact, Report, is_about};
 use std::alloc::{AllocError, Global};
 use std::test::Fail;
 
-// A report with these facts.
-fn report_of(alloc: Global, facts: &[Fact]) -> Result<Report, AllocError> {
+/// A report with these facts.
+pub fn report_of(alloc: Global, facts: &[Fact]) -> Result<Report, AllocError> {
     Ok(Report {
         form: 2,
         nodes: Vec::new(alloc),
@@ -19,7 +19,7 @@ fn report_of(alloc: Global, facts: &[Fact]) -> Result<Report, AllocError> {
     })
 }
 
-// The program of the outline and the facts.
+/// The program of the outline and the facts.
 pub fn made(alloc: Global, outline: &Outline, facts: &[Fact]) -> Result<Rows, Fail> {
     let report = report_of(alloc, facts)?;
     if !report.facts.iter().all(|fact| is_about(fact, outline)) {
@@ -29,7 +29,7 @@ pub fn made(alloc: Global, outline: &Outline, facts: &[Fact]) -> Result<Rows, Fa
 }
 
 // `= RIGHT:` or `< RIGHT:`, and the terms as COLUMN*NUMBER.
-pub fn put_row(text: &mut String, program: &Rows, row: u32) -> Result<(), Fail> {
+fn put_row(text: &mut String, program: &Rows, row: u32) -> Result<(), Fail> {
     if program.row_count() <= row {
         return Ok(());
     }
@@ -42,7 +42,7 @@ pub fn put_row(text: &mut String, program: &Rows, row: u32) -> Result<(), Fail> 
     Ok(())
 }
 
-// The costs, the rows, and the openings.
+/// The costs, the rows, and the openings.
 pub fn told(alloc: Global, program: &Rows) -> Result<String, Fail> {
     let mut text = String::from_str(alloc, "costs")?;
     for column in 0..program.column_count() {

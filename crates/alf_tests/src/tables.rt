@@ -1,40 +1,44 @@
-//! A program, files in a short notation, and answers as text.
+//! Programs, files of costs and of inputs in a short notation, and what is told of them as text.
 
-use alf_check::{Checked, InputRow, check};
-use alf_text::read;
+use alf_check::{Checked, InputRow};
 use cost_table::{Costs, TableFault, costs, inputs};
+use exec_toys::checked_text;
 use std::alloc::{AllocError, Global};
 use std::test::Fail;
 
 // The global frames `i` and `n` of 32 bits and `a` of 40 bytes; `main` with the argument `p` of 8 bytes
 // and the frame `own`; `leaf` with the argument `q`.
-const PROGRAM: &str =
-    "{ alf { macro_defs } { least_addr_unit 8 } little_endian { exports { frefs } { lrefs } } { imports { frefs } { lrefs } } { decls { alloc 32 \"i\" 32 } { alloc 32 \"n\" 32 } { alloc 32 \"a\" 320 } } { inits } { funcs { func { label 32 { lref 32 \"main\" } { dec_unsigned 32 0 } } { arg_decls { alloc 32 \"p\" 64 } } { scope { decls { alloc 32 \"own\" 32 } } { inits } { stmts { return } } } } { func { label 32 { lref 32 \"leaf\" } { dec_unsigned 32 0 } } { arg_decls { alloc 32 \"q\" 32 } } { scope { decls } { inits } { stmts { return } } } } } }";
+const PROGRAM: &str = "\
+{ alf { macro_defs } { least_addr_unit 8 } little_endian { exports { frefs } { lrefs } } { imports { frefs } { \
+lrefs } } { decls { alloc 32 \"i\" 32 } { alloc 32 \"n\" 32 } { alloc 32 \"a\" 320 } } { inits } { funcs { func { \
+label 32 { lref 32 \"main\" } { dec_unsigned 32 0 } } { arg_decls { alloc 32 \"p\" 64 } } { scope { decls { alloc \
+32 \"own\" 32 } } { inits } { stmts { return } } } } { func { label 32 { lref 32 \"leaf\" } { dec_unsigned 32 0 } } \
+{ arg_decls { alloc 32 \"q\" 32 } } { scope { decls } { inits } { stmts { return } } } } } }";
 
 // The global frames `i` and `n` of 32 bits; `main`, which counts `i` up to `n` in a loop, in four blocks;
 // `leaf` with one block.
-const LOOP: &str =
-    "{ alf { macro_defs } { least_addr_unit 8 } little_endian { exports { frefs } { lrefs } } { imports { frefs } { lrefs } } { decls { alloc 32 \"i\" 32 } { alloc 32 \"n\" 32 } } { inits } { funcs { func { label 32 { lref 32 \"main\" } { dec_unsigned 32 0 } } { arg_decls } { scope { decls } { inits } { stmts { store { addr 32 { fref 32 \"i\" } { dec_unsigned 32 0 } } with { dec_unsigned 32 0 } } { label 32 { lref 32 \"H\" } { dec_unsigned 32 0 } } { switch { s_lt 32 { load 32 { addr 32 { fref 32 \"i\" } { dec_unsigned 32 0 } } } { load 32 { addr 32 { fref 32 \"n\" } { dec_unsigned 32 0 } } } } { target { dec_unsigned 1 1 } { label 32 { lref 32 \"B\" } { dec_unsigned 32 0 } } } { default { label 32 { lref 32 \"E\" } { dec_unsigned 32 0 } } } } { label 32 { lref 32 \"B\" } { dec_unsigned 32 0 } } { store { addr 32 { fref 32 \"i\" } { dec_unsigned 32 0 } } with { add 32 { load 32 { addr 32 { fref 32 \"i\" } { dec_unsigned 32 0 } } } { dec_unsigned 32 1 } { dec_unsigned 1 0 } } } { jump { label 32 { lref 32 \"H\" } { dec_unsigned 32 0 } } leaving 0 } { label 32 { lref 32 \"E\" } { dec_unsigned 32 0 } } { return } } } } { func { label 32 { lref 32 \"leaf\" } { dec_unsigned 32 0 } } { arg_decls } { scope { decls } { inits } { stmts { return } } } } } }";
+const LOOP: &str = "\
+{ alf { macro_defs } { least_addr_unit 8 } little_endian { exports { frefs } { lrefs } } { imports { frefs } { \
+lrefs } } { decls { alloc 32 \"i\" 32 } { alloc 32 \"n\" 32 } } { inits } { funcs { func { label 32 { lref 32 \
+\"main\" } { dec_unsigned 32 0 } } { arg_decls } { scope { decls } { inits } { stmts { store { addr 32 { fref 32 \
+\"i\" } { dec_unsigned 32 0 } } with { dec_unsigned 32 0 } } { label 32 { lref 32 \"H\" } { dec_unsigned 32 0 } } { \
+switch { s_lt 32 { load 32 { addr 32 { fref 32 \"i\" } { dec_unsigned 32 0 } } } { load 32 { addr 32 { fref 32 \
+\"n\" } { dec_unsigned 32 0 } } } } { target { dec_unsigned 1 1 } { label 32 { lref 32 \"B\" } { dec_unsigned 32 0 \
+} } } { default { label 32 { lref 32 \"E\" } { dec_unsigned 32 0 } } } } { label 32 { lref 32 \"B\" } { \
+dec_unsigned 32 0 } } { store { addr 32 { fref 32 \"i\" } { dec_unsigned 32 0 } } with { add 32 { load 32 { addr 32 \
+{ fref 32 \"i\" } { dec_unsigned 32 0 } } } { dec_unsigned 32 1 } { dec_unsigned 1 0 } } } { jump { label 32 { lref \
+32 \"H\" } { dec_unsigned 32 0 } } leaving 0 } { label 32 { lref 32 \"E\" } { dec_unsigned 32 0 } } { return } } } \
+} { func { label 32 { lref 32 \"leaf\" } { dec_unsigned 32 0 } } { arg_decls } { scope { decls } { inits } { stmts \
+{ return } } } } } }";
 
 // The program whose frames are inputs, checked.
 pub fn program(alloc: Global) -> Result<Checked, Fail> {
-    checked_of(alloc, PROGRAM)
+    Ok(checked_text(alloc, PROGRAM)?)
 }
 
 // The program of the loop, checked.
 pub fn loop_program(alloc: Global) -> Result<Checked, Fail> {
-    checked_of(alloc, LOOP)
-}
-
-// The program of a text, checked.
-fn checked_of(alloc: Global, text: &str) -> Result<Checked, Fail> {
-    let Ok(program) = read(alloc, text.as_bytes()) else {
-        return Err("the program is not read".into());
-    };
-    let Ok(checked) = check(alloc, program, "main") else {
-        return Err("the program does not pass".into());
-    };
-    Ok(checked)
+    Ok(checked_text(alloc, LOOP)?)
 }
 
 // The file of a line: `;` stands for the end of a line.

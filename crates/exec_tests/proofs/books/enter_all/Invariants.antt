@@ -1,5 +1,5 @@
 -- What the walk over the runs keeps.
-use Rattle.exec_tests.proofs.recorder_told.enter_all.Given as goal
+use Rattle.exec_tests.proofs.books.enter_all.Given as goal
 
 abbrev pub invariant-loop-run : goal.invariant-loop-run
 invariant-loop-run g l =

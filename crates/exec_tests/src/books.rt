@@ -10,7 +10,7 @@ use std::alloc::{AllocError, Global};
 use std::test::Fail;
 
 // The numbers of a text.
-pub fn numbers(alloc: Global, text: &str) -> Result<Vec<u32>, AllocError> {
+fn numbers(alloc: Global, text: &str) -> Result<Vec<u32>, AllocError> {
     let mut found = Vec::new(alloc);
     for word in text.split(' ') {
         if let Ok(n) = word.parse::<u32>() {
@@ -63,7 +63,7 @@ fn enter_all<R: Recorder>(
 // The recorders of totals, loops, counts and pairs side by side.
 type All = Both<Both<Totals, Loops>, Both<Counts, Pairs>>;
 
-pub fn add_spread(
+fn add_spread(
     alloc: Global,
     text: &mut String,
     spread: Option<(u32, u32)>,

@@ -689,8 +689,11 @@ fn whole_texts_depart_where_they_differ(rt: HostRuntime) -> Result<(), Fail> {
     for row in DEPARTURES.split('\n') {
         let text = lines_of(alloc, field(row, 0))?;
         let wanted = lines_of(alloc, field(row, 1))?;
-        let (Ok(text), Ok(wanted)) = (str::from_utf8(&text), str::from_utf8(&wanted)) else {
-            return Err("a row is no text".into());
+        let Ok(text) = std::str::from_utf8(&text) else {
+            return Err("a text is no text".into());
+        };
+        let Ok(wanted) = std::str::from_utf8(&wanted) else {
+            return Err("an answer is no text".into());
         };
         let (_, answer) = answer_of(alloc, "print a.alf", text.as_bytes())?;
         assert_eq!(rt; answer.as_slice(), wanted.as_bytes(), "{row}");

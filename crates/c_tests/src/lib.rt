@@ -1,7 +1,8 @@
 //! Tests of texts of C and of their checks: `c_tokens`, `c_unit`, `c_text` and `c_check`. Without tests this library is empty.
 //!
 //! - `tokens`, `constants`, `units`: tokens and their places, what constants are worth, ranges and trees.
-//! - `readings`, `edits`, `limits`: texts, texts with one token changed, and texts at the limits, and what is told of them.
+//! - `readings`, `edits`, `limits`, `corners`: texts, texts with one token changed, texts at the limits and in corners of the
+//!   grammar, and what is told of them.
 //! - `names`, `types`, `orders`: texts that are read, and what the checks tell of them.
 //! - `answers`: what the tests share.
 #![tactic(auto)]

@@ -1,9 +1,8 @@
 //! Texts of C, as `print` tells them.
 
-use crate::answers::{answer_over, told};
+use crate::answers::{answer_over, field, told};
 use std::alloc::{AllocError, Global};
 use std::test::Fail;
-use sweet_cli::Status;
 
 /// A text, and after ` @ ` the code and what is told, with `;` in place of the line feed at the end. What
 /// is due was worked out by hand.
@@ -91,30 +90,31 @@ fn a_file_of_c_has_at_most_so_many_bytes(rt: HostRuntime) -> Result<(), Fail> {
     Ok(())
 }
 
+// The words after the program's name, the name of the file, and the status: 0 for a unit of C, and others where it is none.
+static NAMES: &str = "\
+print .c | .c | 0
+print -- -.c | -.c | 0
+print a.c.alf | a.c.alf | 2
+print a.C | a.C | 2
+print c | c | 2
+analyse a.c | a.c | 2
+analyse a.C | a.C | 2
+run a.c | a.c | 2
+lower a.c | a.c | 2
+lower a.C | a.C | 1";
+
 #[test]
 fn the_name_of_a_file_tells_its_language(rt: HostRuntime) -> Result<(), Fail> {
     let alloc = rt.alloc();
-    // The words after the file's name, its name, and the status.
-    let cases = [
-        ("print .c", ".c", Status::Done),
-        ("print -- -.c", "-.c", Status::Done),
-        ("print a.c.alf", "a.c.alf", Status::Source),
-        ("print a.C", "a.C", Status::Source),
-        ("print c", "c", Status::Source),
-        ("analyse a.c", "a.c", Status::Source),
-        ("analyse a.C", "a.C", Status::Source),
-        ("run a.c", "a.c", Status::Source),
-        ("lower a.c", "a.c", Status::Source),
-        ("lower a.C", "a.C", Status::Usage),
-    ];
-    for (line, name, due) in cases {
+    for row in NAMES.split('\n') {
         let mut files = Vec::new(alloc);
         files.push((
-            String::from_str(alloc, name)?,
+            String::from_str(alloc, field(row, 1))?,
             b"int x;".as_slice().to_vec(alloc)?,
         ))?;
-        let (status, _) = answer_over(alloc, line, files)?;
-        assert_eq!(rt; status, due, "{line}");
+        let (status, _) = answer_over(alloc, field(row, 0), files)?;
+        let code = format!(in alloc; "{}", status.code())?;
+        assert_eq!(rt; code.as_str(), field(row, 2), "{row}");
     }
     Ok(())
 }

@@ -1,7 +1,7 @@
 //! Texts that are read, and texts that depart from the grammar: `print` prints the first, and each
 //! command tells the second.
 
-use crate::answers::{RETURNS, answer_of, field};
+use crate::answers::{RETURNS, answer_of, field, lines_of};
 use std::alloc::{AllocError, Global};
 use std::test::Fail;
 use sweet_cli::Status;
@@ -564,62 +564,36 @@ fn counted_program(
     Ok(text)
 }
 
+// A frame, how many there are, how many functions, and the front of the answer, in which `;` stands for the end of a line.
+static LIMITS: &str = "\
+{ alloc 32 \"x\" 8 } | 256 | 1 | { alf
+{ alloc 32 \"x\" 8 } | 257 | 1 | fault 13 limit frames 257;
+ | 0 | 256 | { alf
+ | 0 | 257 | fault 13 limit functions 257;
+{ alloc 32 \"x\" 8 } | 257 | 257 | fault 13 limit frames 257;
+{ alloc 32 \"x\" 524288 } | 1 | 0 | { alf
+{ alloc 32 \"x\" 524296 } | 1 | 0 | fault 13 limit frame-bytes 65537;
+{ alloc 32 \"x\" 524289 } | 1 | 0 | fault 12 profile 1\x20
+{ alloc 32 \"x\" 0 } | 1 | 0 | fault 12 profile 1\x20
+{ alloc 32 \"x\" 99999999999999999992 } | 1 | 0 | fault 13 limit frame-bytes 65537;
+{ alloc 32 \"x\" 100000000000000000000 } | 1 | 0 | fault 11 number 1\x20
+{ alloc 32 \"x\" 524288 } | 16 | 0 | { alf
+{ alloc 32 \"x\" 524288 } | 17 | 0 | fault 13 limit all-bytes 1048577;";
+
+// The number of a row's part.
+fn count_at(row: &str, number: usize) -> usize {
+    field(row, number).parse::<usize>().unwrap_or(0)
+}
+
 #[test]
 fn a_limit_is_told_where_it_is_passed(rt: HostRuntime) -> Result<(), Fail> {
-    // A frame, how many there are, how many functions, and the front of the answer.
-    let cases = [
-        ("{ alloc 32 \"x\" 8 } ", 256, 1, "{ alf"),
-        (
-            "{ alloc 32 \"x\" 8 } ",
-            257,
-            1,
-            "fault 13 limit frames 257\n",
-        ),
-        ("", 0, 256, "{ alf"),
-        ("", 0, 257, "fault 13 limit functions 257\n"),
-        (
-            "{ alloc 32 \"x\" 8 } ",
-            257,
-            257,
-            "fault 13 limit frames 257\n",
-        ),
-        ("{ alloc 32 \"x\" 524288 } ", 1, 0, "{ alf"),
-        (
-            "{ alloc 32 \"x\" 524296 } ",
-            1,
-            0,
-            "fault 13 limit frame-bytes 65537\n",
-        ),
-        ("{ alloc 32 \"x\" 524289 } ", 1, 0, "fault 12 profile 1 "),
-        ("{ alloc 32 \"x\" 0 } ", 1, 0, "fault 12 profile 1 "),
-        (
-            "{ alloc 32 \"x\" 99999999999999999992 } ",
-            1,
-            0,
-            "fault 13 limit frame-bytes 65537\n",
-        ),
-        (
-            "{ alloc 32 \"x\" 100000000000000000000 } ",
-            1,
-            0,
-            "fault 11 number 1 ",
-        ),
-        ("{ alloc 32 \"x\" 524288 } ", 16, 0, "{ alf"),
-        (
-            "{ alloc 32 \"x\" 524288 } ",
-            17,
-            0,
-            "fault 13 limit all-bytes 1048577\n",
-        ),
-    ];
     let alloc = rt.alloc();
-    for (frame, frames, functions, wanted) in cases {
-        let text = counted_program(alloc, frame, frames, functions)?;
+    for row in LIMITS.split('\n') {
+        let frame = format!(in alloc; "{} ", field(row, 0))?;
+        let text = counted_program(alloc, frame.as_str(), count_at(row, 1), count_at(row, 2))?;
         let (_, answer) = answer_of(alloc, "print a.alf", text.as_bytes())?;
-        assert!(rt;
-            answer.starts_with(wanted.as_bytes()),
-            "{frame} {frames} {functions}"
-        );
+        let front = lines_of(alloc, field(row, 3))?;
+        assert!(rt; answer.starts_with(front.as_slice()), "{row}");
     }
     Ok(())
 }
@@ -640,21 +614,25 @@ fn nested_program(
     Ok(text)
 }
 
+// What stands before the number, how often, what stands after it, and the front of the answer.
+static DEPTHS: &str = "\
+{ not 32 | 63 | } | { alf
+{ not 32 | 64 | } | fault 13 limit depth 65;
+{ load 8 | 63 | } | { alf
+{ load 8 | 64 | } | fault 13 limit depth 65;
+{ add 8 | 1000 | } | fault 13 limit depth 65;
+{ | 500000 |  | fault 10 syntax 1\x20";
+
 #[test]
 fn expressions_stand_in_one_another_up_to_64(rt: HostRuntime) -> Result<(), Fail> {
-    let cases = [
-        ("{ not 32 ", 63, "} ", "{ alf"),
-        ("{ not 32 ", 64, "} ", "fault 13 limit depth 65\n"),
-        ("{ load 8 ", 63, "} ", "{ alf"),
-        ("{ load 8 ", 64, "} ", "fault 13 limit depth 65\n"),
-        ("{ add 8 ", 1000, "} ", "fault 13 limit depth 65\n"),
-        ("{ ", 500000, "", "fault 10 syntax 1 "),
-    ];
     let alloc = rt.alloc();
-    for (front, depth, back, wanted) in cases {
-        let text = nested_program(alloc, front, depth, back)?;
+    for row in DEPTHS.split('\n') {
+        let front = format!(in alloc; "{} ", field(row, 0))?;
+        let back = if field(row, 2).is_empty() { "" } else { "} " };
+        let text = nested_program(alloc, front.as_str(), count_at(row, 1), back)?;
         let (_, answer) = answer_of(alloc, "print a.alf", text.as_bytes())?;
-        assert!(rt; answer.starts_with(wanted.as_bytes()), "{front} {depth}");
+        let due = lines_of(alloc, field(row, 3))?;
+        assert!(rt; answer.starts_with(due.as_slice()), "{row}");
     }
     Ok(())
 }
@@ -692,36 +670,49 @@ fn other_texts_depart_where_they_differ(rt: HostRuntime) -> Result<(), Fail> {
     Ok(())
 }
 
+// A text, and the answer. `;` stands for the end of a line.
+static DEPARTURES: &str = "\
+{ alf | fault 10 syntax 1 6;
+ | fault 10 syntax 1 1;
+{ elf } | fault 12 profile 1 3 \"elf\";
+;;  { elf } | fault 12 profile 3 5 \"elf\";
+{ alf\r;\t\t} | fault 10 syntax 2 3;
+/* a;b */ /* open | fault 10 syntax 2 6;
+{ alf { macro_defs { } } } | fault 12 profile 1 20 \"macro_defs\";
+{ alf { macro_defs } { least_addr_unit 8 } little_endian { exports { frefs } { lrefs } } { imports { frefs { fref 32 \
+\"x\" } } { lrefs } } } | fault 12 profile 1 108 \"imports\";
+\u{e9} | fault 10 syntax 1 1;";
+
 #[test]
-fn whole_texts_are_printed_or_depart(rt: HostRuntime) -> Result<(), Fail> {
-    // A text, and the answer.
-    let cases = [
-        ("", "fault 10 syntax 1 1\n"),
-        ("{ alf", "fault 10 syntax 1 6\n"),
-        ("{ elf }", "fault 12 profile 1 3 \"elf\"\n"),
-        ("\n\n  { elf }", "fault 12 profile 3 5 \"elf\"\n"),
-        ("{ alf\r\n\t\t}", "fault 10 syntax 2 3\n"),
-        ("/* a\nb */ /* open", "fault 10 syntax 2 6\n"),
-        (
-            "{ alf { macro_defs { } } }",
-            "fault 12 profile 1 20 \"macro_defs\"\n",
-        ),
-        (
-            "{ alf { macro_defs } { least_addr_unit 8 } little_endian { exports { frefs } { lrefs } } { imports { frefs { fref 32 \"x\" } } { lrefs } } }",
-            "fault 12 profile 1 108 \"imports\"\n",
-        ),
-        ("\u{e9}", "fault 10 syntax 1 1\n"),
+fn whole_texts_depart_where_they_differ(rt: HostRuntime) -> Result<(), Fail> {
+    let alloc = rt.alloc();
+    for row in DEPARTURES.split('\n') {
+        let text = lines_of(alloc, field(row, 0))?;
+        let wanted = lines_of(alloc, field(row, 1))?;
+        let Ok(text) = std::str::from_utf8(&text) else {
+            return Err("a text is no text".into());
+        };
+        let Ok(wanted) = std::str::from_utf8(&wanted) else {
+            return Err("an answer is no text".into());
+        };
+        let (_, answer) = answer_of(alloc, "print a.alf", text.as_bytes())?;
+        assert_eq!(rt; answer.as_slice(), wanted.as_bytes(), "{row}");
+        assert!(rt; all_tell(alloc, text, wanted)?, "{row}");
+    }
+    Ok(())
+}
+
+#[test]
+fn whole_texts_are_printed_in_their_canonical_form(rt: HostRuntime) -> Result<(), Fail> {
+    let texts = [
         (TIGHT, CANONICAL),
         (CANONICAL, CANONICAL),
         (OPERATORS, OPERATORS),
         (RETURNS_TWICE, RETURNS_TWICE),
     ];
-    for (text, wanted) in cases {
+    for (text, wanted) in texts {
         let (_, answer) = answer_of(rt.alloc(), "print a.alf", text.as_bytes())?;
         assert_eq!(rt; answer.as_slice(), wanted.as_bytes(), "{text}");
-        if wanted.starts_with("fault") {
-            assert!(rt; all_tell(rt.alloc(), text, wanted)?, "{text}");
-        }
     }
     Ok(())
 }

@@ -15,9 +15,8 @@ by_columns-requires-clause-rows c =
 
 pub invariant_of-result : goal.invariant_of-result
 invariant_of-result c =
-    let nodes = c.args.outline.now.nodes in
     let few = c.kept.ensures.few_nodes in
-    let own : length (map (λ (row : NodeRow). row.scope) nodes) ≡ length nodes = length-map nodes (λ (row : NodeRow). row.scope) in
+    let own : length (map (λ (row : NodeRow). row.scope) c.args.outline.now.nodes) ≡ length c.args.outline.now.nodes = length-map c.args.outline.now.nodes (λ (row : NodeRow). row.scope) in
     let openings = c.in_ok-openings.ensures ∙ ap (λ (n : ℕ). openings_of c.args.columns.now c.args.constraints.now n) c.node_count.ensures in
     let lists : AreColumns (length c.args.columns.now) c.in_ok-rows.rows.items c.in_ok-lists.lists.items =
     subst (λ (rs : List Row). AreColumns (length c.args.columns.now) rs c.in_ok-lists.lists.items) c.deref.ensures.value c.in_ok-lists.ensures in

@@ -56,7 +56,7 @@ module _ (globals : GlobalFramesAreObjects) (unit : UnitTree) (program : Numbere
       (record { object = o.0; offset = row.offset; size = row.size; word = word } ∷ rest.0, cell row rows word words o.0 rest.0 o.1 are.0 rest.1)
 
 -- objects lie in frames of their own, so that a row has one object
-module _ {unit : UnitTree} (frames : FramesStand unit) where
+module _ (unit : UnitTree) (frames : FramesStand unit) where
   pub one_cells : (rows : List InputRow) (words : List ℕ) (these those : List Cell) → AreCells unit rows words these → AreCells unit rows words those → these ≡ those
   one_cells _ _ _ _ none none = refl
   one_cells _ _ _ _ (cell row rows word words o these at low is) (cell _ _ _ _ p those beside _ are) =

@@ -25,6 +25,6 @@ returns c = record { cells = cells; starts = starts }
         record {
           cells = given.0;
           hold = given.1;
-          only = λ others hold. one_cells frames.laid.frames rows words others given.0 hold given.1;
+          only = λ others hold. one_cells unit frames.laid.frames rows words others given.0 hold given.1;
           outcomes = c.lowered_programs_have_the_units_outcome.ensures unit name ranks program rows words given.0 is names plain lowered frames given.1;
         }

@@ -3,13 +3,13 @@
 --   IsWaited, IsOver     a place waits for the run; the run is over, and what it did was collected
 --   EachRun, EachRunIsOver   so is each run
 --   IsHandled            each way to go on from a point is waited for, or is over and collected
-use Rattle.std.specs.Prelude.{◌≡◌, ℕ, zero, suc, Bool, true, List, [], ◌∷◌, Option, Some, None, slice_get, Contains, ◌⊎◌}
+use Rattle.std.specs.Prelude.{◌≡◌, ℕ, suc, Bool, true, List, [], ◌∷◌, Option, Some, None, slice_get, Contains, ◌⊎◌}
 use Rattle.alf_ops.specs.declared.history.RunFault.{RunFault}
 use Rattle.domain_core.specs.FaultSets.{has_fault}
 use Rattle.domain_core.specs.Outlines.{Outlined, shape_of}
 use Rattle.domain_core.specs.Traces.{IsTrace}
-use Rattle.domain_core.specs.Machines.{System, Machine}
-use Rattle.domain_core.specs.SystemRuns.{GoesOn, IsRun, with_node, trace_to}
+use Rattle.domain_core.specs.Machines.{Machine}
+use Rattle.domain_core.specs.SystemRuns.{IsRun, trace_to}
 use Rattle.domain_core.specs.Recordings.{Recording}
 use Rattle.worklist_rules.specs.Positions.{position_of}
 use Rattle.worklist_rules.specs.Pools.{Spot, Pooled, alarm_at}

@@ -341,9 +341,8 @@ dec_signed 32 0 } { dec_signed 32 4 } } } { dec_unsigned 1 0 } } } }
 /// The program of this name. Empty where there is none.
 pub fn program_named(name: &str) -> &'static str {
     for case in PROGRAMS.split("\n\n") {
-        let mut parts = case.splitn(3, '\n');
-        if parts.next().unwrap_or("") == name {
-            return parts.nth(1).unwrap_or("");
+        if case.split('\n').nth(0).unwrap_or("") == name {
+            return case.splitn(3, '\n').nth(2).unwrap_or("");
         }
     }
     ""

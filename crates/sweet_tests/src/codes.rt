@@ -1,3 +1,5 @@
+//! The exit code of each status.
+
 use sweet_cli::Status;
 
 #[test]

@@ -8,7 +8,7 @@ use Rattle.alf_check.specs.declared.rows.InputRow.{InputRow}
 use Rattle.alf_check.specs.CheckedPrograms.{CheckedParts, NumberedProgram, seen}
 use Rattle.alf_check.specs.Numbered.{numbered}
 use Rattle.alf_check.specs.Inputs.{IsRootArgument, KeepsInput, KeepInputs}
-use Rattle.alf_runs.specs.Starts.{start, words_of}
+use Rattle.alf_runs.specs.Starts.{start as start_with, words_of}
 use Rattle.alf_runs.specs.Steps.{Moment}
 use Rattle.alf_runs.specs.Runs.{IsLonger}
 use Rattle.c_unit.specs.Units.{UnitTree, unit_of}
@@ -108,7 +108,7 @@ module _ (p : NumberedProgram) where
   pub unranked_outcomes : (unit : UnitTree) (root : List ℕ) → HasUnitsOutcomes unit root p → HasUnitsOutcomes unit root (unranked p)
   unranked_outcomes unit root h rows numbers keep within =
       let cells : HasOutcomeOfCells unit root p rows (words_of rows numbers) = h rows numbers (keep_inputs rows keep) within in
-      record { cells = cells.cells; hold = cells.hold; only = cells.only; outcomes = same_outcome (start p rows (words_of rows numbers)) _ _ cells.outcomes }
+      record { cells = cells.cells; hold = cells.hold; only = cells.only; outcomes = same_outcome (start_with p rows (words_of rows numbers)) _ _ cells.outcomes }
 
 -- ---- lowering
 

@@ -35,7 +35,9 @@ module _ (program : NumberedProgram) (entries : List Data) (right : AllRight (in
   first_keep : (n : ℕ) → KeepInputs program (rows_in program (take n entries))
   first_keep zero = record { each = All-nil (KeepsInput program); apart = λ i j d less low. absurd (omega arith) }
   first_keep (suc n) = ⊎_elim
-      (λ (there : (datum : Data) × (n < length entries) × (slice_get entries n ≡ Some datum) × (get_or entries n datum ≡ datum)). more_keep n there.0 there.2 (first_keep n))
+      (λ (there : (datum : Data) × (n < length entries) × (slice_get entries n ≡ Some datum) × (get_or entries n datum ≡ datum)).
+      let next : n + 1 ≡ suc n = omega arith in
+      subst (λ k. KeepInputs program (rows_in program (take k entries))) next (more_keep n there.0 there.2 (first_keep n)))
       (λ (past : (length entries ≤ n) × (slice_get entries n ≡ None)).
       subst (λ (some : List Data). KeepInputs program (rows_in program some)) (take_all n entries past.0 ∙ sym (take_all (suc n) entries (omega (arith, past.0)))) (first_keep n))
       (slice_get_cases entries n).1

@@ -53,6 +53,7 @@ module _ (program : NumberedProgram) (entry : List ℕ × Cells) (run : Run) (fi
 
   -- the cells lie in the first bytes of their frame
   pub room_of : first.offset + run.count * (first.size / 8) ≤ placed.lies.row.bits / 8
+  unfolding fits
   room_of = fitting.room_of program entry run first fits
 
   -- the rows of the entry are those from the first

@@ -39,5 +39,5 @@ returns c =
     record {
       passes = passes;
       numbered = numbers;
-      outcomes = λ rows numbers keep within. c.in_ok-text.ensures.outcomes program (is_lowered unit root program c.keeps.ensures writable passes numbers) rows numbers keep within;
+      outcomes = λ rows given keep within. c.in_ok-text.ensures.outcomes program (is_lowered unit root program c.keeps.ensures writable passes numbers) rows given keep within;
     }

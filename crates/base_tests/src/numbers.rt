@@ -108,14 +108,29 @@ fn part(p: &Progression, number: Whole, from: bool) -> Option<Progression> {
     }
 }
 
+/// The sums of two small progressions.
+fn sums(p: &Progression, q: &Progression) -> Option<Progression> {
+    if !p.is_small() || !q.is_small() {
+        return None;
+    }
+    Some(p.sums(q))
+}
+
+/// The hull of two small progressions.
+fn hull(p: &Progression, q: &Progression) -> Option<Progression> {
+    if !p.is_small() || !q.is_small() {
+        return None;
+    }
+    Some(p.hull(q))
+}
+
 #[test]
 fn sums_and_hulls_have_all_and_parts_the_numbers_of_a_range(rt: HostRuntime) -> Result<(), Fail> {
     for row in PAIRS.lines() {
         let [a, b, c, d, e, f, g, h, i, j, k, l, ..] = numbers(&rt, row);
         let (p, q) = (of(a, b, c), of(d, e, f));
-        assert!(rt; p.is_small() && q.is_small(), "a progression is not small");
-        assert_eq!(rt; p.sums(&q), of(g, h, i), "{row}");
-        assert_eq!(rt; p.hull(&q), of(j, k, l), "{row}");
+        assert_eq!(rt; sums(&p, &q), Some(of(g, h, i)), "{row}");
+        assert_eq!(rt; hull(&p, &q), Some(of(j, k, l)), "{row}");
     }
     for row in CUT.lines() {
         let [lo, hi, step, cut, a, b, c, d, e, f, ..] = numbers(&rt, row);

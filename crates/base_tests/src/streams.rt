@@ -19,11 +19,13 @@ const WHOLE: Manner = Manner {
     is_interrupted: false,
     fails_after: 1_000_000,
 };
+
 const TRICKLE: Manner = Manner {
     at_a_time: 1,
     is_interrupted: false,
     fails_after: 1_000_000,
 };
+
 const INTERRUPTED: Manner = Manner {
     at_a_time: 7,
     is_interrupted: true,
@@ -169,7 +171,11 @@ fn a_writer_that_fails_took_a_prefix(rt: HostRuntime) -> Result<(), Fail> {
             ..INTERRUPTED
         };
         let mut writer = pipe(alloc, manner, 0)?;
-        assert_eq!(rt; write_whole(&mut writer, &bytes), Err(WriteError::Failed), "{fails_after}");
+        assert_eq!(rt;
+            write_whole(&mut writer, &bytes),
+            Err(WriteError::Failed),
+            "{fails_after}"
+        );
         assert!(rt; bytes.starts_with(&writer.bytes), "{fails_after}");
         assert_eq!(rt; writer.bytes.len(), fails_after);
     }

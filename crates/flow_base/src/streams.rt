@@ -18,7 +18,11 @@ const MOST_TRIES: u32 = u32::MAX;
 ///
 /// No more than one byte past the limit is read. A read that was interrupted is made again, and any
 /// other failed read gives `Failed`.
-pub fn read_whole<R: Read + Drop>(reader: R, alloc: Global, limit: u64) -> Result<Vec<u8>, ReadError>
+pub fn read_whole<R: Read + Drop>(
+    reader: R,
+    alloc: Global,
+    limit: u64,
+) -> Result<Vec<u8>, ReadError>
     ensures { IsReadWhole limit (R.remaining reader) result }
 {
     let most = limit.saturating_add(1);

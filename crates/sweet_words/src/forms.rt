@@ -52,7 +52,9 @@ pub static FORMS: [Form; 8] = [
     Form {
         name: "worst",
         positionals: &["file"],
-        values: &["splits", "root", "inputs", "costs", "turns", "merge", "pivots"],
+        values: &[
+            "splits", "root", "inputs", "costs", "turns", "merge", "pivots",
+        ],
         flags: &[],
     },
     Form {

@@ -19,3 +19,6 @@ pub mod CostEntries
 pub mod OneFault
 pub mod OneInputs
 pub mod OneCosts
+pub mod TaskEntries
+pub mod KeptTasks
+pub mod OneTasks

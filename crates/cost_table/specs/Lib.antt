@@ -7,3 +7,5 @@ pub mod Files
 pub mod Inputs
 pub mod Laws
 pub mod Marks
+pub mod TaskFiles
+pub mod Tasks

@@ -22,3 +22,5 @@ pub mod OneCosts
 pub mod TaskEntries
 pub mod KeptTasks
 pub mod OneTasks
+pub mod OneValues
+pub mod ValueLists

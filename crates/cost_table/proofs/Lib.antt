@@ -19,3 +19,8 @@ pub mod CostEntries
 pub mod OneFault
 pub mod OneInputs
 pub mod OneCosts
+pub mod TaskEntries
+pub mod KeptTasks
+pub mod OneTasks
+pub mod OneValues
+pub mod ValueLists

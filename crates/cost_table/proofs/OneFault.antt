@@ -28,6 +28,7 @@ right_or_wrong told InRange IsThere k datum (faults.Key place) right wrong = non
 right_or_wrong told InRange IsThere k datum (faults.Range place) right wrong = wrong.1.out (subst InRange (same_Some right.entry wrong.1.entry (sym right.has_keys ∙ wrong.1.has_keys)) right.in_range)
 right_or_wrong told InRange IsThere k datum (faults.NoSuchCell place) right wrong = wrong.1.lacks (subst IsThere (same_Some right.entry wrong.1.entry (sym right.has_keys ∙ wrong.1.has_keys)) right.there)
 right_or_wrong told InRange IsThere k datum faults.Toml right wrong = wrong
+right_or_wrong told InRange IsThere k datum (faults.Limit which count) right wrong = wrong
 right_or_wrong told InRange IsThere k datum faults.Memory right wrong = wrong
 
 -- what is out of range is not in range
@@ -46,8 +47,10 @@ one_wrong told InRange IsThere k datum (faults.NoSuchCell p) (faults.Key q) a b 
 one_wrong told InRange IsThere k datum (faults.NoSuchCell p) (faults.Range q) a b = absurd (out_or_not told InRange IsThere datum b.1 a.1)
 one_wrong told InRange IsThere k datum (faults.NoSuchCell p) (faults.NoSuchCell q) a b = ap faults.NoSuchCell (a.0 ∙ sym b.0)
 one_wrong told InRange IsThere k datum faults.Toml g a b = absurd a
+one_wrong told InRange IsThere k datum (faults.Limit which count) g a b = absurd a
 one_wrong told InRange IsThere k datum faults.Memory g a b = absurd a
 one_wrong told InRange IsThere k datum f faults.Toml a b = absurd b
+one_wrong told InRange IsThere k datum f (faults.Limit which count) a b = absurd b
 one_wrong told InRange IsThere k datum f faults.Memory a b = absurd b
 
 -- ---- files
@@ -61,7 +64,7 @@ pub one_list : (bytes : List ℕ) (top : Members → Option (List Data)) (ds es 
 one_list bytes top ds es d e = same_Some ds es (sym d.told ∙ ap top (one_document bytes d.members e.members d.document e.document) ∙ e.told)
 
 -- or none
-told_or_not : (bytes : List ℕ) (top : Members → Option (List Data)) (es : List Data) → HasWrongTop bytes top → HasEntries bytes top es → ⊥
+pub told_or_not : (bytes : List ℕ) (top : Members → Option (List Data)) (es : List Data) → HasWrongTop bytes top → HasEntries bytes top es → ⊥
 told_or_not bytes top es h e = none-some es (sym h.untold ∙ ap top (one_document bytes h.members e.members h.document e.document) ∙ e.told)
 
 -- where all are right, there is no first fault

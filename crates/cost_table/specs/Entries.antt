@@ -59,4 +59,5 @@ IsWrongEntry told InRange IsThere k datum (faults.Key place) = (place ≡ Some k
 IsWrongEntry told InRange IsThere k datum (faults.Range place) = (place ≡ k) × IsOutOfRange told InRange datum
 IsWrongEntry told InRange IsThere k datum (faults.NoSuchCell place) = (place ≡ k) × NamesNothing told InRange IsThere datum
 IsWrongEntry told InRange IsThere k datum faults.Toml = ⊥
+IsWrongEntry told InRange IsThere k datum (faults.Limit which count) = ⊥
 IsWrongEntry told InRange IsThere k datum faults.Memory = ⊥

@@ -7,3 +7,6 @@ pub mod Files
 pub mod Inputs
 pub mod Laws
 pub mod Marks
+pub mod RunValues
+pub mod TaskFiles
+pub mod Tasks

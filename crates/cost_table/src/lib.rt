@@ -1,5 +1,6 @@
 //! The meaning of the TOML files: which cells an inputs file gives a run, and their ranges; what each
-//! block costs by a costs file.
+//! block costs by a costs file; which numbers a values file gives one run; which tasks a tasks file
+//! tells.
 //!
 //! The text is read by the kit's `toml`, and what its table means is a definition over the members of
 //! the document. Each refusal names the entry of the first fault.
@@ -23,6 +24,14 @@ mod blocks;
 mod cost_entry;
 mod cost_rows;
 
+// Tasks: entries, and all tasks.
+mod task_entry;
+mod task_list;
+mod task_set;
+
+// Values: the numbers of one run.
+mod run_values;
+
 // What every file keeps.
 mod laws;
 
@@ -30,4 +39,7 @@ pub use block_costs::Costs;
 pub use cost_rows::costs;
 pub use fault::TableFault;
 pub use input_rows::inputs;
-pub use laws::a_file_has_one_answer;
+pub use laws::{a_file_has_one_answer, a_tasks_file_has_one_answer, a_values_file_has_one_answer};
+pub use run_values::values;
+pub use task_list::tasks;
+pub use task_set::Task;

@@ -14,7 +14,7 @@ use Rattle.command_plans.specs.Outcome.{Outcome, No, AreAlikeResults, refused}
 use Rattle.command_plans.specs.Log.{Log}
 use Rattle.command_plans.specs.Work.{IsOnly, alike}
 use Rattle.sweet_cli.specs.Tables.{table_line}
-use Rattle.sweet_cli.specs.Tasks.{TasksMean, ResponsesMean, IsLateOutcome, late_line, answering, TellsResponses}
+use Rattle.sweet_cli.specs.Tasks.{TasksMean, ResponsesMean, IsLateOutcome, late_line, tasks_told, answering, TellsResponses}
 use Rattle.sweet_cli.proofs.JudgedTables.{lines_one}
 
 -- ---- a tasks file
@@ -80,9 +80,9 @@ module _ (tasks : List TimedTask) (times_one : TimesAreOne) (late_one : LateIsOn
 -- a text that the work gives tells the response times of the told tasks, and each job finishes in them
 pub tells_responses : TasksAreTaskSets → AllFinishInTime → (file : List ℕ) (told : Option Files) (before : Log) (text : List ℕ) (after : Log)
     → (answering file).steps.Gives told before text after → IfSome told (λ files. TellsResponses file files text)
-unfolding answering
+unfolding answering tasks_told
 tells_responses sets finish file None before text after g = tt
-tells_responses sets finish file (Some files) before text after (bytes, log, read, (tasks, mid, (meant, same), (times, end, (answered, still), (shown, over)))) =
+tells_responses sets finish file (Some files) before text after (tasks, mid, (bytes, log, read, (meant, same)), (times, end, (answered, still), (shown, over))) =
     let are = sets bytes tasks meant.means in
     record {
       bytes = bytes;

@@ -1,5 +1,6 @@
 -- `tasks FILE`: the response times of the tasks of a file.
 --   TasksMean bytes meaning          the tasks of a tasks file, or the line of its fault
+--   tasks_told file                  the file is read, and its tasks
 --   response_line told               the line of a task and its time
 --   response_text tasks times        a line for each task, in the order of the file
 --   late_line task                   the line of a task that is late
@@ -38,6 +39,12 @@ abbrev pub TasksMean : List ℕ → Result (List TimedTask) Outcome → Type 0
 TasksMean bytes (Ok tasks) = MeansTasks bytes tasks
 TasksMean bytes (Err outcome) = IsTasksLine bytes outcome
 
+-- the file is read, and its tasks
+unfoldable pub tasks_told : List ℕ → Work (List TimedTask)
+tasks_told file = do
+  bytes ← reads roles.Tasks file most_bytes too_long
+  judged (TasksMean bytes)
+
 -- ---- response times
 
 -- `response "NAME" R`
@@ -67,8 +74,7 @@ ResponsesMean tasks (Err outcome) = IsLateOutcome tasks outcome
 
 unfoldable pub answering : List ℕ → Work (List ℕ)
 answering file = do
-  bytes ← reads roles.Tasks file most_bytes too_long
-  tasks ← judged (TasksMean bytes)
+  tasks ← tasks_told file
   times ← judged (ResponsesMean tasks)
   done (response_text tasks times)
 

@@ -3,7 +3,7 @@
 ghost use Rattle.std.specs.Prelude.{◌≡◌, ◌<◌, length, IfOk, IfSome};
 ghost use Rattle.cost_table.specs.Tasks.{AreTasks, IsTask};
 ghost use Rattle.command_plans.specs.Works.{Works, Judges};
-ghost use Rattle.sweet_cli.specs.Tasks.{ResponsesMean, TasksMean, TellsResponses, answering};
+ghost use Rattle.sweet_cli.specs.Tasks.{ResponsesMean, TasksMean, TellsResponses, answering, tasks_told};
 
 use crate::lines::{late_line, response_text, table_line};
 use command_plans::{Role, Stop, Why, read_file};
@@ -32,11 +32,20 @@ pub fn tasks<F: Shelf>(alloc: Global, file: &str, shelf: &mut F) -> Result<Vec<u
 fn answering<F: Shelf>(alloc: Global, file: &str, shelf: &mut F) -> Result<Vec<u8>, Stop>
     ensures { Works (answering file.now) (λ text. text.items) (F.state shelf.old) result (F.state shelf.new) }
 {
-    let bytes = read_file(alloc, shelf, Role::Tasks, file, MOST_BYTES, TOO_LONG)?;
-    let tasks = tasks_meant(alloc, &bytes)?;
+    let tasks = tasks_told(alloc, file, shelf)?;
     let times = times_meant(alloc, &tasks)?;
     let text = response_text(alloc, &tasks, &times)?;
     Ok(text)
+}
+
+// The tasks of the file.
+#[tactic(auto, unfolding(crate::specs::Tasks::tasks_told))]
+fn tasks_told<F: Shelf>(alloc: Global, file: &str, shelf: &mut F) -> Result<Vec<Task>, Stop>
+    ensures work { Works (tasks_told file.now) (λ tasks. tasks.items) (F.state shelf.old) result (F.state shelf.new) }
+    ensures keep { IfOk result (λ tasks. AreTasks tasks.items) }
+{
+    let bytes = read_file(alloc, shelf, Role::Tasks, file, MOST_BYTES, TOO_LONG)?;
+    tasks_meant(alloc, &bytes)
 }
 
 // The tasks that the bytes mean.

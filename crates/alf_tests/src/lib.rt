@@ -1,5 +1,6 @@
 //! Tests of texts of ALF, of their checks, graphs and outlines, of memories, tables and runs: `alf_text`, `alf_faults`,
-//! `alf_check`, `flow_graph`, `scope_graph`, `alf_values`, `cost_table` and `alf_interp`. Without tests this library is empty.
+//! `alf_check`, `flow_graph`, `scope_graph`, `alf_values`, `cost_table`, `response_time` and `alf_interp`. Without tests
+//! this library is empty.
 //!
 //! - `printed_texts`: texts that are read and printed.
 //! - `names`, `faults`, `checks`: names, each fault of names and sizes, and whole checks. `sketch`: programs as values, from a
@@ -7,6 +8,7 @@
 //! - `graphs`, `limits`, `outlines`: graphs of small programs, programs at the limits, and outlines.
 //! - `memory`: scripts of stores and loads, and what each gives.
 //! - `costs`, `inputs`: files of costs and of inputs. `tables`: such files in a short notation, and what is told of them.
+//! - `tasks`: tasks files. `response_times`: response times of task sets. `simulation`: task sets unit by unit.
 //! - `runs`: runs of small programs.
 #![tactic(auto)]
 
@@ -45,3 +47,11 @@ mod costs;
 mod inputs;
 #[cfg(test)]
 mod tables;
+
+// Tasks files, and response times.
+#[cfg(test)]
+mod response_times;
+#[cfg(test)]
+mod simulation;
+#[cfg(test)]
+mod tasks;

@@ -3,6 +3,7 @@
 use alf_check::{Checked, InputRow};
 use cost_table::{Costs, TableFault, costs, inputs};
 use exec_toys::checked_text;
+use flow_base::Which;
 use std::alloc::{AllocError, Global};
 use std::test::Fail;
 
@@ -104,6 +105,8 @@ pub fn fault_text(alloc: Global, fault: TableFault) -> Result<String, AllocError
         TableFault::Key(Some(entry)) => format!(in alloc; "key {}", entry),
         TableFault::Range(entry) => format!(in alloc; "range {}", entry),
         TableFault::NoSuchCell(entry) => format!(in alloc; "cell {}", entry),
+        TableFault::Limit(Which::Tasks, count) => format!(in alloc; "limit tasks {}", count),
+        TableFault::Limit(_, count) => format!(in alloc; "limit {}", count),
         TableFault::Memory => String::from_str(alloc, "memory"),
     }
 }

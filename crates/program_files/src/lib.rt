@@ -17,6 +17,6 @@ mod units;
 mod expanding;
 
 pub use expanding::{Expanded, expanded_in};
-pub use lines::{number_or_dash, push_quoted};
+pub use lines::{limit_line, number_or_dash, push_quoted};
 pub use programs::{MOST_BYTES, TOO_LONG, program_in};
 pub use units::{checked_unit_in, unit_in};

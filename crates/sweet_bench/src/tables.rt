@@ -55,6 +55,7 @@ fn fault_line(alloc: Global, fault: TableFault) -> Result<String, AllocError> {
         TableFault::Key(Some(entry)) => format!(in alloc; "a key of entry {entry}"),
         TableFault::Range(entry) => format!(in alloc; "a range of entry {entry}"),
         TableFault::NoSuchCell(entry) => format!(in alloc; "no cell or block for entry {entry}"),
+        TableFault::Limit(_, count) => format!(in alloc; "{count} entries or more"),
         TableFault::Memory => String::from_str(alloc, "memory ran out"),
     }
 }

@@ -17,7 +17,7 @@ pub not_memory : (role : List ℕ) (fault : TableFault) (text : List ℕ) → ta
 not_memory role fault text line e = let none : Some text ≡ None = sym line ∙ ap (table_line role) e in cc
 
 -- two lines of one fault
-lines_one : (role : List ℕ) (fault other : TableFault) (text : List ℕ) (o : Outcome) → fault ≡ other → table_line role fault ≡ Some text → table_line role other ≡ Some o.text → o.cause ≡ Source
+pub lines_one : (role : List ℕ) (fault other : TableFault) (text : List ℕ) (o : Outcome) → fault ≡ other → table_line role fault ≡ Some text → table_line role other ≡ Some o.text → o.cause ≡ Source
     → refused text ≡ o
 lines_one role fault other text o same line told cause =
     let both : Some text ≡ Some o.text = sym line ∙ ap (table_line role) same ∙ told in

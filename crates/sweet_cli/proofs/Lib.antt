@@ -4,6 +4,7 @@ pub mod Lows
 pub mod RanksRuns
 pub mod RanksTables
 pub mod JudgedTables
+pub mod JudgedTasks
 pub mod JudgedScopes
 pub mod JudgedReports
 pub mod SoundReports

@@ -25,6 +25,7 @@ module _ {E : Type 0} (told : Data → Option E) (InRange IsThere WasThere : E �
   wrong_as k datum (faults.NoSuchCell place) h =
       (h.0, record { entry = h.1.entry; has_keys = h.1.has_keys; in_range = h.1.in_range; lacks = λ there. h.1.lacks (back h.1.entry there) })
   wrong_as k datum faults.Toml h = absurd h
+  wrong_as k datum (faults.Limit which count) h = absurd h
   wrong_as k datum faults.Memory h = absurd h
 
 module _ (j l : Judging) (right : (before : List Data) (k : ℕ) (datum : Data) → j.Right before k datum → l.Right before k datum)

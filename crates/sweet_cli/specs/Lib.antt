@@ -18,6 +18,7 @@ pub mod Print
 pub mod PrintC
 pub mod Lower
 pub mod Run
+pub mod Tasks
 pub mod Exact
 pub mod Table
 -- laws

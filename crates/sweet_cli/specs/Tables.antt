@@ -20,6 +20,7 @@ use Rattle.command_plans.specs.Outcome.{Outcome, Source}
 use Rattle.command_plans.specs.Work.{Work, reads, judged, done, ◌>>=◌}
 use Rattle.program_files.specs.Programs.{most_bytes, too_long}
 use Rattle.program_files.specs.CheckLines.{number_or_dash}
+use Rattle.program_files.specs.FaultLines.{limit_line}
 
 -- ---- lines
 
@@ -33,6 +34,7 @@ table_line role faults.Toml = Some (codes "fault 70 toml " ++ (role ++ 10 ∷ []
 table_line role (faults.Key place) = Some (entry_line (codes "fault 71 key ") role (number_or_dash place))
 table_line role (faults.Range place) = Some (entry_line (codes "fault 72 range ") role (decimal place))
 table_line role (faults.NoSuchCell place) = Some (entry_line (codes "fault 73 cell ") role (decimal place))
+table_line role (faults.Limit which count) = Some (limit_line which count)
 table_line role faults.Memory = None
 
 -- ---- inputs

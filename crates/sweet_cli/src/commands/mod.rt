@@ -18,6 +18,7 @@ mod lower;
 mod print;
 mod print_c;
 mod run;
+mod tasks;
 
 use crate::words::{Command, ProgramFile, WordsFault, read};
 use command_plans::{Answer, Stop, Why, stopped};
@@ -67,7 +68,7 @@ fn command_text<F: Shelf>(
         Command::Run(given) => run::run(alloc, given, shelf),
         Command::Cache(_) => Err(stopped(alloc, Why::Usage, "fault usage\n")),
         Command::Worst(_) => Err(stopped(alloc, Why::Usage, "fault usage\n")),
-        Command::Tasks(_) => Err(stopped(alloc, Why::Usage, "fault usage\n")),
+        Command::Tasks(file) => tasks::tasks(alloc, file, shelf),
     }
 }
 

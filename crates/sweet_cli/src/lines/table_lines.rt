@@ -4,7 +4,7 @@ ghost use Rattle.std.specs.Prelude.{◌≡◌, IfOk, Some};
 ghost use Rattle.sweet_cli.specs.Tables.{table_line};
 
 use cost_table::TableFault;
-use program_files::number_or_dash;
+use program_files::{limit_line, number_or_dash};
 use std::alloc::{AllocError, Global};
 
 /// The line of a file that is refused; the role is its word. Want of memory has none.
@@ -31,6 +31,7 @@ pub fn table_line(alloc: Global, role: &str, fault: &TableFault) -> Result<Vec<u
             let line = format!(in alloc; "fault 73 cell {role} {place}\n")?;
             Ok(line.into_bytes())
         }
+        TableFault::Limit(which, count) => limit_line(alloc, *which, *count),
         TableFault::Memory => Err(AllocError),
     }
 }

@@ -12,3 +12,6 @@ returns-in-Print-clause-promise g c = rw c.in-Print.is c.print_text.ensures.prom
 
 pub returns-in-Run-clause-promise : goal.returns-in-Run-clause-promise
 returns-in-Run-clause-promise g c = rw c.in-Run.is c.run.ensures.promise
+
+pub returns-in-Tasks-clause-promise : goal.returns-in-Tasks-clause-promise
+returns-in-Tasks-clause-promise g c = rw c.in-Tasks.is c.tasks.ensures.promise

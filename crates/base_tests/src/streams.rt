@@ -80,14 +80,9 @@ impl Write for Pipe {
         if let Some(error) = self.refusal(taken) {
             return Err(error);
         }
-        let mut count = 0;
-        for byte in buf {
-            if count == self.manner.at_a_time {
-                break;
-            }
-            self.bytes.push(*byte)?;
-            count += 1;
-        }
+        let count = buf.len().min(self.manner.at_a_time);
+        let (piece, _) = buf.split_at(count);
+        self.bytes.extend_from_slice(piece)?;
         Ok(count)
     }
 
@@ -105,7 +100,7 @@ fn some_bytes(alloc: Global, count: usize) -> Result<Vec<u8>, Fail> {
     Ok(bytes)
 }
 
-fn pipe(alloc: Global, manner: Manner, count: usize) -> Result<Pipe, Fail> {
+fn pipe_with(alloc: Global, manner: Manner, count: usize) -> Result<Pipe, Fail> {
     Ok(Pipe {
         manner,
         bytes: some_bytes(alloc, count)?,
@@ -120,15 +115,15 @@ fn a_reader_is_read_to_its_end(rt: HostRuntime) -> Result<(), Fail> {
     for manner in [WHOLE, TRICKLE, INTERRUPTED] {
         for count in [0, 1, 4_095, 4_096, 4_097, 8_193] {
             let wanted = some_bytes(alloc, count)?;
-            match read_whole(pipe(alloc, manner, count)?, alloc, count as u64) {
+            match read_whole(pipe_with(alloc, manner, count)?, alloc, count as u64) {
                 Ok(bytes) => assert_eq!(rt; bytes.as_slice(), wanted.as_slice(), "{count}"),
                 Err(_) => assert!(rt; false, "{count}"),
             }
-            let more = read_whole(pipe(alloc, manner, count + 1)?, alloc, count as u64);
+            let more = read_whole(pipe_with(alloc, manner, count + 1)?, alloc, count as u64);
             assert!(rt; matches!(&more, Err(ReadError::TooLong(_))), "{count}");
         }
     }
-    let no_limit = read_whole(pipe(alloc, WHOLE, 10)?, alloc, u64::MAX);
+    let no_limit = read_whole(pipe_with(alloc, WHOLE, 10)?, alloc, u64::MAX);
     assert!(rt; no_limit.is_ok());
     Ok(())
 }
@@ -141,7 +136,7 @@ fn a_reader_that_fails_gives_no_bytes(rt: HostRuntime) -> Result<(), Fail> {
             fails_after,
             ..TRICKLE
         };
-        let read = read_whole(pipe(alloc, manner, 5_000)?, alloc, 5_000);
+        let read = read_whole(pipe_with(alloc, manner, 5_000)?, alloc, 5_000);
         assert!(rt; matches!(&read, Err(ReadError::Failed)), "{fails_after}");
     }
     Ok(())
@@ -153,7 +148,7 @@ fn a_writer_takes_all(rt: HostRuntime) -> Result<(), Fail> {
     for manner in [WHOLE, TRICKLE, INTERRUPTED] {
         for count in [0, 1, 4_095, 4_096, 4_097] {
             let wanted = some_bytes(alloc, count)?;
-            let mut writer = pipe(alloc, manner, 0)?;
+            let mut writer = pipe_with(alloc, manner, 0)?;
             assert!(rt; write_whole(&mut writer, &wanted).is_ok(), "{count}");
             assert_eq!(rt; writer.bytes.as_slice(), wanted.as_slice(), "{count}");
         }
@@ -170,7 +165,7 @@ fn a_writer_that_fails_took_a_prefix(rt: HostRuntime) -> Result<(), Fail> {
             fails_after,
             ..INTERRUPTED
         };
-        let mut writer = pipe(alloc, manner, 0)?;
+        let mut writer = pipe_with(alloc, manner, 0)?;
         assert_eq!(rt;
             write_whole(&mut writer, &bytes),
             Err(WriteError::Failed),
@@ -183,7 +178,7 @@ fn a_writer_that_fails_took_a_prefix(rt: HostRuntime) -> Result<(), Fail> {
         at_a_time: 0,
         ..WHOLE
     };
-    let mut writer = pipe(alloc, none, 0)?;
+    let mut writer = pipe_with(alloc, none, 0)?;
     assert_eq!(rt; write_whole(&mut writer, &bytes), Err(WriteError::Failed));
     Ok(())
 }

@@ -2,7 +2,8 @@
 //! inputs: `flow_base`, `sweet_words`, `alf_ops`, `whole_numbers`, `progressions`, `graph_walks` and `worst_inputs`. Without
 //! tests this library has the definitions of `bound_table` alone.
 //!
-//! - `outside`: shelves and sinks, names and digits. `words`: words that are a command, and words that are none.
+//! - `outside`: shelves and sinks, names and digits. `streams`: readers and writers that take a piece at a time.
+//! - `words`: words that are a command, and words that are none.
 //! - `operators`, `values`: sizes, loads, operators at pointers, and the values of operators.
 //! - `numbers`: quotients, rests and common divisors; progressions.
 //! - `tables`, `cycles`: walks over tables, and cycles of calls.
@@ -12,6 +13,8 @@
 // Files and words.
 #[cfg(test)]
 mod outside;
+#[cfg(test)]
+mod streams;
 #[cfg(test)]
 mod words;
 

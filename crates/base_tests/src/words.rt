@@ -2,7 +2,10 @@
 use crate::values::part;
 use std::alloc::{AllocError, Global};
 use std::test::Fail;
-use sweet_words::{AnalyseWords, Command, Merging, ProgramFile, RunWords, WordsFault, read};
+use sweet_words::{
+    AnalyseWords, CacheWords, CheckWords, Command, Merging, ProgramFile, RunWords, WordsFault,
+    WorstWords, read,
+};
 
 /// The words of a line, with a comma between two of them.
 fn words_of(alloc: Global, line: &str) -> Result<Vec<String>, AllocError> {
@@ -48,8 +51,54 @@ fn analyse_told(alloc: Global, given: AnalyseWords<'_>) -> Result<String, AllocE
     let turns = given.turns;
     let merging = merging_word(given.merging);
     let pivots = given.pivots;
+    let cert = if given.certified { " cert" } else { "" };
     Ok(format!(in alloc;
-        "analyse{language} {file} {root} {inputs} {costs} {turns} {merging} {pivots}"
+        "analyse{language} {file} {root} {inputs} {costs} {turns} {merging} {pivots}{cert}"
+    )?)
+}
+
+/// What `check` was given. A file that is left out is a dash.
+fn check_told(alloc: Global, given: CheckWords<'_>) -> Result<String, AllocError> {
+    let language = language(given.program);
+    let file = name(given.program);
+    let report = given.report;
+    let root = given.root;
+    let inputs = given.inputs.unwrap_or("-");
+    let costs = given.costs.unwrap_or("-");
+    Ok(format!(in alloc; "check{language} {file} {report} {root} {inputs} {costs}")?)
+}
+
+/// What `cache` was given: the cache, then what `analyse` has.
+fn cache_told(alloc: Global, given: CacheWords<'_>) -> Result<String, AllocError> {
+    let language = language(given.program);
+    let file = name(given.program);
+    let sets = given.sets;
+    let ways = given.ways;
+    let line = given.line;
+    let penalty = given.penalty;
+    let root = given.root;
+    let inputs = given.inputs.unwrap_or("-");
+    let costs = given.costs.unwrap_or("-");
+    let turns = given.turns;
+    let merging = merging_word(given.merging);
+    Ok(format!(in alloc;
+        "cache{language} {file} {sets} {ways} {line} {penalty} {root} {inputs} {costs} {turns} {merging}"
+    )?)
+}
+
+/// What `worst` was given: the splits, then what `analyse` has.
+fn worst_told(alloc: Global, given: WorstWords<'_>) -> Result<String, AllocError> {
+    let language = language(given.program);
+    let file = name(given.program);
+    let splits = given.splits;
+    let root = given.root;
+    let inputs = given.inputs.unwrap_or("-");
+    let costs = given.costs.unwrap_or("-");
+    let turns = given.turns;
+    let merging = merging_word(given.merging);
+    let pivots = given.pivots;
+    Ok(format!(in alloc;
+        "worst{language} {file} {splits} {root} {inputs} {costs} {turns} {merging} {pivots}"
     )?)
 }
 
@@ -78,7 +127,11 @@ fn told(alloc: Global, words: &[String]) -> Result<String, AllocError> {
             let file = name(program);
             Ok(format!(in alloc; "print{language} {file}")?)
         }
+        Ok(Command::Check(given)) => check_told(alloc, given),
         Ok(Command::Run(given)) => run_told(alloc, given),
+        Ok(Command::Cache(given)) => cache_told(alloc, given),
+        Ok(Command::Worst(given)) => worst_told(alloc, given),
+        Ok(Command::Tasks(file)) => Ok(format!(in alloc; "tasks {file}")?),
         Err(_) => String::from_str(alloc, "no command"),
     }
 }
@@ -161,7 +214,21 @@ print,c = print c
 print,a.C = print a.C
 print,a.c = print of C a.c
 print,.c = print of C .c
-print,--,-a.c = print of C -a.c";
+print,--,-a.c = print of C -a.c
+analyse,a.alf,--cert = analyse a.alf main - - 100000 joins 1000 cert
+analyse,--cert,a.c,--pivots,7 = analyse of C a.c main - - 100000 joins 7 cert
+check,a.alf,r.txt = check a.alf r.txt main - -
+check,a.c,r.txt,--root,f,--inputs=i,--costs,c = check of C a.c r.txt f i c
+check,--costs=c,a.alf,--,-r = check a.alf -r main - c
+cache,a.alf,--sets,1,--ways,2,--line,16,--penalty,10 = cache a.alf 1 2 16 10 main - - 100000 joins
+cache,--penalty=0,--line=4,--ways=1,--sets=1,a.c = cache of C a.c 1 1 4 0 main - - 100000 joins
+cache,--sets,1024,--ways,16,--line,4096,--penalty,4294967295,a = cache a 1024 16 4096 4294967295 main - - 100000 joins
+cache,a,--sets,2,--ways,2,--line,32,--penalty,9,--root,f,--turns,5,--merge,none = cache a 2 2 32 9 f - - 5 none
+worst,a.c = worst of C a.c 16 main - - 100000 joins 1000
+worst,a.c,--splits,1,--inputs,i,--pivots,9 = worst of C a.c 1 main i - 100000 joins 9
+worst,--splits=256,a = worst a 256 main - - 100000 joins 1000
+tasks,t.toml = tasks t.toml
+tasks,t.c = tasks t.c";
 
 /// In each row words that are no command. The row with nothing in it has the empty word alone.
 static NO_COMMANDS: &str = "\
@@ -255,14 +322,21 @@ analyse,a.alf,--merge,join
 analyse,a.alf,--merge, joins
 analyse,a.alf,--merge,joins,--merge,joins
 analyse,a.alf,--merges,joins
-analyse,a.alf,--cert
+analyse,a.alf,--cert,--cert
+analyse,a.alf,--cert=true
+analyse,a.alf,--cert,yes
 print,a.c,b.c
 print,a.c,--root,f
 print,-a.c
 print,-a.alf
 print,a.alf,b.alf
 print,a.alf,--turns,5
-check,a.alf,r.txt
+check,a.alf
+check,a.alf,r.txt,s.txt
+check,a.alf,r.txt,--turns,5
+check,a.alf,r.txt,--cert
+check,a.alf,r.txt,--merge,none
+run,a.alf,--cert
 replay,a.alf,r.txt
 lower
 lower,
@@ -289,13 +363,34 @@ Lower,a.c
 low,a.c
 generate,5
 cache,a.alf
-worst,a.alf
+cache,a.alf,--ways,2,--line,16,--penalty,10
+cache,a.alf,--sets,1,--line,16,--penalty,10
+cache,a.alf,--sets,1,--ways,2,--penalty,10
+cache,a.alf,--sets,1,--ways,2,--line,16
+cache,a.alf,--sets,0,--ways,2,--line,16,--penalty,10
+cache,a.alf,--sets,1025,--ways,2,--line,16,--penalty,10
+cache,a.alf,--sets,1,--ways,0,--line,16,--penalty,10
+cache,a.alf,--sets,1,--ways,17,--line,16,--penalty,10
+cache,a.alf,--sets,1,--ways,2,--line,3,--penalty,10
+cache,a.alf,--sets,1,--ways,2,--line,4097,--penalty,10
+cache,a.alf,--sets,1,--ways,2,--line,16,--penalty,4294967296
+cache,a.alf,--sets,1,--ways,2,--line,16,--penalty,-1
+cache,a.alf,--sets,1,--ways,2,--line,16,--penalty,10,--pivots,5
+cache,a.alf,--sets,1,--ways,2,--line,16,--penalty,10,--cert
+worst
+worst,a.alf,--splits,0
+worst,a.alf,--splits,257
+worst,a.alf,--splits
+worst,a.alf,--cert
+worst,a.alf,--sets,1
 migrate,r.txt
-tasks,t.toml";
+tasks
+tasks,t.toml,u.toml
+tasks,t.toml,--inputs,i";
 
 #[test]
 fn words_are_commands_in_any_order(rt: HostRuntime) -> Result<(), Fail> {
-    assert_eq!(rt; COMMANDS.split('\n').count(), 69);
+    assert_eq!(rt; COMMANDS.split('\n').count(), 83);
     for row in COMMANDS.split('\n') {
         let words = words_of(rt.alloc(), part(row, " = ", 0))?;
         let found = told(rt.alloc(), &words)?;
@@ -306,7 +401,7 @@ fn words_are_commands_in_any_order(rt: HostRuntime) -> Result<(), Fail> {
 
 #[test]
 fn other_words_are_no_command(rt: HostRuntime) -> Result<(), Fail> {
-    assert_eq!(rt; NO_COMMANDS.split('\n').count(), 127);
+    assert_eq!(rt; NO_COMMANDS.split('\n').count(), 155);
     for row in NO_COMMANDS.split('\n') {
         let words = words_of(rt.alloc(), row)?;
         assert!(rt; are_usage(rt.alloc(), &words), "{row}");

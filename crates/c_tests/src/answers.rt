@@ -18,6 +18,8 @@ fn quantity(which: &Which) -> &'static str {
         Which::Parens => "parens",
         Which::Nesting => "nesting",
         Which::Elements => "elements",
+        Which::Statements => "statements",
+        Which::Tasks => "tasks",
         _ => "other",
     }
 }

@@ -23,6 +23,8 @@ pub enum Role {
     Report,
     /// The values of one run.
     Values,
+    /// The tasks of a schedule.
+    Tasks,
 }
 
 // The line of a read that failed.
@@ -35,6 +37,7 @@ fn read_line(role: Role) -> &'static str
         Role::Costs => "fault read costs\n",
         Role::Report => "fault read report\n",
         Role::Values => "fault read values\n",
+        Role::Tasks => "fault read tasks\n",
     }
 }
 

@@ -3,6 +3,7 @@ pub mod Digits
 pub mod Outside
 pub mod Shelves
 pub mod Sinks
+pub mod Streams
 pub mod Held
 pub mod MemoryShelf
 pub mod MemorySink

@@ -5,17 +5,17 @@ ghost use Rattle.flow_base.specs.Outside.{next_count};
 ghost use Rattle.flow_base.specs.Shelves.{IsRead, IsWithin};
 ghost use Rattle.flow_base.specs.Folder.{seen_folder};
 
+use crate::streams::read_whole;
 use crate::{ReadError, Shelf};
 use std::alloc::Global;
 use std::fs;
-use std::io::Read;
 use std::marker::Model;
 use std::rt::Files;
 
 /// The files of the system, by path. It tells nothing of them.
 ///
-/// Which bytes a file holds, and that only longer files are too long, no clause says: that is
-/// trusted, and tested.
+/// Which bytes a file holds no clause says: that is the system's to tell. What the system's reads
+/// give is read to its end by `read_whole`, which loses no byte.
 #[derive(Drop)]
 pub struct FolderShelf<'a, R: Files> {
     runtime: &'a R,
@@ -88,7 +88,7 @@ impl<R: Files> Shelf for FolderShelf<'_, R> {
     }
 }
 
-// Reads the file to its end, but no more than one piece past the limit.
+// Reads the file to its end.
 fn content<R: Files>(
     runtime: &R,
     alloc: Global,
@@ -97,25 +97,8 @@ fn content<R: Files>(
 ) -> Result<Vec<u8>, ReadError>
     ensures { IsWithin limit result }
 {
-    let Ok(mut file) = fs::open(runtime, name) else {
-        return Err(ReadError::Failed);
-    };
-    let mut bytes = Vec::new(alloc);
-    let mut room = limit;
-    let mut piece = [0u8; 4096];
-    loop {
-        let Ok(count) = file.read(&mut piece) else {
-            return Err(ReadError::Failed);
-        };
-        if count == 0 {
-            return Ok(bytes);
-        }
-        if count as u64 > room {
-            return Err(ReadError::TooLong(limit));
-        }
-        room -= count as u64;
-        if bytes.extend_from_slice(&piece[..count]).is_err() {
-            return Err(ReadError::Memory);
-        }
+    match fs::open(runtime, name) {
+        Ok(file) => read_whole(file, alloc, limit),
+        Err(_) => Err(ReadError::Failed),
     }
 }

@@ -3,7 +3,9 @@
 //! A `Shelf` gives files by name and a `Sink` takes a text. A shelf may tell its files and a sink
 //! what it took, and the clauses of both speak of what is told. `SureShelf`, `SureSink`,
 //! `MemoryShelf` and `MemorySink` tell everything and are proved. `FolderShelf` and `StdSink` stand
-//! on the files and the output of the system and tell nothing: they are trusted, and tested.
+//! on the files and the output of the system and tell nothing; each calls one loop, `read_whole` or
+//! `write_whole`, which is proved to lose no byte of any reader and any writer. What is trusted is
+//! the system's own read and write.
 #![tactic(auto)]
 
 // Parts of a text, and what may be counted in it.
@@ -20,9 +22,10 @@ mod memory_shelf;
 mod memory_sink;
 mod sure;
 
-// The outside of a running program.
+// The outside of a running program, over the readers and the writers of the system.
 mod folder;
 mod standard;
+mod streams;
 
 pub use folder::FolderShelf;
 pub use memory_shelf::MemoryShelf;
@@ -33,4 +36,5 @@ pub use place::{Place, Which};
 pub use shelf::{ReadError, Shelf};
 pub use sink::{Sink, WriteError};
 pub use standard::StdSink;
+pub use streams::{read_whole, write_whole};
 pub use sure::{SureShelf, SureSink};

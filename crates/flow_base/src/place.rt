@@ -35,4 +35,8 @@ pub enum Which {
     Nesting,
     /// The elements of all arrays of a C text.
     Elements,
+    /// The statements of all functions together.
+    Statements,
+    /// The tasks of a task set.
+    Tasks,
 }

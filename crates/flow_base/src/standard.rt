@@ -4,12 +4,13 @@ ghost use Rattle.std.specs.Prelude.{◌≡◌, ◌≤◌, None, IsErrOf};
 ghost use Rattle.flow_base.specs.Outside.{next_count};
 ghost use Rattle.flow_base.specs.Sinks.{IsWritten};
 
+use crate::streams::write_whole;
 use crate::{Sink, WriteError};
 use std::io;
-use std::io::Write;
 use std::marker::Model;
 
-/// Standard output. It tells nothing of what it took, and never answers want of memory.
+/// Standard output. It tells nothing of what it took, and never answers want of memory. What is written goes
+/// to the system by `write_whole`, which leaves out no byte.
 #[derive(Drop)]
 pub struct StdSink<'a, P: Print> {
     runtime: &'a P,
@@ -58,17 +59,10 @@ impl<P: Print> Sink for StdSink<'_, P> {
     {
         self.writes = self.writes.saturating_add(1);
         let mut writer = io::writer(self.runtime);
-        let mut rest = bytes;
-        while !rest.is_empty() {
-            match writer.write(rest) {
-                Ok(count) if count > 0 => rest = &rest[count..],
-                // A sink that takes nothing of a piece that is not empty has failed.
-                _ => {
-                    self.faults = self.faults.saturating_add(1);
-                    return Err(WriteError::Failed);
-                }
-            }
+        let written = write_whole(&mut writer, bytes);
+        if written.is_err() {
+            self.faults = self.faults.saturating_add(1);
         }
-        Ok(())
+        written
     }
 }

@@ -66,6 +66,8 @@ limit_of which.Edges count P Q f h = h
 limit_of which.Parens count P Q f h = h
 limit_of which.Nesting count P Q f h = h
 limit_of which.Elements count P Q f h = h
+limit_of which.Statements count P Q f h = h
+limit_of which.Tasks count P Q f h = h
 
 pub fault_of : (fault : GraphFault) (P Q : Type 0) → (P → Q) → FaultTells fault P ⊥ → FaultTells fault Q ⊥
 fault_of (faults.Limit w count) P Q f h = limit_of w count P Q f h

@@ -19,6 +19,8 @@ LimitTells which.Edges count Nodes Edges = (count ≡ 1025) × Edges
 LimitTells which.Parens count Nodes Edges = ⊥
 LimitTells which.Nesting count Nodes Edges = ⊥
 LimitTells which.Elements count Nodes Edges = ⊥
+LimitTells which.Statements count Nodes Edges = ⊥
+LimitTells which.Tasks count Nodes Edges = ⊥
 
 -- a fault of the limit on nodes tells the one, and of that on edges the other
 abbrev pub FaultTells : GraphFault → Type 0 → Type 0 → Type 0

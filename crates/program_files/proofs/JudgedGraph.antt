@@ -38,6 +38,8 @@ module _ (program : NumberedProgram) where
   limit which.Parens count text h line = absurd h
   limit which.Nesting count text h line = absurd h
   limit which.Elements count text h line = absurd h
+  limit which.Statements count text h line = absurd h
+  limit which.Tasks count text h line = absurd h
 
   says : (fault : GraphFault) (text : List ℕ) → FaultTells fault (HasMoreNodes program most_nodes) (HasMoreEdges program most_edges) → graph_line fault ≡ Some text → Says program text
   says (faults.Limit which count) text h line = limit which count text h (some_is _ _ line)
@@ -86,4 +88,6 @@ tells_unranked program (faults.Limit which.AllBytes count) h = absurd h
 tells_unranked program (faults.Limit which.Parens count) h = absurd h
 tells_unranked program (faults.Limit which.Nesting count) h = absurd h
 tells_unranked program (faults.Limit which.Elements count) h = absurd h
+tells_unranked program (faults.Limit which.Statements count) h = absurd h
+tells_unranked program (faults.Limit which.Tasks count) h = absurd h
 tells_unranked program faults.Memory h = tt

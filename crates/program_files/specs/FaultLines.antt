@@ -5,7 +5,7 @@
 use Rattle.std.specs.Prelude.{ℕ, List, [], ◌∷◌, ◌++◌, codes, decimal}
 use Rattle.flow_base.specs.declared.place.Place.{Place}
 use Rattle.flow_base.specs.declared.place.Which.{Which}
-use Rattle.flow_base.specs.declared.place.Which.TheVariants.{Bytes, Depth, Functions, Frames, FrameBytes, AllBytes, Nodes, Edges, Parens, Nesting, Elements}
+use Rattle.flow_base.specs.declared.place.Which.TheVariants.{Bytes, Depth, Functions, Frames, FrameBytes, AllBytes, Nodes, Edges, Parens, Nesting, Elements, Statements, Tasks}
 use Rattle.alf_text.specs.Language.{Departure, Syntax, Number, OutOfProfile, Limit}
 
 -- the word of a quantity that has a limit
@@ -21,6 +21,8 @@ which_word Edges = codes "edges"
 which_word Parens = codes "parens"
 which_word Nesting = codes "nesting"
 which_word Elements = codes "elements"
+which_word Statements = codes "statements"
+which_word Tasks = codes "tasks"
 
 -- the line and the column
 abbrev pub place_text : Place → List ℕ

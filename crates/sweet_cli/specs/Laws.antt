@@ -27,15 +27,7 @@ HaveOneAnswer = (words : List (List ℕ)) (files : Files) → HasOneEnding (task
 
 -- the words with another number of turns
 abbrev pub with_turns : AnalyseWords → ℕ → AnalyseWords
-with_turns given turns = record {
-  program = given.program;
-  root = given.root;
-  inputs = given.inputs;
-  costs = given.costs;
-  turns = turns;
-  merging = given.merging;
-  pivots = given.pivots;
-}
+with_turns given turns = record given { turns = turns }
 
 -- the text is that of the report that is found of what the files tell, in the given turns
 pub record IsReportOf (given : AnalyseWords) (files : Files) (before : Log) (text : List ℕ) : Type 0 where

@@ -28,11 +28,16 @@ IsTable (form ∷ table) = HasSeats (built_rules form) 1 form.positionals × Has
 
 -- no two arguments of a form have one name: each line of the table computes
 forms_are : IsTable forms
-forms_are = (
-  (refl, refl, refl),
-  (refl, (refl, (refl, (refl, (refl, (refl, tt)))))),
-  ((refl, refl, refl), (refl, tt), ((refl, refl, refl), tt, ((refl, refl, refl), (refl, (refl, (refl, (refl, tt)))), tt))),
-)
+forms_are =
+    ((refl, refl, refl), (refl, (refl, (refl, (refl, (refl, (refl, tt)))))),
+    ((refl, refl, (refl, refl, refl)), (refl, (refl, (refl, tt))),
+    ((refl, refl, refl), (refl, tt),
+    ((refl, refl, refl), tt,
+    ((refl, refl, refl), (refl, (refl, (refl, (refl, tt)))),
+    ((refl, refl, refl), (refl, (refl, (refl, (refl, (refl, (refl, (refl, (refl, (refl, tt))))))))),
+    ((refl, refl, refl), (refl, (refl, (refl, (refl, (refl, (refl, (refl, tt))))))),
+    ((refl, refl, refl), tt,
+    tt))))))))
 
 pub record IsForm (form : Form) : Type 0 where
   pub seats : HasSeats (built_rules form) 1 form.positionals

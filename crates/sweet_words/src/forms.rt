@@ -10,11 +10,17 @@ pub struct Form {
 }
 
 /// The commands that are built: a further command is a further row.
-pub static FORMS: [Form; 4] = [
+pub static FORMS: [Form; 8] = [
     Form {
         name: "analyse",
         positionals: &["file"],
         values: &["root", "inputs", "costs", "turns", "merge", "pivots"],
+        flags: &["cert"],
+    },
+    Form {
+        name: "check",
+        positionals: &["file", "report"],
+        values: &["root", "inputs", "costs"],
         flags: &[],
     },
     Form {
@@ -33,6 +39,26 @@ pub static FORMS: [Form; 4] = [
         name: "run",
         positionals: &["file"],
         values: &["root", "inputs", "costs", "turns"],
+        flags: &[],
+    },
+    Form {
+        name: "cache",
+        positionals: &["file"],
+        values: &[
+            "sets", "ways", "line", "penalty", "root", "inputs", "costs", "turns", "merge",
+        ],
+        flags: &[],
+    },
+    Form {
+        name: "worst",
+        positionals: &["file"],
+        values: &["splits", "root", "inputs", "costs", "turns", "merge", "pivots"],
+        flags: &[],
+    },
+    Form {
+        name: "tasks",
+        positionals: &["file"],
+        values: &[],
         flags: &[],
     },
 ];

@@ -1,7 +1,7 @@
 //! Words to a command: `clap` reads them, and its matches are taken apart.
 ghost use Rattle.std.specs.Prelude.{◌≡◌, ◌≢◌, map, None, Some, Err, IfOk, IfSome, option_map, string_bytes};
 ghost use Rattle.clap.specs.Words.{app_of, kind_of, subcommand_rows_of};
-ghost use Rattle.sweet_words.specs.Commands.{HasFewTurns, command_of};
+ghost use Rattle.sweet_words.specs.Commands.{IsWithinRanges, command_of};
 ghost use Rattle.sweet_words.specs.Matched.{command_from};
 ghost use Rattle.sweet_words.specs.Meant.{command_meant};
 ghost use Rattle.sweet_words.specs.Shapes.{program as the_program};
@@ -29,8 +29,8 @@ pub enum WordsFault {
 /// Takes memory for `clap`'s command and its matches, and holds none of it after.
 pub fn read(alloc: Global, words: &[String]) -> Result<Command<'_>, WordsFault>
     ensures command { IfOk result (λ command. command_of (map string_bytes words.now) ≡ Some (command_meant command)) }
-    // The condition of an exploration in so many turns.
-    ensures turns { IfOk result (λ command. HasFewTurns (command_meant command)) }
+    // The conditions of an exploration in so many turns, of such a cache and of so many splits.
+    ensures ranges { IfOk result (λ command. IsWithinRanges (command_meant command)) }
     ensures usage { result ≡ Err WordsFault.Usage → command_of (map string_bytes words.now) ≡ None }
 {
     let Ok(reader) = reader(alloc) else {
@@ -52,7 +52,7 @@ fn reader<'a>(alloc: Global) -> Result<clap::Command<'a>, AllocError>
 // The command that the matches make.
 fn command_in<'a>(matches: &ArgMatches<'a>) -> Option<Command<'a>>
     ensures command { option_map command_meant result ≡ command_from (subcommand_rows_of matches.now) }
-    ensures turns { IfSome result (λ command. HasFewTurns (command_meant command)) }
+    ensures ranges { IfSome result (λ command. IsWithinRanges (command_meant command)) }
 {
     let (name, given) = matches.subcommand()?;
     named(name, given)

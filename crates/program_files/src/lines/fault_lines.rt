@@ -75,5 +75,7 @@ pub fn which_word(which: Which) -> &'static str
         Which::Parens => "parens",
         Which::Nesting => "nesting",
         Which::Elements => "elements",
+        Which::Statements => "statements",
+        Which::Tasks => "tasks",
     }
 }

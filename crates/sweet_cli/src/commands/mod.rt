@@ -3,7 +3,7 @@
 ghost use Rattle.std.specs.Prelude.{◌≡◌, map, string_bytes, IfOk, IfSome};
 ghost use Rattle.command_plans.specs.Run.{Answers, ending_of};
 ghost use Rattle.command_plans.specs.Works.{Works};
-ghost use Rattle.sweet_cli.specs.Words.{HasFewTurns, command_meant, file_meant};
+ghost use Rattle.sweet_cli.specs.Words.{IsWithinRanges, command_meant, file_meant};
 ghost use Rattle.sweet_cli.specs.Table.{print_task, task_for, task_of};
 ghost use Rattle.sweet_cli.specs.Task.{KeepsPromise};
 
@@ -55,15 +55,19 @@ fn command_text<F: Shelf>(
     command: Command<'_>,
     shelf: &mut F,
 ) -> Result<Vec<u8>, Stop>
-    requires turns { HasFewTurns (command_meant command) }
+    requires ranges { IsWithinRanges (command_meant command) }
     ensures work { Works (task_for (command_meant command.entry)).work (λ text. text.items) (F.state shelf.old) result (F.state shelf.new) }
     ensures promise { IfOk result (λ text. IfSome (F.state shelf.old).files (λ files. (task_for (command_meant command.entry)).Promise files text.items)) }
 {
     match command {
         Command::Analyse(given) => analyse::analyse(alloc, given, shelf),
+        Command::Check(_) => Err(stopped(alloc, Why::Usage, "fault usage\n")),
         Command::Lower(given) => lower::lower(alloc, given, shelf),
         Command::Print(program) => print_text(alloc, program, shelf),
         Command::Run(given) => run::run(alloc, given, shelf),
+        Command::Cache(_) => Err(stopped(alloc, Why::Usage, "fault usage\n")),
+        Command::Worst(_) => Err(stopped(alloc, Why::Usage, "fault usage\n")),
+        Command::Tasks(_) => Err(stopped(alloc, Why::Usage, "fault usage\n")),
     }
 }
 

@@ -46,8 +46,7 @@ const COUNTS: &str =
 
 // A loop that counts to an input, which costs 2 for each number from 1 to it, and 3: options, the input's range, and the
 // answer. A range of one value is a point. Half of two numbers is rounded down, below 0 too.
-const COUNTED: &str =
-    r#" | low=3;high=3 => 0 box 9 3 3;worst 9 exact;
+const COUNTED: &str = r#" | low=3;high=3 => 0 box 9 3 3;worst 9 exact;
  | low=-7;high=-7 => 0 box 3 -7 -7;worst 3 exact;
 --splits 3 | low=-7;high=0 => 0 box 3 -7 -7;box 3 -6 -6;box 3 -5 -4;box 3 -3 0;worst 3 exact;
 --splits 16 | low=-10;high=-3 => 0 box 3 -10 -10;box 3 -9 -9;box 3 -8 -7;box 3 -6 -3;worst 3 exact;
@@ -87,15 +86,24 @@ fn a_loop_is_dearest_at_its_greatest_input(rt: HostRuntime) -> Result<(), Fail> 
 fn eight_rows_are_split_256_times(rt: HostRuntime) -> Result<(), Fail> {
     let alloc = rt.alloc();
     let program = program_of(alloc, "-", "a%256", ".")?;
-    let rows =
-        r#"[[input]];frame="a";offset=0;size=32;count=8;low=-2147483648;high=2147483647"#;
-    let all = boxes_of(alloc, program.as_str(), "--inputs i.toml --splits 256", rows)?;
+    let rows = r#"[[input]];frame="a";offset=0;size=32;count=8;low=-2147483648;high=2147483647"#;
+    let all = boxes_of(
+        alloc,
+        program.as_str(),
+        "--inputs i.toml --splits 256",
+        rows,
+    )?;
     assert_eq!(rt; all.as_str().split(';').count(), 259);
     assert!(rt; all.as_str().ends_with(";worst 1 exact;"));
     let point =
         "0 box 1 -2147483648 -2147483648 -2147483648 -2147483648 -2147483648 -2147483648 -2147483648 -2147483648 -2147483648 -2147483648 -2147483648 -2147483648 -2147483648 -2147483648 -2147483648 -2147483648;";
     assert!(rt; all.as_str().starts_with(point));
-    let fewer = boxes_of(alloc, program.as_str(), "--inputs i.toml --splits 255", rows)?;
+    let fewer = boxes_of(
+        alloc,
+        program.as_str(),
+        "--inputs i.toml --splits 255",
+        rows,
+    )?;
     assert_eq!(rt; fewer.as_str().split(';').count(), 258);
     assert!(rt; fewer.as_str().ends_with(";worst 1 at-most;"));
     Ok(())

@@ -18,6 +18,7 @@ mod lower;
 mod print;
 mod print_c;
 mod run;
+mod worst;
 
 use crate::words::{Command, ProgramFile, WordsFault, read};
 use command_plans::{Answer, Stop, Why, stopped};
@@ -66,7 +67,7 @@ fn command_text<F: Shelf>(
         Command::Print(program) => print_text(alloc, program, shelf),
         Command::Run(given) => run::run(alloc, given, shelf),
         Command::Cache(_) => Err(stopped(alloc, Why::Usage, "fault usage\n")),
-        Command::Worst(_) => Err(stopped(alloc, Why::Usage, "fault usage\n")),
+        Command::Worst(given) => worst::worst(alloc, given, shelf),
         Command::Tasks(_) => Err(stopped(alloc, Why::Usage, "fault usage\n")),
     }
 }

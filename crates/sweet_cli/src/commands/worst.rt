@@ -33,11 +33,7 @@ use worst_inputs::{Found, SearchFault};
 
 /// The text that tells boxes of inputs.
 #[tactic(auto, unfolding(crate::specs::Worst::worsting))]
-pub fn worst<F: Shelf>(
-    alloc: Global,
-    given: WorstWords<'_>,
-    shelf: &mut F,
-) -> Result<Vec<u8>, Stop>
+pub fn worst<F: Shelf>(alloc: Global, given: WorstWords<'_>, shelf: &mut F) -> Result<Vec<u8>, Stop>
     requires turns { given.turns ≤ 1000000 }
     ensures work { Works (worsting (worst_meant given.entry)) (λ text. text.items) (F.state shelf.old) result (F.state shelf.new) }
     ensures promise { IfOk result (λ text. IfSome (F.state shelf.old).files (λ files. TellsWorst (worst_meant given.entry) files text.items)) }

@@ -34,11 +34,7 @@ fn push_boxes(
 }
 
 // Adds the line of a box.
-fn push_box(
-    text: &mut Vec<u8>,
-    alloc: Global,
-    pair: &(Vec<Range>, u64),
-) -> Result<(), AllocError>
+fn push_box(text: &mut Vec<u8>, alloc: Global, pair: &(Vec<Range>, u64)) -> Result<(), AllocError>
     ensures { OnOk result (text.new.items ≡ text.old.items ++ box_line (seen_box pair.now)) }
 {
     let bound = pair.1;

@@ -1,2 +1,3 @@
 -- Shared lemmas.
 pub mod Made
+pub mod Finding

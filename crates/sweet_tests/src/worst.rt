@@ -108,3 +108,84 @@ fn eight_rows_are_split_256_times(rt: HostRuntime) -> Result<(), Fail> {
     assert!(rt; fewer.as_str().ends_with(";worst 1 at-most;"));
     Ok(())
 }
+
+// Programs of one input or two: their frames and functions, the size and the range of the input `n` with its numbers, and of
+// the input `m`; and what the dearest run costs, worked out by hand.
+const DEAREST: &str =
+    r#"i n | i=0 @H { switch { s_lt 32 *i *n } { target '1 @B } { default @E } } @B i=i+1 ^H @E . | size=32;low=0;high=10 | 0 1 2 3 4 5 6 7 8 9 10 => 23
+n | ?n:3>A:B @A { null } @C { null } ^B @B . | size=32;low=0;high=7 | 0 1 2 3 4 5 6 7 => 4
+n | ?n:2>A:B @A { null } @B ?n:5>C:D @C { null } @D . | size=32;low=0;high=7 | 0 1 2 3 4 5 6 7 => 4
+i n m | i=0 @H { switch { s_lt 32 *i *n } { target '1 @B } { default @G } } @B i=i+1 ^H @G i=0 @K { switch { s_lt 32 *i *m } { target '1 @C } { default @E } } @C i=i+1 ^K @E . | size=32;low=0;high=3 | 0 1 2 3 | size=32;low=0;high=2 | 0 1 2 => 15
+i j n m | i=0 @H { switch { s_lt 32 *i *n } { target '1 @B } { default @E } } @B j=0 @K { switch { s_lt 32 *j *m } { target '1 @C } { default @D } } @C j=j+1 ^K @D i=i+1 ^H @E . | size=32;low=0;high=3 | 0 1 2 3 | size=32;low=0;high=2 | 0 1 2 => 27
+i n | i=n @H { switch { s_lt 32 *i #5 } { target '1 @B } { default @E } } @B i=i+1 ^H @E . | size=32;low=-5;high=5 | -5 -4 -3 -2 -1 0 1 2 3 4 5 => 23
+n r | { store &r with { s_div 32 32 #100 *n } } @A { null } @B . | size=32;low=-2;high=2 | -2 -1 0 1 2 => 3
+n%8 | { switch { load 8 &n } { target { dec_unsigned 8 200 } @A } { default @B } } @A { null } @B . | size=8;low=198;high=201 | 198 199 200 201 => 3
+n r | ?n:1>A:B @A { call @f #4 result &r } @B . /f:x { return { add 32 *x #1 '0 } } | size=32;low=0;high=2 | 0 1 2 => 4
+i n | i=0 @H { switch { s_lt 32 *i #12 } { target '1 @B } { default @E } } @B { store &i with { add 32 *i *n '0 } } ^H @E . | size=32;low=1;high=6 | 1 2 3 4 5 6 => 27"#;
+
+// The row of an input, with a semicolon behind it. Nothing where it has no size.
+fn row(alloc: Global, frame: &str, rest: &str) -> Result<String, AllocError> {
+    if rest.is_empty() {
+        return format!(in alloc; "");
+    }
+    format!(in alloc; "[[input]];frame=\"{frame}\";offset=0;{rest};")
+}
+
+// The row of an input of this one number. Nothing where there is none.
+fn lone_row(alloc: Global, frame: &str, rest: &str, number: &str) -> Result<String, AllocError> {
+    if rest.is_empty() {
+        return format!(in alloc; "");
+    }
+    let size = rest.split(';').next().unwrap_or("");
+    let rest = format!(in alloc; "{size};low={number};high={number}")?;
+    row(alloc, frame, rest.as_str())
+}
+
+// What the run with these rows costs.
+fn cost_of(alloc: Global, program: &str, inputs: &str) -> Result<u64, AllocError> {
+    let files = three_files(alloc, program, inputs, "default = 1")?;
+    let told = told(alloc, "run a.alf --inputs i.toml", files)?;
+    let cost = told.as_str().split("cost ").nth(1).unwrap_or("");
+    Ok(cost.split(';').next().unwrap_or("").parse::<u64>().unwrap_or(0))
+}
+
+// The greatest cost of the runs with each of these numbers.
+fn dearest(alloc: Global, program: &str, asked: &str) -> Result<u64, AllocError> {
+    let mut most = 0;
+    for first in field(asked, 3).split(' ') {
+        for second in field(asked, 5).split(' ') {
+            let n = lone_row(alloc, "n", field(asked, 2), first)?;
+            let m = lone_row(alloc, "m", field(asked, 4), second)?;
+            let inputs = format!(in alloc; "{n}{m}")?;
+            most = cost_of(alloc, program, inputs.as_str())?.max(most);
+        }
+    }
+    Ok(most)
+}
+
+#[test]
+fn an_exact_bound_is_what_the_dearest_run_costs(rt: HostRuntime) -> Result<(), Fail> {
+    let alloc = rt.alloc();
+    for line in DEAREST.lines() {
+        let asked = side(line, 0);
+        let program = program_of(alloc, "-", field(asked, 0), field(asked, 1))?;
+        let n = row(alloc, "n", field(asked, 2))?;
+        let m = row(alloc, "m", field(asked, 4))?;
+        let inputs = format!(in alloc; "{n}{m}")?;
+        let found = boxes_of(
+            alloc,
+            program.as_str(),
+            "--inputs i.toml --splits 256",
+            inputs.as_str(),
+        )?;
+        let wanted = format!(in alloc; ";worst {} exact;", side(line, 1))?;
+        assert!(rt;
+            found.as_str().ends_with(wanted.as_str()),
+            "{line}: {found}"
+        );
+        let most = dearest(alloc, program.as_str(), asked)?;
+        let most = format!(in alloc; "{most}")?;
+        assert_eq!(rt; most.as_str(), side(line, 1), "{line}");
+    }
+    Ok(())
+}

@@ -4,7 +4,8 @@
 --   Suits b area        the area has a range for each row, the rows with these ranges keep the rules of inputs, and what the bounder is
 --       given is what an analysis asks for
 --   path_bounding b     the bounding
-use Rattle.std.specs.Prelude.{◌≡◌, ◌≤◌, length}
+--   HasOneSearch b      a search from the ranges of the rows has one answer, whatever the splits
+use Rattle.std.specs.Prelude.{◌≡◌, ◌≤◌, ℕ, Result, length}
 use Rattle.alf_check.specs.CheckedPrograms.{NumberedProgram, seen}
 use Rattle.alf_check.specs.Inputs.{KeepInputs}
 use Rattle.alf_check.specs.Kept.{IsKept}
@@ -23,7 +24,8 @@ use Rattle.bounded_analyses.specs.Sound.{FoundReportsAreRight, LoneBoundsAgree}
 use Rattle.worst_inputs.specs.Areas.{Area}
 use Rattle.worst_inputs.specs.Bounders.{Bounding}
 use Rattle.program_bounder.specs.declared.bounder.PathBounder.{PathBounder}
-use Rattle.program_bounder.specs.InputRows.{with_ranges}
+use Rattle.worst_inputs.specs.Searches.{Searched, IsAnswer}
+use Rattle.program_bounder.specs.InputRows.{ranges_of, with_ranges}
 use Rattle.program_bounder.specs.InputCosts.{RunsCost}
 use Rattle.program_bounder.specs.PathBounds.{path_answers}
 
@@ -65,3 +67,8 @@ path_bounding b = record {
   answers = path_answers (given_program b) b.graph b.rows.items b.costs b.policy b.turns b.pivots;
   costs = RunsCost (given_program b) b.graph b.rows.items b.costs;
 }
+
+-- a search from the ranges of the rows has one answer, whatever the splits
+abbrev pub HasOneSearch : PathBounder → Type 0
+HasOneSearch b = (splits : ℕ) (first second : Result Searched ℕ) → IsAnswer (path_bounding b).answers (ranges_of b.rows.items) splits first
+    → IsAnswer (path_bounding b).answers (ranges_of b.rows.items) splits second → first ≡ second

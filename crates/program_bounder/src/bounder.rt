@@ -52,7 +52,8 @@ fn bound_of(alloc: Global, bounder: &PathBounder, area: &[Range]) -> Result<Boun
     requires { Suits bounder.now area.now }
     ensures { IfOk result (λ bounded. (path_bounding bounder.now).answers area.now bounded) }
 {
-    let rows = with_ranges(alloc, &bounder.rows, area)?;
+    let given = bounder.rows.as_slice();
+    let rows = with_ranges(alloc, given, area)?;
     match analyse(
         alloc,
         &bounder.checked,

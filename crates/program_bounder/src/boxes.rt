@@ -1,6 +1,7 @@
 //! The search for a program's worst inputs.
 
-ghost use Rattle.std.specs.Prelude.{◌≡◌, ◌≤◌, ℕ, Result, IfOk, IfErr};
+ghost use Rattle.std.specs.Prelude.{◌≡◌, ◌≤◌, IfOk, IfErr};
+ghost use Rattle.std.specs.List.{All};
 ghost use Rattle.alf_check.specs.CheckedPrograms.{seen};
 ghost use Rattle.alf_check.specs.Inputs.{KeepInputs};
 ghost use Rattle.domain_core.specs.Outlines.{shape_of};
@@ -10,10 +11,11 @@ ghost use Rattle.scope_graph.specs.Placing.{plan_of};
 ghost use Rattle.program_machines.specs.NodeCosts.{HasCosts};
 ghost use Rattle.program_analysis.specs.AnalysisLaws.{names_of};
 ghost use Rattle.program_analysis.specs.Bounds.{most_turns};
-ghost use Rattle.worst_inputs.specs.Searches.{Searched, found_of, IsSearched, IsFaultOf, IsAnswer};
+ghost use Rattle.worst_inputs.specs.Areas.{IsRange};
+ghost use Rattle.worst_inputs.specs.Searches.{found_of, IsSearched, IsFaultOf};
 ghost use Rattle.worst_inputs.specs.Promises.{Bounds};
 ghost use Rattle.program_bounder.specs.InputRows.{ranges_of};
-ghost use Rattle.program_bounder.specs.PathBounding.{given_program, path_bounding};
+ghost use Rattle.program_bounder.specs.PathBounding.{given_program, Suits, path_bounding, HasOneSearch};
 
 use crate::PathBounder;
 use crate::rows::ranges_of;
@@ -24,6 +26,35 @@ use bounded_analyses::{
 use std::alloc::Global;
 use unranked_analyses::an_input_alone_is_told_exactly;
 use worst_inputs::{Found, SearchFault, a_search_has_one_answer, search};
+
+// The ranges of the rows suit the bounder.
+fn own_ranges_suit(bounder: &PathBounder)
+    requires graph { IsGraph (seen bounder.now.checked) bounder.now.graph }
+    requires rows { KeepInputs (seen bounder.now.checked) bounder.now.rows.items }
+    requires outline { IsOutlineOf (plan_of bounder.now.graph) (shape_of bounder.now.outline) }
+    requires named { names_of bounder.now.outline ≡ bounder.now.graph.names }
+    requires costs { HasCosts (given_program bounder.now) bounder.now.graph bounder.now.costs bounder.now.outline }
+    requires turns { bounder.now.turns ≤ most_turns }
+    ensures suits { Suits bounder.now (ranges_of bounder.now.rows.items) }
+    ensures ranges { All IsRange (ranges_of bounder.now.rows.items) }
+{
+    found_reports_are_right();
+    a_program_has_one_bounded_analysis();
+    an_input_alone_is_told_exactly();
+    bounds_of_an_input_alone_agree();
+    a_run_has_one_end();
+    bounder.checked.keeps();
+    bounder.outline.kept();
+}
+
+// A search from them has one answer.
+fn own_search_is_one(bounder: &PathBounder)
+    requires suits { Suits bounder.now (ranges_of bounder.now.rows.items) }
+    requires ranges { All IsRange (ranges_of bounder.now.rows.items) }
+    ensures { HasOneSearch bounder.now }
+{
+    a_search_has_one_answer(bounder);
+}
 
 /// Boxes of inputs inside the ranges of the rows, each with the path bound of the analysis of its ranges.
 ///
@@ -53,19 +84,13 @@ pub fn worst_boxes(
     ensures fault { IfErr result (IsFaultOf (path_bounding bounder.old).answers (ranges_of bounder.old.rows.items) splits) }
 
     // There is one such list of boxes, or one scope.
-    ensures one { (first second : Result Searched ℕ) → IsAnswer (path_bounding bounder.old).answers (ranges_of bounder.old.rows.items) splits first
-        → IsAnswer (path_bounding bounder.old).answers (ranges_of bounder.old.rows.items) splits second → first ≡ second }
+    ensures one { HasOneSearch bounder.old }
 
     ensures unchanged { bounder.new ≡ bounder.old }
 {
-    found_reports_are_right();
-    a_program_has_one_bounded_analysis();
-    an_input_alone_is_told_exactly();
-    bounds_of_an_input_alone_agree();
-    a_run_has_one_end();
-    bounder.checked.keeps();
-    bounder.outline.kept();
-    a_search_has_one_answer(bounder);
-    let ranges = ranges_of(alloc, &bounder.rows)?;
+    own_ranges_suit(bounder);
+    own_search_is_one(bounder);
+    let rows = bounder.rows.as_slice();
+    let ranges = ranges_of(alloc, rows)?;
     search(alloc, bounder, &ranges, splits)
 }

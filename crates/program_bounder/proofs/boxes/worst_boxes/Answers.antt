@@ -1,5 +1,5 @@
 -- The ranges that are searched are those of the rows.
-use Rattle.std.proofs.Common.{◌≡◌, IfOk, IfErr, All, sym, ap, subst, ◌∙◌}
+use Rattle.std.proofs.Common.{IfOk, IfErr, All, sym, ap, subst, ◌∙◌}
 use Rattle.worst_inputs.specs.Areas.{Area, IsRange}
 use Rattle.worst_inputs.specs.Searches.{found_of, IsSearched, IsFaultOf}
 use Rattle.worst_inputs.specs.Promises.{Bounds}

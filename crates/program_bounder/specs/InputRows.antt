@@ -17,7 +17,13 @@ ranges_of rows = map range_of rows
 
 -- the row with this range
 abbrev pub with_range : InputRow → Range → InputRow
-with_range row range = record { frame = row.frame; offset = row.offset; size = row.size; low = range.low; high = range.high }
+with_range row range = record {
+  frame = row.frame;
+  offset = row.offset;
+  size = row.size;
+  low = range.low;
+  high = range.high;
+}
 
 -- the rows with these ranges
 abbrev pub with_ranges : List InputRow → Area → List InputRow

@@ -1,8 +1,8 @@
 -- Path bounds as a bounding: which areas suit, what is answered of them, and what inputs cost.
 --   Promises            what is promised of analyses and runs of programs
 --   given_program b     the program of the bounder, without ranks
---   Suits b area        the area has a range for each row, the rows with these ranges keep the rules of inputs, and what the bounder is
---       given is what an analysis asks for
+--   Suits b area        the area has a range for each row, the rows with these ranges keep the rules of inputs, and what
+--       the bounder is given is what an analysis asks for
 --   path_bounding b     the bounding
 --   HasOneSearch b      a search from the ranges of the rows has one answer, whatever the splits
 use Rattle.std.specs.Prelude.{◌≡◌, ◌≤◌, ℕ, Result, length}
@@ -70,5 +70,6 @@ path_bounding b = record {
 
 -- a search from the ranges of the rows has one answer, whatever the splits
 abbrev pub HasOneSearch : PathBounder → Type 0
-HasOneSearch b = (splits : ℕ) (first second : Result Searched ℕ) → IsAnswer (path_bounding b).answers (ranges_of b.rows.items) splits first
+HasOneSearch b = (splits : ℕ) (first second : Result Searched ℕ)
+    → IsAnswer (path_bounding b).answers (ranges_of b.rows.items) splits first
     → IsAnswer (path_bounding b).answers (ranges_of b.rows.items) splits second → first ≡ second

@@ -74,14 +74,17 @@ pub fn worst_boxes(
     requires turns { bounder.old.turns ≤ most_turns }
 
     // The boxes where splitting ends, and whether one of greatest bound has one input alone.
-    ensures found { IfOk result (λ found. IsSearched (path_bounding bounder.old).answers (ranges_of bounder.old.rows.items) splits (found_of found)) }
+    ensures found { IfOk result (λ found. IsSearched (path_bounding bounder.old).answers
+        (ranges_of bounder.old.rows.items) splits (found_of found)) }
 
     // They cover the ranges; each run with an input inside a box costs at most its bound; and where the greatest bound
     // is exact, it is the greatest cost of a run.
-    ensures bounds { IfOk result (λ found. Bounds (path_bounding bounder.old).costs (ranges_of bounder.old.rows.items) (found_of found)) }
+    ensures bounds { IfOk result (λ found. Bounds (path_bounding bounder.old).costs
+        (ranges_of bounder.old.rows.items) (found_of found)) }
 
     // The first box that is left.
-    ensures fault { IfErr result (IsFaultOf (path_bounding bounder.old).answers (ranges_of bounder.old.rows.items) splits) }
+    ensures fault { IfErr result (IsFaultOf (path_bounding bounder.old).answers
+        (ranges_of bounder.old.rows.items) splits) }
 
     // There is one such list of boxes, or one scope.
     ensures one { HasOneSearch bounder.old }

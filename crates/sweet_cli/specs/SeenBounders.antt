@@ -30,7 +30,10 @@ bounder_seen program tables policy turns pivots = record {
 
 -- the program that it bounds, with its scopes
 abbrev pub scoped_in_bounder : PathBounder → ScopedProgram
-scoped_in_bounder b = record { expanded = record { program = unranked (seen b.checked); graph = b.graph }; scoped = scopes_seen b.outline }
+scoped_in_bounder b = record {
+  expanded = record { program = unranked (seen b.checked); graph = b.graph };
+  scoped = scopes_seen b.outline;
+}
 
 -- what is meant by its boxes, or that places are left
 abbrev pub BoxesMean : PathBounder → ℕ → Result Searched Outcome → Type 0

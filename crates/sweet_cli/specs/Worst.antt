@@ -1,7 +1,8 @@
 -- `worst FILE`: where the worst inputs of the program lie.
---   IsLeftInBox program rows costs policy turns pivots splits outcome   in some box places are left, and the outcome tells the scope of the first
---       such box
---   WorstMeans program rows costs policy turns pivots splits meaning    the boxes where splitting ends, or that places are left
+--   IsLeftInBox program rows costs policy turns pivots splits outcome   in some box places are left, and the outcome tells
+--       the scope of the first such box
+--   WorstMeans program rows costs policy turns pivots splits meaning    the boxes where splitting ends, or that places are
+--       left
 --   worsting given               the order of work
 --   TellsWorst given files text  the promise: the text tells the boxes, and what they say of the program's runs
 --   worst given                  the task
@@ -30,27 +31,34 @@ use Rattle.sweet_cli.specs.WorstText.{worst_text}
 use Rattle.sweet_cli.specs.Task.{Task}
 
 -- in some box places are left, and the outcome tells the scope of the first such box
-pub record IsLeftInBox (program : ScopedProgram) (rows : List InputRow) (costs : CostTable) (policy : Policy) (turns pivots splits : ℕ) (outcome : Outcome) : Type 0 where
+pub record IsLeftInBox (program : ScopedProgram) (rows : List InputRow) (costs : CostTable) (policy : Policy)
+    (turns pivots splits : ℕ) (outcome : Outcome) : Type 0 where
   pub scope : ℕ
-  pub left : IsLeftIn (path_answers program.expanded.program program.expanded.graph rows costs policy turns pivots) (ranges_of rows) splits scope
+  pub left : IsLeftIn (path_answers program.expanded.program program.expanded.graph rows costs policy turns pivots)
+      (ranges_of rows) splits scope
   pub line : outcome ≡ record { cause = Unbounded; text = left_line program.expanded.graph program.scoped.scopes scope }
 
 -- the boxes where splitting ends, each with the path bound of its ranges, or that places are left
-abbrev pub WorstMeans : ScopedProgram → List InputRow → CostTable → Policy → ℕ → ℕ → ℕ → Result Searched Outcome → Type 0
+abbrev pub WorstMeans : ScopedProgram → List InputRow → CostTable → Policy → ℕ → ℕ → ℕ → Result Searched Outcome
+    → Type 0
 WorstMeans program rows costs policy turns pivots splits (Ok found) =
-    IsSearched (path_answers program.expanded.program program.expanded.graph rows costs policy turns pivots) (ranges_of rows) splits found
-WorstMeans program rows costs policy turns pivots splits (Err outcome) = IsLeftInBox program rows costs policy turns pivots splits outcome
+    IsSearched (path_answers program.expanded.program program.expanded.graph rows costs policy turns pivots) (ranges_of rows)
+    splits found
+WorstMeans program rows costs policy turns pivots splits (Err outcome) =
+    IsLeftInBox program rows costs policy turns pivots splits outcome
 
 unfoldable pub worsting : WorstWords → Work (List ℕ)
 worsting given = do
   program ← scoped_in given.program given.root
   tables ← tables_in program.expanded.program given.inputs given.costs
-  found ← judged (WorstMeans program tables.rows tables.costs (policy_of given.merging) given.turns given.pivots given.splits)
+  found ← judged (WorstMeans program tables.rows tables.costs (policy_of given.merging) given.turns given.pivots
+      given.splits)
   done (worst_text found)
 
--- the text tells boxes of inputs of the program that the file gives, by the files that the words name: those where splitting ends, each with
--- the path bound that `analyse` prints for its ranges. They cover the ranges; each run with an input inside a box costs at most its bound; and
--- where the last line says so, the greatest bound is the greatest cost of a run with an input inside the ranges
+-- the text tells boxes of inputs of the program that the file gives, by the files that the words name: those where
+-- splitting ends, each with the path bound that `analyse` prints for its ranges. They cover the ranges; each run with an
+-- input inside a box costs at most its bound; and where the last line says so, the greatest bound is the greatest cost of
+-- a run with an input inside the ranges
 pub record TellsWorst (given : WorstWords) (files : Files) (text : List ℕ) : Type 0 where
   pub program : NumberedProgram
   pub graph : GraphParts
@@ -63,7 +71,8 @@ pub record TellsWorst (given : WorstWords) (files : Files) (text : List ℕ) : T
   pub rows_keep : KeepInputs program rows
   pub costs_told : AreCosts given.costs files program costs
   pub shown : text ≡ worst_text found
-  pub searched : IsSearched (path_answers program graph rows costs (policy_of given.merging) given.turns given.pivots) (ranges_of rows) given.splits found
+  pub searched : IsSearched (path_answers program graph rows costs (policy_of given.merging) given.turns given.pivots)
+      (ranges_of rows) given.splits found
   pub bounds : Bounds (RunsCost program graph rows costs) (ranges_of rows) found
 
 abbrev pub worst : WorstWords → Task

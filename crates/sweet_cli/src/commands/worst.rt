@@ -35,8 +35,10 @@ use worst_inputs::{Found, SearchFault};
 #[tactic(auto, unfolding(crate::specs::Worst::worsting))]
 pub fn worst<F: Shelf>(alloc: Global, given: WorstWords<'_>, shelf: &mut F) -> Result<Vec<u8>, Stop>
     requires turns { given.turns ≤ 1000000 }
-    ensures work { Works (worsting (worst_meant given.entry)) (λ text. text.items) (F.state shelf.old) result (F.state shelf.new) }
-    ensures promise { IfOk result (λ text. IfSome (F.state shelf.old).files (λ files. TellsWorst (worst_meant given.entry) files text.items)) }
+    ensures work { Works (worsting (worst_meant given.entry)) (λ text. text.items)
+        (F.state shelf.old) result (F.state shelf.new) }
+    ensures promise { IfOk result (λ text. IfSome (F.state shelf.old).files
+        (λ files. TellsWorst (worst_meant given.entry) files text.items)) }
 {
     a_file_has_one_answer();
     let program = scoped_in(alloc, given.program, given.root, shelf)?;
@@ -74,8 +76,10 @@ fn found_in(
     requires rows { KeepInputs (seen program.expanded.checked) tables.rows.items }
     requires outline { IsOutlined program.expanded.graph program.outline }
     requires turns { turns ≤ 1000000 }
-    ensures means { Judges (WorstMeans (scoped_of program) tables.rows.items tables.costs (policy_of merging) turns pivots splits) found_of result }
-    ensures bounds { IfOk result (λ found. Bounds (RunsCost (unranked (seen program.expanded.checked)) program.expanded.graph tables.rows.items tables.costs) (ranges_of tables.rows.items) (found_of found)) }
+    ensures means { Judges (WorstMeans (scoped_of program) tables.rows.items tables.costs (policy_of merging)
+        turns pivots splits) found_of result }
+    ensures bounds { IfOk result (λ found. Bounds (RunsCost (unranked (seen program.expanded.checked))
+        program.expanded.graph tables.rows.items tables.costs) (ranges_of tables.rows.items) (found_of found)) }
 {
     let program = priced(program, &tables.costs);
     let mut bounder = bounder_of(program, tables, policy(merging), turns, pivots);
@@ -112,10 +116,12 @@ fn searched(alloc: Global, bounder: &mut PathBounder, splits: u32) -> Result<Fou
     requires graph { IsGraph (seen bounder.old.checked) bounder.old.graph }
     requires rows { KeepInputs (seen bounder.old.checked) bounder.old.rows.items }
     requires outline { IsOutlined bounder.old.graph bounder.old.outline }
-    requires costs { HasCosts (unranked (seen bounder.old.checked)) bounder.old.graph bounder.old.costs bounder.old.outline }
+    requires costs { HasCosts (unranked (seen bounder.old.checked)) bounder.old.graph bounder.old.costs
+        bounder.old.outline }
     requires turns { bounder.old.turns ≤ 1000000 }
     ensures means { Judges (BoxesMean bounder.old splits) found_of result }
-    ensures bounds { IfOk result (λ found. Bounds (RunsCost (unranked (seen bounder.old.checked)) bounder.old.graph bounder.old.rows.items bounder.old.costs) (ranges_of bounder.old.rows.items) (found_of found)) }
+    ensures bounds { IfOk result (λ found. Bounds (RunsCost (unranked (seen bounder.old.checked)) bounder.old.graph
+        bounder.old.rows.items bounder.old.costs) (ranges_of bounder.old.rows.items) (found_of found)) }
 {
     match worst_boxes(alloc, bounder, splits) {
         Ok(found) => Ok(found),

@@ -29,8 +29,8 @@ returns-in-Told c =
     answered (given_program b) b.graph b.rows.items b.costs b.policy b.turns b.pivots c.args.area.now report c.path_bound.result
     (subst (λ (l : List InputRow). IsBoundedReport (given_program b) b.graph l b.costs b.policy b.turns b.pivots report) same found) c.path_bound.ensures
 
-pub returns-in-Unbounded : goal.returns-in-Unbounded
-returns-in-Unbounded c =
+pub returns : goal.returns
+returns c =
     let b = c.args.bounder.now in
     let rows = c.deref.result.now in
     let scope = c.in-Unbounded.scope in

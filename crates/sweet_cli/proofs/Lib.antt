@@ -14,3 +14,5 @@ pub mod Numbers
 pub mod Counted
 pub mod JudgedRuns
 pub mod Promises
+pub mod JudgedBoxes
+pub mod WorstPromises

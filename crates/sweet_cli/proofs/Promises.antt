@@ -46,7 +46,7 @@ use Rattle.sweet_cli.specs.Run.{IsRunText, TellsRun}
 -- ---- told files
 
 -- the graph that was drawn is that of the program
-told_graph : (given : ProgramFile) (root : List ℕ) (told : Option Files) (before : Log) (program : ScopedProgram) (after : Log) → (scoped_in given root).steps.Gives told before program after
+pub told_graph : (given : ProgramFile) (root : List ℕ) (told : Option Files) (before : Log) (program : ScopedProgram) (after : Log) → (scoped_in given root).steps.Gives told before program after
     → IsGraph program.expanded.program program.expanded.graph
 unfolding scoped_in expanded_in
 told_graph given root told before program after (expanded, log, (numbered, mid, first, (graph, end, (drawn, stays), (is, over))), (scoped, last, (means, still), (same, done))) =
@@ -64,7 +64,7 @@ unfolding inputs_told
 told_rows program None files before rows after (is, same) = is
 told_rows program (Some file) files before rows after (bytes, log, read, (meant, same)) = (bytes, read.2, meant.means)
 
-told_tables : (program : NumberedProgram) (inputs costs : Option (List ℕ)) (files : Files) (before : Log) (tables : Tables) (after : Log)
+pub told_tables : (program : NumberedProgram) (inputs costs : Option (List ℕ)) (files : Files) (before : Log) (tables : Tables) (after : Log)
     → (tables_in program inputs costs).steps.Gives (Some files) before tables after → AreInputs inputs files program tables.rows × AreCosts costs files program tables.costs
 unfolding tables_in
 told_tables program inputs costs files before tables after (rows, a, first, (spent, b, second, (is, over))) = (

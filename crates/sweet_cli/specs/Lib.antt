@@ -6,6 +6,8 @@ pub mod Words
 pub mod FaultWords
 -- what is told of a run
 pub mod RunText
+-- what is told of boxes of inputs
+pub mod WorstText
 -- commands, a file each, and their table
 pub mod Task
 pub mod Seen
@@ -20,6 +22,8 @@ pub mod Lower
 pub mod Run
 pub mod Tasks
 pub mod Exact
+pub mod Worst
+pub mod SeenBounders
 pub mod Table
 -- laws
 pub mod Laws

@@ -10,6 +10,7 @@ use Rattle.sweet_cli.specs.Print.{print}
 use Rattle.sweet_cli.specs.PrintC.{print_c}
 use Rattle.sweet_cli.specs.Run.{run}
 use Rattle.sweet_cli.specs.Tasks.{tasks}
+use Rattle.sweet_cli.specs.Worst.{worst}
 
 -- by the language of the file
 abbrev pub print_task : ProgramFile → Task
@@ -23,7 +24,7 @@ task_for (Lower given) = lower given
 task_for (Print program) = print_task program
 task_for (Run given) = run given
 task_for (Cache given) = no_command
-task_for (Worst given) = no_command
+task_for (Worst given) = worst given
 task_for (Tasks file) = tasks file
 
 abbrev pub task_for_some : Option Command → Task

@@ -2,7 +2,7 @@
 //!
 //! - `words`: words that are no command, and the options of each command. `codes`: the exit code of each status.
 //! - `texts`, `c_texts`: texts of ALF and of C, read, printed and refused. `faults`: programs and tables that are refused.
-//! - `reports`, `ranges`: `analyse` without inputs and with inputs. `runs`: `run`.
+//! - `reports`, `ranges`: `analyse` without inputs and with inputs. `runs`: `run`. `worst`: boxes of inputs.
 //! - `tasks`: response times.
 //! - `outside`: files at the limit, reads and writes that fail.
 //! - `answers`, `notation`, `programs`: words, files and answers, programs in a short notation, and programs of C as ALF.
@@ -37,6 +37,8 @@ mod ranges;
 mod reports;
 #[cfg(test)]
 mod runs;
+#[cfg(test)]
+mod worst;
 
 // Response times.
 #[cfg(test)]

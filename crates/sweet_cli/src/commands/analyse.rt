@@ -59,8 +59,8 @@ pub fn analyse<F: Shelf>(
     Ok(text)
 }
 
-// The policy that merges there.
-fn policy(merging: Merging) -> Policy
+/// The policy that merges there.
+pub fn policy(merging: Merging) -> Policy
     ensures { result ≡ policy_of merging }
 {
     match merging {
@@ -70,8 +70,8 @@ fn policy(merging: Merging) -> Policy
     }
 }
 
-// The program, whose outline says what nodes cost.
-fn priced(mut program: ScopedProgram, costs: &Costs) -> ScopedProgram
+/// The program, whose outline says what nodes cost.
+pub fn priced(mut program: ScopedProgram, costs: &Costs) -> ScopedProgram
     requires outline { IsOutlined program.expanded.graph program.outline }
     ensures expanded { result.expanded ≡ program.expanded }
     ensures scopes { scoped_of result ≡ scoped_of program }

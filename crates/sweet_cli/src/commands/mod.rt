@@ -19,6 +19,7 @@ mod print;
 mod print_c;
 mod run;
 mod tasks;
+mod worst;
 
 use crate::words::{Command, ProgramFile, WordsFault, read};
 use command_plans::{Answer, Stop, Why, stopped};
@@ -67,8 +68,8 @@ fn command_text<F: Shelf>(
         Command::Print(program) => print_text(alloc, program, shelf),
         Command::Run(given) => run::run(alloc, given, shelf),
         Command::Cache(_) => Err(stopped(alloc, Why::Usage, "fault usage\n")),
-        Command::Worst(_) => Err(stopped(alloc, Why::Usage, "fault usage\n")),
         Command::Tasks(file) => tasks::tasks(alloc, file, shelf),
+        Command::Worst(given) => worst::worst(alloc, given, shelf),
     }
 }
 

@@ -1,0 +1,2 @@
+-- Shared lemmas.
+pub mod ToldBounds

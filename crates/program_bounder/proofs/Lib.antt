@@ -1,0 +1,4 @@
+-- Shared lemmas.
+pub mod Made
+pub mod Finding
+pub mod Suiting

@@ -3,8 +3,7 @@ use crate::values::part;
 use std::alloc::{AllocError, Global};
 use std::test::Fail;
 use sweet_words::{
-    AnalyseWords, CacheWords, CheckWords, Command, Merging, ProgramFile, RunWords, WordsFault,
-    WorstWords, read,
+    AnalyseWords, Command, Merging, ProgramFile, RunWords, WordsFault, WorstWords, read,
 };
 
 /// The words of a line, with a comma between two of them.
@@ -51,38 +50,8 @@ fn analyse_told(alloc: Global, given: AnalyseWords<'_>) -> Result<String, AllocE
     let turns = given.turns;
     let merging = merging_word(given.merging);
     let pivots = given.pivots;
-    let cert = if given.certified { " cert" } else { "" };
     Ok(format!(in alloc;
-        "analyse{language} {file} {root} {inputs} {costs} {turns} {merging} {pivots}{cert}"
-    )?)
-}
-
-/// What `check` was given. A file that is left out is a dash.
-fn check_told(alloc: Global, given: CheckWords<'_>) -> Result<String, AllocError> {
-    let language = language(given.program);
-    let file = name(given.program);
-    let report = given.report;
-    let root = given.root;
-    let inputs = given.inputs.unwrap_or("-");
-    let costs = given.costs.unwrap_or("-");
-    Ok(format!(in alloc; "check{language} {file} {report} {root} {inputs} {costs}")?)
-}
-
-/// What `cache` was given: the cache, then what `analyse` has.
-fn cache_told(alloc: Global, given: CacheWords<'_>) -> Result<String, AllocError> {
-    let language = language(given.program);
-    let file = name(given.program);
-    let sets = given.sets;
-    let ways = given.ways;
-    let line = given.line;
-    let penalty = given.penalty;
-    let root = given.root;
-    let inputs = given.inputs.unwrap_or("-");
-    let costs = given.costs.unwrap_or("-");
-    let turns = given.turns;
-    let merging = merging_word(given.merging);
-    Ok(format!(in alloc;
-        "cache{language} {file} {sets} {ways} {line} {penalty} {root} {inputs} {costs} {turns} {merging}"
+        "analyse{language} {file} {root} {inputs} {costs} {turns} {merging} {pivots}"
     )?)
 }
 
@@ -127,9 +96,7 @@ fn told(alloc: Global, words: &[String]) -> Result<String, AllocError> {
             let file = name(program);
             Ok(format!(in alloc; "print{language} {file}")?)
         }
-        Ok(Command::Check(given)) => check_told(alloc, given),
         Ok(Command::Run(given)) => run_told(alloc, given),
-        Ok(Command::Cache(given)) => cache_told(alloc, given),
         Ok(Command::Worst(given)) => worst_told(alloc, given),
         Ok(Command::Tasks(file)) => Ok(format!(in alloc; "tasks {file}")?),
         Err(_) => String::from_str(alloc, "no command"),
@@ -215,15 +182,6 @@ print,a.C = print a.C
 print,a.c = print of C a.c
 print,.c = print of C .c
 print,--,-a.c = print of C -a.c
-analyse,a.alf,--cert = analyse a.alf main - - 100000 joins 1000 cert
-analyse,--cert,a.c,--pivots,7 = analyse of C a.c main - - 100000 joins 7 cert
-check,a.alf,r.txt = check a.alf r.txt main - -
-check,a.c,r.txt,--root,f,--inputs=i,--costs,c = check of C a.c r.txt f i c
-check,--costs=c,a.alf,--,-r = check a.alf -r main - c
-cache,a.alf,--sets,1,--ways,2,--line,16,--penalty,10 = cache a.alf 1 2 16 10 main - - 100000 joins
-cache,--penalty=0,--line=4,--ways=1,--sets=1,a.c = cache of C a.c 1 1 4 0 main - - 100000 joins
-cache,--sets,1024,--ways,16,--line,4096,--penalty,4294967295,a = cache a 1024 16 4096 4294967295 main - - 100000 joins
-cache,a,--sets,2,--ways,2,--line,32,--penalty,9,--root,f,--turns,5,--merge,none = cache a 2 2 32 9 f - - 5 none
 worst,a.c = worst of C a.c 16 main - - 100000 joins 1000
 worst,a.c,--splits,1,--inputs,i,--pivots,9 = worst of C a.c 1 main i - 100000 joins 9
 worst,--splits=256,a = worst a 256 main - - 100000 joins 1000
@@ -322,6 +280,7 @@ analyse,a.alf,--merge,join
 analyse,a.alf,--merge, joins
 analyse,a.alf,--merge,joins,--merge,joins
 analyse,a.alf,--merges,joins
+analyse,a.alf,--cert
 analyse,a.alf,--cert,--cert
 analyse,a.alf,--cert=true
 analyse,a.alf,--cert,yes
@@ -337,6 +296,8 @@ check,a.alf,r.txt,--turns,5
 check,a.alf,r.txt,--cert
 check,a.alf,r.txt,--merge,none
 run,a.alf,--cert
+check,a.alf,r.txt
+cache,a.alf,--sets,1,--ways,2,--line,16,--penalty,10
 replay,a.alf,r.txt
 lower
 lower,
@@ -390,7 +351,7 @@ tasks,t.toml,--inputs,i";
 
 #[test]
 fn words_are_commands_in_any_order(rt: HostRuntime) -> Result<(), Fail> {
-    assert_eq!(rt; COMMANDS.split('\n').count(), 83);
+    assert_eq!(rt; COMMANDS.split('\n').count(), 74);
     for row in COMMANDS.split('\n') {
         let words = words_of(rt.alloc(), part(row, " = ", 0))?;
         let found = told(rt.alloc(), &words)?;
@@ -401,7 +362,7 @@ fn words_are_commands_in_any_order(rt: HostRuntime) -> Result<(), Fail> {
 
 #[test]
 fn other_words_are_no_command(rt: HostRuntime) -> Result<(), Fail> {
-    assert_eq!(rt; NO_COMMANDS.split('\n').count(), 155);
+    assert_eq!(rt; NO_COMMANDS.split('\n').count(), 158);
     for row in NO_COMMANDS.split('\n') {
         let words = words_of(rt.alloc(), row)?;
         assert!(rt; are_usage(rt.alloc(), &words), "{row}");

@@ -2,7 +2,7 @@
 --   task_for command    the task of a command
 --   task_of words       the task of the words of a command line
 use Rattle.std.specs.Prelude.{ℕ, List, Option, None, Some}
-use Rattle.sweet_cli.specs.Words.{Command, Analyse, Check, Lower, Print, Run, Cache, Worst, Tasks, ProgramFile, Alf, C, command_of}
+use Rattle.sweet_cli.specs.Words.{Command, Analyse, Lower, Print, Run, Worst, Tasks, ProgramFile, Alf, C, command_of}
 use Rattle.sweet_cli.specs.Task.{Task, no_command}
 use Rattle.sweet_cli.specs.Analyse.{analyse}
 use Rattle.sweet_cli.specs.Lower.{lower}
@@ -19,11 +19,9 @@ print_task (C file) = print_c file
 
 abbrev pub task_for : Command → Task
 task_for (Analyse given) = analyse given
-task_for (Check given) = no_command
 task_for (Lower given) = lower given
 task_for (Print program) = print_task program
 task_for (Run given) = run given
-task_for (Cache given) = no_command
 task_for (Worst given) = worst given
 task_for (Tasks file) = tasks file
 

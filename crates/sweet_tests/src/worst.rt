@@ -146,7 +146,13 @@ fn cost_of(alloc: Global, program: &str, inputs: &str) -> Result<u64, AllocError
     let files = three_files(alloc, program, inputs, "default = 1")?;
     let told = told(alloc, "run a.alf --inputs i.toml", files)?;
     let cost = told.as_str().split("cost ").nth(1).unwrap_or("");
-    Ok(cost.split(';').next().unwrap_or("").parse::<u64>().unwrap_or(0))
+    Ok(
+        cost.split(';')
+            .next()
+            .unwrap_or("")
+            .parse::<u64>()
+            .unwrap_or(0),
+    )
 }
 
 // The greatest cost of the runs with each of these numbers.

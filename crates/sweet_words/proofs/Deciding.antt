@@ -32,29 +32,21 @@ forms_are = (
   (refl, refl, refl),
   (refl, (refl, (refl, (refl, (refl, (refl, tt)))))),
   (
-    (refl, refl, (refl, refl, refl)),
-    (refl, (refl, (refl, tt))),
+    (refl, refl, refl),
+    (refl, tt),
     (
       (refl, refl, refl),
-      (refl, tt),
+      tt,
       (
         (refl, refl, refl),
-        tt,
+        (refl, (refl, (refl, (refl, tt)))),
         (
           (refl, refl, refl),
-          (refl, (refl, (refl, (refl, tt)))),
+          (refl, (refl, (refl, (refl, (refl, (refl, (refl, tt))))))),
           (
             (refl, refl, refl),
-            (refl, (refl, (refl, (refl, (refl, (refl, (refl, (refl, (refl, tt))))))))),
-            (
-              (refl, refl, refl),
-              (refl, (refl, (refl, (refl, (refl, (refl, (refl, tt))))))),
-              (
-                (refl, refl, refl),
-                tt,
-                tt,
-              ),
-            ),
+            tt,
+            tt,
           ),
         ),
       ),

@@ -26,14 +26,6 @@ analyse_form = record {
   name = codes "analyse";
   positionals = codes "file" ∷ [];
   values = codes "root" ∷ codes "inputs" ∷ codes "costs" ∷ codes "turns" ∷ codes "merge" ∷ codes "pivots" ∷ [];
-  flags = codes "cert" ∷ [];
-}
-
-abbrev pub check_form : Form
-check_form = record {
-  name = codes "check";
-  positionals = codes "file" ∷ codes "report" ∷ [];
-  values = codes "root" ∷ codes "inputs" ∷ codes "costs" ∷ [];
   flags = [];
 }
 
@@ -51,15 +43,6 @@ run_form = record {
   flags = [];
 }
 
-abbrev pub cache_form : Form
-cache_form = record {
-  name = codes "cache";
-  positionals = codes "file" ∷ [];
-  values = codes "sets" ∷ codes "ways" ∷ codes "line" ∷ codes "penalty"
-      ∷ codes "root" ∷ codes "inputs" ∷ codes "costs" ∷ codes "turns" ∷ codes "merge" ∷ [];
-  flags = [];
-}
-
 abbrev pub worst_form : Form
 worst_form = record {
   name = codes "worst";
@@ -73,7 +56,7 @@ tasks_form = record { name = codes "tasks"; positionals = codes "file" ∷ []; v
 
 -- the commands that are built
 abbrev pub forms : List Form
-forms = analyse_form ∷ check_form ∷ lower_form ∷ print_form ∷ run_form ∷ cache_form ∷ worst_form ∷ tasks_form ∷ []
+forms = analyse_form ∷ lower_form ∷ print_form ∷ run_form ∷ worst_form ∷ tasks_form ∷ []
 
 -- the form of the command that the word names
 abbrev pub form_named : Text → List Form → Option Form

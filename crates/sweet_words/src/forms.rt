@@ -10,17 +10,11 @@ pub struct Form {
 }
 
 /// The commands that are built: a further command is a further row.
-pub static FORMS: [Form; 8] = [
+pub static FORMS: [Form; 6] = [
     Form {
         name: "analyse",
         positionals: &["file"],
         values: &["root", "inputs", "costs", "turns", "merge", "pivots"],
-        flags: &["cert"],
-    },
-    Form {
-        name: "check",
-        positionals: &["file", "report"],
-        values: &["root", "inputs", "costs"],
         flags: &[],
     },
     Form {
@@ -39,14 +33,6 @@ pub static FORMS: [Form; 8] = [
         name: "run",
         positionals: &["file"],
         values: &["root", "inputs", "costs", "turns"],
-        flags: &[],
-    },
-    Form {
-        name: "cache",
-        positionals: &["file"],
-        values: &[
-            "sets", "ways", "line", "penalty", "root", "inputs", "costs", "turns", "merge",
-        ],
         flags: &[],
     },
     Form {

@@ -63,11 +63,9 @@ fn command_text<F: Shelf>(
 {
     match command {
         Command::Analyse(given) => analyse::analyse(alloc, given, shelf),
-        Command::Check(_) => Err(stopped(alloc, Why::Usage, "fault usage\n")),
         Command::Lower(given) => lower::lower(alloc, given, shelf),
         Command::Print(program) => print_text(alloc, program, shelf),
         Command::Run(given) => run::run(alloc, given, shelf),
-        Command::Cache(_) => Err(stopped(alloc, Why::Usage, "fault usage\n")),
         Command::Tasks(file) => tasks::tasks(alloc, file, shelf),
         Command::Worst(given) => worst::worst(alloc, given, shelf),
     }

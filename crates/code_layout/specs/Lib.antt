@@ -1,0 +1,3 @@
+-- The layout of code, and what holds of it.
+pub mod Layouts
+pub mod LayoutLaws

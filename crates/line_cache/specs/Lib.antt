@@ -1,0 +1,12 @@
+-- The files here, each after those that it cites.
+pub mod Lines
+pub mod LineLaws
+pub mod PartLines
+pub mod Lru
+pub mod Sure
+pub mod Covered
+pub mod RowLaws
+pub mod Traced
+pub mod LruLaws
+pub mod MissRules
+pub mod MissLaws

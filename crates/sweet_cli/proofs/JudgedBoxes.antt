@@ -12,13 +12,14 @@ use Rattle.sweet_cli.specs.Scopes.{ScopedProgram}
 use Rattle.sweet_cli.specs.LeftLines.{left_line}
 use Rattle.sweet_cli.specs.Worst.{WorstMeans}
 
-found_is : (a b : Searched) → Ok a ≡ Ok b → a ≡ b
+-- the boxes of an answer, and its scope
+found_is : (a b : Searched) → ◌≡◌ {A = Result Searched ℕ} (Ok a) (Ok b) → a ≡ b
 found_is a b e = cc
 
-scope_is : (s t : ℕ) → Err s ≡ Err t → s ≡ t
+scope_is : (s t : ℕ) → ◌≡◌ {A = Result Searched ℕ} (Err s) (Err t) → s ≡ t
 scope_is s t e = cc
 
-found_not : (a : Searched) (s : ℕ) → Ok a ≡ Err s → ⊥
+found_not : (a : Searched) (s : ℕ) → ◌≡◌ {A = Result Searched ℕ} (Ok a) (Err s) → ⊥
 found_not a s e = cc
 
 module _ (program : ScopedProgram) (rows : List InputRow) (costs : CostTable) (policy : Policy) (turns pivots splits : ℕ) where

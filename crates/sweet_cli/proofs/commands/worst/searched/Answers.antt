@@ -1,6 +1,8 @@
 -- Boxes of inputs, or that places are left, are the only meaning.
-use Rattle.std.proofs.Common.{refl}
+use Rattle.std.proofs.Common.{◌≡◌, refl, subst}
+use Rattle.program_bounder.specs.declared.bounder.PathBounder.{PathBounder}
 use Rattle.worst_inputs.specs.Searches.{found_of}
+use Rattle.sweet_cli.specs.LeftLines.{left_line}
 use Rattle.sweet_cli.specs.SeenBounders.{scoped_in_bounder}
 use Rattle.sweet_cli.proofs.JudgedBoxes.{boxes_only, left_only}
 use Rattle.sweet_cli.proofs.commands.worst.searched.Goals as goal
@@ -10,7 +12,10 @@ returns-in-Ok-clause-means c =
     let b = c.args.bounder.now in
     boxes_only (scoped_in_bounder b) b.rows.items b.costs b.policy b.turns b.pivots c.args.splits (c.worst_boxes.ensures.one c.args.splits) (found_of c.in-Ok.found) c.in-Ok.ensures.found
 
-pub returns-in_ok-line-clause-means : goal.returns-in_ok-line-clause-means
-returns-in_ok-line-clause-means c =
+pub returns-in_ok-line-in-Err-Left-clause-means : goal.returns-in_ok-line-in-Err-Left-clause-means
+returns-in_ok-line-in-Err-Left-clause-means c =
     let b = c.args.bounder.now in
-    (refl, left_only (scoped_in_bounder b) b.rows.items b.costs b.policy b.turns b.pivots c.args.splits (c.worst_boxes.ensures.one c.args.splits) c.in-Left.scope c.in_ok-line.line.items c.in-Left.ensures c.in_ok-line.ensures)
+    let left = rw c.in-Err-Left.field-0-is at c.in-Err-Left.ensures.fault in
+    let line = subst (λ (x : PathBounder). c.in_ok-line-in-Err-Left.line.items ≡ left_line x.graph x.outline.scopes c.in-Err-Left.scope) c.worst_boxes.ensures.unchanged
+    c.in_ok-line-in-Err-Left.ensures in
+    (refl, left_only (scoped_in_bounder b) b.rows.items b.costs b.policy b.turns b.pivots c.args.splits (c.worst_boxes.ensures.one c.args.splits) c.in-Err-Left.scope c.in_ok-line-in-Err-Left.line.items left line)

@@ -1,0 +1,2 @@
+-- The files here.
+pub mod Explored

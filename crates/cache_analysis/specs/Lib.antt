@@ -1,0 +1,8 @@
+-- The files here, each after those that it cites.
+pub mod CodeAccesses
+pub mod Sound
+pub mod SoundLaws
+pub mod Ranks
+pub mod Noted
+pub mod Analyses
+pub mod OneAnswer

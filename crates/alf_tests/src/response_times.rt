@@ -1,5 +1,7 @@
 //! Response times of task sets, and what a simulation makes of their first jobs.
 
+ghost use Rattle.std.specs.Prelude.{◌<◌};
+
 use crate::simulation::first_ends;
 use crate::tables::fault_text;
 use cost_table::{Task, tasks};
@@ -82,14 +84,14 @@ fn the_first_job_of_each_task_ends_at_its_response_time(rt: HostRuntime) -> Resu
 fn a_simulation_ends_each_first_job_at_its_response_time(rt: HostRuntime) -> Result<(), Fail> {
     let alloc = rt.alloc();
     let mut state = 1;
-    let mut on_time = 0;
+    let mut on_time = 0u32;
     for number in 0..300u64 {
         let set = made_set(alloc, &mut state, number)?;
         let told = told_times(alloc, set.as_str())?;
         if !told.as_str().starts_with("late") {
             let simulated = simulated(alloc, set.as_str())?;
             assert_eq!(rt; told.as_str(), simulated.as_str(), "{set}");
-            on_time += 1;
+            on_time = on_time.saturating_add(1);
         }
     }
     assert_eq!(rt; on_time, 95);

@@ -1,1 +1,1 @@
-"""The checks of the viewer, which tools/check-view makes: programs by chance, spoilt texts, and what a page must be."""
+"""What tools/check-view holds the viewer with: programs by chance, spoilt texts, and what a page must be."""

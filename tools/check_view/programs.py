@@ -1,4 +1,4 @@
-"""Programs of the profile of C by chance, one for each seed: all statements, calls, pointers, narrow types, odd layouts."""
+"""Programs of the profile of C by chance, one for each seed: all statements, calls, pointers, odd layouts."""
 
 import random
 
@@ -92,7 +92,8 @@ class Program:
         if self.often(0.25):
             return self.pick(f"-({inner})", f"~({inner})", f"!({inner})", f"(unsigned char)({inner})", f"({inner})")
         operator = self.pick(*BINARY)
-        other = self.constant() if operator in ("<<", ">>", "/", "%") and self.often(0.8) else self.expression(depth - 1)
+        is_plain = operator in ("<<", ">>", "/", "%") and self.often(0.8)
+        other = self.constant() if is_plain else self.expression(depth - 1)
         return f"{inner} {operator} ({other})" if self.often(0.5) else f"({inner}){operator}({other})"
 
     def test(self, depth: int = 2) -> str:

@@ -20,7 +20,7 @@ DIVISIONS = ("s_div", "u_div", "s_mod", "u_mod")
 
 @dataclasses.dataclass(slots=True, eq=False)
 class Alarm:
-    """A cause at a block, for all of its nodes that have it. `lines` are those where an item that may fault so begins."""
+    """A cause at a block, for all of its nodes that have it. `lines` are those where items that may fault so begin."""
 
     cause: str
     tokens: list[int]

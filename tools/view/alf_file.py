@@ -10,8 +10,8 @@ from view.items import Function, Item
 
 
 def program_of(text: str, printed: str) -> tuple[list[Token], list[Function], dict[str, Global]]:
-    """The tokens of a text, its functions, and its global frames. `Differs` where its items are not those of the canonical
-    text that is printed for it."""
+    """The tokens of a text, its functions, and its global frames. `Differs` where its items are not those of the
+    canonical text that is printed for it."""
     tokens = tokens_of(text)
     tree = tree_of(tokens)
     if plain(tree) != plain(tree_of(tokens_of(printed))):

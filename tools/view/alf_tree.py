@@ -7,7 +7,16 @@ import typing
 from view.c_tokens import Token
 from view.differs import Differs
 
-WORD = re.compile(r'(?P<space>\s+|/\*.*?\*/)|(?P<string>"[^"]*")|(?P<brace>[{}])|(?P<number>[0-9]+)|(?P<word>\w+)', re.S)
+WORD = re.compile(
+    r"""
+  (?P<space>\s+|/\*.*?\*/)
+| (?P<string>"[^"]*")
+| (?P<brace>[{}])
+| (?P<number>[0-9]+)
+| (?P<word>\w+)
+""",
+    re.X | re.S,
+)
 
 
 class Branch(list):

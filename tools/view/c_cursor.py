@@ -1,6 +1,7 @@
 """Reading the tokens of C one after the other.
 
-Only texts that the program took come here, so a token that does not fit is no fault of the text: the two readers differ.
+Only texts that the program took come here, so a token that does not fit is no fault of the text: the two readers
+differ.
 """
 
 import typing

@@ -105,8 +105,8 @@ class Expressions(Cursor):
         return item, result
 
     def value_into(self, item: Item) -> list[Item]:
-        """What stands after `=` and `return`, for the item that takes it: that item, and before it the call, if it is one.
-        The tokens of a call are its own."""
+        """What stands after `=` and `return`, for the item that takes it: that item, and before it the call, if it is
+        one. The tokens of a call are its own."""
         if self.is_call():
             call, result = self.call()
             item.frames += result

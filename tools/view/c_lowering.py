@@ -27,8 +27,8 @@ class Lowering:
         self.labels += count
         return [f"{self.function.name}::L{self.labels - count + it}" for it in range(count)]
 
-    def put_label(self, label: str, weak: list[int] | None = None, strong: list[int] | None = None, role: str = "label") -> None:
-        self.items.append(Item("label", strong or [], weak or [], [label], role=role))
+    def put_label(self, label: str, weak: tuple[int, ...] = ()) -> None:
+        self.items.append(Item("label", weak=[*weak], labels=[label], role="label"))
 
     def put_jump(self, label: str, token: int, role: str) -> None:
         self.items.append(Item("jump", weak=[token], labels=[label], role=role))
@@ -73,7 +73,7 @@ class Lowering:
         self.add(then, leave, again)
         self.put_jump(end, then.last, "end of the branch")
         if other:
-            self.put_label(false, weak=[then.last + 1])
+            self.put_label(false, weak=(then.last + 1,))
             self.add(other, leave, again)
         self.put_label(end)
 
@@ -92,7 +92,7 @@ class Lowering:
     def _(self, statement: Do, leave: str, again: str) -> None:
         inner, test, end = self.new_labels(3)
         self.loop("do", statement, inner, inner)
-        self.put_label(inner, weak=[statement.first])
+        self.put_label(inner, weak=(statement.first,))
         self.add(statement.body, end, test)
         self.put_label(test)
         self.put_test(statement.test, inner, end, "test of the do")
@@ -129,7 +129,7 @@ class Lowering:
         for member in statement.body.members:
             if isinstance(member, Case):
                 tokens = list(range(member.first, member.last + 1))
-                self.put_label(next(ahead), strong=tokens, role="case")
+                self.items.append(Item("label", tokens, labels=[next(ahead)], role="case"))
             else:
                 self.add(member, end, again)
         self.put_label(end)

@@ -10,7 +10,7 @@ from view.items import Item
 class Expression:
     """An expression: its operator where that is one of conditions, and what is named in it.
 
-    `frames` are in the order of the text; `operators` have each before those of its operands, as texts of ALF have them.
+    `frames` are in the order of the text; `operators` have each before those of its operands, as texts of ALF do.
     """
 
     operator: str | None

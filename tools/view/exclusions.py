@@ -14,8 +14,8 @@ class Exclusion:
 
 
 def exclusions_of(model: Model) -> list[Exclusion]:
-    """All pairs and no others: each pair is of two groups of one exclusion, and each two nodes of two such groups are a
-    pair."""
+    """All pairs and no others: each pair is of two groups of one exclusion, and each two nodes of two such groups are
+    a pair."""
     by_scope: dict[int, list[tuple[int, int]]] = {}
     for scope, first, second in model.report.pairs:
         by_scope.setdefault(scope, []).append((first, second))

@@ -124,21 +124,22 @@ class Picture:
 
     def node(self, node: Node) -> str:
         number, line, count = node.number, node.block.home + 1, self.count(node)
-        label = f"{node.block.text} is entered" if node.block.number == ENTRY else node.block.text
+        label = node.block.text + (" is entered" if node.block.number == ENTRY else "")
         sign = "▲ " if number in self.found.alarms.first_item else ""
         kind = "dead" if node.is_dead else f"h{self.model.level(node.share)}"
         letters = (self.width - self.text_start - self.count_width - 44 - 3 * self.deepest) // LETTER
+        is_entry = node.block.number == ENTRY
         x, y = self.x(number), self.y(number)
         text = self.text_start + self.count_width
         return element(
             "g",
             element("rect", class_="hit", x=0, y=y - 11, width=self.width, height=22),
-            element("rect", class_="dot", x=x - 12, y=y - 8, width=24, height=16, rx=2 if node.block.number == ENTRY else 8),
+            element("rect", class_="dot", x=x - 12, y=y - 8, width=24, height=16, rx=2 if is_entry else 8),
             element("text", str(number), class_="id", x=x, y=y + 4),
             element("text", count, class_="cn", x=text - 12, y=y + 4),
             element("text", sign + escape(shortened(label, letters)), class_="tx", x=text, y=y + 4),
             element("text", str(line), class_="lx", x=self.width - 8 - 3 * self.deepest, y=y + 4),
-            class_=f"node {kind} entry" if node.block.number == ENTRY else f"node {kind}",
+            class_=f"node {kind} entry" if is_entry else f"node {kind}",
             tabindex=-1,
             data_n=number,
             data_go=line,

@@ -32,7 +32,7 @@ OPERATORS = {
 OPERATOR_OF = {head: heads for heads in OPERATORS.values() for head in heads.split()}
 
 def hold(functions: list[Function], tokens: list[Token], lowered: str) -> int:
-    """Compares all items of all functions, and gives each its term. How many there are; `Differs` where one differs."""
+    """Compares all items of all functions, and gives each its term. How many there are; `Differs` if one differs."""
     branches = members_of(tree_of(tokens_of(lowered)), "funcs")
     if len(branches) != len(functions):
         raise Differs(f"{len(functions)} functions in the file, {len(branches)} in `lower`")
@@ -88,7 +88,8 @@ def hold_order(what: str, own: list, found: list) -> None:
 
 
 def hold_offset(where: str, element: int, term: Branch) -> None:
-    """A store of an initialiser, { store { addr 32 FREF { dec_unsigned 32 OFFSET } } with VALUE }, is at its element's byte."""
+    """A store of an initialiser is at its element's byte: { store { addr 32 FREF { dec_unsigned 32 OFFSET } } with
+    VALUE }."""
     value = term[3]
     size = int(value[1]) if value.head.startswith("dec") else int(value[2]) if value.head == "trunc" else 32
     byte = int(term[1][3][2])

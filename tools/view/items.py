@@ -11,10 +11,10 @@ ENDS = ("call", "jump", "switch", "return")
 class Item:
     """An item of a function.
 
-    `labels` and `frames` are all names of labels (also of functions) and of frames in it, in order, and `operators` those
-    of C, each before those of its operands. `strong` are the tokens that stand for its block; `weak` ones do so only where
-    the block has no strong one. `offset` is the number of the element that it initialises. `term` is what the program's
-    text has for it.
+    `labels` and `frames` are all names of labels (also of functions) and of frames in it, in order, and `operators`
+    those of C, each before those of its operands. `strong` are the tokens that stand for its block; `weak` ones do so
+    only where the block has no strong one. `offset` is the number of the element that it initialises. `term` is what
+    the program's text has for it.
     """
 
     kind: str

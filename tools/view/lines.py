@@ -11,8 +11,8 @@ from view.report import Range, range_text
 class LineFacts:
     """How often a line is executed in a run, its share, its level of heat, and its parts where they differ.
 
-    `state` is "live", "dead" (reached by no run), "noway" (no way through the program leads here), or "none" (nothing is
-    executed). A share is told once, at the first line of a block; the heat is that of all blocks of the line.
+    `state` is "live", "dead" (reached by no run), "noway" (no way through the program leads here), or "none" (nothing
+    is executed). A share is told once, at the first line of a block; the heat is that of all blocks of the line.
     """
 
     count: Range | None
@@ -59,8 +59,8 @@ class Lines:
         return LineFacts(best, share, self.model.level(heat), state, shown)
 
     def count(self, block: Block, nodes: list[Node], line: int) -> Range:
-        """How often a run comes to a line in nodes of one block. Behind an item that may fault it comes once less: a run
-        faults once."""
+        """How often a run comes to a line in nodes of one block. Behind an item that may fault it comes once less: a
+        run faults once."""
         low, high = sum(it.low for it in nodes), sum(it.high for it in nodes)
         first, faults = block.first_item.get(line, 0), self.alarms.first_item
         may_stop = any(first > faults[it.number] for it in nodes if it.number in faults)

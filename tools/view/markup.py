@@ -10,8 +10,8 @@ def escape(text: object) -> str:
 
 
 def element(name: str, /, *content: str, **attributes: object) -> str:
-    """An element; content is markup, and values of attributes are plain. `class_` stands for `class`, and other underscores
-    for dashes. An attribute that is None is left out, and one that is True has no value."""
+    """An element; content is markup, and values of attributes are plain. `class_` stands for `class`, and other
+    underscores for dashes. An attribute that is None is left out, and one that is True has no value."""
     given = ""
     for key, value in attributes.items():
         if value is not None and value is not False:
@@ -29,7 +29,7 @@ def numbers(nodes: list[int]) -> str:
     return " ".join(str(it) for it in nodes)
 
 
-def item(name: str, nodes: list[int], line: int | None, /, *content: str, kind: str = "", **attributes: object) -> str:
-    """An element that can be pointed at, with its nodes and, where it is not in the source, the line that it leads to."""
-    go = None if line is None else line + 1
-    return element(name, *content, class_=f"item {kind}".strip(), tabindex=-1, data_n=numbers(nodes), data_go=go, **attributes)
+def item(name: str, nodes: list[int], line: int, /, *content: str, kind: str = "", **attributes: object) -> str:
+    """An element of a list that can be pointed at, with its nodes and the line that it leads to."""
+    given = {"tabindex": -1, "data_n": numbers(nodes), "data_go": line + 1, **attributes}
+    return element(name, *content, class_=f"item {kind}".strip(), **given)

@@ -44,8 +44,8 @@ class Block:
 
 @dataclasses.dataclass(slots=True, eq=False)
 class Node:
-    """A node of the report. `counted` is how often it stands in the bound that the heat is of, and `share` its part of it,
-    from 0 to 1."""
+    """A node of the report. `counted` is how often it stands in the bound that the heat is of, and `share` its part of
+    it, from 0 to 1."""
 
     number: int
     place: Place

@@ -83,7 +83,8 @@ class Page:
         """Why no line is marked, and why there is no report."""
         found = ""
         if self.view.differs:
-            why = f" The rules of this viewer and of <code>sweet</code> do not agree on this file: {escape(self.view.differs)}."
+            why = " The rules of this viewer and of <code>sweet</code> do not agree on this file: "
+            why += f"{escape(self.view.differs)}."
             is_told = " The report itself is not in doubt." if self.view.report else ""
             found += element("div", element("strong", "No line is marked."), why, is_told, class_="warn")
         if self.view.refusal:
@@ -122,8 +123,9 @@ class Page:
 
     def legend(self) -> str:
         """What heat and the margin mean."""
+        scale = element("span", *(element("i", class_=f"h{it}") for it in range(1, LEVELS + 1)), class_="scale")
         parts = [
-            element("span", *(element("i", class_=f"h{it}") for it in range(1, LEVELS + 1)), class_="scale") + " " + self.heat(),
+            scale + " " + self.heat(),
             element("b", "5..17") + " at least 5 and at most 17 times in a run",
             "below a line: its parts, where they differ",
             element("span", "grey", class_="dead") + " never reached",

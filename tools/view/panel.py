@@ -106,14 +106,16 @@ class Panel:
 
     def scopes_within(self, scope: int) -> str:
         """The scopes within one in the order of rows; those that are never entered are folded where it is."""
-        within = sorted(self.found.rows.within[scope], key=lambda it: self.found.rows.row[self.report.scopes[it].header])
+        rows = self.found.rows
+        within = sorted(rows.within[scope], key=lambda it: rows.row[self.report.scopes[it].header])
         is_dead = self.model.header_of(scope).is_dead
         shown = [it for it in within if is_dead or not self.model.header_of(it).is_dead]
         folded = [it for it in within if it not in shown]
-        rows = "".join(self.scope(it) for it in shown)
+        told = "".join(self.scope(it) for it in shown)
         if folded:
-            rows += element("li", more(len(folded), "never entered", element("ul", *(self.scope(it) for it in folded))))
-        return element("ul", rows) if rows else ""
+            inner = element("ul", *(self.scope(it) for it in folded))
+            told += element("li", more(len(folded), "never entered", inner))
+        return element("ul", told) if told else ""
 
     # -- alarms
 
@@ -160,7 +162,7 @@ class Panel:
     # -- what the script tells of a node
 
     def node_data(self) -> list[list[object]]:
-        """For each node: text, line, count in a run and per loop entry, cost, share, name, caller, how often counted."""
+        """For each node: text, line, count in a run and per loop entry, cost, share, name, caller, times counted."""
         return [
             [
                 it.block.text,

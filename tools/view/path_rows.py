@@ -1,7 +1,7 @@
 """The rows of docs/bounds.md that a report makes, and a point of them that is worth the path bound.
 
-The solver of the program is not asked: the report has no point. So a point is sought here, and taken only where it meets
-each row and its worth, rounded down, is the path bound that the report tells.
+The solver of the program is not asked: the report has no point. So a point is sought here, and taken only where it
+meets each row and its worth, rounded down, is the path bound that the report tells.
 """
 
 import dataclasses
@@ -84,7 +84,7 @@ class PathRows:
         return found
 
     def first_basis(self) -> dict[int, int]:
-        """For each row that says how often a node comes at most a column that leaves the node: where the search begins."""
+        """For each row that says how often a node comes at most a column that leaves it: where the search begins."""
         found = {}
         for number, row in enumerate(self.rows):
             if not row.is_equation and len({self.columns[it].source for it in row.terms}) == 1:

@@ -13,7 +13,11 @@ PLACED = {
     "96": "These types do not fit",
 }
 # Departures of ALF with a line and a column.
-PLACED_OF_ALF = {"10": "This is no ALF", "11": "This number is none here", "12": "This is outside of the profile of ALF"}
+PLACED_OF_ALF = {
+    "10": "This is no ALF",
+    "11": "This number is none here",
+    "12": "This is outside of the profile of ALF",
+}
 WAITS = "The steps are used up; runs wait here. More --turns may help, or another --merge, or narrower inputs"
 
 

@@ -4,6 +4,7 @@ from view.model import Model
 
 # A part of a scope: a node of its own, or a scope within it.
 Part = tuple[str, int]
+PartEdges = dict[Part, set[Part]]
 
 
 class RowOrder:
@@ -52,11 +53,11 @@ class RowOrder:
                 before[it].discard(last)
                 ready += [it] if not before[it] and it in parts and it not in ready else []
 
-    def part_edges(self, scope: int, depth: int, parts: list[Part]) -> tuple[dict[Part, set[Part]], dict[Part, set[Part]]]:
+    def part_edges(self, scope: int, depth: int, parts: list[Part]) -> tuple[PartEdges, PartEdges]:
         """Which parts follow on each part, and which come before it, but for the edges back to the header."""
         header = self.part_of(self.model.report.scopes[scope].header, scope, depth)
-        after: dict[Part, set[Part]] = {it: set() for it in parts}
-        before: dict[Part, set[Part]] = {it: set() for it in parts}
+        after: PartEdges = {it: set() for it in parts}
+        before: PartEdges = {it: set() for it in parts}
         for source, target in self.model.graph.edges:
             first, second = self.part_of(source, scope, depth), self.part_of(target, scope, depth)
             if first and second and first != second and second != header:

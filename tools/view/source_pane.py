@@ -4,6 +4,7 @@ import dataclasses
 import re
 
 from view.alarms import Alarm
+from view.c_cursor import TYPE_WORDS
 from view.items import Function
 from view.lines import NOTHING, LineFacts
 from view.markup import element, escape, numbers
@@ -12,9 +13,7 @@ from view.part_row import column_in, part_row
 from view.report import percent_text
 from view.view import View
 
-KEYWORDS = frozenset(
-    "char short int signed unsigned const void static if else for while do switch case default break continue return".split()
-)
+KEYWORDS = TYPE_WORDS | frozenset("if else for while do switch case default break continue return".split())
 # Badges begin behind the code, or below it where they would end past so many characters.
 WIDTH = 80
 
@@ -135,8 +134,7 @@ class SourcePane:
     # -- what is told at a line
 
     def badges(self, line: int) -> str:
-        given = [element("span", escape(it), class_="badge given", title="by the file of inputs") for it in self.given(line)]
-        all_badges = [it for it in self.loop_badges(line) + self.call_badges(line) + given if it]
+        all_badges = [it for it in self.loop_badges(line) + self.call_badges(line) + self.given_badges(line) if it]
         if not all_badges:
             return ""
         row = self.rows[line].expandtabs()
@@ -147,8 +145,9 @@ class SourcePane:
         indent = " " * (len(row) - len(row.lstrip())) if is_below else ""
         return element("span", indent, *all_badges, class_="badges under" if is_below else "badges")
 
-    def given(self, line: int) -> list[str]:
-        return self.view.given.get(line, [])
+    def given_badges(self, line: int) -> list[str]:
+        given = {"class_": "badge given", "title": "by the file of inputs"}
+        return [element("span", escape(it), **given) for it in self.view.given.get(line, [])]
 
     def loop_badges(self, line: int) -> list[str]:
         found = []

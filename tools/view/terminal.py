@@ -41,7 +41,8 @@ class Screen:
         if self.found:
             report = self.found.report
             bound = "path bound" if self.found.model.is_by_path else "count bound"
-            found.append(f"{self.view.path}: no run costs more than {report.path_bound} (path bound, {report.path_word})")
+            told = f"no run costs more than {report.path_bound} (path bound, {report.path_word})"
+            found.append(f"{self.view.path}: {told}")
             found.append(f"count bound {report.count_bound}; shares are of the {bound}")
             found += ["", f"{'in a run':>{self.count_width}} {'share':>5} {'line':>{self.number_width}}"]
         return [*self.view.notes, *found]
@@ -68,7 +69,8 @@ class Screen:
         if facts.parts and facts.state == "live":
             found.append(self.paint(CYAN, part_row(row, facts.parts).replace("–", "-")))
         for alarm in self.found.alarms.at_line.get(line, []) if self.found else ():
-            columns = [self.found.model.tokens[it].column for it in alarm.tokens if self.found.model.tokens[it].line == line]
+            tokens = [self.found.model.tokens[it] for it in alarm.tokens]
+            columns = [it.column for it in tokens if it.line == line]
             others = ", ".join(str(it + 1) for it in alarm.lines if it != line)
             where = f" (here or at line {others})" if others else ""
             calls = self.found.model.instance_words(alarm.nodes)

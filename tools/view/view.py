@@ -37,7 +37,8 @@ class Analysis:
 class View:
     """A file with its text, the words of the call and the program's answer.
 
-    `differs` says why no line is marked, `refusal` why there is no report, and `place` where; `notes` are further sentences.
+    `differs` says why no line is marked, `refusal` why there is no report, and `place` where; `notes` are further
+    sentences.
     """
 
     path: str

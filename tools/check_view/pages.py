@@ -2,9 +2,9 @@
 
 import html.parser
 
+from view.file_view import Analysis, View
 from view.graph import Graph
 from view.markup import VOID
-from view.view import Analysis, View
 
 
 class Tags(html.parser.HTMLParser):

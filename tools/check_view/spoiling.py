@@ -10,10 +10,11 @@ NUMBER = re.compile(r"\{ dec_signed 32 ([1-9][0-9]*) \}")
 
 
 def spoilt(lowered: str, chance: random.Random) -> str | None:
-    """The text with one edit that changes it; None where the edit found nothing to change."""
+    """The text with one edit of its functions; None where the edit found nothing to change."""
     edit = chance.choice((drop, double, swap, relabel, reframe, renumber))
-    text = edit(lowered, chance)
-    return text if text and text.split() != lowered.split() else None
+    before, funcs, functions = lowered.partition("{ funcs")
+    text = edit(functions, chance)
+    return before + funcs + text if text and text.split() != functions.split() else None
 
 
 def item_rows(lines: list[str]) -> list[int]:

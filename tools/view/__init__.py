@@ -6,10 +6,10 @@ report.
 
     c_tokens, c_cursor, c_tree, c_expressions, c_statements, c_units   the reader of C
     items, c_lowering                                                  items with the tokens that they come from
-    alf_tree, alf_file, hold, source                                   texts of ALF, and the comparison with them
+    alf_tree, alf_file, comparison, source                             texts of ALF, and the comparison with them
     graph, report, path_rows, dual_simplex                             nodes, the report's lines, a best point of it
     model, lines, loops, alarms, exclusions, row_order                 what is said of lines, loops and nodes
-    program, refusals, given_inputs, view                              the program's answers, and all that is shown
-    page, source_pane, panel, graph_picture, terminal                  the two forms; markup and part_row serve them
+    program, refusals, given_inputs, file_view                         the program's answers, and all that is shown
+    html_page, source_pane, panel, graph_picture, terminal             the two forms; markup and part_row serve them
     command                                                            the words
 """

@@ -79,10 +79,10 @@ def names_in(branch: Branch, word: str) -> list[str]:
     return [it[2].strip('"') for it in branches_in(branch) if it.head == word]
 
 
-def numbers_in(branch: Branch) -> list[int]:
-    """The numbers in order. One with a minus counts as -1, which no constant of C is."""
-    found = [it for it in branches_in(branch) if it.head in ("dec_signed", "dec_unsigned")]
-    return [int(it[2]) if isinstance(it[2], str) else -1 for it in found]
+def number_of(branch: Branch) -> int | None:
+    """The number that a branch is. One with a minus is none: no constant of C has one."""
+    is_number = branch.head in ("dec_signed", "dec_unsigned") and isinstance(branch[2], str)
+    return int(branch[2]) if is_number else None
 
 
 def part_of(branch: Branch, head: str) -> Branch:

@@ -1,6 +1,7 @@
 """Expressions of C, calls and what assigns."""
 
 from view.c_cursor import TYPE_WORDS, Cursor
+from view.c_tokens import value_of
 from view.c_tree import Expression
 from view.items import Function, Item
 
@@ -32,8 +33,8 @@ class Expressions(Cursor):
         while LEVELS.get(self.ahead(), 0) >= level:
             operator = self.take()
             right = self.expression(LEVELS[operator] + 1)
-            frames, operators = left.frames + right.frames, [operator, *left.operators, *right.operators]
-            left = Expression(operator, (left, right), left.first, right.last, frames, operators)
+            frames, marks = left.frames + right.frames, [operator, *left.marks, *right.marks]
+            left = Expression(operator, (left, right), left.first, right.last, frames, marks)
         return left
 
     def unary(self) -> Expression:
@@ -41,14 +42,14 @@ class Expressions(Cursor):
         if word in ("!", "~", "-", "+", "*", "&"):
             self.take()
             inner = self.unary()
-            operators = [UNARY[word], *inner.operators] if word in UNARY else inner.operators
-            return Expression("!" if word == "!" else None, (inner,), first, inner.last, inner.frames, operators)
+            marks = [UNARY[word], *inner.marks] if word in UNARY else inner.marks
+            return Expression("!" if word == "!" else None, (inner,), first, inner.last, inner.frames, marks)
         if word == "(" and self.ahead(1) in TYPE_WORDS:
             while self.ahead() != ")":
                 self.take()
             self.take()
             inner = self.unary()
-            return Expression(None, (), first, inner.last, inner.frames, inner.operators)
+            return Expression(None, (), first, inner.last, inner.frames, inner.marks)
         return self.postfix()
 
     def postfix(self) -> Expression:
@@ -58,8 +59,8 @@ class Expressions(Cursor):
             self.take()
             index = self.expression()
             self.take("]")
-            frames, operators = value.frames + index.frames, ["+", *value.operators, *index.operators]
-            value = Expression(None, (), first, self.at - 1, frames, operators)
+            frames, marks = value.frames + index.frames, ["+", *value.marks, *index.marks]
+            value = Expression(None, (), first, self.at - 1, frames, marks)
         return value
 
     def primary(self) -> Expression:
@@ -69,13 +70,15 @@ class Expressions(Cursor):
             inner = self.expression()
             self.take(")")
             # Parentheses change nothing but the tokens.
-            return Expression(inner.operator, inner.operands, first, self.at - 1, inner.frames, inner.operators)
+            return Expression(inner.operator, inner.operands, first, self.at - 1, inner.frames, inner.marks)
         if self.is_name():
             return Expression(None, (), first, first, [self.frame_of(self.take())], [])
+        return Expression(None, (), first, first, [], [self.constant()])
+
+    def constant(self) -> int:
         if self.at >= len(self.tokens) or not self.tokens[self.at].is_constant:
             self.fail("no expression")
-        self.take()
-        return Expression(None, (), first, first, [], [])
+        return value_of(self.take())
 
     def is_call(self) -> bool:
         return self.is_name() and self.ahead(1) == "("
@@ -96,7 +99,7 @@ class Expressions(Cursor):
         while self.ahead() != ")":
             argument = self.expression()
             item.frames += argument.frames
-            item.operators += argument.operators
+            item.marks += argument.marks
             if self.ahead() == ",":
                 self.take()
         self.take(")")
@@ -114,7 +117,7 @@ class Expressions(Cursor):
         value = self.expression()
         item.strong += value.tokens
         item.frames += value.frames
-        item.operators += value.operators
+        item.marks += value.marks
         return [item]
 
     def effect(self) -> list[Item]:
@@ -128,16 +131,16 @@ class Expressions(Cursor):
         else:
             place = self.unary()
             word = self.take("++", "--", *ASSIGNMENTS)
-        item.frames, item.operators = [*place.frames], [*place.operators]
+        item.frames, item.marks = [*place.frames], [*place.marks]
         if word == "=":
             item.strong = list(range(first, self.at))
             return self.value_into(item)
         # The place is stored to and loaded from.
         item.frames += place.frames
-        item.operators += [word.removesuffix("=") if word not in ("++", "--") else word[0], *place.operators]
+        item.marks += [word.removesuffix("=") if word not in ("++", "--") else word[0], *place.marks]
         if word not in ("++", "--"):
             value = self.expression()
             item.frames += value.frames
-            item.operators += value.operators
+            item.marks += value.marks
         item.strong = list(range(first, self.at))
         return [item]

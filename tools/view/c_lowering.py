@@ -44,7 +44,7 @@ class Lowering:
         elif test.operator == "!":
             self.put_test(test.operands[0], false, true, role)
         else:
-            given = {"frames": test.frames, "operators": test.operators, "role": role}
+            given = {"frames": test.frames, "marks": test.marks, "role": role}
             self.items.append(Item("switch", test.tokens, labels=[true, false], **given))
 
     def loop(self, word: str, statement: While | Do | For, head: str, body: str) -> None:
@@ -123,7 +123,7 @@ class Lowering:
         given = [label for case, label in zip(cases, labels) if not case.is_default]
         other = [label for case, label in zip(cases, labels) if case.is_default] or [end]
         head = Item("switch", statement.head, labels=given + other, role="switch")
-        head.frames, head.operators = statement.subject.frames, statement.subject.operators
+        head.frames, head.marks = statement.subject.frames, statement.subject.marks
         self.items.append(head)
         ahead = iter(labels)
         for member in statement.body.members:

@@ -2,9 +2,8 @@
 
 from view.c_cursor import TYPE_WORDS
 from view.c_expressions import Expressions
-from view.c_tokens import value_of
 from view.c_tree import Case, Compound, Do, Expression, For, If, Leave, Plain, Statement, Switch, While
-from view.items import Item
+from view.items import Item, Mark
 
 
 class Statements(Expressions):
@@ -32,16 +31,29 @@ class Statements(Expressions):
         count = None
         if self.ahead() == "[":
             self.take()
-            count = value_of(self.take())
+            count = self.constant()
             self.take("]")
         if self.ahead() != "=":
             return []
         self.take()
         if count is None:
             return self.value_into(Item("store", list(range(first, self.at)), frames=[frame], role="store"))
-        self.skip_braces()
+        marks = self.elements()
         tokens = list(range(first, self.at))
-        return [Item("store", tokens, frames=[frame], offset=number, role="store") for number in range(count)]
+        given = {"frames": [frame], "role": "store"}
+        return [Item("store", tokens, offset=it, marks=sum(marks[it : it + 1], []), **given) for it in range(count)]
+
+    def elements(self) -> list[list[Mark]]:
+        """The constants of an array in braces, each with its minus."""
+        self.take("{")
+        found = []
+        while self.ahead() != "}":
+            minus = ["unary -"] if self.ahead() == "-" and self.take() else []
+            found.append([*minus, self.constant()])
+            if self.ahead() == ",":
+                self.take()
+        self.take("}")
+        return found
 
     def locals(self) -> list[Item]:
         """The items of a declaration, up to its semicolon."""

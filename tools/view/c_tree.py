@@ -3,14 +3,14 @@
 import dataclasses
 import typing
 
-from view.items import Item
+from view.items import Item, Mark
 
 
 @dataclasses.dataclass(slots=True)
 class Expression:
     """An expression: its operator where that is one of conditions, and what is named in it.
 
-    `frames` are in the order of the text; `operators` have each before those of its operands, as texts of ALF do.
+    `frames` are in the order of the text; `marks` are its operators, each before its operands, and its constants.
     """
 
     operator: str | None
@@ -18,7 +18,7 @@ class Expression:
     first: int
     last: int
     frames: list[str]
-    operators: list[str]
+    marks: list[Mark]
 
     @property
     def tokens(self) -> list[int]:

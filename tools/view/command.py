@@ -4,9 +4,9 @@ import os
 import pathlib
 import sys
 
-from view import page, terminal
-from view.program import program
-from view.view import Unreadable, View, look
+from view import html_page, terminal
+from view.file_view import Unreadable, View, look
+from view.program import program_path
 
 USAGE = """usage: ./sweet-view [--text] [-o OUT] FILE [words of ./sweet analyse]
 
@@ -33,7 +33,7 @@ def main(words: list[str]) -> int:
     except Unreadable as error:
         return fail(str(error))
     except OSError as error:
-        return fail(f"{error.filename or program()}: {error.strerror}")
+        return fail(f"{error.filename or program_path()}: {error.strerror}")
     return 0 if view.analysis else 1
 
 
@@ -61,7 +61,7 @@ def print_text(view: View) -> None:
 
 
 def write_page(view: View, out: str | None) -> None:
-    html = page.page(view).encode("utf-8", "replace")
+    html = html_page.page(view).encode("utf-8", "replace")
     out = out or pathlib.Path(view.path).stem + ".html"
     if out == "-":
         sys.stdout.buffer.write(html)

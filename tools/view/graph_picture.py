@@ -1,16 +1,16 @@
 """The graph as a list: a row for each node, a column for each depth of scopes, scopes as nested boxes."""
 
+from view.file_view import Analysis
 from view.graph import ENTRY
 from view.markup import element, escape, shortened
 from view.model import Node
 from view.report import range_text
-from view.view import Analysis
 
 ROW, INDENT, LEFT, TOP, LANE, LETTER = 24, 22, 26, 16, 7, 7
 LEAST = 500
 
 
-def graph_picture(analysis: Analysis) -> str:
+def picture_of(analysis: Analysis) -> str:
     return Picture(analysis).html()
 
 

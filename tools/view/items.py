@@ -5,16 +5,18 @@ import typing
 
 # The items that end a block.
 ENDS = ("call", "jump", "switch", "return")
+# An operator of C or a constant.
+Mark = str | int
 
 
 @dataclasses.dataclass(slots=True)
 class Item:
     """An item of a function.
 
-    `labels` and `frames` are all names of labels (also of functions) and of frames in it, in order, and `operators`
-    those of C, each before those of its operands. `strong` are the tokens that stand for its block; `weak` ones do so
-    only where the block has no strong one. `offset` is the number of the element that it initialises. `term` is what
-    the program's text has for it.
+    `labels` and `frames` are all names of labels (also of functions) and of frames in it, in order, and `marks` the
+    operators and constants of C, an operator before its operands, as texts of ALF have them. `strong` are the tokens
+    that stand for its block; `weak` ones do so only where the block has no strong one. `offset` is the number of the
+    element that it initialises. `term` is what the program's text has for it.
     """
 
     kind: str
@@ -22,7 +24,7 @@ class Item:
     weak: list[int] = dataclasses.field(default_factory=list)
     labels: list[str] = dataclasses.field(default_factory=list)
     frames: list[str] = dataclasses.field(default_factory=list)
-    operators: list[str] = dataclasses.field(default_factory=list)
+    marks: list[Mark] = dataclasses.field(default_factory=list)
     offset: int | None = None
     role: str = ""
     term: typing.Any = None

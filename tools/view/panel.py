@@ -1,12 +1,12 @@
 """The lists beside the source: alarms, what the bound is made of, loops and calls, what excludes one another."""
 
 from view.exclusions import Exclusion, lines_text
-from view.graph_picture import graph_picture
+from view.file_view import Analysis
+from view.graph_picture import picture_of
 from view.loops import count_words
 from view.markup import element, escape, item, shortened
 from view.model import Node
 from view.report import percent_text, range_text
-from view.view import Analysis
 
 # Rows of the list of parts that are shown at once.
 FIRST = 10
@@ -29,7 +29,7 @@ class Panel:
             section("hot", "Where the bound comes from", self.parts()),
             section("loops", "Loops and calls", element("ul", self.scope(0), class_="tree")),
             section("never", "Never together", excluded, note) if excluded else "",
-            section("graph", "Graph", graph_picture(self.found)),
+            section("graph", "Graph", picture_of(self.found)),
             self.keys(),
             aria_label="what the report says",
         )

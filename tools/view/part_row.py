@@ -10,7 +10,7 @@ def column_in(row: str, column: int) -> int:
     return len(row[:column].expandtabs(TAB))
 
 
-def part_row(row: str, parts: list[tuple[int, str]]) -> str:
+def labels_row(row: str, parts: list[tuple[int, str]]) -> str:
     """Labels at their columns, moved right where they would touch; from one that does not fit on they are left out."""
     text = ""
     for column, label in parts if len(row) <= LONGEST else []:

@@ -10,7 +10,7 @@ TOP = pathlib.Path(__file__).resolve().parent.parent.parent
 VALUED = ("--root", "--inputs", "--costs", "--merge", "--turns", "--pivots", "--cache")
 
 
-def program() -> str:
+def program_path() -> str:
     """The variable SWEET names the program; without it it is `./sweet` of this repository."""
     return os.environ.get("SWEET") or str(TOP / "sweet")
 
@@ -24,7 +24,7 @@ class Answer:
 
 
 def call(*words: str) -> Answer:
-    ran = subprocess.run([program(), *words], stdin=subprocess.DEVNULL, stdout=subprocess.PIPE)
+    ran = subprocess.run([program_path(), *words], stdin=subprocess.DEVNULL, stdout=subprocess.PIPE)
     return Answer(ran.stdout.decode("utf-8", "surrogateescape"), ran.returncode)
 
 

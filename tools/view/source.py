@@ -4,8 +4,8 @@ import dataclasses
 
 from view import alf_file, c_units
 from view.c_tokens import Token
+from view.comparison import hold
 from view.differs import Differs
-from view.hold import hold
 from view.items import Function
 
 # What surprises a reader of a text that is not as the rules say.
@@ -37,7 +37,7 @@ def read_c(text: str, lowered: str) -> Source:
     try:
         units = c_units.Units(text)
         functions = units.unit()
-        held = hold(functions, units.tokens, lowered)
+        held = hold(functions, lowered)
         return cut(Source(text, units.tokens, functions, units.globals, held))
     except SURPRISES as error:
         raise Differs(f"the rules do not fit this file: {type(error).__name__} {error}") from error

@@ -5,13 +5,13 @@ import re
 
 from view.alarms import Alarm
 from view.c_cursor import TYPE_WORDS
+from view.file_view import View
 from view.items import Function
 from view.lines import NOTHING, LineFacts
 from view.markup import element, escape, numbers
 from view.model import Block
-from view.part_row import column_in, part_row
+from view.part_row import column_in, labels_row
 from view.report import percent_text
-from view.view import View
 
 KEYWORDS = TYPE_WORDS | frozenset("if else for while do switch case default break continue return".split())
 # Badges begin behind the code, or below it where they would end past so many characters.
@@ -52,7 +52,7 @@ class SourcePane:
         return self.found.lines.facts(line, path) if self.found else NOTHING
 
     def parts(self, line: int, facts: LineFacts) -> str:
-        return part_row(self.rows[line], facts.parts) if facts.state == "live" else ""
+        return labels_row(self.rows[line], facts.parts) if facts.state == "live" else ""
 
     def row(self, line: int) -> str:
         facts, share = self.facts(line), percent_text(self.facts(line).share)

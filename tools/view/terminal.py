@@ -1,10 +1,10 @@
 """The view as a text for a terminal: counts in the margin, parts and alarms below their lines."""
 
 from view.exclusions import lines_text
+from view.file_view import View
 from view.lines import NOTHING, LineFacts
-from view.part_row import column_in, part_row
+from view.part_row import column_in, labels_row
 from view.report import percent_text
-from view.view import View
 
 # Codes of colours.
 GREY, RED, YELLOW, CYAN, BOLD_RED = "90", "31", "33", "36", "1;31"
@@ -67,7 +67,7 @@ class Screen:
     def below(self, line: int, facts: LineFacts) -> list[str]:
         found, row = [], self.view.rows[line]
         if facts.parts and facts.state == "live":
-            found.append(self.paint(CYAN, part_row(row, facts.parts).replace("–", "-")))
+            found.append(self.paint(CYAN, labels_row(row, facts.parts).replace("–", "-")))
         for alarm in self.found.alarms.at_line.get(line, []) if self.found else ():
             tokens = [self.found.model.tokens[it] for it in alarm.tokens]
             columns = [it.column for it in tokens if it.line == line]

@@ -5,11 +5,11 @@ import os
 import pathlib
 import shlex
 
+from view.file_view import View
 from view.markup import element, escape
 from view.model import LEVELS
 from view.panel import Panel
 from view.source_pane import SourcePane
-from view.view import View
 
 HERE = pathlib.Path(__file__).resolve().parent
 # Nothing is fetched.

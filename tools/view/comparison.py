@@ -2,10 +2,9 @@
 
 import itertools
 
-from view.alf_tree import Branch, branches_in, members_of, names_in, numbers_in, part_of, tokens_of, tree_of
-from view.c_tokens import Token, value_of
+from view.alf_tree import Branch, branches_in, members_of, names_in, number_of, part_of, tokens_of, tree_of
 from view.differs import Differs
-from view.items import Function, Item
+from view.items import Function, Item, Mark
 
 # The operators of ALF that an operator of C becomes, as it has a sign or not.
 OPERATORS = {
@@ -31,15 +30,15 @@ OPERATORS = {
 }
 OPERATOR_OF = {head: heads for heads in OPERATORS.values() for head in heads.split()}
 
-def hold(functions: list[Function], tokens: list[Token], lowered: str) -> int:
+def hold(functions: list[Function], lowered: str) -> int:
     """Compares all items of all functions, and gives each its term. How many there are; `Differs` if one differs."""
     branches = members_of(tree_of(tokens_of(lowered)), "funcs")
     if len(branches) != len(functions):
         raise Differs(f"{len(functions)} functions in the file, {len(branches)} in `lower`")
-    return sum(hold_function(function, tokens, branch) for function, branch in zip(functions, branches))
+    return sum(hold_function(function, branch) for function, branch in zip(functions, branches))
 
 
-def hold_function(function: Function, tokens: list[Token], branch: Branch) -> int:
+def hold_function(function: Function, branch: Branch) -> int:
     name = names_in(branch[1], "lref")[0]
     if name != function.name:
         raise Differs(f"function {function.name} of the file is {name} in `lower`")
@@ -48,7 +47,7 @@ def hold_function(function: Function, tokens: list[Token], branch: Branch) -> in
     hold_frames(f"{name}, frame", function.frames, members_of(scope, "decls"))
     terms = members_of(scope, "stmts")
     for number, (item, term) in enumerate(zip(function.items, terms)):
-        hold_item(f"{name}, item {number}, a {item.kind}", item, tokens, term)
+        hold_item(f"{name}, item {number}, a {item.kind}", item, term)
         item.term = term
     if len(terms) != len(function.items):
         raise Differs(f"{name}: {len(function.items)} items by the file, {len(terms)} in `lower`")
@@ -62,8 +61,8 @@ def hold_frames(what: str, own: list[str], declared: list[Branch]) -> None:
             raise Differs(f"{what} {number}: {left} by the file, {right} in `lower`")
 
 
-def hold_item(where: str, item: Item, tokens: list[Token], term: Branch) -> None:
-    """Kind, labels, frames and constants of one item."""
+def hold_item(where: str, item: Item, term: Branch) -> None:
+    """Kind, labels, frames, operators and constants of one item."""
     for what, own, found in (
         ("kind", item.kind, term.head),
         ("labels", item.labels, names_in(term, "lref")),
@@ -73,25 +72,26 @@ def hold_item(where: str, item: Item, tokens: list[Token], term: Branch) -> None
             raise Differs(f"{where}: {what} {own} by the file, {found} in `lower`")
     if item.offset is not None:
         hold_offset(where, item.offset, term)
-    elif item.kind != "label":
-        own = [value_of(tokens[it].text) for it in sorted(item.strong) if tokens[it].is_constant]
-        hold_order(f"{where}: constants", own, numbers_in(term))
-        operators = [OPERATORS[it] for it in item.operators]
-        hold_order(f"{where}: operators", operators, [OPERATOR_OF.get(it.head) for it in branches_in(term)])
+        hold_marks(where, item.marks, term[3])
+    else:
+        hold_marks(where, item.marks, term)
 
 
-def hold_order(what: str, own: list, found: list) -> None:
-    """What the file has stands in the item in this order, with other things between."""
+def hold_marks(where: str, marks: list[Mark], term: Branch) -> None:
+    """The operators and constants of the file stand in the item in this order, with others between: sizes, extensions,
+    and the products of indices."""
+    own = [OPERATORS.get(it, it) for it in marks]
+    found = [OPERATOR_OF.get(it.head) or number_of(it) for it in branches_in(term)]
     ahead = iter(found)
     if not all(it in ahead for it in own):
-        raise Differs(f"{what} {own} by the file, {found} in `lower`")
+        raise Differs(f"{where}: {own} by the file, {[it for it in found if it is not None]} in `lower`")
 
 
 def hold_offset(where: str, element: int, term: Branch) -> None:
     """A store of an initialiser is at its element's byte: { store { addr 32 FREF { dec_unsigned 32 OFFSET } } with
     VALUE }."""
     value = term[3]
-    size = int(value[1]) if value.head.startswith("dec") else int(value[2]) if value.head == "trunc" else 32
+    size = int(value[1]) if value.head in ("dec_signed", "neg") else int(value[2]) if value.head == "trunc" else 32
     byte = int(term[1][3][2])
     if byte != element * size // 8:
         raise Differs(f"{where}: element {element} by the file, byte {byte} in `lower`")

@@ -97,9 +97,9 @@ def read_text(path: str) -> str:
 def source_of(view: View, root: str, is_c: bool) -> Source | None:
     """The source with its items; None where the program does not take the file."""
     if is_c:
-        lowered = call("lower", view.path, "--root", root)
+        lowered = call("lower", f"--root={root}", "--", view.path)
         return read_c(view.text, lowered.text) if lowered.status == 0 else None
-    printed = call("print", view.path)
+    printed = call("print", "--", view.path)
     return read_alf(view.text, printed.text) if printed.status == 0 else None
 
 

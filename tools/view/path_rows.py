@@ -13,8 +13,8 @@ from view.graph import Graph
 from view.report import Report
 
 PAIRS = 128
-# Past so many changes of a number in the tableau no point is sought further: a few seconds.
-WORK = 3_000_000
+# Past so many changes of a number in the tableau no point is sought further: about a second.
+WORK = 1_000_000
 
 
 @dataclasses.dataclass(frozen=True, slots=True)

@@ -24,7 +24,10 @@ class Answer:
 
 
 def call(*words: str) -> Answer:
-    ran = subprocess.run([program_path(), *words], stdin=subprocess.DEVNULL, stdout=subprocess.PIPE)
+    # The words may name files that are open, as <(..) of a shell does.
+    ran = subprocess.run(
+        [program_path(), *words], stdin=subprocess.DEVNULL, stdout=subprocess.PIPE, close_fds=False
+    )
     return Answer(ran.stdout.decode("utf-8", "surrogateescape"), ran.returncode)
 
 

@@ -35,7 +35,7 @@ class Analysis:
 
 @dataclasses.dataclass(slots=True)
 class View:
-    """A file with its text, the words of the call and the program's answer.
+    """A file with its text, the words of the call, and the program's answer with its status.
 
     `differs` says why no line is marked, `refusal` why there is no report, and `place` where; `notes` are further
     sentences.
@@ -45,6 +45,7 @@ class View:
     words: list[str]
     text: str
     answer: str = ""
+    status: int = 0
     source: Source | None = None
     report: Report | None = None
     analysis: Analysis | None = None
@@ -68,11 +69,11 @@ def look(words: list[str]) -> View:
         raise Unreadable("give a FILE, as ./sweet analyse takes it")
     root, is_c = options.get("--root", "main"), path.endswith(".c")
     answer = call("analyse", *words)
-    view = View(path, words, read_text(path), answer.text)
+    view = View(path, words, read_text(path), answer.text, answer.status)
     try:
         view.source = source_of(view, root, is_c)
         if answer.status == 0:
-            view.report = Report(answer.text)
+            view.report = report_of(answer.text)
             view.analysis = analysis_of(view.source, view.report, root)
     except Differs as differs:
         view.source, view.differs = None, str(differs)
@@ -101,6 +102,13 @@ def source_of(view: View, root: str, is_c: bool) -> Source | None:
         return read_c(view.text, lowered.text) if lowered.status == 0 else None
     printed = call("print", "--", view.path)
     return read_alf(view.text, printed.text) if printed.status == 0 else None
+
+
+def report_of(text: str) -> Report:
+    try:
+        return Report(text)
+    except SURPRISES as error:
+        raise Differs(f"the report is not as it should be: {type(error).__name__} {error}") from error
 
 
 def analysis_of(source: Source | None, report: Report, root: str) -> Analysis:

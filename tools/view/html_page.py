@@ -73,7 +73,7 @@ class Page:
                 element("h1", escape(self.name)),
                 element("p", element("code", escape(command)), class_="cmd"),
                 self.warning(),
-                self.bare_report() if self.view.report and not self.found else "",
+                self.bare_report() if self.view.status == 0 and not self.found else "",
                 element("div", *self.figures(), class_="stats") if self.found else "",
                 *(element("p", escape(it), class_="note") for it in self.view.notes),
             ]
@@ -85,7 +85,7 @@ class Page:
         if self.view.differs:
             why = " The rules of this viewer and of <code>sweet</code> do not agree on this file: "
             why += f"{escape(self.view.differs)}."
-            is_told = " The report itself is not in doubt." if self.view.report else ""
+            is_told = " The report itself is not in doubt." if self.view.status == 0 else ""
             found += element("div", element("strong", "No line is marked."), why, is_told, class_="warn")
         if self.view.refusal:
             line = self.view.place[0] + 1 if self.view.place else None
@@ -96,14 +96,13 @@ class Page:
 
     def bare_report(self) -> str:
         """The bounds and the report as it was printed, where no line is marked."""
-        report = self.view.report
-        figures = [
-            figure(str(report.path_bound), "no run costs more than this", "big"),
-            figure(str(report.count_bound), "by greatest counts alone (count bound)"),
-            figure(str(len(report.alarms) or "none"), "alarms", "bad" if report.alarms else "good"),
-        ]
+        report, figures = self.view.report, []
+        if report:
+            figures.append(figure(grouped(report.path_bound), "no run costs more than this", "big"))
+            figures.append(figure(grouped(report.count_bound), "by greatest counts alone (count bound)"))
+            figures.append(figure(str(len(report.alarms) or "none"), "alarms", "bad" if report.alarms else "good"))
         summary = element("summary", "The report as it was printed")
-        raw = element("details", summary, element("pre", escape(self.view.answer)), class_="raw")
+        raw = element("details", summary, element("pre", escape(self.view.answer)), class_="raw", open=not report)
         return element("div", *figures, class_="stats") + raw
 
     def figures(self) -> list[str]:

@@ -35,7 +35,7 @@ class Screen:
         if self.view.differs:
             found += ["No line is marked. The rules of this viewer and of `sweet` do not agree on this file:"]
             found += [f"  {self.view.differs}", ""]
-            found += [*self.view.answer.rstrip("\n").split("\n"), ""] if self.view.report else []
+            found += [*self.view.answer.rstrip("\n").split("\n"), ""] if self.view.status == 0 else []
         if self.view.refusal:
             found += [f"There is no report. {self.view.refusal}", ""]
         if self.found:

@@ -1,6 +1,7 @@
 """All that is shown of a file: its source, and as much of the analysis as there is."""
 
 import dataclasses
+import os
 
 from view.alarms import Alarms
 from view.differs import Differs
@@ -69,7 +70,7 @@ def look(words: list[str]) -> View:
         raise Unreadable("give a FILE, as ./sweet analyse takes it")
     root, is_c = options.get("--root", "main"), path.endswith(".c")
     answer = call("analyse", *words)
-    view = View(path, words, read_text(path), answer.text, answer.status)
+    view = View(path, words, read_text(path), answer.text, answer.status, notes=other_program())
     try:
         view.source = source_of(view, root, is_c)
         if answer.status == 0:
@@ -85,6 +86,12 @@ def look(words: list[str]) -> View:
     if view.source and "--inputs" in options:
         give(view, options["--inputs"])
     return view
+
+
+def other_program() -> list[str]:
+    """A sentence where the answers are not those of the proved program."""
+    name = os.environ.get("SWEET")
+    return [f"The answers are those of {name}, and not of the proved program ./sweet."] if name else []
 
 
 def read_text(path: str) -> str:

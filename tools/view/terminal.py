@@ -45,7 +45,7 @@ class Screen:
             found.append(f"{self.view.path}: {told}")
             found.append(f"count bound {report.count_bound}; shares are of the {bound}")
             found += ["", f"{'in a run':>{self.count_width}} {'share':>5} {'line':>{self.number_width}}"]
-        return [*self.view.notes, *found]
+        return [*self.view.notes, *([""] if self.view.notes else []), *found]
 
     def row(self, line: int) -> list[str]:
         """A line of the source with what stands below it."""

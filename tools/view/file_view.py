@@ -1,0 +1,135 @@
+"""All that is shown of a file: its source, and as much of the analysis as there is."""
+
+import dataclasses
+import os
+
+from view.alarms import Alarms
+from view.differs import Differs
+from view.exclusions import Exclusion, exclusions_of
+from view.given_inputs import given_at_lines
+from view.lines import Lines
+from view.loops import Loops
+from view.model import Model
+from view.program import call, options_of
+from view.refusals import refusal_of, waiting_place
+from view.report import Report
+from view.row_order import RowOrder
+from view.source import SURPRISES, Source, read_alf, read_c
+
+
+class Unreadable(Exception):
+    """There is nothing to show: the file cannot be read."""
+
+
+class Analysis:
+    """A report on a source."""
+
+    def __init__(self, source: Source, report: Report, root: str) -> None:
+        self.source, self.report = source, report
+        self.model = Model(source, report, root)
+        self.alarms = Alarms(self.model)
+        self.lines = Lines(self.model, self.alarms)
+        self.loops = Loops(self.model)
+        self.rows = RowOrder(self.model)
+        self.exclusions: list[Exclusion] = exclusions_of(self.model)
+
+
+@dataclasses.dataclass(slots=True)
+class View:
+    """A file with its text, the words of the call, and the program's answer with its status.
+
+    `differs` says why no line is marked, `refusal` why there is no report, and `place` where; `notes` are further
+    sentences.
+    """
+
+    path: str
+    words: list[str]
+    text: str
+    answer: str = ""
+    status: int = 0
+    source: Source | None = None
+    report: Report | None = None
+    analysis: Analysis | None = None
+    differs: str = ""
+    refusal: str = ""
+    place: tuple[int, int, str] | None = None
+    given: dict[int, list[str]] = dataclasses.field(default_factory=dict)
+    notes: list[str] = dataclasses.field(default_factory=list)
+
+    @property
+    def rows(self) -> list[str]:
+        """The lines of the text. A line ends at a line feed alone."""
+        rows = self.text.split("\n")
+        return rows[:-1] if rows[-1] == "" else rows
+
+
+def look(words: list[str]) -> View:
+    """The view for the words of `analyse`."""
+    path, options = options_of(words)
+    if path is None:
+        raise Unreadable("give a FILE, as ./sweet analyse takes it")
+    root, is_c = options.get("--root", "main"), path.endswith(".c")
+    answer = call("analyse", *words)
+    view = View(path, words, read_text(path), answer.text, answer.status, notes=other_program())
+    try:
+        view.source = source_of(view, root, is_c)
+        if answer.status == 0:
+            view.report = report_of(answer.text)
+            view.analysis = analysis_of(view.source, view.report, root)
+    except Differs as differs:
+        view.source, view.differs = None, str(differs)
+    if answer.status:
+        refusal = refusal_of(answer.text, answer.status, view.text, is_c)
+        view.refusal, view.place = refusal.words, refusal.place
+        if view.source and not view.place:
+            view.place = waiting_place(answer.text, view.source, root)
+    if view.source and "--inputs" in options:
+        give(view, options["--inputs"])
+    return view
+
+
+def other_program() -> list[str]:
+    """A sentence where the answers are not those of the proved program."""
+    name = os.environ.get("SWEET")
+    return [f"The answers are those of {name}, and not of the proved program ./sweet."] if name else []
+
+
+def read_text(path: str) -> str:
+    try:
+        with open(path, encoding="utf-8", errors="surrogateescape", newline="") as file:
+            return file.read()
+    except OSError as error:
+        raise Unreadable(f"{path}: {error.strerror}") from error
+
+
+def source_of(view: View, root: str, is_c: bool) -> Source | None:
+    """The source with its items; None where the program does not take the file."""
+    if is_c:
+        lowered = call("lower", f"--root={root}", "--", view.path)
+        return read_c(view.text, lowered.text) if lowered.status == 0 else None
+    printed = call("print", "--", view.path)
+    return read_alf(view.text, printed.text) if printed.status == 0 else None
+
+
+def report_of(text: str) -> Report:
+    try:
+        return Report(text)
+    except SURPRISES as error:
+        raise Differs(f"the report is not as it should be: {type(error).__name__} {error}") from error
+
+
+def analysis_of(source: Source | None, report: Report, root: str) -> Analysis:
+    if source is None:
+        raise Differs("there is a report, and no program that it is of")
+    try:
+        return Analysis(source, report, root)
+    except SURPRISES as error:
+        raise Differs(f"the report does not fit the rules: {type(error).__name__} {error}") from error
+
+
+def give(view: View, path: str) -> None:
+    """Puts the ranges of an inputs file at their declarations."""
+    try:
+        view.given = given_at_lines(read_text(path), view.source)
+    except (Unreadable, *SURPRISES):
+        view.notes.append("The ranges of the inputs file could not be shown on their lines.")

@@ -1,0 +1,223 @@
+"""The source on the page: counts, shares and heat in the margin, marks in the code, and what is told at a line."""
+
+import dataclasses
+import re
+
+from view.alarms import Alarm
+from view.c_cursor import TYPE_WORDS
+from view.file_view import View
+from view.items import Function
+from view.lines import NOTHING, LineFacts
+from view.markup import element, escape, numbers
+from view.model import Block
+from view.part_row import column_in, labels_row
+from view.report import percent_text
+
+KEYWORDS = TYPE_WORDS | frozenset("if else for while do switch case default break continue return".split())
+# Badges begin behind the code, or below it where they would end past so many characters.
+WIDTH = 80
+
+
+@dataclasses.dataclass(slots=True)
+class Run:
+    """Tokens with what is between them that one element marks; `before` stands in front of it."""
+
+    before: str
+    key: tuple[tuple[str, ...], bool] | None
+    first: int
+    inner: str
+
+
+class SourcePane:
+    """The rows of the source."""
+
+    def __init__(self, view: View) -> None:
+        self.view, self.rows, self.found = view, view.rows, view.analysis
+        self.starts = [0]
+        for row in self.rows:
+            self.starts.append(self.starts[-1] + len(row) + 1)
+        self.tokens = view.source.tokens if view.source else []
+        self.tokens_on: dict[int, list[int]] = {}
+        for number, token in enumerate(self.tokens):
+            self.tokens_on.setdefault(token.line, []).append(number)
+        self.blocks_at: dict[int, list[Block]] = {}
+        for block in self.found.model.blocks.values() if self.found else ():
+            for token in block.tokens if block.is_shown else ():
+                self.blocks_at.setdefault(token, []).append(block)
+
+    def html(self) -> str:
+        return "".join(self.row(line) for line in range(len(self.rows)))
+
+    def facts(self, line: int, path: tuple[int, ...] | None = None) -> LineFacts:
+        return self.found.lines.facts(line, path) if self.found else NOTHING
+
+    def parts(self, line: int, facts: LineFacts) -> str:
+        return labels_row(self.rows[line], facts.parts) if facts.state == "live" else ""
+
+    def row(self, line: int) -> str:
+        facts, share = self.facts(line), percent_text(self.facts(line).share)
+        blocks = self.found.model.at_line.get(line, []) if self.found else []
+        nodes = sorted({node.number for block in blocks for node in block.nodes})
+        place = " place" if self.view.place and self.view.place[0] == line else ""
+        code = element(
+            "code",
+            self.code(line),
+            self.badges(line),
+            element("span", escape(self.parts(line, facts)), class_="parts") if self.found else "",
+            *(self.alarm(line, it) for it in (self.found.alarms.at_line.get(line, []) if self.found else ())),
+            self.refusal(line),
+        )
+        return element(
+            "div",
+            element("span", facts.count_text, class_="ct"),
+            element("span", share, class_="sh"),
+            element("a", str(line + 1), class_="ln", aria_hidden="true"),
+            code,
+            class_=f"row h{facts.level} {facts.state}{place}",
+            id=f"L{line + 1}",
+            data_l=line,
+            tabindex=None if facts.state == "none" else -1,
+            data_n=numbers(nodes),
+            role="listitem",
+            aria_label=self.label(line, facts, share),
+        )
+
+    def label(self, line: int, facts: LineFacts, share: str) -> str:
+        """The row in words, for those who hear it."""
+        if facts.state in ("dead", "noway"):
+            return f"line {line + 1}, never reached"
+        if not facts.count:
+            return f"line {line + 1}"
+        count = facts.count_text.replace("..", " to ")
+        return f"line {line + 1}, {count} times in a run" + (f", {share} of the bound" if share else "")
+
+    # -- the code
+
+    def code(self, line: int) -> str:
+        """A line, its tokens marked by what executes them."""
+        at, end, runs = self.starts[line], self.starts[line] + len(self.rows[line].rstrip("\r")), []
+        for number in self.tokens_on.get(line, []):
+            token = self.tokens[number]
+            between, key = self.between(at, token.start), self.key_of(number)
+            word = escape(token.text)
+            word = element("b", word) if token.text in KEYWORDS else word
+            if not runs or key != runs[-1].key or "<i>" in between:
+                runs.append(Run(between, key, number, word))
+            else:
+                runs[-1].inner += between + word
+            at = token.end
+        return "".join(it.before + self.marked(line, it) for it in runs) + self.between(at, end)
+
+    def between(self, start: int, end: int) -> str:
+        """What is between two tokens: space and comments."""
+        text = self.view.text[start:end]
+        return element("i", escape(text)) if self.view.source and text.strip() else escape(text)
+
+    def key_of(self, token: int) -> tuple[tuple[str, ...], bool] | None:
+        """What tells the mark of a token from others; None where nothing executes it."""
+        blocks = self.blocks_at.get(token)
+        return (tuple(it.key for it in blocks), token in self.found.alarms.tokens) if blocks else None
+
+    def marked(self, line: int, run: Run) -> str:
+        if run.key is None:
+            return run.inner
+        nodes = [node for block in self.blocks_at[run.first] for node in block.nodes]
+        is_split = len(self.found.model.at_line.get(line, [])) > 1
+        kind = "t"
+        if not any(it.high for it in nodes):
+            kind += " dead"
+        elif is_split and any(it.share for it in nodes):
+            kind += f" h{self.found.model.level(sum(it.share for it in nodes))}"
+        kind += " suspect" if run.key[1] else ""
+        return element("span", run.inner, class_=kind, data_n=numbers([it.number for it in nodes]))
+
+    # -- what is told at a line
+
+    def badges(self, line: int) -> str:
+        all_badges = [it for it in self.loop_badges(line) + self.call_badges(line) + self.given_badges(line) if it]
+        if not all_badges:
+            return ""
+        row = self.rows[line].expandtabs()
+        tokens = self.tokens_on.get(line)
+        ends = column_in(self.rows[line], self.tokens[tokens[-1]].end - self.starts[line]) if tokens else 0
+        # They may cover a comment, and no code.
+        is_below = ends + sum(badge_width(it) for it in all_badges) > WIDTH
+        indent = " " * (len(row) - len(row.lstrip())) if is_below else ""
+        return element("span", indent, *all_badges, class_="badges under" if is_below else "badges")
+
+    def given_badges(self, line: int) -> list[str]:
+        given = {"class_": "badge given", "title": "by the file of inputs"}
+        return [element("span", escape(it), **given) for it in self.view.given.get(line, [])]
+
+    def loop_badges(self, line: int) -> list[str]:
+        found = []
+        for loop in self.found.loops.at_line.get(line, []) if self.found else ():
+            both = ", one loop with the other here" if loop.shares_header else ""
+            title = f"{loop.statement.word} loop{both}: visits of its head each time it is entered, and in a whole run"
+            words = escape(self.found.loops.words(loop, with_run=False))
+            found.append(element("span", element("u", "↻"), " ", words, class_="badge loop", title=title))
+        return found
+
+    def call_badges(self, line: int) -> list[str]:
+        functions = self.found.model.source.functions if self.found else []
+        return [self.chooser(it) for it in functions if self.tokens[it.named].line == line]
+
+    def chooser(self, function: Function) -> str:
+        """Of a function that is called twice the calls, to see one of them alone."""
+        model = self.found.model
+        paths = model.paths.get(function.name, [])
+        if not paths:
+            return element("span", "not called", class_="badge off")
+        if len(paths) == 1:
+            return ""
+        options = [element("option", f"all {len(paths)} calls, added up", value="")]
+        for number, path in enumerate(paths):
+            options.append(element("option", f"call from line {escape(model.call_words(path))}", value=number))
+        return element(
+            "select", *options, class_="badge", data_f=function.name, aria_label=f"counts of {function.name}"
+        )
+
+    def alarm(self, line: int, alarm: Alarm) -> str:
+        tokens = [self.tokens[it] for it in alarm.tokens if self.tokens[it].line == line]
+        column = column_in(self.rows[line], tokens[0].column) if tokens else 0
+        others = [str(it + 1) for it in alarm.lines if it != line]
+        where = f" here or at line{'s' if len(others) > 1 else ''} {', '.join(others)}" if others else ""
+        calls = self.found.model.instance_words(alarm.nodes)
+        words = f" {alarm.words}{where}{', ' + calls if calls else ''}"
+        sign = element("em", "▲ " + escape(alarm.cause))
+        nodes = numbers([it.number for it in alarm.nodes])
+        return element("span", " " * min(column, 60), sign, escape(words), class_="alarm", data_n=nodes)
+
+    def refusal(self, line: int) -> str:
+        """What is wrong at the line, where there is no report."""
+        if not self.view.place or self.view.place[0] != line:
+            return ""
+        _, column, words = self.view.place
+        indent = " " * min(column_in(self.rows[line], column), 60)
+        return element("span", indent, element("em", "▲"), " ", escape(words), class_="alarm")
+
+    # -- one call alone
+
+    def row_facts(self, line: int, path: tuple[int, ...] | None) -> list[object]:
+        facts = self.facts(line, path)
+        return [facts.count_text, percent_text(facts.share), facts.level, facts.state, self.parts(line, facts)]
+
+    def variants(self) -> dict[str, list[dict[int, list[object]]]]:
+        """For each function that is called twice the facts of its lines: of all calls together, then of each."""
+        model, found = self.found.model, {}
+        for function in model.source.functions:
+            paths = model.paths.get(function.name, [])
+            lines = [
+                line
+                for line, blocks in sorted(model.at_line.items())
+                if all(block.function is function for block in blocks)
+            ]
+            if len(paths) > 1:
+                found[function.name] = [{it: self.row_facts(it, path) for it in lines} for path in (None, *paths)]
+        return found
+
+
+def badge_width(badge: str) -> float:
+    """About how many characters of the code a badge takes."""
+    words = re.sub("<option.*?/option>|<[^>]*>", "", badge)
+    return 0.8 * len(words) + 3 + 18 * ("<select" in badge)

@@ -98,7 +98,9 @@ run a.alf --costs c.toml | 1 | costs | c.toml
 run a.alf --inputs a.c --costs no.toml | 9 | inputs | a.c
 run a.alf --inputs i.toml --costs no.toml | 9 | costs | no.toml
 run a.alf --turns 1 --costs no.toml | 9 | costs | no.toml
-run b.alf --inputs no.toml --costs no.toml | 9 | program | b.alf"#;
+run b.alf --inputs no.toml --costs no.toml | 9 | program | b.alf
+tasks u.toml | 9 | tasks | u.toml
+tasks i.toml | 0 | tasks | i.toml"#;
 
 // The shelf of the program that returns at once, of inputs and of costs, where one read is to fail.
 fn failing_shelf(alloc: Global, failing: &str) -> Result<MemoryShelf, AllocError> {

@@ -44,7 +44,6 @@ fn a_tasks_file_has_at_most_64_entries(rt: HostRuntime) -> Result<(), Fail> {
 // Words, and the code and the text that answer them, where there is a file `t.toml` without tasks.
 const WORDS: &str = r#"tasks t.toml => 0 
 tasks -- t.toml => 0 
-tasks u.toml => 5 fault read tasks;
 tasks => 1 fault usage;
 tasks t.toml t.toml => 1 fault usage;
 tasks t.toml --turns 5 => 1 fault usage;

@@ -3,7 +3,8 @@ use crate::values::part;
 use std::alloc::{AllocError, Global};
 use std::test::Fail;
 use sweet_words::{
-    AnalyseWords, Command, Merging, ProgramFile, RunWords, WordsFault, WorstWords, read,
+    AnalyseWords, CacheWords, CheckWords, Command, Merging, ProgramFile, ReplayWords, RunWords,
+    WordsFault, WorstWords, read,
 };
 
 /// The words of a line, with a comma between two of them.
@@ -50,8 +51,50 @@ fn analyse_told(alloc: Global, given: AnalyseWords<'_>) -> Result<String, AllocE
     let turns = given.turns;
     let merging = merging_word(given.merging);
     let pivots = given.pivots;
+    let cert = if given.certified { " cert" } else { "" };
     Ok(format!(in alloc;
-        "analyse{language} {file} {root} {inputs} {costs} {turns} {merging} {pivots}"
+        "analyse{language} {file} {root} {inputs} {costs} {turns} {merging} {pivots}{cert}"
+    )?)
+}
+
+/// What `check` was given. A file that is left out is a dash.
+fn check_told(alloc: Global, given: CheckWords<'_>) -> Result<String, AllocError> {
+    let language = language(given.program);
+    let file = name(given.program);
+    let report = given.report;
+    let root = given.root;
+    let inputs = given.inputs.unwrap_or("-");
+    let costs = given.costs.unwrap_or("-");
+    Ok(format!(in alloc; "check{language} {file} {report} {root} {inputs} {costs}")?)
+}
+
+/// What `replay` was given. A file that is left out is a dash.
+fn replay_told(alloc: Global, given: ReplayWords<'_>) -> Result<String, AllocError> {
+    let language = language(given.program);
+    let file = name(given.program);
+    let report = given.report;
+    let values = given.values.unwrap_or("-");
+    let root = given.root;
+    let inputs = given.inputs.unwrap_or("-");
+    let costs = given.costs.unwrap_or("-");
+    Ok(format!(in alloc; "replay{language} {file} {report} {values} {root} {inputs} {costs}")?)
+}
+
+/// What `cache` was given: the cache, then what `analyse` has.
+fn cache_told(alloc: Global, given: CacheWords<'_>) -> Result<String, AllocError> {
+    let language = language(given.program);
+    let file = name(given.program);
+    let sets = given.sets;
+    let ways = given.ways;
+    let line = given.line;
+    let penalty = given.penalty;
+    let root = given.root;
+    let inputs = given.inputs.unwrap_or("-");
+    let costs = given.costs.unwrap_or("-");
+    let turns = given.turns;
+    let merging = merging_word(given.merging);
+    Ok(format!(in alloc;
+        "cache{language} {file} {sets} {ways} {line} {penalty} {root} {inputs} {costs} {turns} {merging}"
     )?)
 }
 
@@ -96,7 +139,12 @@ fn told(alloc: Global, words: &[String]) -> Result<String, AllocError> {
             let file = name(program);
             Ok(format!(in alloc; "print{language} {file}")?)
         }
+        Ok(Command::Check(given)) => check_told(alloc, given),
+        Ok(Command::Replay(given)) => replay_told(alloc, given),
+        Ok(Command::Generate(number)) => Ok(format!(in alloc; "generate {number}")?),
+        Ok(Command::Migrate(report)) => Ok(format!(in alloc; "migrate {report}")?),
         Ok(Command::Run(given)) => run_told(alloc, given),
+        Ok(Command::Cache(given)) => cache_told(alloc, given),
         Ok(Command::Worst(given)) => worst_told(alloc, given),
         Ok(Command::Tasks(file)) => Ok(format!(in alloc; "tasks {file}")?),
         Err(_) => String::from_str(alloc, "no command"),
@@ -182,6 +230,25 @@ print,a.C = print a.C
 print,a.c = print of C a.c
 print,.c = print of C .c
 print,--,-a.c = print of C -a.c
+analyse,a.alf,--cert = analyse a.alf main - - 100000 joins 1000 cert
+analyse,--cert,a.c,--pivots,7 = analyse of C a.c main - - 100000 joins 7 cert
+check,a.alf,r.txt = check a.alf r.txt main - -
+check,a.c,r.txt,--root,f,--inputs=i,--costs,c = check of C a.c r.txt f i c
+check,--costs=c,a.alf,--,-r = check a.alf -r main - c
+replay,a.alf,r.txt = replay a.alf r.txt - main - -
+replay,a.c,r.txt,--at,v,--root,f,--inputs=i,--costs,c = replay of C a.c r.txt v f i c
+replay,--at=v,a.alf,--,-r = replay a.alf -r v main - -
+generate,1 = generate 1
+generate,40 = generate 40
+generate,007 = generate 7
+generate,--,3 = generate 3
+migrate,r.txt = migrate r.txt
+migrate,a.c = migrate a.c
+migrate,--,-r = migrate -r
+cache,a.alf,--sets,1,--ways,2,--line,16,--penalty,10 = cache a.alf 1 2 16 10 main - - 100000 joins
+cache,--penalty=0,--line=4,--ways=1,--sets=1,a.c = cache of C a.c 1 1 4 0 main - - 100000 joins
+cache,--sets,1024,--ways,16,--line,4096,--penalty,4294967295,a = cache a 1024 16 4096 4294967295 main - - 100000 joins
+cache,a,--sets,2,--ways,2,--line,32,--penalty,9,--root,f,--turns,5,--merge,none = cache a 2 2 32 9 f - - 5 none
 worst,a.c = worst of C a.c 16 main - - 100000 joins 1000
 worst,a.c,--splits,1,--inputs,i,--pivots,9 = worst of C a.c 1 main i - 100000 joins 9
 worst,--splits=256,a = worst a 256 main - - 100000 joins 1000
@@ -280,7 +347,6 @@ analyse,a.alf,--merge,join
 analyse,a.alf,--merge, joins
 analyse,a.alf,--merge,joins,--merge,joins
 analyse,a.alf,--merges,joins
-analyse,a.alf,--cert
 analyse,a.alf,--cert,--cert
 analyse,a.alf,--cert=true
 analyse,a.alf,--cert,yes
@@ -296,9 +362,10 @@ check,a.alf,r.txt,--turns,5
 check,a.alf,r.txt,--cert
 check,a.alf,r.txt,--merge,none
 run,a.alf,--cert
-check,a.alf,r.txt
-cache,a.alf,--sets,1,--ways,2,--line,16,--penalty,10
-replay,a.alf,r.txt
+replay,a.alf
+replay,a.alf,r.txt,v
+replay,a.alf,r.txt,--turns,5
+replay,a.alf,r.txt,--at,v,--at,w
 lower
 lower,
 lower,a.alf
@@ -322,7 +389,12 @@ lower,a.c,--merge,none
 lower,a.c,--pivots,5
 Lower,a.c
 low,a.c
-generate,5
+generate
+generate,0
+generate,41
+generate,-1
+generate,3,4
+generate,3,--turns,5
 cache,a.alf
 cache,a.alf,--ways,2,--line,16,--penalty,10
 cache,a.alf,--sets,1,--line,16,--penalty,10
@@ -344,14 +416,16 @@ worst,a.alf,--splits,257
 worst,a.alf,--splits
 worst,a.alf,--cert
 worst,a.alf,--sets,1
-migrate,r.txt
+migrate
+migrate,r.txt,s.txt
+migrate,r.txt,--root,f
 tasks
 tasks,t.toml,u.toml
 tasks,t.toml,--inputs,i";
 
 #[test]
 fn words_are_commands_in_any_order(rt: HostRuntime) -> Result<(), Fail> {
-    assert_eq!(rt; COMMANDS.split('\n').count(), 74);
+    assert_eq!(rt; COMMANDS.split('\n').count(), 93);
     for row in COMMANDS.split('\n') {
         let words = words_of(rt.alloc(), part(row, " = ", 0))?;
         let found = told(rt.alloc(), &words)?;
@@ -362,7 +436,7 @@ fn words_are_commands_in_any_order(rt: HostRuntime) -> Result<(), Fail> {
 
 #[test]
 fn other_words_are_no_command(rt: HostRuntime) -> Result<(), Fail> {
-    assert_eq!(rt; NO_COMMANDS.split('\n').count(), 158);
+    assert_eq!(rt; NO_COMMANDS.split('\n').count(), 165);
     for row in NO_COMMANDS.split('\n') {
         let words = words_of(rt.alloc(), row)?;
         assert!(rt; are_usage(rt.alloc(), &words), "{row}");

@@ -1,5 +1,6 @@
 -- Why a report that is found is right.
 --   low_start       the least numbers of the ranges are inputs
+--   totals_in       of each node that was stepped some total was collected
 --   told_in         the report is a told one
 --   right_in        so it is sound, and its path bound is what the word says
 --   agree_in        where there is one input alone, both bounds are one number
@@ -34,7 +35,8 @@ use Rattle.report_soundness.specs.LoneLaws.{lone_report}
 use Rattle.path_lp.specs.Bounding.{told_path_bound}
 use Rattle.path_lp.specs.Holding.{IsRight, ToldBoundsAreRight}
 use Rattle.report_soundness.specs.Bounded.{IsTold, HasRun, bounded, HasPathBound, IsPathSound, IsWithinCount}
-use Rattle.report_soundness.specs.BoundedLaws.{facts_limited, bound_most, bounded_sound, sound_runs, events_told, run_at_bound}
+use Rattle.report_soundness.specs.BoundedLaws.{facts_limited, bound_most, bounded_sound, sound_runs, events_totals, events_told, run_at_bound}
+use Rattle.report_soundness.specs.BoundTold.{HaveTotals}
 use Rattle.program_machines.specs.NodeCosts.{HasCosts}
 use Rattle.program_machines.specs.ProgramRunLaws.{program_run, stands_there}
 use Rattle.program_machines.specs.Starts.{AreLone, lows, lone_start, one_history}
@@ -81,6 +83,12 @@ module _ (parts : StepperParts) (o : Outlined) (policy : Policy) (turns : ℕ) (
       sound_runs (stepped_by parts).system o given given_sound (points program parts.graph start)
       (program_run fit.kept.machine.promises.points program parts.graph fit.kept.machine.keeps fit.kept.machine.is parts.rows start
       (low_start program parts.rows fit.kept.machine.inputs.each))
+
+  -- of each node that was stepped some total was collected
+  pub totals_in : HaveTotals o (found_of closed.pool)
+  totals_in =
+      events_totals stepped_by parts_order closed.events parts o closed.pool parts_are_order
+      (λ other kept. is_part_machine other.checked other.graph other.rows kept) fit.kept fit.outline (along_fit parts o fit) happen closed.empty has_run
 
   -- the report is a told one
   pub told_in : IsTold o given

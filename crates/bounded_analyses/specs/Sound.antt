@@ -5,6 +5,7 @@
 --   IsRightFor parts o report       the report is sound for the program of the parts; its path bound is at most its count bound, and with `Least` the
 --       greatest worth of a point that meets its rows, rounded down
 --   FoundReportsAreRight            the law
+--   ClosedExplorationsHaveTotals    the law of explorations that leave no place: of each node that was stepped they collected some total
 --   LoneBoundsAgree                 the law of rows that give one input alone: both bounds are one number
 use Rattle.std.specs.Prelude.{◌≡◌, ◌≤◌, ℕ, List, All}
 use Rattle.alf_check.specs.declared.rows.InputRow.{InputRow}
@@ -28,7 +29,10 @@ use Rattle.abstract_step.specs.Steppers.{StepperParts}
 use Rattle.program_machines.specs.NodeCosts.{node_cost, HasCosts}
 use Rattle.program_machines.specs.Starts.{AreLone}
 use Rattle.report_soundness.specs.Bounded.{HasPathBound, IsWithinCount, IsLeastOf}
+use Rattle.report_soundness.specs.ReportTold.{found_of}
+use Rattle.report_soundness.specs.BoundTold.{HaveTotals}
 use Rattle.program_analysis.specs.Sound.{HasAlarm}
+use Rattle.program_analysis.specs.Analyses.{IsClosed}
 use Rattle.bounded_analyses.specs.Analyses.{IsClosedWith, IsBoundedReport}
 
 -- the run from the start ends; it meets each fact, its fault has an alarm, and it costs no more than each bound
@@ -56,6 +60,12 @@ pub record IsRightFor (parts : StepperParts) (o : Outlined) (report : Reported) 
 abbrev pub FoundReportsAreRight : Type 0
 FoundReportsAreRight = (parts : StepperParts) (o : Outlined) (policy : Policy) (turns pivots : ℕ) (report : Reported) → IsKept (seen parts.checked) → IsGraph (seen parts.checked) parts.graph
     → KeepInputs (seen parts.checked) parts.rows → IsOutline (shape_of o) → IsOutlineOf (plan_of parts.graph) (shape_of o) → IsClosedWith parts o policy turns pivots report → IsRightFor parts o report
+
+-- an exploration that leaves no place collected some total of each node that it stepped
+abbrev pub ClosedExplorationsHaveTotals : Type 0
+ClosedExplorationsHaveTotals = (parts : StepperParts) (o : Outlined) (policy : Policy) (turns : ℕ) (report : Reported) → IsKept (seen parts.checked) → IsGraph (seen parts.checked) parts.graph
+    → KeepInputs (seen parts.checked) parts.rows → IsOutline (shape_of o) → IsOutlineOf (plan_of parts.graph) (shape_of o) → (closed : IsClosed parts o policy turns report)
+    → HaveTotals o (found_of closed.pool)
 
 -- where each range has one number, the path bound of a report is its count bound
 abbrev pub LoneBoundsAgree : Type 0

@@ -9,16 +9,18 @@ ghost use Rattle.flow_facts.specs.Reports.{reported};
 ghost use Rattle.flow_facts.specs.Writable.{IsWritable};
 ghost use Rattle.flow_graph.specs.Numbering.{IsGraph};
 ghost use Rattle.scope_graph.specs.Placing.{plan_of};
-ghost use Rattle.report_soundness.specs.Bounded.{IsTold, bounded};
-ghost use Rattle.program_analysis.specs.Answers.{Told, answer_of, IfTold};
+ghost use Rattle.report_soundness.specs.Bounded.{IsTold};
 ghost use Rattle.program_analysis.specs.AnalysisLaws.{names_of};
 ghost use Rattle.program_analysis.specs.Bounds.{most_turns};
-ghost use Rattle.bounded_analyses.specs.Analyses.{IsFoundWith};
+ghost use Rattle.bounded_analyses.specs.Analyses.{IsBoundWith, IsFoundWith, IfTold, IsAnsweredWith, AreWritable};
 
+use crate::BoundedAnalysis;
+use crate::fitting::{events_fit, multipliers_fit, scale_fits};
 use crate::laws::parts_fit;
 use alf_check::{Checked, InputRow};
-use domain_core::Outline;
-use flow_facts::Report;
+use domain_core::{Event, Outline};
+use dual_check::Duals;
+use flow_facts::{Cert, Report};
 use flow_graph::Graph;
 use program_analysis::Analysed;
 use report_soundness::bounded_report;
@@ -26,11 +28,11 @@ use std::alloc::{AllocError, Global};
 use worklist_rules::Policy;
 
 /// Explores a program's graph along its outline, for runs with inputs inside the ranges of the rows, and tells what
-/// each run does, with the path bound of the facts after so many pivots at most, or the scope in which the turns were
-/// used up.
+/// each run does, with the path bound of the facts after so many pivots at most, and beside it the certificate of both; or
+/// the scope in which the turns were used up.
 ///
-/// Takes time by the turns and by what steps take, then by the pivots; and memory for the places that are left, then
-/// for the rows.
+/// Takes time by the turns and by what steps take, then by the pivots; and memory for the places that are left and
+/// for the events, then for the rows.
 pub fn analyse(
     alloc: Global,
     checked: &Checked,
@@ -40,39 +42,58 @@ pub fn analyse(
     policy: Policy,
     turns: u32,
     pivots: u32,
-) -> Result<Analysed, AllocError>
+) -> Result<BoundedAnalysis, AllocError>
     requires graph { IsGraph (seen checked.now) graph.now }
     requires rows { KeepInputs (seen checked.now) rows.now }
     requires outline { IsOutlineOf (plan_of graph.now) (shape_of outline.now) }
     requires named { names_of outline.now ≡ graph.now.names }
     requires turns { turns ≤ most_turns }
 
-    // What the policy finds over the pools of the program's machine, with the path bound of it.
-    ensures found { IfOk result (λ analysed. IsFoundWith (record { checked = checked.now; graph = graph.now; rows = rows.now }) outline.now policy turns pivots (answer_of analysed)) }
+    // What the policy finds over the pools of the program's machine, with the path bound of it, the policy's events and
+    // the multipliers of the bound.
+    ensures found { IfOk result (λ analysed. IsFoundWith (record { checked = checked.now; graph = graph.now; rows = rows.now }) outline.now policy turns pivots analysed) }
 
-    // The report is one that some text spells.
-    ensures writable { IfOk result (λ analysed. IfTold (answer_of analysed) IsWritable) }
+    // The report is one that some text spells, with the certificate too.
+    ensures writable { IfOk result (λ analysed. IfTold analysed AreWritable) }
 {
     checked.keeps();
     outline.kept();
     parts_fit();
     match program_analysis::analyse(alloc, checked, graph, outline, rows, policy, turns)? {
-        Analysed::Told(report) => with_bound(alloc, outline, report, pivots),
-        Analysed::Unbounded(scope) => Ok(Analysed::Unbounded(scope)),
+        Analysed::Told(report, events) => with_bound(alloc, outline, report, events, pivots),
+        Analysed::Unbounded(scope) => Ok(BoundedAnalysis::Unbounded(scope)),
     }
 }
 
-// The report with its path bound.
+// The report with its path bound, and the certificate.
 fn with_bound(
     alloc: Global,
     outline: &Outline,
     report: Report,
+    events: Vec<Event>,
     pivots: u32,
-) -> Result<Analysed, AllocError>
+) -> Result<BoundedAnalysis, AllocError>
     requires { IsTold outline.now (reported report) }
-    ensures found { IfOk result (λ analysed. answer_of analysed ≡ Told (bounded outline.now (reported report) pivots)) }
-    ensures writable { IsWritable (reported report) → IfOk result (λ analysed. IfTold (answer_of analysed) IsWritable) }
+    ensures found { IfOk result (λ analysed. IsAnsweredWith analysed (IsBoundWith outline.now (reported report) events.items pivots)) }
+    ensures writable { IsWritable (reported report) → IfOk result (λ analysed. IfTold analysed AreWritable) }
 {
-    let report = bounded_report(alloc, outline, report, pivots)?;
-    Ok(Analysed::Told(report))
+    let bounded = bounded_report(alloc, outline, report, pivots)?;
+    events_fit(&events);
+    scale_fits(bounded.duals.scale);
+    multipliers_fit(&bounded.duals.multipliers);
+    let cert = certificate(events, bounded.duals);
+    Ok(BoundedAnalysis::Told(bounded.report, cert))
+}
+
+// The events with the multipliers.
+fn certificate(events: Vec<Event>, duals: Duals) -> Cert
+    ensures events { result.events.items ≡ events.items }
+    ensures scale { result.scale ≡ duals.scale }
+    ensures multipliers { result.multipliers.items ≡ duals.multipliers.items }
+{
+    Cert {
+        events,
+        scale: duals.scale,
+        multipliers: duals.multipliers,
+    }
 }

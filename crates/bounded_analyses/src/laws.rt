@@ -1,8 +1,8 @@
 //! What the definitions promise, as clauses of functions that do nothing.
 
-ghost use Rattle.bounded_analyses.specs.Analyses.{HasOneBoundedAnalysis, StaysBounded};
+ghost use Rattle.bounded_analyses.specs.Analyses.{HasOneBoundedAnalysis, StaysBounded, HasOnePrintedReport, StaysPrinted};
 ghost use Rattle.bounded_analyses.specs.Fitting.{PartsFit};
-ghost use Rattle.bounded_analyses.specs.Sound.{FoundReportsAreRight, LoneBoundsAgree};
+ghost use Rattle.bounded_analyses.specs.Sound.{FoundReportsAreRight, ClosedExplorationsHaveTotals, LoneBoundsAgree};
 
 use alf_runs::{
     a_step_leads_along_an_edge, active_frames_follow_the_call_path,
@@ -25,10 +25,13 @@ pub(crate) fn parts_fit()
 }
 
 /// A program has one answer with a path bound, whatever ranks its functions have, and a report is found in each number
-/// of turns that is not below the steps of its exploration.
+/// of turns that is not below the steps of its exploration. So it is of the report as it is printed, with a certificate
+/// or without: each such number of turns gives the same events and multipliers.
 pub fn a_program_has_one_bounded_analysis()
     ensures one { HasOneBoundedAnalysis }
     ensures longer { StaysBounded }
+    ensures printed { HasOnePrintedReport }
+    ensures printed_longer { StaysPrinted }
 {
     a_program_has_one_analysis();
     ranks_have_no_part();
@@ -42,6 +45,14 @@ pub fn found_reports_are_right()
 {
     parts_fit();
     told_bounds_are_right();
+}
+
+/// An exploration that leaves no place collected some total of each node that it stepped: so a check of its report has
+/// nothing to say of totals.
+pub fn closed_explorations_have_totals()
+    ensures { ClosedExplorationsHaveTotals }
+{
+    parts_fit();
 }
 
 /// Where each range has one number, the path bound of a report is its count bound, and so the run's cost.

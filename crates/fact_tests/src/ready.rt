@@ -30,7 +30,7 @@ pub fn ready_bound(
         return Ok(None);
     }
     let bound = path_bound(alloc, outline, report, pivots)?;
-    Ok(Some(bound))
+    Ok(Some((bound.value, bound.word)))
 }
 
 // Whether `path_bound` may be asked for this outline and these facts.

@@ -1,5 +1,5 @@
 -- Turns of the loops over scopes and nodes.
---   taken_more, lines_more   one element more of a list, as it is or as a line
+--   lines_more   one line more
 --   sum_part     a part of a sum
 --   costs_more   one cost more that fits
 --   begun        before the first turn nothing is told
@@ -18,7 +18,8 @@ use Rattle.flow_facts.specs.Reports.{NamedNode, node_of}
 use Rattle.recorder_rules.specs.TotalRules.{spread_at}
 use Rattle.flow_facts.specs.declared.fact.Fact.{Fact}
 use Rattle.report_soundness.specs.ReportTold.{below, sum_below, span_lines}
-use Rattle.flow_reports.specs.Gathering.{named_node}
+use Rattle.flow_reports.specs.Naming.{named_node}
+use Rattle.flow_gathering.specs.TakeLaws.{taken_more}
 
 -- before the first turn nothing is told
 pub begun : (old : List Fact) (f : ℕ → List Fact) → old ≡ old ++ below f 0
@@ -41,12 +42,6 @@ no_line old line true spread none = sym (append-nil old) ∙ ap (λ (t : Option 
 -- a book has nothing at a place where its look-up answers so
 pub nothing_at : (spreads : List (Option (ℕ × ℕ))) (place : ℕ) (answer : Option (ℕ × ℕ)) → slice_get spreads place ≡ Some answer → answer ≡ None → spread_at spreads place ≡ None
 nothing_at spreads place answer told none = get_or_from_slice_get spreads place answer None told ∙ none
-
--- one element more of a list
-pub taken_more : {A : Type 0} (xs taken more : List A) (i : ℕ) (x : A) → more ≡ taken ++ x ∷ [] → taken ≡ take i xs → slice_get xs i ≡ Some x → more ≡ take (i + 1) xs
-taken_more {A} xs taken more i x is so_far at =
-    is ∙ ap (λ (ys : List A). ys ++ x ∷ []) so_far
-    ∙ sym (take_more xs i x (slice_get_within xs i x at) ∙ ap (λ (y : A). take i xs ++ y ∷ []) (get_or_from_slice_get xs i x x at))
 
 -- one line more
 pub lines_more : (rows : List NodeRow) (lines more : List NodeLine) (i : ℕ) (row : NodeRow) (line : NodeLine) → more ≡ lines ++ line ∷ [] → map node_of lines ≡ map named_node (take i rows)

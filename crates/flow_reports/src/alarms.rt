@@ -2,13 +2,13 @@
 
 ghost use Rattle.std.specs.Prelude.{◌≡◌, ◌<◌, ◌++◌, length, OnOk};
 ghost use Rattle.report_soundness.specs.ReportTold.{below, alarm_line, alarm_lines};
-ghost use Rattle.flow_reports.specs.Gathering.{found_in, IsSized};
+ghost use Rattle.flow_gathering.specs.Gathering.{found_in, IsSized};
 
-use crate::collected::Collected;
 use crate::scopes::tell;
 use alf_ops::RunFault;
 use domain_core::{FaultSet, Outline};
 use flow_facts::Fact;
+use flow_gathering::Collected;
 use std::alloc::AllocError;
 
 // The line of a fault at a node, if it was told there.

@@ -3,10 +3,10 @@
 ghost use Rattle.std.specs.Prelude.{◌≡◌, ◌<◌, ◌^◌, ◌*◌, length, slice_index};
 ghost use Rattle.report_soundness.specs.ReportTold.{greatest_total, costs_of, count_bound};
 ghost use Rattle.report_soundness.specs.Numbers.{CostsFit};
-ghost use Rattle.flow_reports.specs.Gathering.{found_in, IsSized};
+ghost use Rattle.flow_gathering.specs.Gathering.{found_in, IsSized};
 
-use crate::collected::Collected;
 use domain_core::Outline;
+use flow_gathering::Collected;
 
 // The greatest total of a node that was stepped, and 0 of any other.
 fn greatest(found: &Collected, node: u32) -> u32

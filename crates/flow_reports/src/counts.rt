@@ -4,12 +4,12 @@ ghost use Rattle.std.specs.Prelude.{◌≡◌, ◌<◌, ◌++◌, ◌&&◌, ◌=
 ghost use Rattle.domain_core.specs.Outlines.{shape_of};
 ghost use Rattle.recorder_rules.specs.LoopRules.{own_of, is_counted};
 ghost use Rattle.report_soundness.specs.ReportTold.{below, is_stepped, count_line, count_lines};
-ghost use Rattle.flow_reports.specs.Gathering.{found_in, IsSized};
+ghost use Rattle.flow_gathering.specs.Gathering.{found_in, IsSized};
 
-use crate::collected::Collected;
 use crate::scopes::{is_counted_at, own_scope, tell};
 use domain_core::Outline;
 use flow_facts::Fact;
+use flow_gathering::Collected;
 use std::alloc::AllocError;
 
 // Whether the node is told in the executions of the scope.

@@ -5,10 +5,6 @@
 //! runs is proved there.
 #![tactic(auto)]
 
-// What was collected.
-mod collected;
-mod gathering;
-
 // The facts, kind by kind.
 mod alarms;
 mod counts;
@@ -22,5 +18,4 @@ mod bound;
 mod reports;
 mod rows;
 
-pub use collected::FourRecorders;
 pub use reports::report;

@@ -2,12 +2,12 @@
 
 ghost use Rattle.std.specs.Prelude.{◌≡◌, ◌<◌, ◌++◌, length, OnOk};
 ghost use Rattle.report_soundness.specs.ReportTold.{below, loop_lines};
-ghost use Rattle.flow_reports.specs.Gathering.{found_in, IsSized};
+ghost use Rattle.flow_gathering.specs.Gathering.{found_in, IsSized};
 
-use crate::collected::Collected;
 use crate::scopes::{is_loop_at, tell};
 use domain_core::Outline;
 use flow_facts::Fact;
+use flow_gathering::Collected;
 use std::alloc::AllocError;
 
 // The line of a scope, if it is a loop with an execution.

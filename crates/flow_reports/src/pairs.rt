@@ -3,12 +3,12 @@
 ghost use Rattle.std.specs.Prelude.{◌≡◌, ◌<◌, ◌++◌, ◌&&◌, not, nat_lt, length, OnOk};
 ghost use Rattle.recorder_rules.specs.PairRules.{together};
 ghost use Rattle.report_soundness.specs.ReportTold.{below, may_pair, pair_line, pairs_with, pair_lines};
-ghost use Rattle.flow_reports.specs.Gathering.{found_in, IsSized};
+ghost use Rattle.flow_gathering.specs.Gathering.{found_in, IsSized};
 
-use crate::collected::Collected;
 use crate::scopes::{header_at, own_scope, tell};
 use domain_core::Outline;
 use flow_facts::Fact;
+use flow_gathering::Collected;
 use std::alloc::AllocError;
 
 // Whether the node was stepped, is of this own scope, and is not its header.

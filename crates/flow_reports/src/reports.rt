@@ -7,13 +7,11 @@ ghost use Rattle.abstract_exec.specs.Explorations.{IsPool};
 ghost use Rattle.report_soundness.specs.ReportTold.{four_recording, books_of, found_of, told_facts, count_bound, told_report};
 ghost use Rattle.report_soundness.specs.Numbers.{AreOrderly};
 ghost use Rattle.report_soundness.specs.Runs.{IsSound};
-ghost use Rattle.flow_reports.specs.Gathering.{found_in, IsSized};
+ghost use Rattle.flow_gathering.specs.Gathering.{found_in, IsSized};
 
 use crate::alarms::tell_alarms;
 use crate::bound::{bound, costs_fit};
-use crate::collected::{Collected, FourRecorders};
 use crate::counts::tell_counts;
-use crate::gathering::collected;
 use crate::loops::tell_loops;
 use crate::pairs::tell_pairs;
 use crate::rows::{node_lines, scope_rows};
@@ -21,6 +19,7 @@ use crate::totals::{tell_deads, tell_totals};
 use abstract_exec::Pool;
 use domain_core::{Outline, Stepper};
 use flow_facts::{Fact, Report};
+use flow_gathering::{Collected, FourRecorders, gathered};
 use report_soundness::{closed_explorations_are_sound, told_reports_are_writable};
 use std::alloc::{AllocError, Global};
 
@@ -90,7 +89,7 @@ pub fn report<S: Stepper>(
     costs_fit(outline);
     told_reports_are_writable();
     closed_explorations_are_sound::<S>();
-    let found = collected(alloc, pool, outline.node_count())?;
+    let found = gathered(alloc, pool, outline.node_count())?;
     let report = report_of(alloc, outline, &found)?;
     Ok(report)
 }

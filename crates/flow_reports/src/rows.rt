@@ -3,7 +3,7 @@
 ghost use Rattle.std.specs.Prelude.{◌≡◌, ◌<◌, map, IfOk};
 ghost use Rattle.flow_facts.specs.Reports.{node_of};
 ghost use Rattle.report_soundness.specs.ReportTold.{named_nodes};
-ghost use Rattle.flow_reports.specs.Gathering.{named_node};
+ghost use Rattle.flow_reports.specs.Naming.{named_node};
 
 use domain_core::{NodeRow, Outline, ScopeRow};
 use flow_facts::NodeLine;

@@ -5,6 +5,8 @@
 --   value_most       the bound is at most that sum
 --   value_fits       and so fits 64 bits
 --   system_bounds    what bounds each point of the rows
+--   system_duals     the multipliers are those that are told
+--   system_held      and they hold
 --   greatest_at      with `Least` the bound is the greatest worth, rounded down
 use Rattle.std.proofs.Common.{◌≡◌, ◌<◌, ◌^◌, ℕ, suc, ℤ, pos, List, [], ◌∷◌, length, All, refl, ap, sym, ◌∙◌, subst, arith}
 use Rattle.std.specs.Prelude.{◌*ℤ◌, ◌≤ℤ◌, ◌<ℤ◌}
@@ -19,16 +21,18 @@ use Rattle.ipet_rows.specs.Duality.{weak_duality}
 use Rattle.ipet_rows.specs.Verdicts.{floor_of}
 use Rattle.ipet_rows.specs.Fractions.{part_of, whole_of}
 use Rattle.ipet_rows.specs.PointLaws.{whole_above}
+use Rattle.ipet_rows.specs.Firsts.{entry}
 use Rattle.ipet_rows.specs.Bounds.{BoundsAll}
 use Rattle.dual_check.specs.Systems.{System}
 use Rattle.dual_check.specs.Openings.{system_of}
 use Rattle.simplex_rules.specs.Tableaus.{Tableau, next_slack, multipliers, slacks_from}
 use Rattle.simplex_rules.specs.NarrowOpening.{IsSmall}
+use Rattle.simplex_rules.specs.OpeningPlaces.{ended}
 use Rattle.path_lp.specs.declared.solved.SolveEnd.{SolveEnd}
 use Rattle.path_lp.specs.declared.solved.SolveEnd.TheVariants.{Wide}
 use Rattle.path_lp.specs.Handing.{IsHanded}
-use Rattle.path_lp.specs.Solving.{OnLeast, IsOptimal, opening_worth}
-use Rattle.path_lp.specs.Bounding.{word_at, opening_sum, IsGreatest}
+use Rattle.path_lp.specs.Solving.{HoldFrom, OnLeast, IsOptimal, opening_worth}
+use Rattle.path_lp.specs.Bounding.{word_at, duals_of, told_duals, opening_sum, AreHeld, IsGreatest}
 use Rattle.path_lp.specs.Sizes.{NumbersFit, CostsFit}
 use Rattle.path_lp.specs.SizeLaws.{rows_small}
 use Rattle.path_lp.specs.OpeningCosts.{openings_above}
@@ -43,6 +47,20 @@ multiplier_count (r ∷ rs) s d = ap (λ (n : ℕ). suc n) (multiplier_count rs 
 -- a multiplier for each row
 pub handed_count : (p : Program) (t : Tableau) (scale : ℤ) (y : List ℤ) → IsHanded p t scale y → length y ≡ length p.rows
 handed_count p t scale y is = ap (λ (z : List ℤ). length z) is.multipliers ∙ multiplier_count p.rows (slacks_from p) t.objective
+
+-- they are those that are told
+pub system_duals : (s : System) (o : Outlined) (facts : List Fact) (n : ℕ) (scale : ℤ) (y : List ℤ) → s ≡ system_of o facts
+    → IsHanded s.program (ended s.program s.openings n).tableau scale y → (scale, y) ≡ told_duals o facts n
+system_duals s o facts n scale y is handed =
+    let end = ended s.program s.openings n in
+    ap (λ (z : ℤ). (z, y)) handed.scale_is ∙ ap (λ (l : List ℤ). (entry end.tableau.objective 1, l)) handed.multipliers
+    ∙ ap (λ (z : System). duals_of z.program (ended z.program z.openings n)) is
+
+-- and they hold
+pub system_held : (s : System) (o : Outlined) (facts : List Fact) (t : Tableau) (scale : ℤ) (y : List ℤ) → s ≡ system_of o facts
+    → IsHanded s.program t scale y → pos 1 ≤ℤ scale → HoldFrom s.program scale y → AreHeld (system_of o facts).program scale y
+system_held s o facts t scale y is handed above hold =
+    subst (λ (z : System). AreHeld z.program scale y) is (record { each = handed_count s.program t scale y handed; scaled = above; hold = hold })
 
 -- ---- sizes
 

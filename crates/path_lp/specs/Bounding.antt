@@ -2,11 +2,13 @@
 --   word_of end           the word of a run's end: least where it is `Least`
 --   word_at end           the word of the end that the solver tells
 --   bound_of p x          the dual value of the last tableau's multipliers, rounded down, and the word of the end
---   told_path_bound o facts n   that of the rows of an outline and facts, after n pivots at most
+--   duals_of p x          what the last tableau hands out: the scale, and the multipliers
+--   told_path_bound o facts n, told_duals o facts n   those of the rows of an outline and facts, after n pivots at most
+--   AreHeld p scale y     there is a multiplier for each row, and the test answers that they hold
 --   opening_sum o facts   the sum over the openings of the column's cost times the row's right side
 --   IsAbove o facts v     no point that meets the rows, and no run that meets the facts, passes the value
 --   IsGreatest p v        the value is the greatest worth of a point that meets the rows, rounded down
-use Rattle.std.specs.Prelude.{◌≡◌, ◌≤◌, ℕ, ℤ, pos, ◌*ℤ◌, ◌≤ℤ◌, Bool, List, ◌∷◌, reverse}
+use Rattle.std.specs.Prelude.{◌≡◌, ◌≤◌, ℕ, ℤ, pos, ◌*ℤ◌, ◌≤ℤ◌, Bool, List, ◌∷◌, length, reverse}
 use Rattle.domain_core.specs.Outlines.{Outlined, shape_of}
 use Rattle.flow_facts.specs.declared.fact.Fact.{Fact}
 use Rattle.flow_facts.specs.declared.report.BoundWord.{BoundWord}
@@ -27,7 +29,7 @@ use Rattle.simplex_rules.specs.Promise.{handed}
 use Rattle.simplex_rules.specs.OpeningPlaces.{ended}
 use Rattle.path_lp.specs.declared.solved.SolveEnd.{SolveEnd}
 use Rattle.path_lp.specs.declared.solved.SolveEnd.TheVariants.{Wide}
-use Rattle.path_lp.specs.Solving.{opening_worth}
+use Rattle.path_lp.specs.Solving.{HoldFrom, opening_worth}
 
 -- the word of a run's end
 abbrev pub word_of : RunEnd → BoundWord
@@ -48,6 +50,20 @@ bound_of p x = (floor_of (dual_sum p (handed p x.tableau)) (entry x.tableau.obje
 -- that of the rows of an outline and facts, after n pivots at most
 abbrev pub told_path_bound : Outlined → List Fact → ℕ → ℕ × BoundWord
 told_path_bound o facts n = bound_of (system_of o facts).program (ended (system_of o facts).program (system_of o facts).openings n)
+
+-- what the last tableau hands out: the scale, and the multipliers
+abbrev pub duals_of : Program → Ended → ℤ × List ℤ
+duals_of p x = (entry x.tableau.objective 1, handed p x.tableau)
+
+-- those of the rows of an outline and facts, after n pivots at most
+abbrev pub told_duals : Outlined → List Fact → ℕ → ℤ × List ℤ
+told_duals o facts n = duals_of (system_of o facts).program (ended (system_of o facts).program (system_of o facts).openings n)
+
+-- there is a multiplier for each row, and the test answers that they hold, for each bound from their value on
+pub record AreHeld (p : Program) (scale : ℤ) (y : List ℤ) : Type 0 where
+  pub each : length y ≡ length p.rows
+  pub scaled : pos 1 ≤ℤ scale
+  pub hold : HoldFrom p scale y
 
 -- the sum over the openings of the column's cost times the row's right side
 abbrev pub opening_sum : Outlined → List Fact → ℤ

@@ -11,11 +11,11 @@ ghost use Rattle.dual_check.specs.Openings.{system_of};
 ghost use Rattle.simplex_rules.specs.NarrowOpening.{IsSmall};
 ghost use Rattle.simplex_rules.specs.OutlineOpenings.{AreLimited};
 ghost use Rattle.path_lp.specs.Solving.{HoldFrom};
-ghost use Rattle.path_lp.specs.Bounding.{word_at, told_path_bound, opening_sum, IsAbove, IsGreatest};
+ghost use Rattle.path_lp.specs.Bounding.{word_at, told_path_bound, told_duals, opening_sum, AreHeld, IsAbove, IsGreatest};
 
 use crate::running::solve;
 use crate::sizes::{costs_fit, facts_fit};
-use crate::solved::SolveEnd;
+use crate::solved::{PathBound, SolveEnd};
 use domain_core::Outline;
 use dual_check::{Duals, Rows, Verdict, rows, verdicts_bound_each_run, verify};
 use flow_facts::{BoundWord, Report};
@@ -48,8 +48,9 @@ fn value(rows: &Rows, duals: &Duals) -> u64
     }
 }
 
-/// The path bound of the rows that an outline and a report's facts make, after so many pivots at most, and its
-/// word. The costs are those of the outline's nodes. The report's other parts are not looked at.
+/// The path bound of the rows that an outline and a report's facts make, after so many pivots at most, its word,
+/// and the multipliers that show it. The costs are those of the outline's nodes. The report's other parts are not
+/// looked at.
 ///
 /// Want of memory is the only other answer; it is also given where 32 bits do not number the rows, the columns
 /// or the places of the tableau.
@@ -58,22 +59,28 @@ pub fn path_bound(
     outline: &Outline,
     report: &Report,
     pivots: u32,
-) -> Result<(u64, BoundWord), AllocError>
+) -> Result<PathBound, AllocError>
     requires about { All (λ f. IsAbout (shape_of outline.now) f) report.now.facts.items }
     requires limited { AreLimited (length outline.now.nodes) report.now.facts.items }
     requires room { opening_sum outline.now report.now.facts.items <ℤ pos (2 ^ 64) }
 
     // The bound is that of the rule's multipliers, and the word that of its run's end.
-    ensures told { IfOk result (λ b. b ≡ told_path_bound outline.now report.now.facts.items pivots) }
+    ensures told { IfOk result (λ b. (b.value, b.word) ≡ told_path_bound outline.now report.now.facts.items pivots) }
+
+    // The multipliers are those that the rule hands out at the end of its run.
+    ensures duals { IfOk result (λ b. (b.duals.scale, b.duals.multipliers.items) ≡ told_duals outline.now report.now.facts.items pivots) }
+
+    // There is one for each row, and their test answers that they hold.
+    ensures held { IfOk result (λ b. AreHeld (system_of outline.now report.now.facts.items).program b.duals.scale b.duals.multipliers.items) }
 
     // No point that meets the rows is worth as much as one more, and no run that meets the facts costs more.
-    ensures holds { IfOk result (λ b. IsAbove outline.now report.now.facts.items b.0) }
+    ensures holds { IfOk result (λ b. IsAbove outline.now report.now.facts.items b.value) }
 
     // With `Least` it is the greatest worth of a point that meets the rows, rounded down.
-    ensures least { IfOk result (λ b. b.1 ≡ Least → IsGreatest (system_of outline.now report.now.facts.items).program b.0) }
+    ensures least { IfOk result (λ b. b.word ≡ Least → IsGreatest (system_of outline.now report.now.facts.items).program b.value) }
 
     // It is at most the sum over the openings.
-    ensures most { IfOk result (λ b. pos b.0 ≤ℤ opening_sum outline.now report.now.facts.items) }
+    ensures most { IfOk result (λ b. pos b.value ≤ℤ opening_sum outline.now report.now.facts.items) }
 
     // Costs, coefficients and right sides have about 32 bits: none is too wide for the solver.
     ensures small { IfOk result (λ b. IsSmall (system_of outline.now report.now.facts.items).program) }
@@ -87,5 +94,9 @@ pub fn path_bound(
     rows.kept();
     let solved = solve(alloc, &rows, pivots)?;
     let bound = value(&rows, &solved.duals);
-    Ok((bound, word(&solved.end)))
+    Ok(PathBound {
+        value: bound,
+        word: word(&solved.end),
+        duals: solved.duals,
+    })
 }

@@ -32,4 +32,4 @@ mod laws;
 pub use bounds::path_bound;
 pub use laws::told_bounds_are_right;
 pub use running::solve;
-pub use solved::{SolveEnd, Solved};
+pub use solved::{PathBound, SolveEnd, Solved};

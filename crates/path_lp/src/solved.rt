@@ -1,6 +1,7 @@
 //! What the solver tells.
 
 use dual_check::Duals;
+use flow_facts::BoundWord;
 
 /// How the run ended.
 #[derive(Drop)]
@@ -20,4 +21,15 @@ pub struct Solved {
     pub duals: Duals,
     /// How the run ended.
     pub end: SolveEnd,
+}
+
+/// A path bound, and what shows it.
+#[derive(Drop)]
+pub struct PathBound {
+    /// No run that meets the facts costs more.
+    pub value: u64,
+    /// How the run ended.
+    pub word: BoundWord,
+    /// The multipliers of the last tableau. The value is theirs, rounded down.
+    pub duals: Duals,
 }

@@ -3,6 +3,7 @@
 --   first_pool parts o              the pool at the start
 --   IsExploration parts o policy turns events pool   the policy's events lead from it to the pool, in so many turns
 --   IsClosed .. report              no place is left in the end, and the report tells what was collected
+--   IsClosedBy .. report events     so it is, by these events
 --   IsLeft .. scope                 the turns are used up, and the first place that is left stands in the scope
 --   IsFound parts o policy turns answer   the one or the other
 use Rattle.std.specs.Prelude.{◌≡◌, ℕ, List, []}
@@ -39,6 +40,11 @@ pub record IsClosed (parts : StepperParts) (o : Outlined) (policy : Policy) (tur
   pub explored : IsExploration parts o policy turns events pool
   pub empty : pool.spots ≡ []
   pub told : report ≡ told_report o (found_of pool)
+
+-- so it is, by these events
+pub record IsClosedBy (parts : StepperParts) (o : Outlined) (policy : Policy) (turns : ℕ) (report : Reported) (events : List Event) : Type 0 where
+  pub closed : IsClosed parts o policy turns report
+  pub events_are : closed.events ≡ events
 
 -- the turns are used up, and the first place that is left stands in the scope
 pub record IsLeft (parts : StepperParts) (o : Outlined) (policy : Policy) (turns : ℕ) (scope : ℕ) : Type 0 where

@@ -2,10 +2,12 @@
 --   AreAlike o other     the outlines have one shape, and each node has one name and one cost in both
 --   HasOneAnalysis       along such outlines one policy finds one answer in so many turns
 --   StaysFound           a report is found in each number of turns that is not below the steps of its exploration
+--   HasOneEventList      along such outlines explorations that leave no place have one list of events, whatever the turns
 --   HasOneAlike          outlines of one graph with the same costs are alike
---   one_analysis, longer_analysis, alike_outlines   why
+--   one_analysis, longer_analysis, one_event_list, alike_outlines   why
 use Rattle.std.specs.Prelude.{slice_index, nat_lt, not, if◌then◌else◌}
-use Rattle.std.proofs.Common.{◌≡◌, ◌≤◌, ◌*◌, ℕ, List, [], ◌∷◌, ◌++◌, map, length, None, slice_get, ◌==◌, ◌&&◌, refl, sym, ap, subst, ◌∙◌, arith}
+use Rattle.std.proofs.Common.{◌≡◌, ◌≤◌, ◌<◌, ◌*◌, ℕ, List, [], ◌∷◌, ◌++◌, map, length, None, slice_get, ◌==◌, ◌&&◌, refl, sym, ap, subst, ◌∙◌, arith, ⊎_elim}
+use Rattle.std.proofs.lemmas.Bool.{cases_lt}
 use Rattle.std.proofs.lemmas.Option.{none-some, same_Some}
 use Rattle.alf_check.specs.CheckedPrograms.{NumberedProgram}
 use Rattle.cost_table.specs.CostTables.{CostTable}
@@ -58,6 +60,11 @@ abbrev pub StaysFound : Type 0
 StaysFound = (parts : StepperParts) (o : Outlined) (policy : Policy) (turns : ℕ) (report : Reported) (closed : IsClosed parts o policy turns report)
     → (closed.pool.steps ≤ turns) × ((more : ℕ) → closed.pool.steps ≤ more → IsClosed parts o policy more report)
 
+-- along such outlines explorations that leave no place have one list of events, whatever the turns
+abbrev pub HasOneEventList : Type 0
+HasOneEventList = (parts : StepperParts) (o other : Outlined) (policy : Policy) (turns more : ℕ) (a b : Reported) → AreAlike o other
+    → (first : IsClosed parts o policy turns a) (second : IsClosed parts other policy more b) → first.events ≡ second.events
+
 -- outlines of one graph with the same names and costs are alike
 abbrev pub HasOneAlike : Type 0
 HasOneAlike = (program : NumberedProgram) (graph : GraphParts) (costs : CostTable) (o other : Outlined) → HasProgram graph
@@ -106,7 +113,7 @@ abbrev named_row : NodeRow → NamedNode
 named_row row = record { scope = row.scope; cost = row.cost; name = row.name.items }
 
 -- rows that have one scope, one cost and one name
-same_named : (xs ys : List NodeRow) → map (λ row. row.scope) xs ≡ map (λ row. row.scope) ys → map (λ row. row.cost) xs ≡ map (λ row. row.cost) ys
+pub same_named : (xs ys : List NodeRow) → map (λ row. row.scope) xs ≡ map (λ row. row.scope) ys → map (λ row. row.cost) xs ≡ map (λ row. row.cost) ys
     → map (λ row. row.name.items) xs ≡ map (λ row. row.name.items) ys
     → map named_row xs ≡ map named_row ys
 same_named [] [] scopes costs names = refl
@@ -234,3 +241,22 @@ longer_analysis parts o policy turns report closed =
         told = closed.told;
       },
     )
+
+-- two explorations that leave no place, in so many turns and in more
+module _ (parts : StepperParts) (o : Outlined) (policy : Policy) where
+  events_on : (turns more : ℕ) (events others : List Event) (pool pool' : PoolOf) → turns ≤ more → IsExploration parts o policy turns events pool → pool.spots ≡ []
+      → IsExploration parts o policy more others pool' → events ≡ others
+  events_on turns more events others pool pool' enough first none second =
+      let within = run_within stepped_by parts_order four_order four_recording policy turns events (first_pool parts o) pool (omega arith) first in
+      let on = closed_longer stepped_by parts_order four_order four_recording policy turns more events (first_pool parts o) pool (omega (arith, within, enough)) first none in
+      (run_unique stepped_by parts_order four_order four_recording policy more events others (first_pool parts o) pool pool' on second).0
+
+-- they have one list of events
+pub one_event_list : HasOneEventList
+one_event_list parts o other policy turns more a b alike first second =
+    let pool = along first.pool other in
+    let moved : IsExploration parts other policy turns first.events pool = explored_along parts o other policy turns alike first.events first.pool first.explored in
+    ⊎_elim
+    (λ (less : turns < more). events_on parts other policy turns more first.events second.events pool second.pool (omega (arith, less)) moved first.empty second.explored)
+    (λ (enough : more ≤ turns). sym (events_on parts other policy more turns second.events first.events second.pool pool enough second.explored second.empty moved))
+    (cases_lt turns more)

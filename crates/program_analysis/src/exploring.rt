@@ -10,13 +10,13 @@ ghost use Rattle.flow_graph.specs.Numbering.{IsGraph};
 ghost use Rattle.flow_facts.specs.Writable.{IsWritable};
 ghost use Rattle.scope_graph.specs.Placing.{plan_of};
 ghost use Rattle.program_machines.specs.NodeCosts.{HasCosts};
-ghost use Rattle.program_analysis.specs.Answers.{answer_of, IfTold};
+ghost use Rattle.program_analysis.specs.Answers.{answer_of, IfTold, IfClosed};
 ghost use Rattle.program_analysis.specs.Sound.{IsSound};
 ghost use Rattle.abstract_exec.specs.Explorations.{IsPool};
 ghost use Rattle.abstract_step.specs.Steppers.{stepped_by};
 ghost use Rattle.report_soundness.specs.ReportTold.{four_recording};
 ghost use Rattle.report_soundness.specs.Runs.{IsSound as IsSoundSystem};
-ghost use Rattle.program_analysis.specs.Analyses.{IsFound};
+ghost use Rattle.program_analysis.specs.Analyses.{IsFound, IsClosedBy};
 ghost use Rattle.program_analysis.specs.Exploring.{IsEnded, IsWritableOf};
 ghost use Rattle.program_analysis.specs.AnalysisLaws.{names_of};
 ghost use Rattle.program_analysis.specs.Bounds.{most_turns};
@@ -26,17 +26,18 @@ use crate::laws::sound_reports_are_sound_for_the_program;
 use abstract_exec::{Explored, Pool};
 use abstract_step::AlfStepper;
 use alf_check::{Checked, InputRow};
-use domain_core::Outline;
+use domain_core::{Event, Outline};
+use flow_gathering::FourRecorders;
 use flow_graph::{Graph, names_tell_nodes_apart};
-use flow_reports::{FourRecorders, report};
+use flow_reports::report;
 use report_soundness::numbers_are_at_most_the_steps;
 use std::alloc::{AllocError, Global};
 use worklist_rules::Policy;
 
 /// Explores a program's graph along its outline, for runs with inputs inside the ranges of the rows, and tells what
-/// each run does, or the scope in which the turns were used up.
+/// each run does, with the events of the exploration, or the scope in which the turns were used up.
 ///
-/// Takes time by the turns and by what steps take, and memory for the places that are left.
+/// Takes time by the turns and by what steps take, and memory for the places that are left and for the events.
 pub fn analyse(
     alloc: Global,
     checked: &Checked,
@@ -54,6 +55,9 @@ pub fn analyse(
 
     // What the policy finds over the pools of the program's machine.
     ensures found { IfOk result (λ analysed. IsFound (record { checked = checked.now; graph = graph.now; rows = rows.now }) outline.now policy turns (answer_of analysed)) }
+
+    // The events are the policy's own.
+    ensures events { IfOk result (λ analysed. IfClosed analysed (IsClosedBy (record { checked = checked.now; graph = graph.now; rows = rows.now }) outline.now policy turns)) }
 
     // Each run of the program ends, meets each fact, faults only where an alarm says so, and costs at most the bound.
     ensures sound { IfOk result (λ analysed. IfTold (answer_of analysed) (λ report. (costs : CostTable) → HasCosts (seen checked.now) graph.now costs outline.now
@@ -81,13 +85,14 @@ fn explored(
     requires nodes { length outline.now.nodes ≤ 512 }
     requires turns { turns ≤ most_turns }
     ensures found { IfOk result (λ analysed. IsFound stepper.now outline.now policy turns (answer_of analysed)) }
+    ensures events { IfOk result (λ analysed. IfClosed analysed (IsClosedBy stepper.now outline.now policy turns)) }
     ensures sound { IfOk result (λ analysed. IfTold (answer_of analysed) (IsSoundSystem (stepped_by stepper.now).system outline.now)) }
     ensures writable { IfOk result (λ analysed. IfTold (answer_of analysed) (IsWritableOf outline.now)) }
 {
     stepper.goes_along();
     let mut pool: Pool<AlfStepper, FourRecorders> = Pool::start(alloc, stepper, outline)?;
     match pool.explore(alloc, policy, turns)? {
-        Explored::Closed(_) => told(alloc, &pool, outline, policy, turns),
+        Explored::Closed(events) => told(alloc, &pool, events, outline, policy, turns),
         Explored::Left(scope) => Ok(Analysed::Unbounded(scope)),
     }
 }
@@ -96,19 +101,21 @@ fn explored(
 fn told(
     alloc: Global,
     pool: &Pool<AlfStepper<'_>, FourRecorders>,
+    events: Vec<Event>,
     outline: &Outline,
     policy: Policy,
     turns: u32,
 ) -> Result<Analysed, AllocError>
     requires kept { IsPool stepped_by four_recording pool.now }
-    requires explored { IsEnded pool.now outline.now policy turns }
+    requires explored { IsEnded pool.now outline.now policy turns events.items }
     requires nodes { length outline.now.nodes ≤ 512 }
     requires turns { turns ≤ most_turns }
     ensures found { IfOk result (λ analysed. IsFound pool.now.stepper outline.now policy turns (answer_of analysed)) }
+    ensures events { IfOk result (λ analysed. IfClosed analysed (IsClosedBy pool.now.stepper outline.now policy turns)) }
     ensures sound { IfOk result (λ analysed. IfTold (answer_of analysed) (IsSoundSystem (stepped_by pool.now.stepper).system outline.now)) }
     ensures writable { IfOk result (λ analysed. IfTold (answer_of analysed) (IsWritableOf outline.now)) }
 {
     numbers_are_at_most_the_steps::<AlfStepper>();
     let report = report(alloc, outline, pool)?;
-    Ok(Analysed::Told(report))
+    Ok(Analysed::Told(report, events))
 }

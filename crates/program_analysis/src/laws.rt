@@ -1,6 +1,6 @@
 //! What the definitions promise, as clauses of functions that do nothing.
 
-ghost use Rattle.program_analysis.specs.AnalysisLaws.{HasOneAnalysis, StaysFound, HasOneAlike};
+ghost use Rattle.program_analysis.specs.AnalysisLaws.{HasOneAnalysis, StaysFound, HasOneEventList, HasOneAlike};
 ghost use Rattle.program_analysis.specs.ExactLaws.{LoneInputIsToldExactly};
 ghost use Rattle.program_analysis.specs.SoundLaws.{SoundForSystemIsSound};
 
@@ -9,11 +9,12 @@ use flow_graph::graphs_are_expansions;
 use program_machines::a_graph_has_one_ranking;
 
 /// A program has one analysis: along outlines of one shape, with the same names and costs, a policy finds one answer in
-/// so many turns, and a report is found in each number of turns that is not below the steps of its exploration. Outlines
-/// of one graph with the same names and costs are alike.
+/// so many turns, and a report is found in each number of turns that is not below the steps of its exploration, which has
+/// one list of events whatever the turns. Outlines of one graph with the same names and costs are alike.
 pub fn a_program_has_one_analysis()
     ensures one { HasOneAnalysis }
     ensures longer { StaysFound }
+    ensures events { HasOneEventList }
     ensures alike { HasOneAlike }
 {
     a_graph_has_one_ranking();

@@ -1,5 +1,5 @@
 -- What an analysis finds is what is answered of an area.
---   found_of      what was found of the parts of a program is found of the program without ranks
+--   report_of, left_of   what was found of the parts of a program is found of the program without ranks
 --   answered      the path bound of a report that is found is what is answered
 use Rattle.std.proofs.Common.{◌≡◌, ℕ, List, Option, Some, IfSome, refl, sym, ap, subst}
 use Rattle.alf_check.specs.CheckedPrograms.{CheckedParts, NumberedProgram, seen}
@@ -12,17 +12,17 @@ use Rattle.domain_core.specs.Outlines.{Outlined, IsOutline, shape_of}
 use Rattle.domain_core.specs.OutlineOf.{IsOutlineOf}
 use Rattle.scope_graph.specs.Placing.{plan_of}
 use Rattle.flow_facts.specs.declared.report.BoundWord.{BoundWord}
-use Rattle.flow_facts.specs.Reports.{Reported}
+use Rattle.flow_facts.specs.Reports.{Certificate, Reported}
 use Rattle.worklist_rules.specs.declared.policy.Policy.{Policy}
 use Rattle.path_lp.specs.Bounding.{told_path_bound}
 use Rattle.report_soundness.specs.Bounded.{IsOf}
 use Rattle.program_machines.specs.NodeCosts.{HasCosts}
 use Rattle.program_analysis.specs.AnalysisLaws.{names_of}
 use Rattle.program_analysis.specs.Answers.{Answer, Told, Unbounded}
-use Rattle.program_analysis.specs.Analyses.{IsFound}
+use Rattle.program_analysis.specs.Analyses.{IsFound, IsLeft}
 use Rattle.unranked_runs.specs.Ranking.{unranked}
 use Rattle.unranked_analyses.specs.Analyses.{IsAnalysis}
-use Rattle.bounded_analyses.specs.Analyses.{IsFoundWith, IsBoundedReport, IsBoundedAnalysis}
+use Rattle.bounded_analyses.specs.Analyses.{IsCertifiedWith, IsBoundedReport, IsBoundedAnalysis}
 use Rattle.worst_inputs.specs.declared.bounder.Bounded.{Bounded}
 use Rattle.worst_inputs.specs.declared.bounder.Bounded.TheVariants.{At}
 use Rattle.worst_inputs.specs.Areas.{Area}
@@ -49,11 +49,15 @@ module _ (checked : CheckedParts) (graph : GraphParts) (rows : List InputRow) (k
   }
 
   -- and with it
-  pub found_of : (answer : Answer) → IsFoundWith (record { checked = checked; graph = graph; rows = rows }) outline policy turns pivots answer
-      → IsBoundedAnalysis (unranked (seen checked)) graph rows costs policy turns pivots answer
+  pub report_of : (report : Reported) (cert : Certificate) → IsCertifiedWith (record { checked = checked; graph = graph; rows = rows }) outline policy turns pivots report cert
+      → IsBoundedReport (unranked (seen checked)) graph rows costs policy turns pivots report
   unfolding analysis_of
-  found_of (Told report) found = record { given = found.given; analysis = analysis_of (Told found.given) found.closed; bounded = found.bounded }
-  found_of (Unbounded scope) found = analysis_of (Unbounded scope) found
+  report_of report cert found = record { given = found.given; analysis = analysis_of (Told found.given) found.closed; bounded = found.bound.bounded }
+
+  -- or places are left
+  pub left_of : (scope : ℕ) → IsLeft (record { checked = checked; graph = graph; rows = rows }) outline policy turns scope
+      → IsBoundedAnalysis (unranked (seen checked)) graph rows costs policy turns pivots (Unbounded scope)
+  left_of scope found = analysis_of (Unbounded scope) found
 
 -- the path bound of a report that is found is what is answered of the area
 pub answered : (program : NumberedProgram) (graph : GraphParts) (rows : List InputRow) (costs : CostTable) (policy : Policy) (turns pivots : ℕ) (area : Area) (report : Reported) (result : Bounded)

@@ -6,12 +6,11 @@ ghost use Rattle.program_bounder.specs.PathBounding.{Suits, path_bounding};
 
 use crate::rows::with_ranges;
 use alf_check::{Checked, InputRow};
-use bounded_analyses::analyse;
+use bounded_analyses::{BoundedAnalysis, analyse};
 use cost_table::Costs;
 use domain_core::Outline;
 use flow_facts::Report;
 use flow_graph::Graph;
-use program_analysis::Analysed;
 use std::alloc::{AllocError, Global};
 use worklist_rules::Policy;
 use worst_inputs::{Bounded, Bounder, Range};
@@ -64,8 +63,8 @@ fn bound_of(alloc: Global, bounder: &PathBounder, area: &[Range]) -> Result<Boun
         bounder.turns,
         bounder.pivots,
     )? {
-        Analysed::Told(report) => Ok(path_bound(&report)),
-        Analysed::Unbounded(scope) => Ok(Bounded::Left(scope)),
+        BoundedAnalysis::Told(report, _) => Ok(path_bound(&report)),
+        BoundedAnalysis::Unbounded(scope) => Ok(Bounded::Left(scope)),
     }
 }
 

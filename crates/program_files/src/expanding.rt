@@ -43,8 +43,8 @@ fn lowered_in<F: Shelf>(
     Ok(checked)
 }
 
-// The program in the file, where it passes the checks.
-fn checked_in<F: Shelf>(
+/// The program in the file, where it passes the checks.
+pub fn checked_in<F: Shelf>(
     alloc: Global,
     program: ProgramFile<'_>,
     root: &str,
@@ -59,8 +59,8 @@ fn checked_in<F: Shelf>(
     }
 }
 
-// The graph of the program.
-fn graph_of(alloc: Global, checked: &Checked) -> Result<Graph, Stop>
+/// The graph of the program, or the line of the limit that it passes.
+pub fn graph_of(alloc: Global, checked: &Checked) -> Result<Graph, Stop>
     ensures means { Judges (GraphMeans (program_of_checked checked.now)) (λ graph. graph) result }
     ensures graph { IfOk result (λ graph. IsGraph (seen checked.now) graph) }
 {

@@ -16,7 +16,7 @@ mod units;
 // The program of a command, with its graph.
 mod expanding;
 
-pub use expanding::{Expanded, expanded_in};
+pub use expanding::{Expanded, checked_in, expanded_in, graph_of};
 pub use lines::{limit_line, number_or_dash, push_quoted};
 pub use programs::{MOST_BYTES, TOO_LONG, program_in};
 pub use units::{checked_unit_in, unit_in};

@@ -3,8 +3,9 @@
 --   bound_most         what is at most the sum over the openings is at most the count bound
 --   bounded_sound      each run that the report is sound for costs at most the path bound
 --   sound_runs         a run of the system ends where the report is sound
---   kept_told          where no place is left and some run ends, the report is a told one
---   events_told        so it is of each pool that events led to
+--   kept_totals        where no place is left and some run ends, of each node that was stepped some total was collected
+--   kept_told          and the report is a told one
+--   events_totals, events_told   so it is of each pool that events led to
 --   met_at_bound, run_at_bound   where some run costs the count bound, the path bound is the count bound
 --   lone_bound         where the given report tells one run exactly, both are the run's cost
 use Rattle.std.proofs.Common.{◌≡◌, ◌≤◌, ◌<◌, ◌^◌, ℕ, pos, Bool, List, [], ◌∷◌, Option, None, Some, length, All, Contains, reverse, refl, sym, subst, arith}
@@ -98,23 +99,35 @@ sound_runs system o report sound run is =
     let ended = sound.ends run is in
     record { start = ended.start; starts = ended.starts; trace = ended.trace; fault = ended.fault; passes = ended.passes }
 
--- where no place is left and some run ends, the report is a told one
+-- where no place is left and some run ends, of each node that was stepped some total was collected
+pub kept_totals : {S T C : Type 0} (machine : S → Machine T C) (w : Pooled S T FourRecorders FourBooks) → IsKept machine four_recording w → w.spots ≡ []
+    → HasRun (machine w.stepper).system → HaveTotals w.outline (found_of w)
+kept_totals machine w kept empty run = all_totals (machine w.stepper) w empty (kept.handled run.start run.starts) run.passes
+
+-- and the report is a told one
 pub kept_told : {S T C : Type 0} (machine : S → Machine T C) (w : Pooled S T FourRecorders FourBooks) → IsKept machine four_recording w → w.spots ≡ []
     → HasRun (machine w.stepper).system → IsTold w.outline (told_report w.outline (found_of w))
-kept_told machine w kept empty run =
-    record { found = found_of w; told = refl; totals = all_totals (machine w.stepper) w empty (kept.handled run.start run.starts) run.passes }
+kept_told machine w kept empty run = record { found = found_of w; told = refl; totals = kept_totals machine w kept empty run }
 
 -- so it is of each pool that events led to
+pub events_totals : {S T C : Type 0} (machine : S → Machine T C) (states : Order T) (events : List Event) (stepper : S) (o : Outlined)
+    (w : Pooled S T FourRecorders FourBooks) → IsOrder T states
+    → ((s : S) → (machine s).kept → IsMachine T C states (machine s)) → (machine stepper).kept → IsOutline (shape_of o) → IsAlong T C (shape_of o) (machine stepper)
+    → HappenAll machine states four_order four_recording (opened machine four_recording stepper o) events w → w.spots ≡ [] → HasRun (machine stepper).system
+    → HaveTotals o (found_of w)
+events_totals machine states events stepper o w states_laws machine_laws stepper_kept ok along happen empty run =
+    let kept = four_kept machine states events stepper o w states_laws machine_laws stepper_kept ok along happen in
+    let same = events_one_on machine states events (opened machine four_recording stepper o) w happen in
+    let here : HasRun (machine w.stepper).system = subst (λ s. HasRun (machine s).system) (sym same.stepper) run in
+    subst (λ (p : Outlined). HaveTotals p (found_of w)) same.outline (kept_totals machine w kept empty here)
+
 pub events_told : {S T C : Type 0} (machine : S → Machine T C) (states : Order T) (events : List Event) (stepper : S) (o : Outlined)
     (w : Pooled S T FourRecorders FourBooks) → IsOrder T states
     → ((s : S) → (machine s).kept → IsMachine T C states (machine s)) → (machine stepper).kept → IsOutline (shape_of o) → IsAlong T C (shape_of o) (machine stepper)
     → HappenAll machine states four_order four_recording (opened machine four_recording stepper o) events w → w.spots ≡ [] → HasRun (machine stepper).system
     → IsTold o (told_report o (found_of w))
 events_told machine states events stepper o w states_laws machine_laws stepper_kept ok along happen empty run =
-    let kept = four_kept machine states events stepper o w states_laws machine_laws stepper_kept ok along happen in
-    let same = events_one_on machine states events (opened machine four_recording stepper o) w happen in
-    let here : HasRun (machine w.stepper).system = subst (λ s. HasRun (machine s).system) (sym same.stepper) run in
-    subst (λ (p : Outlined). IsTold p (told_report p (found_of w))) same.outline (kept_told machine w kept empty here)
+    record { found = found_of w; told = refl; totals = events_totals machine states events stepper o w states_laws machine_laws stepper_kept ok along happen empty run }
 
 -- ---- the count bound
 

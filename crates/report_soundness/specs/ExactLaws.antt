@@ -37,7 +37,8 @@ use Rattle.report_soundness.specs.Exact.{AreExtremes, IsLonePair, IsLast, IsExac
 use Rattle.report_soundness.specs.BelowLaws.{sum_same}
 use Rattle.report_soundness.specs.LineLaws.{told_line, line_told}
 use Rattle.report_soundness.specs.CostLaws.{cost_is}
-use Rattle.report_soundness.specs.SoundLaws.{SummedUp, stepped_there, greatest_is, no_visit, line_is_met, node_low, visits_turned}
+use Rattle.report_soundness.specs.CollectedLaws.{SummedUp}
+use Rattle.report_soundness.specs.SoundLaws.{stepped_there, greatest_is, no_visit, line_is_met, node_low, visits_turned}
 
 -- the books have exactly the run
 pub record ExactBooks (o : Outlined) (books : Books) (past : List ℕ) : Type 0 where

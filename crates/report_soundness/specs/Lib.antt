@@ -9,6 +9,7 @@ pub mod BelowLaws
 pub mod AscentLaws
 pub mod LineLaws
 pub mod CostLaws
+pub mod CollectedLaws
 pub mod SoundLaws
 pub mod EventLaws
 pub mod Numbers
@@ -23,4 +24,5 @@ pub mod BoundTold
 pub mod BoundToldLaws
 pub mod RunLaws
 pub mod Bounded
+pub mod Certified
 pub mod BoundedLaws

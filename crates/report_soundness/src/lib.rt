@@ -7,7 +7,7 @@
 //!
 //! Its facts have what `path_bound` of `path_lp` asks for, and the path bound is at most the count bound.
 //! `bounded_report` puts it in: nothing else of the report changes, some text spells it still, and each run that
-//! the report is sound for costs at most the path bound. This is the one call that computes; the other functions do
+//! the report is sound for costs at most the path bound. The multipliers that show it are handed on. This is the one call that computes; the other functions do
 //! nothing, and their clauses are the laws.
 #![tactic(auto)]
 
@@ -34,4 +34,4 @@ pub use report_laws::{
     a_lone_run_is_told_exactly, analyses_agree, closed_explorations_are_sound,
     numbers_are_at_most_the_steps, told_reports_are_writable,
 };
-pub use reports::bounded_report;
+pub use reports::{BoundedReport, bounded_report};

@@ -1,9 +1,10 @@
 -- Where each range has one number, what is told is exactly the one run.
-use Rattle.std.proofs.Common.{◌≡◌, ℕ, List, map, slice_index, Option, Ok, Err, refl, sym, ap, subst, ◌∙◌}
+use Rattle.std.proofs.Common.{◌≡◌, ℕ, Bool, true, false, List, map, slice_index, Option, Ok, Err, refl, sym, ap, subst, ◌∙◌}
 use Rattle.alf_ops.specs.declared.history.RunFault.{RunFault}
 use Rattle.alf_check.specs.declared.rows.InputRow.{InputRow}
 use Rattle.alf_check.specs.CheckedPrograms.{CheckedParts, NumberedProgram, seen}
 use Rattle.flow_graph.specs.Nodes.{Node}
+use Rattle.flow_graph.specs.Numbering.{GraphParts}
 use Rattle.flow_graph.specs.Graphs.{HasProgram}
 use Rattle.alf_runs.specs.Outcomes.{Outcome as RunOutcome}
 use Rattle.alf_runs.specs.Runs.{Ends, cost_of}
@@ -12,7 +13,7 @@ use Rattle.cost_table.specs.CostTables.{CostTable}
 use Rattle.domain_core.specs.Outlines.{Outlined, Shape, shape_of}
 use Rattle.scope_graph.specs.Laws.{HasOneOutline}
 use Rattle.flow_facts.specs.declared.report.BoundWord.{BoundWord}
-use Rattle.flow_facts.specs.Reports.{Reported}
+use Rattle.flow_facts.specs.Reports.{Certificate, Reported}
 use Rattle.worklist_rules.specs.declared.policy.Policy.{Policy}
 use Rattle.path_lp.specs.Bounding.{told_path_bound}
 use Rattle.report_soundness.specs.Exact.{IsExact}
@@ -20,9 +21,11 @@ use Rattle.program_machines.specs.NodeCosts.{node_cost}
 use Rattle.program_machines.specs.Starts.{AreLone}
 use Rattle.program_analysis.specs.Answers.{Told, Unbounded as LeftIn}
 use Rattle.report_soundness.specs.Bounded.{with_path_bound, bounded}
+use Rattle.report_soundness.specs.Certified.{printed_as}
 use Rattle.unranked_analyses.specs.UnrankedMachines.{IsProgramOf}
 use Rattle.unranked_analyses.specs.Lone.{LoneAnalysisIsExact}
-use Rattle.bounded_analyses.specs.Analyses.{IsBoundedReport}
+use Rattle.bounded_analyses.specs.Analyses.{IsBoundedReport, IsPrintedReport}
+use Rattle.bounded_analyses.specs.AlikeBounds.{bounded_of}
 use Rattle.bounded_analyses.specs.Sound.{LoneBoundsAgree}
 use Rattle.command_plans.specs.Outcome.{Outcome, Unbounded}
 use Rattle.sweet_cli.specs.Scopes.{ScopedProgram, IsScoped}
@@ -82,6 +85,35 @@ told_exactly law agree program rows costs policy turns pivots report lone h =
       path = both ∙ count;
     })
 
+-- and neither does a certificate
+printed_tells : (certify : Bool) (program : NumberedProgram) (graph : GraphParts) (rows : List InputRow) (costs : CostTable) (turns : ℕ) (bare : Reported) (cert : Certificate)
+    → TellsOneRun program graph rows costs turns bare → TellsOneRun program graph rows costs turns (printed_as certify bare cert)
+printed_tells false program graph rows costs turns bare cert h = h
+printed_tells true program graph rows costs turns bare cert h =
+    let is = h.exact in
+    record {
+      trace = h.trace;
+      outcome = h.outcome;
+      runs = h.runs;
+      within = h.within;
+      fault = h.fault;
+      ends = h.ends;
+      outline = h.outline;
+      outline_is = h.outline_is;
+      exact = record { totals = is.totals; deads = is.deads; loops = is.loops; counts = is.counts; pairs = is.pairs; alarms = is.alarms; bound = is.bound };
+      count = h.count;
+      path = h.path;
+    }
+
+printed_exactly : LoneAnalysisIsExact → LoneBoundsAgree → (certify : Bool) (program : ScopedProgram) (rows : List InputRow) (costs : CostTable) (policy : Policy) (turns pivots : ℕ) (report : Reported)
+    → AreLone rows → IsPrintedReport certify program.expanded.program program.expanded.graph rows costs policy turns pivots report
+    → TellsOneRun program.expanded.program program.expanded.graph rows costs turns report
+printed_exactly law agree certify program rows costs policy turns pivots report lone h =
+    let numbered = program.expanded.program in
+    let graph = program.expanded.graph in
+    let bare = told_exactly law agree program rows costs policy turns pivots h.bare lone (bounded_of certify numbered graph rows costs policy turns pivots report h) in
+    subst (λ (r : Reported). TellsOneRun numbered graph rows costs turns r) (sym h.shown) (printed_tells certify numbered graph rows costs turns h.bare h.cert bare)
+
 left_exactly : HasOneOutline → LoneAnalysisIsExact → (program : ScopedProgram) (rows : List InputRow) (costs : CostTable) (policy : Policy) (turns : ℕ) (outcome : Outcome) → AreLone rows
     → IsScoped program.expanded.graph program.scoped → IsLeftAt program rows costs policy turns outcome → IsLeft program (low_start program.expanded.program rows) turns outcome
 left_exactly one law program rows costs policy turns outcome lone scoped left =
@@ -100,5 +132,5 @@ left_exactly one law program rows costs policy turns outcome lone scoped left =
     }
 
 pub exactly : HasOneOutline → LoneAnalysisIsExact → LoneBoundsAgree → OneInputIsToldExactly
-exactly one law agree program rows costs policy turns pivots (Ok report) lone scoped means = told_exactly law agree program rows costs policy turns pivots report lone means
-exactly one law agree program rows costs policy turns pivots (Err outcome) lone scoped means = left_exactly one law program rows costs policy turns outcome lone scoped means
+exactly one law agree certify program rows costs policy turns pivots (Ok report) lone scoped means = printed_exactly law agree certify program rows costs policy turns pivots report lone means
+exactly one law agree certify program rows costs policy turns pivots (Err outcome) lone scoped means = left_exactly one law program rows costs policy turns outcome lone scoped means

@@ -16,3 +16,17 @@ pub mod JudgedRuns
 pub mod Promises
 pub mod JudgedBoxes
 pub mod WorstPromises
+pub mod JudgedChecks
+pub mod SoundChecks
+pub mod CheckPromises
+pub mod MigratePromises
+pub mod JudgedReplays
+pub mod RankedReplays
+pub mod ReplayPromises
+pub mod JudgedLayouts
+pub mod JudgedCaches
+pub mod CachePromises
+pub mod Carried
+pub mod OwnReports
+pub mod Accepting
+pub mod GeneratePromises

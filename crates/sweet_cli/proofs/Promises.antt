@@ -20,7 +20,7 @@ use Rattle.c_lowered.specs.Programs.{lowered}
 use Rattle.c_lower.specs.Outcomes.{HaveUnitsOutcomes}
 use Rattle.command_plans.specs.declared.status.Status.{Status}
 use Rattle.command_plans.specs.declared.status.Status.TheVariants as statuses
-use Rattle.command_plans.specs.Outcome.{Cause, Usage, Source, Example, Unbounded, No, Unread, Ending, Finished, Stopped, status_of, ending_status, ending_text, ending_unread}
+use Rattle.command_plans.specs.Outcome.{Cause, Usage, Source, Example, Unbounded, No, Unread, Ending, Finished, Stopped, status_of, unread_of, ending_status, ending_text, ending_unread}
 use Rattle.command_plans.specs.Log.{Log, log_of}
 use Rattle.command_plans.specs.Work.{Work, IsOnly, EndsSo}
 use Rattle.command_plans.specs.Works.{Tells, Works}
@@ -33,7 +33,7 @@ use Rattle.sweet_cli.specs.Task.{Task, KeepsPromise, Promised}
 use Rattle.sweet_cli.specs.Words.{ProgramFile, AnalyseWords, LowerWords, RunWords}
 use Rattle.sweet_cli.specs.Tables.{inputs_in, inputs_told, costs_in, costs_told, Tables, tables_in, AreInputs, AreCosts}
 use Rattle.sweet_cli.specs.Scopes.{ScopedProgram, scoped_in}
-use Rattle.sweet_cli.specs.Analyse.{policy_of, ReportMeans, analysing, IsSoundOf, IsSoundReport}
+use Rattle.sweet_cli.specs.Analyse.{policy_of, ReportMeans, analysing, IsSoundReport}
 use Rattle.flow_facts.specs.Reports.{Reported}
 use Rattle.fact_words.specs.Canonical.{report_text}
 use Rattle.fact_text.specs.Language.{SpellsReport}
@@ -42,6 +42,7 @@ use Rattle.sweet_cli.specs.Print.{printing, IsSameProgram}
 use Rattle.sweet_cli.specs.PrintC.{printing_c, IsSameUnit}
 use Rattle.sweet_cli.specs.Lower.{IsLoweredText}
 use Rattle.sweet_cli.specs.Run.{IsRunText, TellsRun}
+use Rattle.sweet_cli.proofs.SoundReports.{SoundPrint}
 
 -- ---- told files
 
@@ -83,7 +84,7 @@ inputs_keep law (Some file) files program rows (bytes, told, means) = law bytes 
 pub analysed : (given : AnalyseWords) (before mid end : ShelfState) (program : ScopedProgram) (tables : Tables) (report : Reported) (text : Vec ℕ Global)
     → (scoped_in given.program given.root).steps.Gives before.files (log_of before) program (log_of mid) × (mid.failed ≡ before.failed) → mid.files ≡ before.files → before.faults ≤ mid.faults
     → (tables_in program.expanded.program given.inputs given.costs).steps.Gives mid.files (log_of mid) tables (log_of end) × (end.failed ≡ mid.failed) → end.files ≡ mid.files → mid.faults ≤ end.faults
-    → IsOnly (ReportMeans program tables.rows tables.costs (policy_of given.merging) given.turns given.pivots) (Ok report) → text.items ≡ report_text report
+    → IsOnly (ReportMeans given.certified program tables.rows tables.costs (policy_of given.merging) given.turns given.pivots) (Ok report) → text.items ≡ report_text report
     → Works (analysing given) (λ (t : Vec ℕ Global). t.items) before (Ok text) end
 unfolding analysing
 analysed given before mid end program tables report text first same later second same_again later_again only is =
@@ -98,7 +99,7 @@ analysed given before mid end program tables report text first same later second
 pub prints_sound : RowsKeepTheRules → (given : AnalyseWords) (told : Option Files) (before mid later : Log) (program : ScopedProgram) (tables : Tables) (report : Reported) (text : List ℕ)
     → (scoped_in given.program given.root).steps.Gives told before program mid → (tables_in program.expanded.program given.inputs given.costs).steps.Gives told mid tables later
     → IfSome told (λ files. IsToldProgram given.program given.root files program.expanded.program)
-    → IsSoundOf program.expanded.program program.expanded.graph tables.rows tables.costs report → SpellsReport text report → IfSome told (λ files. IsSoundReport given files text)
+    → SoundPrint given.certified program.expanded.program program.expanded.graph tables.rows tables.costs report → SpellsReport text report → IfSome told (λ files. IsSoundReport given files text)
 prints_sound law given None before mid later program tables report text scopes read of sound spelled = tt
 prints_sound law given (Some files) before mid later program tables report text scopes read of sound spelled =
     let expanded = program.expanded in
@@ -115,7 +116,8 @@ prints_sound law given (Some files) before mid later program tables report text 
       rows_keep = inputs_keep law given.inputs files expanded.program tables.rows both.0;
       costs_told = both.1;
       shown = spelled;
-      sound = sound;
+      sound = sound.sound;
+      certificate = sound.certificate;
     }
 
 -- a run that was told is that of the program
@@ -196,3 +198,16 @@ pub settle : (w : Work (List ℕ)) (told : Option Files) (p : Log) (ending : End
 settle w None p ending q status from to due none is wrote = tt
 settle w (Some files) p ending q status from to due none is wrote =
     (ending_text ending, record { ending = ending; before = p; after = q; due = due; no_failed_read = none; status_is = is; text_is = refl }, wrote)
+
+-- a status of a failed read comes only with one that is told
+unread_told : (c : Cause) (before after : ShelfState) → status_of c ≡ statuses.ReadFailed → Tells (unread_of c) before after → (name : List ℕ) × Rose before.faults after.faults × (after.failed ≡ Some name)
+unread_told Usage before after e t = absurd (cc)
+unread_told Source before after e t = absurd (cc)
+unread_told Example before after e t = absurd (cc)
+unread_told Unbounded before after e t = absurd (cc)
+unread_told No before after e t = absurd (cc)
+unread_told (Unread name) before after e t = (name, t.0, t.1)
+
+pub read_failed : (ending : Ending) (before after : ShelfState) → ending_status ending ≡ statuses.ReadFailed → Tells (ending_unread ending) before after → (name : List ℕ) × Rose before.faults after.faults × (after.failed ≡ Some name)
+read_failed (Finished text) before after e t = absurd (cc)
+read_failed (Stopped outcome) before after e t = unread_told outcome.cause before after e t

@@ -1,18 +1,18 @@
 -- A report is printed with each number of turns that is not below the steps of its exploration.
 use Rattle.std.proofs.Common.{Ok}
 use Rattle.command_plans.specs.Work.{IsOnly}
-use Rattle.bounded_analyses.specs.Analyses.{HasOneBoundedAnalysis, StaysBounded}
+use Rattle.bounded_analyses.specs.Analyses.{HasOneBoundedAnalysis, HasOnePrintedReport, StaysPrinted}
 use Rattle.sweet_cli.specs.Analyse.{analysing, policy_of, ReportMeans}
 use Rattle.sweet_cli.specs.Laws.{IsReportOf, ReportsStay}
 use Rattle.sweet_cli.proofs.JudgedReports.{report_only}
 
-pub stays : HasOneBoundedAnalysis → StaysBounded → ReportsStay
+pub stays : HasOneBoundedAnalysis → HasOnePrintedReport → StaysPrinted → ReportsStay
 unfolding analysing
-stays one longer given files before after text (program, mid, first, (tables, end, read, (report, last, (only, still), (is, over)))) =
+stays one once longer given files before after text (program, mid, first, (tables, end, read, (report, last, (only, still), (is, over)))) =
     let rows = tables.rows in
     let costs = tables.costs in
     let policy = policy_of given.merging in
-    let kept = longer program.expanded.program program.expanded.graph rows costs policy given.turns given.pivots report only.means in
+    let kept = longer given.certified program.expanded.program program.expanded.graph rows costs policy given.turns given.pivots report only.means in
     let printed : IsReportOf given files before text = record {
       program = program;
       after_program = mid;
@@ -27,6 +27,6 @@ stays one longer given files before after text (program, mid, first, (tables, en
       printed,
       kept.0,
       λ more enough.
-          let again : IsOnly (ReportMeans program rows costs policy more given.pivots) (Ok report) = report_only one program rows costs policy more given.pivots report (kept.1 more enough) in
+          let again : IsOnly (ReportMeans given.certified program rows costs policy more given.pivots) (Ok report) = report_only one once given.certified program rows costs policy more given.pivots report (kept.1 more enough) in
           (program, mid, first, (tables, end, read, (report, last, (again, still), (is, over)))),
     )

@@ -2,7 +2,7 @@
 --   TellsOneRun program graph rows costs turns report   the run ends within the turns, and the report tells its own numbers, its fault and its cost, twice
 --   MeansOneRun program rows costs turns meaning        so it is of a report; places are left where the run has more nodes than the turns
 --   OneInputIsToldExactly       the law
-use Rattle.std.specs.Prelude.{◌≡◌, ◌≤◌, ℕ, List, length, Option, Result, Ok, Err}
+use Rattle.std.specs.Prelude.{◌≡◌, ◌≤◌, ℕ, Bool, List, length, Option, Result, Ok, Err}
 use Rattle.alf_ops.specs.declared.history.RunFault.{RunFault}
 use Rattle.alf_check.specs.declared.rows.InputRow.{InputRow}
 use Rattle.alf_check.specs.CheckedPrograms.{NumberedProgram}
@@ -47,5 +47,5 @@ MeansOneRun program rows costs turns (Err outcome) = IsLeft program (low_start p
 
 -- where each range has one number
 abbrev pub OneInputIsToldExactly : Type 0
-OneInputIsToldExactly = (program : ScopedProgram) (rows : List InputRow) (costs : CostTable) (policy : Policy) (turns pivots : ℕ) (meaning : Result Reported Outcome) → AreLone rows
-    → IsScoped program.expanded.graph program.scoped → ReportMeans program rows costs policy turns pivots meaning → MeansOneRun program rows costs turns meaning
+OneInputIsToldExactly = (certify : Bool) (program : ScopedProgram) (rows : List InputRow) (costs : CostTable) (policy : Policy) (turns pivots : ℕ) (meaning : Result Reported Outcome) → AreLone rows
+    → IsScoped program.expanded.graph program.scoped → ReportMeans certify program rows costs policy turns pivots meaning → MeansOneRun program rows costs turns meaning

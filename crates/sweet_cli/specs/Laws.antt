@@ -1,9 +1,13 @@
 -- Laws of answers.
 --   IsReportOf given files before text   the text is that of the report that is found of the program, the inputs and the costs of the files
 --   ReportsStay     a report is printed with each number of turns that is not below the steps of its exploration
+--   check_words given report   the words of `check` on this report, with the same program, root, inputs and costs
+--   HoldSame given files later   the later files hold the same under the names of the program, the inputs and the costs
+--   EndsAccepted words files   the work of the words ends with `accepted`, and with nothing else but a failed read
+--   OwnReportsAreAccepted   what `analyse --cert` printed is accepted by `check` of the same files
 --   HaveOneAnswer   told files have one answer to the words, and one list of names read, but for failed reads
 --   RunsOfCHaveTheirOwnOutcome   each run of what a told file of C is lowered to has the outcome of the unit from the cells that hold its own numbers
-use Rattle.std.specs.Prelude.{◌≡◌, ◌≤◌, ℕ, ℤ, List, Option, Some}
+use Rattle.std.specs.Prelude.{◌≡◌, ◌≤◌, ℕ, ℤ, true, List, length, Option, None, Some, IfSome}
 use Rattle.flow_base.specs.Outside.{Files}
 use Rattle.flow_facts.specs.Reports.{Reported}
 use Rattle.fact_words.specs.Canonical.{report_text}
@@ -11,14 +15,18 @@ use Rattle.alf_check.specs.declared.rows.InputRow.{InputRow}
 use Rattle.alf_check.specs.CheckedPrograms.{NumberedProgram}
 use Rattle.alf_runs.specs.Starts.{AreWithin}
 use Rattle.c_lower.specs.Outcomes.{HasUnitsOutcomeFrom}
-use Rattle.bounded_analyses.specs.Analyses.{IsBoundedReport}
+use Rattle.bounded_analyses.specs.Analyses.{IsPrintedReport}
+use Rattle.sweet_words.specs.Files.{file_name}
 use Rattle.command_plans.specs.Log.{Log}
-use Rattle.command_plans.specs.Work.{HasOneEnding}
+use Rattle.command_plans.specs.Outcome.{Ending, Finished, ending_unread}
+use Rattle.command_plans.specs.Work.{EndsSo, HasOneEnding}
 use Rattle.program_files.specs.Told.{IsProgramOfUnit}
-use Rattle.sweet_cli.specs.Words.{AnalyseWords}
+use Rattle.sweet_cli.specs.Words.{AnalyseWords, CheckWords, Analyse, Check, command_of}
 use Rattle.sweet_cli.specs.Scopes.{ScopedProgram, scoped_in}
 use Rattle.sweet_cli.specs.Tables.{Tables, tables_in, AreInputs}
 use Rattle.sweet_cli.specs.Analyse.{analysing, policy_of}
+use Rattle.sweet_cli.specs.ReportFiles.{most_report_bytes}
+use Rattle.sweet_cli.specs.Check.{accepted}
 use Rattle.sweet_cli.specs.Table.{task_of}
 
 -- whatever was read before, told files have one answer to the words, but for a line that gives one example of several; and the same names are read, but for failed reads
@@ -38,7 +46,7 @@ pub record IsReportOf (given : AnalyseWords) (files : Files) (before : Log) (tex
   pub after_tables : Log
   pub tables_told : (tables_in program.expanded.program given.inputs given.costs).steps.Gives (Some files) after_program tables after_tables
   pub report : Reported
-  pub found : IsBoundedReport program.expanded.program program.expanded.graph tables.rows tables.costs (policy_of given.merging) given.turns given.pivots report
+  pub found : IsPrintedReport given.certified program.expanded.program program.expanded.graph tables.rows tables.costs (policy_of given.merging) given.turns given.pivots report
   pub text_is : text ≡ report_text report
 
 -- a printed report is found in no fewer turns than its exploration makes steps, and is printed with each number of turns that is not below
@@ -47,6 +55,32 @@ abbrev pub ReportsStay : Type 0
 ReportsStay = (given : AnalyseWords) (files : Files) (before after : Log) (text : List ℕ) → (analysing given).steps.Gives (Some files) before text after
     → (printed : IsReportOf given files before text) × (printed.found.analysis.found.pool.steps ≤ given.turns)
     × ((more : ℕ) → printed.found.analysis.found.pool.steps ≤ more → (analysing (with_turns given more)).steps.Gives (Some files) before text after)
+
+-- the words of `check` on this report, with the same program, root, inputs and costs
+abbrev pub check_words : AnalyseWords → List ℕ → CheckWords
+check_words given report = record { program = given.program; report = report; root = given.root; inputs = given.inputs; costs = given.costs }
+
+-- the later files hold the same under the names of the program, the inputs and the costs
+pub record HoldSame (given : AnalyseWords) (files later : Files) : Type 0 where
+  pub program : later (file_name given.program) ≡ files (file_name given.program)
+  pub inputs : IfSome given.inputs (λ file. later file ≡ files file)
+  pub costs : IfSome given.costs (λ file. later file ≡ files file)
+
+-- whatever was read before, the work of the words ends with `accepted` over these files, and with nothing else that tells no failed read
+pub record EndsAccepted (words : List (List ℕ)) (files : Files) : Type 0 where
+  pub ends : (before : Log) → (after : Log) × EndsSo (task_of words).work (Some files) before (Finished accepted) after
+  pub only : (before after : Log) (ending : Ending) → ending_unread ending ≡ None → EndsSo (task_of words).work (Some files) before ending after
+      → ending ≡ Finished accepted
+
+-- where the words of `analyse --cert` printed a text of told files, and later files hold it under some name, and the same under the names of
+-- the program, the inputs and the costs, the words of `check` with these four names and the same root end with `accepted`, if `check` reads
+-- files of so many bytes
+abbrev pub OwnReportsAreAccepted : Type 0
+OwnReportsAreAccepted = (words again : List (List ℕ)) (given : AnalyseWords) (report : List ℕ) → command_of words ≡ Some (Analyse given) → given.certified ≡ true
+    → command_of again ≡ Some (Check (check_words given report))
+    → (files later : Files) (before after : Log) (text : List ℕ) → EndsSo (task_of words).work (Some files) before (Finished text) after
+    → HoldSame given files later → later report ≡ Some text → length text ≤ most_report_bytes
+    → EndsAccepted again later
 
 -- where a told file of C gives the program and a told file of inputs its rows, the run from each list of numbers inside the ranges of these
 -- rows has the outcome of the unit from the cells that hold these very numbers, and no other cells hold them

@@ -1,12 +1,12 @@
 -- What a command does, and what it promises.
 --   Task                    its order of work, which gives the text, and what is true of the files and that text
---   no_command              the words are no command
+--   no_outcome, no_command  the words are no command
 --   KeepsPromise task files ending   where the work ends with a text, this keeps the promise
 --   Promised task files before after   what the sink grew by keeps the promise
 use Rattle.std.specs.Prelude.{ℕ, List, codes}
 use Rattle.flow_base.specs.Outside.{Files}
 use Rattle.flow_base.specs.Sinks.{SinkState}
-use Rattle.command_plans.specs.Outcome.{Usage, Ending, Finished, Stopped}
+use Rattle.command_plans.specs.Outcome.{Outcome, Usage, Ending, Finished, Stopped}
 use Rattle.command_plans.specs.Work.{Work, stop}
 use Rattle.command_plans.specs.Run.{Wrote}
 
@@ -17,8 +17,11 @@ pub record Task : Type 1 where
   pub Promise : Files → List ℕ → Type 0
 
 -- the words are no command
+abbrev pub no_outcome : Outcome
+no_outcome = record { cause = Usage; text = codes "fault usage\n" }
+
 abbrev pub no_command : Task
-no_command = record { work = stop (record { cause = Usage; text = codes "fault usage\n" }); Promise = λ files text. ⊥ }
+no_command = record { work = stop no_outcome; Promise = λ files text. ⊥ }
 
 -- where the work ends with a text, this keeps the promise
 abbrev pub KeepsPromise : Task → Files → Ending → Type 0

@@ -1,10 +1,15 @@
 //! What the definitions promise, as functions that do nothing when they are called.
 
 ghost use Rattle.sweet_cli.specs.Exact.{OneInputIsToldExactly};
-ghost use Rattle.sweet_cli.specs.Laws.{HaveOneAnswer, ReportsStay, RunsOfCHaveTheirOwnOutcome};
+ghost use Rattle.sweet_cli.specs.Laws.{HaveOneAnswer, ReportsStay, OwnReportsAreAccepted, RunsOfCHaveTheirOwnOutcome};
 
-use bounded_analyses::{a_program_has_one_bounded_analysis, bounds_of_an_input_alone_agree};
+use bounded_analyses::{
+    a_program_has_one_bounded_analysis, bounds_of_an_input_alone_agree,
+    closed_explorations_have_totals,
+};
 use cost_table::a_file_has_one_answer;
+use fact_text::{one_meaning, writable_reports_are_spelled};
+use program_checks::a_report_has_one_check;
 use scope_graph::a_graph_has_one_outline;
 use unranked_analyses::an_input_alone_is_told_exactly;
 
@@ -20,6 +25,18 @@ pub fn reports_stay()
     ensures { ReportsStay }
 {
     a_program_has_one_bounded_analysis();
+}
+
+/// A text of at most 67,108,864 bytes that the words of `analyse --cert` print of told files is accepted by the
+/// words of `check` with the same names and the same root, where a told file holds it and the files of these names
+/// hold what they held. Does nothing when it is called.
+pub fn own_reports_are_accepted()
+    ensures { OwnReportsAreAccepted }
+{
+    a_report_has_one_check();
+    closed_explorations_have_totals();
+    one_meaning();
+    writable_reports_are_spelled();
 }
 
 /// Where each range has one number, what `analyse` tells is exactly the one run: totals, dead nodes, loops,

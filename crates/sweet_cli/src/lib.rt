@@ -26,6 +26,6 @@ mod laws;
 pub use command_plans::Status;
 pub use laws::{
     each_run_of_c_has_the_outcome_from_its_own_cells, one_answer, one_input_is_told_exactly,
-    reports_stay,
+    own_reports_are_accepted, reports_stay,
 };
 pub use top::{run, run_in_memory};

@@ -2,8 +2,11 @@
 //!
 //! - `words`: words that are no command, and the options of each command. `codes`: the exit code of each status.
 //! - `texts`, `c_texts`: texts of ALF and of C, read, printed and refused. `faults`: programs and tables that are refused.
-//! - `reports`, `ranges`: `analyse` without inputs and with inputs. `runs`: `run`. `worst`: boxes of inputs.
-//! - `tasks`: response times.
+//! - `reports`, `ranges`, `certificates`: `analyse` without inputs and with inputs, and with `--cert`. `runs`: `run`.
+//! - `checks`: `check`, of reports that are accepted and refused. `migrations`: `migrate`. `replays`: `replay`.
+//! - `worst`: boxes of inputs.
+//! - `caches`: runs with an instruction cache. `tasks`: response times.
+//! - `made`: programs that are made.
 //! - `outside`: files at the limit, reads and writes that fail.
 //! - `answers`, `notation`, `programs`: words, files and answers, programs in a short notation, and programs of C as ALF.
 #![tactic(auto)]
@@ -32,7 +35,19 @@ mod texts;
 
 // Reports and runs.
 #[cfg(test)]
+mod caches;
+#[cfg(test)]
+mod certificates;
+#[cfg(test)]
+mod checks;
+#[cfg(test)]
+mod made;
+#[cfg(test)]
+mod migrations;
+#[cfg(test)]
 mod ranges;
+#[cfg(test)]
+mod replays;
 #[cfg(test)]
 mod reports;
 #[cfg(test)]

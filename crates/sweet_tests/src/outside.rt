@@ -99,6 +99,13 @@ run a.alf --inputs a.c --costs no.toml | 9 | inputs | a.c
 run a.alf --inputs i.toml --costs no.toml | 9 | costs | no.toml
 run a.alf --turns 1 --costs no.toml | 9 | costs | no.toml
 run b.alf --inputs no.toml --costs no.toml | 9 | program | b.alf
+check b.alf i.toml | 9 | program | b.alf
+check a.alf i.toml | 0 | program | a.alf
+check a.alf no | 9 | report | no
+check a.alf i.toml --inputs i.toml --costs c.toml | 1 | inputs | i.toml
+check a.alf i.toml --inputs i.toml --costs c.toml | 2 | costs | c.toml
+check a.alf i.toml --inputs i.toml --costs c.toml | 3 | report | i.toml
+check --costs no.toml a.alf no | 9 | costs | no.toml
 tasks u.toml | 9 | tasks | u.toml
 tasks i.toml | 0 | tasks | i.toml"#;
 
@@ -150,6 +157,11 @@ run a.alf --costs c.toml | 2 | 0
 run a.alf --inputs i.toml --costs c.toml | 3 | 0
 run a.alf --inputs i.toml --costs i.toml | 3 | 2
 analyse a.alf --costs c.toml | 2 | 0
+check a.alf i.toml --root f | 1 | 2
+check a.alf i.toml --inputs a.alf | 2 | 2
+check a.alf i.toml --inputs i.toml --costs a.alf | 3 | 2
+check a.alf i.toml | 2 | 2
+check a.alf i.toml --inputs i.toml --costs c.toml | 4 | 2
 run a.alf --turns 1 | 1 | 3"#;
 
 #[test]

@@ -48,7 +48,7 @@ analyse a.alf --pivots 5x
 analyse a.alf --pivots 5 --pivots 5
 run a.alf --pivots 5
 print a.alf --pivots 5
-analyse a.alf --cert
+analyse a.alf --cert --cert
 analyse a.alf -- --root main
 print
 print a.c b.c
@@ -103,10 +103,14 @@ run a.alf -- --root main
 run -- a.alf --turns 5
 run a.alf --help
 --root main run a.alf
-check a.alf r.txt
-replay a.alf r.txt
+check a.alf
+replay a.alf
+replay a.alf r.txt --turns 5
+migrate
+migrate r.txt s.txt
+migrate r.txt --root main
 lower a.alf
-generate 3
+generate
 a.alf"#;
 
 #[test]

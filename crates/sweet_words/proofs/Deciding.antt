@@ -32,21 +32,41 @@ forms_are = (
   (refl, refl, refl),
   (refl, (refl, (refl, (refl, (refl, (refl, tt)))))),
   (
-    (refl, refl, refl),
-    (refl, tt),
+    (refl, refl, (refl, refl, refl)),
+    (refl, (refl, (refl, tt))),
     (
-      (refl, refl, refl),
-      tt,
+      (refl, refl, (refl, refl, refl)),
+      (refl, (refl, (refl, (refl, tt)))),
       (
         (refl, refl, refl),
-        (refl, (refl, (refl, (refl, tt)))),
+        (refl, tt),
         (
           (refl, refl, refl),
-          (refl, (refl, (refl, (refl, (refl, (refl, (refl, tt))))))),
+          tt,
           (
             (refl, refl, refl),
-            tt,
-            tt,
+            (refl, (refl, (refl, (refl, tt)))),
+            (
+              (refl, refl, refl),
+              tt,
+              (
+                (refl, refl, refl),
+                tt,
+                (
+                  (refl, refl, refl),
+                  (refl, (refl, (refl, (refl, (refl, (refl, (refl, (refl, (refl, tt))))))))),
+                  (
+                    (refl, refl, refl),
+                    (refl, (refl, (refl, (refl, (refl, (refl, (refl, tt))))))),
+                    (
+                      (refl, refl, refl),
+                      tt,
+                      tt,
+                    ),
+                  ),
+                ),
+              ),
+            ),
           ),
         ),
       ),

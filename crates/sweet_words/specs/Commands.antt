@@ -1,20 +1,20 @@
 -- What the words of a command line mean.
---   AnalyseWords, LowerWords, RunWords, WorstWords   what `analyse`, `run` and the others are given
+--   AnalyseWords, CheckWords, ReplayWords, LowerWords, RunWords, CacheWords, WorstWords   what `analyse`, `check` and the others
+--                are given
 --   Command      a command, with what it was given
---   file_of      the name of the file that a command names
 --   IsWithinRanges  the numbers that a command was given are in their ranges
 --   command_of   the command of the words, where they are one
-use Rattle.std.specs.Prelude.{◌≤◌, ℕ, List, [], ◌∷◌, Option, None, Some, if◌then◌else◌, codes, option_map, option_and_then, unwrap_or}
+use Rattle.std.specs.Prelude.{◌≤◌, ℕ, Bool, false, List, [], ◌∷◌, Option, None, Some, if◌then◌else◌, codes, option_map, option_and_then, unwrap_or}
 use Rattle.std.specs.Str.{bytes_eq}
 use Rattle.sweet_words.specs.Forms.{Text, Form, forms, form_named}
 use Rattle.sweet_words.specs.Given.{uses_of, value_in}
-use Rattle.sweet_words.specs.Numbers.{IsFromTo, number_or}
-use Rattle.sweet_words.specs.Files.{ProgramFile, program_file, file_name, c_file}
+use Rattle.sweet_words.specs.Numbers.{IsFromTo, number_or, number_given}
+use Rattle.sweet_words.specs.Files.{ProgramFile, program_file, c_file}
 use Rattle.sweet_words.specs.Merges.{merging_or_joins}
 use Rattle.sweet_words.specs.declared.merging.Merging.{Merging}
 
 -- what `analyse` is given: the file of the program, the function that it starts with, the files of inputs and of costs,
--- the most turns, where states are merged, and the most pivots of the path bound
+-- the most turns, where states are merged, the most pivots of the path bound, and whether the report has its certificate
 pub record AnalyseWords : Type 0 where
   pub program : ProgramFile
   pub root : Text
@@ -23,6 +23,25 @@ pub record AnalyseWords : Type 0 where
   pub turns : ℕ
   pub merging : Merging
   pub pivots : ℕ
+  pub certified : Bool
+
+-- what `check` is given: the files of the program and of the report, the function that the program starts with, and the files
+-- of inputs and of costs
+pub record CheckWords : Type 0 where
+  pub program : ProgramFile
+  pub report : Text
+  pub root : Text
+  pub inputs : Option Text
+  pub costs : Option Text
+
+-- what `replay` is given: the same as `check`, and the file of the values of one run
+pub record ReplayWords : Type 0 where
+  pub program : ProgramFile
+  pub report : Text
+  pub values : Option Text
+  pub root : Text
+  pub inputs : Option Text
+  pub costs : Option Text
 
 -- what `lower` is given: the name of the file of C, and the function that the program starts with
 pub record LowerWords : Type 0 where
@@ -37,7 +56,21 @@ pub record RunWords : Type 0 where
   pub costs : Option Text
   pub turns : ℕ
 
--- what `worst` is given: the same as `analyse`, and the most splits of a box of inputs
+-- what `cache` is given: the same as `analyse` but for pivots and certificate, and the cache: its sets, its ways, the bytes
+-- of a line, and what a miss costs beyond a hit
+pub record CacheWords : Type 0 where
+  pub program : ProgramFile
+  pub root : Text
+  pub inputs : Option Text
+  pub costs : Option Text
+  pub turns : ℕ
+  pub merging : Merging
+  pub sets : ℕ
+  pub ways : ℕ
+  pub line : ℕ
+  pub penalty : ℕ
+
+-- what `worst` is given: the same as `analyse` but for the certificate, and the most splits of a box of inputs
 pub record WorstWords : Type 0 where
   pub program : ProgramFile
   pub root : Text
@@ -51,22 +84,28 @@ pub record WorstWords : Type 0 where
 -- a command
 pub data Command : Type 0 where
   Analyse : AnalyseWords → Command
+  Check : CheckWords → Command
+  Replay : ReplayWords → Command
   Lower : LowerWords → Command
   -- the file of the program
   Print : ProgramFile → Command
   Run : RunWords → Command
+  -- how many pairs of loops the program has that is made
+  Generate : ℕ → Command
+  -- the name of the file of the report
+  Migrate : Text → Command
+  Cache : CacheWords → Command
   Worst : WorstWords → Command
   -- the name of the file of the tasks
   Tasks : Text → Command
 
--- the name of the file that a command names
-abbrev pub file_of : Command → Text
-file_of (Analyse given) = file_name given.program
-file_of (Lower given) = given.file
-file_of (Print program) = file_name program
-file_of (Run given) = file_name given.program
-file_of (Worst given) = file_name given.program
-file_of (Tasks file) = file
+-- the numbers of `cache` are in their ranges
+pub record IsCacheWithin (given : CacheWords) : Type 0 where
+  pub turns : given.turns ≤ 1000000
+  pub sets : IsFromTo 1 1024 given.sets
+  pub ways : IsFromTo 1 16 given.ways
+  pub line : IsFromTo 4 4096 given.line
+  pub penalty : given.penalty ≤ 4294967295
 
 -- the numbers of `worst` are in their ranges
 pub record IsWorstWithin (given : WorstWords) : Type 0 where
@@ -76,9 +115,14 @@ pub record IsWorstWithin (given : WorstWords) : Type 0 where
 -- the numbers that a command was given are in their ranges: no exploration is given more than 1,000,000 turns
 abbrev pub IsWithinRanges : Command → Type 0
 IsWithinRanges (Analyse given) = given.turns ≤ 1000000
+IsWithinRanges (Check given) = Unit {0}
+IsWithinRanges (Replay given) = Unit {0}
 IsWithinRanges (Lower given) = Unit {0}
 IsWithinRanges (Print program) = Unit {0}
 IsWithinRanges (Run given) = given.turns ≤ 1000000
+IsWithinRanges (Generate number) = IsFromTo 1 40 number
+IsWithinRanges (Migrate report) = Unit {0}
+IsWithinRanges (Cache given) = IsCacheWithin given
 IsWithinRanges (Worst given) = IsWorstWithin given
 IsWithinRanges (Tasks file) = Unit {0}
 
@@ -103,7 +147,12 @@ merging_in value = merging_or_joins (value (codes "merge"))
 abbrev pub pivots_in : (Text → Option Text) → Option ℕ
 pivots_in value = number_or 1000 1 4000 (value (codes "pivots"))
 
--- `analyse FILE --root NAME --inputs FILE --costs FILE --turns N --merge none|exits|joins --pivots N`
+-- the flag stands among the words
+abbrev pub is_set : Option Text → Bool
+is_set None = false
+is_set (Some text) = bytes_eq text (codes "true")
+
+-- `analyse FILE --root NAME --inputs FILE --costs FILE --turns N --merge none|exits|joins --pivots N --cert`
 abbrev pub analyse_words : (Text → Option Text) → ProgramFile → ℕ → Merging → ℕ → AnalyseWords
 analyse_words value program turns merging pivots = record {
   program = program;
@@ -113,6 +162,7 @@ analyse_words value program turns merging pivots = record {
   turns = turns;
   merging = merging;
   pivots = pivots;
+  certified = is_set (value (codes "cert"));
 }
 
 -- with such turns, and merging there
@@ -129,6 +179,34 @@ file_in value = option_map program_file (value (codes "file"))
 
 abbrev pub analyse_of : (Text → Option Text) → Option Command
 analyse_of value = option_and_then (λ program. option_and_then (analyse_with value program) (turns_in value)) (file_in value)
+
+-- `check FILE REPORT --root NAME --inputs FILE --costs FILE`
+abbrev pub check_words : (Text → Option Text) → ProgramFile → Text → CheckWords
+check_words value program report =
+    record { program = program; report = report; root = root_in value; inputs = value (codes "inputs"); costs = value (codes "costs") }
+
+abbrev pub check_of : (Text → Option Text) → Option Command
+check_of value = do
+  program ← file_in value
+  report ← value (codes "report")
+  Some (Check (check_words value program report))
+
+-- `replay FILE REPORT --at FILE --root NAME --inputs FILE --costs FILE`
+abbrev pub replay_words : (Text → Option Text) → ProgramFile → Text → ReplayWords
+replay_words value program report = record {
+  program = program;
+  report = report;
+  values = value (codes "at");
+  root = root_in value;
+  inputs = value (codes "inputs");
+  costs = value (codes "costs");
+}
+
+abbrev pub replay_of : (Text → Option Text) → Option Command
+replay_of value = do
+  program ← file_in value
+  report ← value (codes "report")
+  Some (Replay (replay_words value program report))
 
 -- `lower FILE --root NAME`: the file is one of C
 abbrev pub lower_words : (Text → Option Text) → Text → LowerWords
@@ -148,6 +226,60 @@ run_words value program turns =
 
 abbrev pub run_of : (Text → Option Text) → Option Command
 run_of value = option_and_then (λ program. option_map (λ turns. Run (run_words value program turns)) (turns_in value)) (file_in value)
+
+-- ---- programs that are made, and reports of an older form
+
+-- `generate N`: 1 to 40
+abbrev pub generate_of : (Text → Option Text) → Option Command
+generate_of value = option_map (λ number. Generate number) (number_given 1 40 (value (codes "number")))
+
+-- `migrate REPORT`
+abbrev pub migrate_of : (Text → Option Text) → Option Command
+migrate_of value = option_map (λ report. Migrate report) (value (codes "report"))
+
+-- ---- the cache
+
+-- 1 to 1,024 sets, and the option must not be left out; nor must the others of the cache
+abbrev pub sets_in : (Text → Option Text) → Option ℕ
+sets_in value = number_given 1 1024 (value (codes "sets"))
+
+-- 1 to 16 ways
+abbrev pub ways_in : (Text → Option Text) → Option ℕ
+ways_in value = number_given 1 16 (value (codes "ways"))
+
+-- a line has 4 to 4,096 bytes
+abbrev pub line_in : (Text → Option Text) → Option ℕ
+line_in value = number_given 4 4096 (value (codes "line"))
+
+-- a miss costs up to 4,294,967,295 more than a hit
+abbrev pub penalty_in : (Text → Option Text) → Option ℕ
+penalty_in value = number_given 0 4294967295 (value (codes "penalty"))
+
+-- `cache FILE --sets N --ways N --line N --penalty N --root NAME --inputs FILE --costs FILE --turns N --merge none|exits|joins`
+abbrev pub cache_words : (Text → Option Text) → ProgramFile → ℕ → Merging → ℕ → ℕ → ℕ → ℕ → CacheWords
+cache_words value program turns merging sets ways line penalty = record {
+  program = program;
+  root = root_in value;
+  inputs = value (codes "inputs");
+  costs = value (codes "costs");
+  turns = turns;
+  merging = merging;
+  sets = sets;
+  ways = ways;
+  line = line;
+  penalty = penalty;
+}
+
+abbrev pub cache_of : (Text → Option Text) → Option Command
+cache_of value = do
+  program ← file_in value
+  turns ← turns_in value
+  merging ← merging_in value
+  sets ← sets_in value
+  ways ← ways_in value
+  line ← line_in value
+  penalty ← penalty_in value
+  Some (Cache (cache_words value program turns merging sets ways line penalty))
 
 -- ---- boxes of inputs
 
@@ -189,9 +321,14 @@ tasks_of value = option_map (λ file. Tasks file) (value (codes "file"))
 abbrev pub command_named : Text → (Text → Option Text) → Option Command
 command_named name value =
     if bytes_eq name (codes "analyse") then analyse_of value
+    else if bytes_eq name (codes "check") then check_of value
+    else if bytes_eq name (codes "replay") then replay_of value
     else if bytes_eq name (codes "lower") then lower_of value
     else if bytes_eq name (codes "print") then print_of value
     else if bytes_eq name (codes "run") then run_of value
+    else if bytes_eq name (codes "generate") then generate_of value
+    else if bytes_eq name (codes "migrate") then migrate_of value
+    else if bytes_eq name (codes "cache") then cache_of value
     else if bytes_eq name (codes "worst") then worst_of value
     else if bytes_eq name (codes "tasks") then tasks_of value
     else None

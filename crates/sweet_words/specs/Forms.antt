@@ -26,6 +26,22 @@ analyse_form = record {
   name = codes "analyse";
   positionals = codes "file" ∷ [];
   values = codes "root" ∷ codes "inputs" ∷ codes "costs" ∷ codes "turns" ∷ codes "merge" ∷ codes "pivots" ∷ [];
+  flags = codes "cert" ∷ [];
+}
+
+abbrev pub check_form : Form
+check_form = record {
+  name = codes "check";
+  positionals = codes "file" ∷ codes "report" ∷ [];
+  values = codes "root" ∷ codes "inputs" ∷ codes "costs" ∷ [];
+  flags = [];
+}
+
+abbrev pub replay_form : Form
+replay_form = record {
+  name = codes "replay";
+  positionals = codes "file" ∷ codes "report" ∷ [];
+  values = codes "at" ∷ codes "root" ∷ codes "inputs" ∷ codes "costs" ∷ [];
   flags = [];
 }
 
@@ -43,6 +59,21 @@ run_form = record {
   flags = [];
 }
 
+abbrev pub generate_form : Form
+generate_form = record { name = codes "generate"; positionals = codes "number" ∷ []; values = []; flags = [] }
+
+abbrev pub migrate_form : Form
+migrate_form = record { name = codes "migrate"; positionals = codes "report" ∷ []; values = []; flags = [] }
+
+abbrev pub cache_form : Form
+cache_form = record {
+  name = codes "cache";
+  positionals = codes "file" ∷ [];
+  values = codes "sets" ∷ codes "ways" ∷ codes "line" ∷ codes "penalty"
+      ∷ codes "root" ∷ codes "inputs" ∷ codes "costs" ∷ codes "turns" ∷ codes "merge" ∷ [];
+  flags = [];
+}
+
 abbrev pub worst_form : Form
 worst_form = record {
   name = codes "worst";
@@ -56,7 +87,8 @@ tasks_form = record { name = codes "tasks"; positionals = codes "file" ∷ []; v
 
 -- the commands that are built
 abbrev pub forms : List Form
-forms = analyse_form ∷ lower_form ∷ print_form ∷ run_form ∷ worst_form ∷ tasks_form ∷ []
+forms = analyse_form ∷ check_form ∷ replay_form ∷ lower_form ∷ print_form ∷ run_form ∷ generate_form ∷ migrate_form
+    ∷ cache_form ∷ worst_form ∷ tasks_form ∷ []
 
 -- the form of the command that the word names
 abbrev pub form_named : Text → List Form → Option Form

@@ -1,19 +1,22 @@
 -- What values of the code stand for.
 --   file_meant                               the file of a program
---   analyse_meant, lower_meant, run_meant, worst_meant    what `analyse`, `run` and the others are given
+--   analyse_meant, check_meant ..            what `analyse`, `check` and the others are given
 --   command_meant                            a command
 use Rattle.std.specs.Prelude.{option_map}
 use Rattle.sweet_words.specs.declared.files.ProgramFile.{ProgramFile as FileValue}
 use Rattle.sweet_words.specs.declared.files.ProgramFile.TheVariants as file
 use Rattle.sweet_words.specs.declared.command.AnalyseWords.{AnalyseWords as AnalyseValue}
+use Rattle.sweet_words.specs.declared.command.CheckWords.{CheckWords as CheckValue}
+use Rattle.sweet_words.specs.declared.command.ReplayWords.{ReplayWords as ReplayValue}
 use Rattle.sweet_words.specs.declared.command.LowerWords.{LowerWords as LowerValue}
 use Rattle.sweet_words.specs.declared.command.RunWords.{RunWords as RunValue}
+use Rattle.sweet_words.specs.declared.command.CacheWords.{CacheWords as CacheValue}
 use Rattle.sweet_words.specs.declared.command.WorstWords.{WorstWords as WorstValue}
 use Rattle.sweet_words.specs.declared.command.Command.{Command as Value}
 use Rattle.sweet_words.specs.declared.command.Command.TheVariants as value
 use Rattle.sweet_words.specs.Files.{ProgramFile, Alf, C}
-use Rattle.sweet_words.specs.Commands.{AnalyseWords, LowerWords, RunWords, WorstWords, Command}
-use Rattle.sweet_words.specs.Commands.{Analyse, Lower, Print, Run, Worst, Tasks}
+use Rattle.sweet_words.specs.Commands.{AnalyseWords, CheckWords, ReplayWords, LowerWords, RunWords, CacheWords, WorstWords, Command}
+use Rattle.sweet_words.specs.Commands.{Analyse, Check, Replay, Lower, Print, Run, Generate, Migrate, Cache, Worst, Tasks}
 
 abbrev pub file_meant : FileValue → ProgramFile
 file_meant (file.Alf name) = Alf name.now
@@ -28,6 +31,26 @@ analyse_meant given = record {
   turns = given.turns;
   merging = given.merging;
   pivots = given.pivots;
+  certified = given.certified;
+}
+
+abbrev pub check_meant : CheckValue → CheckWords
+check_meant given = record {
+  program = file_meant given.program;
+  report = given.report.now;
+  root = given.root.now;
+  inputs = option_map (λ name. name.now) given.inputs;
+  costs = option_map (λ name. name.now) given.costs;
+}
+
+abbrev pub replay_meant : ReplayValue → ReplayWords
+replay_meant given = record {
+  program = file_meant given.program;
+  report = given.report.now;
+  values = option_map (λ name. name.now) given.values;
+  root = given.root.now;
+  inputs = option_map (λ name. name.now) given.inputs;
+  costs = option_map (λ name. name.now) given.costs;
 }
 
 abbrev pub lower_meant : LowerValue → LowerWords
@@ -40,6 +63,20 @@ run_meant given = record {
   inputs = option_map (λ name. name.now) given.inputs;
   costs = option_map (λ name. name.now) given.costs;
   turns = given.turns;
+}
+
+abbrev pub cache_meant : CacheValue → CacheWords
+cache_meant given = record {
+  program = file_meant given.program;
+  root = given.root.now;
+  inputs = option_map (λ name. name.now) given.inputs;
+  costs = option_map (λ name. name.now) given.costs;
+  turns = given.turns;
+  merging = given.merging;
+  sets = given.sets;
+  ways = given.ways;
+  line = given.line;
+  penalty = given.penalty;
 }
 
 abbrev pub worst_meant : WorstValue → WorstWords
@@ -56,8 +93,13 @@ worst_meant given = record {
 
 abbrev pub command_meant : Value → Command
 command_meant (value.Analyse given) = Analyse (analyse_meant given)
+command_meant (value.Check given) = Check (check_meant given)
+command_meant (value.Replay given) = Replay (replay_meant given)
 command_meant (value.Lower given) = Lower (lower_meant given)
 command_meant (value.Print program) = Print (file_meant program)
 command_meant (value.Run given) = Run (run_meant given)
+command_meant (value.Generate number) = Generate number
+command_meant (value.Migrate report) = Migrate report.now
+command_meant (value.Cache given) = Cache (cache_meant given)
 command_meant (value.Worst given) = Worst (worst_meant given)
 command_meant (value.Tasks file) = Tasks file.now

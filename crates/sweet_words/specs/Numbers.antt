@@ -3,7 +3,8 @@
 --   is_number        one to twenty digits, and nothing else
 --   number_in        the number of the text, where it is in a range
 --   number_or        the same of an option, with the number that stands where it is left out
-use Rattle.std.specs.Prelude.{◌≤◌, ℕ, Bool, ◌&&◌, nat_le, length, Option, None, Some, if◌then◌else◌}
+--   number_given     the same of an option that must not be left out
+use Rattle.std.specs.Prelude.{◌≤◌, ℕ, Bool, ◌&&◌, nat_le, length, Option, None, Some, if◌then◌else◌, option_and_then}
 use Rattle.std.specs.Char.{is_ascii_digit}
 use Rattle.std.specs.List.{list_all}
 use Rattle.std.specs.Str.Parse.{digits_value}
@@ -30,3 +31,7 @@ number_in least most text = if is_number text && (nat_le least (number_of text) 
 abbrev pub number_or : ℕ → ℕ → ℕ → Option Text → Option ℕ
 number_or other least most None = Some other
 number_or other least most (Some text) = number_in least most text
+
+-- the same, where the option must not be left out
+abbrev pub number_given : ℕ → ℕ → Option Text → Option ℕ
+number_given least most given = option_and_then (number_in least most) given

@@ -10,11 +10,23 @@ pub struct Form {
 }
 
 /// The commands that are built: a further command is a further row.
-pub static FORMS: [Form; 6] = [
+pub static FORMS: [Form; 11] = [
     Form {
         name: "analyse",
         positionals: &["file"],
         values: &["root", "inputs", "costs", "turns", "merge", "pivots"],
+        flags: &["cert"],
+    },
+    Form {
+        name: "check",
+        positionals: &["file", "report"],
+        values: &["root", "inputs", "costs"],
+        flags: &[],
+    },
+    Form {
+        name: "replay",
+        positionals: &["file", "report"],
+        values: &["at", "root", "inputs", "costs"],
         flags: &[],
     },
     Form {
@@ -33,6 +45,26 @@ pub static FORMS: [Form; 6] = [
         name: "run",
         positionals: &["file"],
         values: &["root", "inputs", "costs", "turns"],
+        flags: &[],
+    },
+    Form {
+        name: "generate",
+        positionals: &["number"],
+        values: &[],
+        flags: &[],
+    },
+    Form {
+        name: "migrate",
+        positionals: &["report"],
+        values: &[],
+        flags: &[],
+    },
+    Form {
+        name: "cache",
+        positionals: &["file"],
+        values: &[
+            "sets", "ways", "line", "penalty", "root", "inputs", "costs", "turns", "merge",
+        ],
         flags: &[],
     },
     Form {

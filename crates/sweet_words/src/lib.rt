@@ -19,7 +19,9 @@ mod values;
 // Laws of words.
 mod laws;
 
-pub use command::{AnalyseWords, Command, LowerWords, RunWords, WorstWords};
+pub use command::{
+    AnalyseWords, CacheWords, CheckWords, Command, LowerWords, ReplayWords, RunWords, WorstWords,
+};
 pub use files::ProgramFile;
 pub use laws::options_stand_freely;
 pub use merging::Merging;

@@ -29,7 +29,7 @@ pub enum WordsFault {
 /// Takes memory for `clap`'s command and its matches, and holds none of it after.
 pub fn read(alloc: Global, words: &[String]) -> Result<Command<'_>, WordsFault>
     ensures command { IfOk result (λ command. command_of (map string_bytes words.now) ≡ Some (command_meant command)) }
-    // The conditions of an exploration in so many turns.
+    // The conditions of an exploration in so many turns, of such a cache and of so many splits.
     ensures ranges { IfOk result (λ command. IsWithinRanges (command_meant command)) }
     ensures usage { result ≡ Err WordsFault.Usage → command_of (map string_bytes words.now) ≡ None }
 {

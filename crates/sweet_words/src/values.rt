@@ -2,7 +2,7 @@
 ghost use Rattle.std.specs.Prelude.{◌≡◌, option_map, IfSome};
 ghost use Rattle.std.specs.Char.{is_ascii_digit};
 ghost use Rattle.std.specs.List.{list_all};
-ghost use Rattle.sweet_words.specs.Numbers.{IsFromTo, is_number, number_in, number_or};
+ghost use Rattle.sweet_words.specs.Numbers.{IsFromTo, is_number, number_given, number_in, number_or};
 
 const MOST_DIGITS: usize = 20;
 
@@ -15,6 +15,17 @@ pub fn number(text: Option<&str>, other: u32, least: u32, most: u32) -> Option<u
     match text {
         Some(text) => number_within(text, least, most),
         None => Some(other),
+    }
+}
+
+// The number of an option that must not be left out.
+pub fn number_given(text: Option<&str>, least: u32, most: u32) -> Option<u32>
+    ensures number { result ≡ number_given least most (option_map (λ s. s.now) text.entry) }
+    ensures within { IfSome result (IsFromTo least most) }
+{
+    match text {
+        Some(text) => number_within(text, least, most),
+        None => None,
     }
 }
 

@@ -2,8 +2,9 @@
 --   IsAnalysis program graph rows costs policy turns answer   an exploration of the program, by the policy in so many turns, finds this answer
 --   HasOneAnalysis                so finds each other one
 --   StaysAnalysed                 a report is found in each number of turns that is not below the steps of its exploration
+--   HasOneEventList               analyses of a program that find a report have one list of events, whatever the turns
 --   found_of_other                what is found of a program is found of it with other ranks
---   one_analysis, longer_analysis why
+--   one_analysis, longer_analysis, one_event_list   why
 -- A checked program has ranks of its functions, which differ with the search for cycles: here any will do.
 use Rattle.std.proofs.Common.{◌≡◌, ◌≤◌, ℕ, List, map, slice_index, refl, sym, ap, ◌∙◌}
 use Rattle.std.specs.List.{AllZip}
@@ -28,7 +29,7 @@ use Rattle.report_soundness.specs.ReportTold.{FourRecorders, four_order, four_re
 use Rattle.program_machines.specs.NodeCosts.{HasCosts}
 use Rattle.program_analysis.specs.Answers.{Answer, Told, Unbounded}
 use Rattle.program_analysis.specs.Analyses.{PoolOf, first_pool, IsExploration, IsFound}
-use Rattle.program_analysis.specs.AnalysisLaws.{HasOneAnalysis as PartsHaveOneAnalysis, StaysFound, HasOneAlike}
+use Rattle.program_analysis.specs.AnalysisLaws.{HasOneAnalysis as PartsHaveOneAnalysis, HasOneEventList as PartsHaveOneEventList, StaysFound, HasOneAlike}
 use Rattle.unranked_analyses.specs.Alongside.{zip_at}
 use Rattle.unranked_analyses.specs.TwinRuns.{IsBeside, RunsAlso, beside, none_beside, run_beside}
 use Rattle.unranked_analyses.specs.UnrankedMachines.{IsProgramOf, IsTwin, first_twin, machines_are_twins}
@@ -58,6 +59,11 @@ abbrev pub StaysAnalysed : Type 0
 StaysAnalysed = (program : NumberedProgram) (graph : GraphParts) (rows : List InputRow) (costs : CostTable) (policy : Policy) (turns : ℕ) (report : Reported)
     (analysis : IsAnalysis program graph rows costs policy turns (Told report))
     → (analysis.found.pool.steps ≤ turns) × ((more : ℕ) → analysis.found.pool.steps ≤ more → IsAnalysis program graph rows costs policy more (Told report))
+
+-- analyses of a program that find a report have one list of events, whatever the turns
+abbrev pub HasOneEventList : Type 0
+HasOneEventList = (program : NumberedProgram) (graph : GraphParts) (rows : List InputRow) (costs : CostTable) (policy : Policy) (turns more : ℕ) (a b : Reported)
+    (first : IsAnalysis program graph rows costs policy turns (Told a)) (second : IsAnalysis program graph rows costs policy more (Told b)) → first.found.events ≡ second.found.events
 
 module _ (program : NumberedProgram) (graph : GraphParts) (rows : List InputRow) (checked other : CheckedParts) (first : IsProgramOf program checked) (second : IsProgramOf program other) (o : Outlined) (policy : Policy) (turns : ℕ) where
   -- the two as steppers
@@ -128,3 +134,11 @@ longer_analysis stays program graph rows costs policy turns report h =
         found = found.1 more enough;
       },
     )
+
+pub one_event_list : PartsHaveOneEventList → HasOneAlike → HasOneEventList
+unfolding found_of_other
+one_event_list one alike program graph rows costs policy turns more a b h k =
+    let has : HasProgram graph = record { program = seen h.checked; keeps = h.keeps; is = h.graph_is } in
+    one (record { checked = k.checked; graph = graph; rows = rows }) h.outline k.outline policy turns more a b
+    (alike program graph costs h.outline k.outline has h.outline_is h.names h.costs_are k.outline_is k.names k.costs_are)
+    (found_of_other program graph rows h.checked k.checked h.program_is k.program_is h.outline policy turns (Told a) h.found) k.found

@@ -89,7 +89,7 @@ module _ {T R B : Type 0} (Twin : T → T → Type 0) (z : Recording R B) (o : O
 
 -- ---- positions
 
-positions_same : {T R : Type 0} (Twin : T → T → Type 0) (xs ys : List (Spot T R)) → AllZip (IsBeside Twin) xs ys → positions_of xs ≡ positions_of ys
+pub positions_same : {T R : Type 0} (Twin : T → T → Type 0) (xs ys : List (Spot T R)) → AllZip (IsBeside Twin) xs ys → positions_of xs ≡ positions_of ys
 positions_same Twin [] [] h = refl
 positions_same Twin [] (y ∷ ys) h = absurd h
 positions_same Twin (x ∷ xs) [] h = absurd h
@@ -100,10 +100,10 @@ positions_same {T} {R} Twin (x ∷ xs) (y ∷ ys) h =
 
 module _ {S T C R B : Type 0} (machine : S → Machine T C) (states : Order T) (recorders : Order R) (z : Recording R B) (Twin : T → T → Type 0) (other : S) where
   -- what an event makes of the pool beside
-  record IsAlso (old new : Pooled S T R B) (spots : List (Spot T R)) (event : Event) : Type 0 where
-    others : List (Spot T R)
-    beside_new : AllZip (IsBeside Twin) new.spots others
-    happens : Happens machine states recorders z (beside old other spots) event (beside new other others)
+  pub record IsAlso (old new : Pooled S T R B) (spots : List (Spot T R)) (event : Event) : Type 0 where
+    pub others : List (Spot T R)
+    pub beside_new : AllZip (IsBeside Twin) new.spots others
+    pub happens : Happens machine states recorders z (beside old other spots) event (beside new other others)
 
   step_beside : (old new : Pooled S T R B) (spots : List (Spot T R)) (i : ℕ) (spot : Spot T R) → AreTwins (machine old.stepper) (machine other) states Twin → AllZip (IsBeside Twin) old.spots spots
       → slice_get old.spots i ≡ Some spot → new ≡ stepped_at machine z old i spot → IsAlso old new spots (Step i)
@@ -169,7 +169,7 @@ module _ {S T C R B : Type 0} (machine : S → Machine T C) (states : Order T) (
         happens = (a, b, before, one.1 ∙ ap Some one.2.2, two.1 ∙ ap Some two.2.2, same, ap (λ (w : Pooled S T R B). beside w other others) is);
       }
 
-  event_beside : (old new : Pooled S T R B) (spots : List (Spot T R)) (event : Event) → AreTwins (machine old.stepper) (machine other) states Twin → AllZip (IsBeside Twin) old.spots spots
+  pub event_beside : (old new : Pooled S T R B) (spots : List (Spot T R)) (event : Event) → AreTwins (machine old.stepper) (machine other) states Twin → AllZip (IsBeside Twin) old.spots spots
       → Happens machine states recorders z old event new → IsAlso old new spots event
   event_beside old new spots (Step i) twins h (spot, at, is) = step_beside old new spots i spot twins h at is
   event_beside old new spots (Merge i j) twins h (a, b, before, first, second, same, is) = merge_beside old new spots i j a b twins h before first second same is

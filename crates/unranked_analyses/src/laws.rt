@@ -1,6 +1,6 @@
 //! What the definitions promise, as functions that do nothing.
 
-ghost use Rattle.unranked_analyses.specs.Analyses.{HasOneAnalysis, StaysAnalysed};
+ghost use Rattle.unranked_analyses.specs.Analyses.{HasOneAnalysis, HasOneEventList, StaysAnalysed};
 ghost use Rattle.unranked_analyses.specs.Lone.{LoneAnalysisIsExact};
 
 use alf_runs::{
@@ -10,10 +10,11 @@ use alf_runs::{
 use flow_graph::graphs_are_expansions;
 
 /// A program has one analysis, whatever ranks its functions have, and a report is found in each number of
-/// turns that is not below the steps of its exploration.
+/// turns that is not below the steps of its exploration, which has one list of events whatever the turns.
 pub fn ranks_have_no_part()
     ensures one { HasOneAnalysis }
     ensures longer { StaysAnalysed }
+    ensures events { HasOneEventList }
 {
     program_analysis::a_program_has_one_analysis();
 }

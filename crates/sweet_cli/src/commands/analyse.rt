@@ -4,9 +4,10 @@ ghost use Rattle.std.specs.Prelude.{◌≡◌, ◌≤◌, IfOk, IfSome};
 ghost use Rattle.alf_check.specs.CheckedPrograms.{NumberedProgram, seen};
 ghost use Rattle.alf_check.specs.Inputs.{KeepInputs};
 ghost use Rattle.flow_graph.specs.Numbering.{IsGraph};
-ghost use Rattle.flow_facts.specs.Reports.{reported};
+ghost use Rattle.flow_facts.specs.Reports.{certificate_of, reported};
 ghost use Rattle.flow_facts.specs.Writable.{IsWritable};
 ghost use Rattle.program_machines.specs.NodeCosts.{HasCosts};
+ghost use Rattle.report_soundness.specs.Certified.{printed_as};
 ghost use Rattle.command_plans.specs.Works.{Works, Judges};
 ghost use Rattle.sweet_cli.specs.Words.{analyse_meant};
 ghost use Rattle.sweet_cli.specs.Seen.{IsOutlined, scoped_of};
@@ -16,13 +17,15 @@ use crate::commands::scopes::{ScopedProgram, scoped_in};
 use crate::commands::tables::{Tables, tables_in};
 use crate::lines::left_line;
 use crate::words::{AnalyseWords, Merging};
-use bounded_analyses::{a_program_has_one_bounded_analysis, found_reports_are_right};
+use bounded_analyses::{
+    BoundedAnalysis, a_program_has_one_bounded_analysis, found_reports_are_right,
+};
 use command_plans::{Stop, Why};
 use cost_table::{Costs, a_file_has_one_answer};
 use fact_text::print;
 use flow_base::Shelf;
-use flow_facts::Report;
-use program_analysis::{Analysed, set_costs};
+use flow_facts::{Cert, Report};
+use program_analysis::set_costs;
 use std::alloc::Global;
 use worklist_rules::Policy;
 
@@ -54,6 +57,7 @@ pub fn analyse<F: Shelf>(
         given.merging,
         given.turns,
         given.pivots,
+        given.certified,
     )?;
     let text = print(alloc, &report)?;
     Ok(text)
@@ -82,24 +86,33 @@ pub fn priced(mut program: ScopedProgram, costs: &Costs) -> ScopedProgram
     program
 }
 
-// The report of the exploration, with these costs of blocks.
-fn report_of(
+/// The report of the exploration, with these costs of blocks.
+pub fn report_of(
     alloc: Global,
     program: ScopedProgram,
     tables: &Tables,
     merging: Merging,
     turns: u32,
     pivots: u32,
+    certify: bool,
 ) -> Result<Report, Stop>
     requires graph { IsGraph (seen program.expanded.checked) program.expanded.graph }
     requires rows { KeepInputs (seen program.expanded.checked) tables.now.rows.items }
     requires outline { IsOutlined program.expanded.graph program.outline }
     requires turns { turns ≤ 1000000 }
-    ensures means { Judges (ReportMeans (scoped_of program) tables.now.rows.items tables.now.costs (policy_of merging) turns pivots) (λ report. reported report) result }
+    ensures means { Judges (ReportMeans certify (scoped_of program) tables.now.rows.items tables.now.costs (policy_of merging) turns pivots) (λ report. reported report) result }
     ensures writable { IfOk result (λ report. IsWritable (reported report)) }
 {
     let program = priced(program, &tables.costs);
-    explored(alloc, &program, tables, policy(merging), turns, pivots)
+    explored(
+        alloc,
+        &program,
+        tables,
+        policy(merging),
+        turns,
+        pivots,
+        certify,
+    )
 }
 
 // The same where the outline says what nodes cost.
@@ -110,13 +123,14 @@ fn explored(
     policy: Policy,
     turns: u32,
     pivots: u32,
+    certify: bool,
 ) -> Result<Report, Stop>
     requires graph { IsGraph (seen program.now.expanded.checked) program.now.expanded.graph }
     requires rows { KeepInputs (seen program.now.expanded.checked) tables.now.rows.items }
     requires outline { IsOutlined program.now.expanded.graph program.now.outline }
     requires priced { (other : NumberedProgram) → IsGraph other program.now.expanded.graph → HasCosts other program.now.expanded.graph tables.now.costs program.now.outline }
     requires turns { turns ≤ 1000000 }
-    ensures means { Judges (ReportMeans (scoped_of program.now) tables.now.rows.items tables.now.costs policy turns pivots) (λ report. reported report) result }
+    ensures means { Judges (ReportMeans certify (scoped_of program.now) tables.now.rows.items tables.now.costs policy turns pivots) (λ report. reported report) result }
     ensures writable { IfOk result (λ report. IsWritable (reported report)) }
 {
     let expanded = &program.expanded;
@@ -135,10 +149,21 @@ fn explored(
         turns,
         pivots,
     )? {
-        Analysed::Told(report) => Ok(report),
-        Analysed::Unbounded(scope) => {
+        BoundedAnalysis::Told(report, cert) => Ok(shown(report, cert, certify)),
+        BoundedAnalysis::Unbounded(scope) => {
             let line = left_line(alloc, &expanded.graph, outline, scope)?;
             Err(Stop::Told(Why::Unbounded, line))
         }
     }
+}
+
+// The report, with its certificate where one is wanted.
+fn shown(report: Report, cert: Cert, certify: bool) -> Report
+    ensures { reported result ≡ printed_as certify (reported report) (certificate_of cert) }
+{
+    let mut report = report;
+    if certify {
+        report.cert = Some(cert);
+    }
+    report
 }

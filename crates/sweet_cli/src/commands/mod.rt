@@ -2,21 +2,29 @@
 
 ghost use Rattle.std.specs.Prelude.{◌≡◌, map, string_bytes, IfOk, IfSome};
 ghost use Rattle.command_plans.specs.Run.{Answers, ending_of};
+ghost use Rattle.command_plans.specs.Outcome.{IsStop};
 ghost use Rattle.command_plans.specs.Works.{Works};
 ghost use Rattle.sweet_cli.specs.Words.{IsWithinRanges, command_meant, file_meant};
 ghost use Rattle.sweet_cli.specs.Table.{print_task, task_for, task_of};
-ghost use Rattle.sweet_cli.specs.Task.{KeepsPromise};
+ghost use Rattle.sweet_cli.specs.Task.{KeepsPromise, no_outcome};
 
 // What commands have in common.
 mod counting;
+mod laid_out;
+mod report_files;
 pub mod scopes;
 mod tables;
 
 // The commands.
 mod analyse;
+mod cache;
+mod check;
+mod generate;
 mod lower;
+mod migrate;
 mod print;
 mod print_c;
+mod replay;
 mod run;
 mod tasks;
 mod worst;
@@ -46,9 +54,16 @@ fn words_text<F: Shelf>(alloc: Global, words: &[String], shelf: &mut F) -> Resul
 {
     match read(alloc, words) {
         Ok(command) => command_text(alloc, command, shelf),
-        Err(WordsFault::Usage) => Err(stopped(alloc, Why::Usage, "fault usage\n")),
+        Err(WordsFault::Usage) => Err(no_command(alloc)),
         Err(WordsFault::Memory) => Err(Stop::Memory),
     }
+}
+
+// The words are no command.
+fn no_command(alloc: Global) -> Stop
+    ensures { IsStop result no_outcome }
+{
+    stopped(alloc, Why::Usage, "fault usage\n")
 }
 
 // The text of a command.
@@ -63,9 +78,14 @@ fn command_text<F: Shelf>(
 {
     match command {
         Command::Analyse(given) => analyse::analyse(alloc, given, shelf),
+        Command::Check(given) => check::check(alloc, given, shelf),
+        Command::Replay(given) => replay::replay(alloc, given, shelf),
         Command::Lower(given) => lower::lower(alloc, given, shelf),
         Command::Print(program) => print_text(alloc, program, shelf),
         Command::Run(given) => run::run(alloc, given, shelf),
+        Command::Generate(number) => generate::generate(alloc, number),
+        Command::Migrate(report) => migrate::migrate(alloc, report, shelf),
+        Command::Cache(given) => cache::cache(alloc, given, shelf),
         Command::Tasks(file) => tasks::tasks(alloc, file, shelf),
         Command::Worst(given) => worst::worst(alloc, given, shelf),
     }

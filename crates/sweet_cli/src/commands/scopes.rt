@@ -44,8 +44,8 @@ pub fn scoped_in<F: Shelf>(
     Ok(ScopedProgram { expanded, outline })
 }
 
-// The scopes of the graph.
-fn scopes_of(alloc: Global, graph: &Graph) -> Result<Outline, Stop>
+/// The scopes of the graph, or the line of walks into a loop with two ways in.
+pub fn scopes_of(alloc: Global, graph: &Graph) -> Result<Outline, Stop>
     ensures means { Judges (ScopesMean graph.now) (λ outline. scopes_seen outline) result }
     ensures outline { IfOk result (λ outline. IsOutlined graph.now outline) }
 {

@@ -18,6 +18,7 @@ returns-in-Told c =
     let parts : StepperParts = record { checked = c.args.checked.now; graph = c.args.graph.now; rows = c.args.rows.now } in
     let told = rw c.in-Told.is at c.in_ok-report.ensures in
     record {
-      found = found_bounded c.with_bound.result parts c.args.outline.now c.args.policy c.args.turns c.args.pivots (reported c.in-Told.report) told.found c.with_bound.ensures.found;
+      found = found_bounded parts c.args.outline.now c.args.policy c.args.turns c.args.pivots (reported c.in-Told.report) c.in-Told.events.items told.events c.with_bound.result
+          c.with_bound.ensures.found;
       writable = c.with_bound.ensures.writable told.writable;
     }

@@ -2,7 +2,7 @@
 use Rattle.std.proofs.Common.{◌*◌, length, arith}
 use Rattle.std.specs.Prelude.{slice_index}
 use Rattle.report_soundness.specs.ReportTold.{greatest_total, costs_of}
-use Rattle.flow_reports.specs.Gathering.{found_in}
+use Rattle.flow_gathering.specs.Gathering.{found_in}
 use Rattle.flow_reports.proofs.Steps.{sum_part}
 use Rattle.flow_reports.proofs.bound.bound.Goals as goal
 

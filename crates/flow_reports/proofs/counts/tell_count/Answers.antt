@@ -5,7 +5,7 @@ use Rattle.flow_facts.specs.declared.fact.Fact.TheVariants.{Count}
 use Rattle.recorder_rules.specs.TotalRules.{spread_at}
 use Rattle.recorder_rules.specs.LoopRules.{own_of, is_counted}
 use Rattle.report_soundness.specs.ReportTold.{is_stepped}
-use Rattle.flow_reports.specs.Gathering.{found_in}
+use Rattle.flow_gathering.specs.Gathering.{found_in}
 use Rattle.flow_reports.proofs.Steps.{nothing_at, no_line}
 use Rattle.flow_reports.proofs.counts.tell_count.Goals as goal
 

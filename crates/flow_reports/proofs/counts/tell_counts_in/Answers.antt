@@ -1,7 +1,7 @@
 -- What is left to show of `tell_counts_in`.
 use Rattle.std.proofs.Common.{◌≡◌, length, arith}
 use Rattle.report_soundness.specs.ReportTold.{count_line}
-use Rattle.flow_reports.specs.Gathering.{found_in}
+use Rattle.flow_gathering.specs.Gathering.{found_in}
 use Rattle.flow_reports.proofs.Steps.{begun, told_more, told_all}
 use Rattle.flow_reports.proofs.counts.tell_counts_in.Goals as goal
 

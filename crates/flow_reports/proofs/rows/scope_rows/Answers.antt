@@ -1,5 +1,5 @@
 -- What is left to show of `scope_rows`.
-use Rattle.flow_reports.proofs.Steps.{taken_more}
+use Rattle.flow_gathering.specs.TakeLaws.{taken_more}
 use Rattle.flow_reports.proofs.rows.scope_rows.Goals as goal
 
 pub loop-s-preserved : goal.loop-s-preserved

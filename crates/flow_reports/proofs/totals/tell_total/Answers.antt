@@ -2,7 +2,7 @@
 use Rattle.flow_facts.specs.declared.fact.Fact.TheVariants.{Total}
 use Rattle.recorder_rules.specs.TotalRules.{spread_at}
 use Rattle.report_soundness.specs.ReportTold.{is_stepped}
-use Rattle.flow_reports.specs.Gathering.{found_in}
+use Rattle.flow_gathering.specs.Gathering.{found_in}
 use Rattle.flow_reports.proofs.Steps.{nothing_at, no_line}
 use Rattle.flow_reports.proofs.totals.tell_total.Goals as goal
 

@@ -5,7 +5,7 @@ use Rattle.dual_check.specs.Systems.{System}
 use Rattle.path_lp.specs.Sizes.{NumbersFit}
 use Rattle.simplex_rules.specs.OpeningPlaces.{ended}
 use Rattle.path_lp.specs.SizeLaws.{rows_small}
-use Rattle.path_lp.proofs.BoundLaws.{handed_count, value_most, value_fits, system_bounds, greatest_at}
+use Rattle.path_lp.proofs.BoundLaws.{handed_count, value_most, value_fits, system_bounds, system_duals, system_held, greatest_at}
 use Rattle.path_lp.proofs.bounds.path_bound.Goals as goal
 
 pub value-bound-requires-clause-multipliers : goal.value-bound-requires-clause-multipliers
@@ -28,6 +28,20 @@ returns-clause-holds c =
     let v = c.value-bound.result in
     let points = system_bounds c.in_ok-rows.rows o facts v c.in_ok-rows.ensures c.value-bound.ensures.bounds in
     record { points = points; runs = λ fault k past run fits met. (c.verdicts_bound_each_run.ensures o c.kept.ensures facts fault k past run fits met v v points).0 }
+
+pub returns-clause-duals : goal.returns-clause-duals
+returns-clause-duals c =
+    let d = c.in_ok-solved.solved.duals in
+    system_duals c.in_ok-rows.rows c.args.outline.now c.args.report.now.facts.items c.args.pivots d.scale d.multipliers.items c.in_ok-rows.ensures
+    c.in_ok-solved.ensures.rule.duals
+
+pub returns-clause-held : goal.returns-clause-held
+returns-clause-held c =
+    let s = c.in_ok-rows.rows in
+    let d = c.in_ok-solved.solved.duals in
+    let told = c.in_ok-solved.ensures in
+    system_held s c.args.outline.now c.args.report.now.facts.items (ended s.program s.openings c.args.pivots).tableau d.scale d.multipliers.items c.in_ok-rows.ensures
+    told.rule.duals told.dual.above told.holds
 
 pub returns-clause-least : goal.returns-clause-least
 returns-clause-least c =

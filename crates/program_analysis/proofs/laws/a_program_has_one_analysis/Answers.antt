@@ -1,5 +1,5 @@
-use Rattle.program_analysis.specs.AnalysisLaws.{one_analysis, longer_analysis, alike_outlines}
+use Rattle.program_analysis.specs.AnalysisLaws.{one_analysis, longer_analysis, one_event_list, alike_outlines}
 use Rattle.program_analysis.proofs.laws.a_program_has_one_analysis.Goals as goal
 
 pub returns : goal.returns
-returns c = record { one = one_analysis; longer = longer_analysis; alike = alike_outlines c.a_graph_has_one_ranking.ensures.shape }
+returns c = record { one = one_analysis; longer = longer_analysis; events = one_event_list; alike = alike_outlines c.a_graph_has_one_ranking.ensures.shape }

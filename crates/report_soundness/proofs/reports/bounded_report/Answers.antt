@@ -19,7 +19,7 @@ path_bound-requires-clause-room c =
 pub returns-clause-most : goal.returns-clause-most
 returns-clause-most c =
     subst (λ (r : Reported). IsWithinCount r) (sym c.with_bound.ensures)
-    (bound_most c.args.outline.now (reported c.args.report) c.requires.told c.in_ok-bound.bound.0 c.in_ok-bound.ensures.most)
+    (bound_most c.args.outline.now (reported c.args.report) c.requires.told c.in_ok-bound.bound.value c.in_ok-bound.ensures.most)
 
 pub returns-clause-collected : goal.returns-clause-collected
 returns-clause-collected c = λ found same.

@@ -8,7 +8,7 @@ use Rattle.sweet_cli.specs.Analyse.{policy_of}
 use Rattle.sweet_cli.specs.Seen.{scoped_of, tables_of}
 use Rattle.sweet_cli.specs.Tables.{tables_in}
 use Rattle.sweet_cli.proofs.Promises.{analysed, prints_sound}
-use Rattle.sweet_cli.proofs.SoundReports.{sound_of}
+use Rattle.sweet_cli.proofs.SoundReports.{printed_sound}
 use Rattle.sweet_cli.proofs.commands.analyse.analyse.Goals as goal
 
 pub returns-clause-promise : goal.returns-clause-promise
@@ -23,7 +23,7 @@ returns-clause-promise g c =
     let first = c.in_ok-program.ensures.work in
     let read = subst (λ (told : Option Files). (tables_in program.expanded.program given.inputs given.costs).steps.Gives told (log_of mid) tables (log_of end)) first.same
     c.in_ok-tables.ensures.work.ends.0 in
-    let sound = sound_of c.found_reports_are_right.ensures program.expanded.program program.expanded.graph tables.rows tables.costs (policy_of given.merging) given.turns given.pivots report
+    let sound = printed_sound c.found_reports_are_right.ensures given.certified program.expanded.program program.expanded.graph tables.rows tables.costs (policy_of given.merging) given.turns given.pivots report
     c.in_ok-report.ensures.means.means in
     prints_sound c.a_file_has_one_answer.ensures.keep given start.files (log_of start) (log_of mid) (log_of end) program tables report c.in_ok-text.text.items first.ends.0 read c.in_ok-program.ensures.told sound
     (c.in_ok-text.ensures.spelled c.in_ok-report.ensures.writable)

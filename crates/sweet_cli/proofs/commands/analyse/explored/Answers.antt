@@ -3,15 +3,15 @@ use Rattle.std.proofs.Common.{List, [], Ok, Err, refl, sym, subst}
 use Rattle.alf_check.specs.declared.rows.InputRow.{InputRow}
 use Rattle.alf_check.specs.CheckedPrograms.{seen}
 use Rattle.alf_check.specs.Inputs.{KeepInputs}
-use Rattle.flow_facts.specs.Reports.{reported}
-use Rattle.program_analysis.specs.Answers.{Told, Unbounded as LeftIn}
+use Rattle.flow_facts.specs.Reports.{Reported, certificate_of, reported}
+use Rattle.bounded_analyses.specs.Analyses.{IsPrintedReport}
 use Rattle.command_plans.specs.Outcome.{Outcome, Unbounded}
 use Rattle.command_plans.specs.Work.{IsOnly}
 use Rattle.unranked_runs.specs.Ranking.{unranked}
 use Rattle.sweet_cli.specs.Seen.{scoped_of}
 use Rattle.sweet_cli.specs.Analyse.{ReportMeans}
 use Rattle.unranked_runs.specs.RankedGraphs as ranks
-use Rattle.sweet_cli.proofs.JudgedReports.{report_only, left_only, found_of}
+use Rattle.sweet_cli.proofs.JudgedReports.{report_only, left_only, printed_of, left_of}
 use Rattle.sweet_cli.proofs.commands.analyse.explored.Goals as goal
 
 pub returns-in-Told : goal.returns-in-Told
@@ -25,11 +25,15 @@ returns-in-Told c =
     let told = rw c.in-Told.is at c.in_ok-report.ensures in
     let keep = subst (λ (l : List InputRow). KeepInputs (seen checked) l) (sym c.as_slice-rows.ensures.value) c.requires.rows in
     let priced = c.requires.priced (unranked (seen checked)) (ranks.graph (seen checked) (seen checked).ranks [] graph c.requires.graph) in
-    let found = found_of checked graph rows c.keeps.ensures c.requires.graph keep costs program.outline c.args.policy c.args.turns c.args.pivots (Told report) c.kept.ensures c.requires.outline priced told.found in
-    let only = report_only c.a_program_has_one_bounded_analysis.ensures.one (scoped_of program) rows costs c.args.policy c.args.turns c.args.pivots report found in
+    let cert = certificate_of c.in-Told.cert in
+    let printed = reported c.shown.result in
+    let one = c.a_program_has_one_bounded_analysis.ensures in
+    let found = subst (λ (r : Reported). IsPrintedReport c.args.certify (unranked (seen checked)) graph rows costs c.args.policy c.args.turns c.args.pivots r) (sym c.shown.ensures)
+    (printed_of checked graph rows c.keeps.ensures c.requires.graph keep costs program.outline c.args.policy c.args.turns c.args.pivots c.args.certify report cert c.kept.ensures c.requires.outline priced told.found told.writable) in
+    let only = report_only one.one one.printed c.args.certify (scoped_of program) rows costs c.args.policy c.args.turns c.args.pivots printed found in
     record {
-      means = subst (λ (l : List InputRow). IsOnly (ReportMeans (scoped_of program) l costs c.args.policy c.args.turns c.args.pivots) (Ok report)) c.as_slice-rows.ensures.value only;
-      writable = told.writable;
+      means = subst (λ (l : List InputRow). IsOnly (ReportMeans c.args.certify (scoped_of program) l costs c.args.policy c.args.turns c.args.pivots) (Ok printed)) c.as_slice-rows.ensures.value only;
+      writable = found.writable;
     }
 
 pub returns-in_ok-line-in-Unbounded-clause-means : goal.returns-in_ok-line-in-Unbounded-clause-means
@@ -44,7 +48,8 @@ returns-in_ok-line-in-Unbounded-clause-means c =
     let told = rw c.in-Unbounded.is at c.in_ok-report.ensures in
     let keep = subst (λ (l : List InputRow). KeepInputs (seen checked) l) (sym c.as_slice-rows.ensures.value) c.requires.rows in
     let priced = c.requires.priced (unranked (seen checked)) (ranks.graph (seen checked) (seen checked).ranks [] graph c.requires.graph) in
-    let found = found_of checked graph rows c.keeps.ensures c.requires.graph keep costs program.outline c.args.policy c.args.turns c.args.pivots (LeftIn scope) c.kept.ensures c.requires.outline priced told.found in
-    let only = left_only c.a_program_has_one_bounded_analysis.ensures.one (scoped_of program) rows costs c.args.policy c.args.turns c.args.pivots scope text found c.in_ok-line-in-Unbounded.ensures in
+    let found = left_of checked graph rows c.keeps.ensures c.requires.graph keep costs program.outline c.args.policy c.args.turns c.args.pivots scope c.kept.ensures c.requires.outline priced told.found in
+    let one = c.a_program_has_one_bounded_analysis.ensures in
+    let only = left_only one.one one.printed c.args.certify (scoped_of program) rows costs c.args.policy c.args.turns c.args.pivots scope text found c.in_ok-line-in-Unbounded.ensures in
     let outcome : Outcome = record { cause = Unbounded; text = text } in
-    (refl, subst (λ (l : List InputRow). IsOnly (ReportMeans (scoped_of program) l costs c.args.policy c.args.turns c.args.pivots) (Err outcome)) c.as_slice-rows.ensures.value only)
+    (refl, subst (λ (l : List InputRow). IsOnly (ReportMeans c.args.certify (scoped_of program) l costs c.args.policy c.args.turns c.args.pivots) (Err outcome)) c.as_slice-rows.ensures.value only)

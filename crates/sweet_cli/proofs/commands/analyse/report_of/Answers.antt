@@ -12,6 +12,6 @@ pub returns-clause-means : goal.returns-clause-means
 returns-clause-means c =
     let rows = c.args.tables.now.rows.items in
     let costs = c.args.tables.now.costs in
-    subst (λ (p : Policy). Judges (ReportMeans (scoped_of c.args.program) rows costs p c.args.turns c.args.pivots) (λ report. reported report) c.explored.result) c.policy.ensures
-    (subst (λ (p : ScopedProgram). Judges (ReportMeans p rows costs c.policy.result c.args.turns c.args.pivots) (λ report. reported report) c.explored.result) c.priced-program.ensures.scopes
+    subst (λ (p : Policy). Judges (ReportMeans c.args.certify (scoped_of c.args.program) rows costs p c.args.turns c.args.pivots) (λ report. reported report) c.explored.result) c.policy.ensures
+    (subst (λ (p : ScopedProgram). Judges (ReportMeans c.args.certify p rows costs c.policy.result c.args.turns c.args.pivots) (λ report. reported report) c.explored.result) c.priced-program.ensures.scopes
     c.explored.ensures.means)

@@ -1,0 +1,2 @@
+-- Proofs that files of goals share.
+pub mod Sizes

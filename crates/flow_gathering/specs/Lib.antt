@@ -1,0 +1,4 @@
+-- What was collected, as the code holds it.
+pub mod Gathering
+-- Laws that turns of loops cite.
+pub mod TakeLaws

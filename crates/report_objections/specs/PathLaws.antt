@@ -1,0 +1,90 @@
+-- What multipliers that hold promise of the runs of a system.
+--   run_bounded         each walk that meets the facts costs at most the bound
+--   path_above          each run of a system costs at most what the verdict tells
+use Rattle.std.proofs.Common.{◌≡◌, ◌≤◌, ℕ, suc, ℤ, pos, Bool, true, false, List, [], ◌∷◌, ◌++◌, Option, Some, None, All, Contains, reverse, refl, sym, ap, ◌∙◌, subst, arith}
+use Rattle.std.specs.Prelude.{slice_index, ◌<ℤ◌, ◌*ℤ◌, ◌≤ℤ◌}
+use Rattle.std.proofs.lemmas.Bool.{eq-eqb}
+use Rattle.std.proofs.lemmas.Int.{ints}
+use Rattle.std.proofs.lemmas.List.{reverse-append}
+use Rattle.std.proofs.lemmas.List.Folds.{list_any_at}
+use Rattle.std.proofs.lemmas.List.Sorted.{sum_by-IsPermutation, IsPermutation-reverse}
+use Rattle.alf_ops.specs.declared.history.RunFault.{RunFault}
+use Rattle.domain_core.specs.Outlines.{Outlined, IsOutline, shape_of}
+use Rattle.domain_core.specs.Traces.{IsTrace}
+use Rattle.domain_core.specs.Machines.{Machine, IsAlong}
+use Rattle.flow_facts.specs.declared.fact.Fact.{Fact}
+use Rattle.flow_facts.specs.declared.fact.Fact.TheVariants.{Alarm}
+use Rattle.flow_facts.specs.Facts.{Meets}
+use Rattle.flow_facts.specs.Reports.{Reported}
+use Rattle.ipet_rows.specs.Columns.{is_alarm_at, has_alarm, columns_of}
+use Rattle.ipet_rows.specs.Uses.{EndsAt, IsEnded, steps_of, column_counts, run_cost}
+use Rattle.ipet_rows.specs.Shaped.{FitOutline}
+use Rattle.ipet_rows.specs.Feasible.{MeetFacts, feasible, worth_cost}
+use Rattle.ipet_rows.specs.Bounds.{BoundsAll}
+use Rattle.report_soundness.specs.ReportTold.{costs_of}
+use Rattle.report_soundness.specs.Runs.{Passes, stops, moves, HasAlarm, IsSound}
+use Rattle.report_objections.specs.Shaping.{rows_of}
+use Rattle.report_objections.specs.Accepted.{CostAtMost}
+use Rattle.report_soundness.specs.CollectedLaws.{in_order}
+
+below_next : (cost v : ℕ) (z : ℤ) → z <ℤ (pos (suc v) *ℤ pos 1) → z ≡ pos cost → cost ≤ v
+below_next cost v z less is = omega (arith, ints, less, is)
+
+-- where multipliers hold, each run that meets the facts costs at most the bound
+run_bounded : (o : Outlined) → IsOutline (shape_of o) → (facts : List Fact) (fault : Bool) (k : ℕ) (past : List ℕ) → IsEnded (shape_of o) facts fault (k ∷ past)
+    → FitOutline (shape_of o) facts → MeetFacts (shape_of o) (reverse (k ∷ past)) facts → (v bound : ℕ) → BoundsAll (rows_of o facts) v bound
+    → run_cost (costs_of o) (k ∷ past) ≤ bound
+run_bounded o ok facts fault k past run fits met v bound all =
+    let x = column_counts (columns_of (shape_of o) facts) (steps_of (shape_of o) fault (k ∷ past)) in
+    let whole : pos 1 ≤ℤ pos 1 = omega (arith, ints) in
+    let less = all.points x (pos 1) whole (feasible (shape_of o) ok facts fault k past run fits met (costs_of o)) in
+    let is = worth_cost (shape_of o) ok facts fault k past run fits met (costs_of o) in
+    let low = below_next (run_cost (costs_of o) (k ∷ past)) v _ less is in
+    let least = all.least in
+    omega (arith, low, least)
+
+-- the last node
+same_last : (xs ys : List ℕ) (a b : ℕ) → xs ++ a ∷ [] ≡ ys ++ b ∷ [] → a ≡ b
+same_last xs ys a b same =
+    let turned : a ∷ reverse xs ≡ b ∷ reverse ys = sym (reverse-append xs (a ∷ [])) ∙ ap (λ (zs : List ℕ). reverse zs) same ∙ reverse-append ys (b ∷ []) in
+    cc
+
+alarm_there : (facts : List Fact) (n : ℕ) (fault : RunFault) → Contains facts (Alarm n fault) → has_alarm facts n ≡ true
+alarm_there facts n fault there =
+    list_any_at (λ f. is_alarm_at n f) facts there.0 (Alarm n fault) there.1 (ap (λ (f : Fact). is_alarm_at n f) there.2 ∙ eq-eqb n n refl)
+
+module _ {T C : Type 0} (m : Machine T C) (o : Outlined) (ok : IsOutline (shape_of o)) (along : IsAlong T C (shape_of o) m)
+    (facts : List Fact) (fit : FitOutline (shape_of o) facts) (v bound : ℕ) (all : BoundsAll (rows_of o facts) v bound) where
+  -- the run is over at its newest node
+  over_at : (past : List ℕ) (n : ℕ) (fault : Bool) → IsTrace (shape_of o) (n ∷ past) → EndsAt (shape_of o) facts fault (n ∷ past)
+      → All (Meets (shape_of o) (reverse past ++ n ∷ [])) facts → run_cost (costs_of o) (reverse past ++ n ∷ []) ≤ bound
+  over_at past n fault walk ends met =
+      let same : reverse (n ∷ past) ≡ reverse past ++ n ∷ [] = reverse-append (n ∷ []) past in
+      let most = run_bounded o ok facts fault n past (record { trace = walk; ends = ends }) fit (subst (λ (trace : List ℕ). All (Meets (shape_of o) trace) facts) (sym same) met) v bound all in
+      let turned : run_cost (costs_of o) (reverse (n ∷ past)) ≡ run_cost (costs_of o) (n ∷ past) =
+      sum_by-IsPermutation (λ k. slice_index (costs_of o) k) (n ∷ past) (reverse (n ∷ past)) (IsPermutation-reverse (n ∷ past)) in
+      subst (λ (trace : List ℕ). run_cost (costs_of o) trace ≤ bound) same (omega (arith, most, turned))
+
+  -- a run that goes on
+  follow : (past : List ℕ) {n : ℕ} {c : C} {trace : List ℕ} {fault : Option RunFault} → IsTrace (shape_of o) (n ∷ past)
+      → Passes m.system n c trace fault → All (Meets (shape_of o) (reverse past ++ trace)) facts
+      → HasAlarm facts (reverse past ++ trace) fault → run_cost (costs_of o) (reverse past ++ trace) ≤ bound
+  follow past {n} {c} walk (stops {fault = None} way) met alarm = over_at past n false walk (along.ends_along n c way) met
+  follow past {n} {c} walk (stops {fault = Some kind} way) met alarm =
+      let last : n ≡ alarm.node = same_last (reverse past) alarm.before n alarm.node alarm.last in
+      over_at past n true walk (alarm_there facts n kind (subst (λ (k : ℕ). Contains facts (Alarm k kind)) (sym last) alarm.among)) met
+  follow past {n} {c} {fault = fault} walk (moves {k = k} {d = d} {trace = trace} step rest) met alarm =
+      let edge = along.goes_along n k c d step in
+      let same = in_order past trace n in
+      let more : IsTrace (shape_of o) (k ∷ n ∷ past) = (edge.0, edge.1, walk) in
+      let most = follow (n ∷ past) more rest (subst (λ (nodes : List ℕ). All (Meets (shape_of o) nodes) facts) (sym same) met)
+      (subst (λ (nodes : List ℕ). HasAlarm facts nodes fault) (sym same) alarm) in
+      subst (λ (nodes : List ℕ). run_cost (costs_of o) nodes ≤ bound) same most
+
+-- each run of a system costs at most what the verdict tells
+pub path_above : {T C : Type 0} (m : Machine T C) (o : Outlined) (report : Reported) (v bound : ℕ)
+    → IsOutline (shape_of o) → IsAlong T C (shape_of o) m → IsSound m.system o report → FitOutline (shape_of o) report.facts
+    → BoundsAll (rows_of o report.facts) v bound → CostAtMost m.system o bound
+path_above m o report v bound ok along sound fit all = λ c trace fault starts passes.
+    let right = sound.right c trace fault starts passes in
+    follow m o ok along report.facts fit v bound all [] refl passes right.facts right.alarm

@@ -1,0 +1,5 @@
+-- The files of this folder.
+pub mod Replays
+pub mod OneReplay
+pub mod Walks
+pub mod Tests

@@ -1,4 +1,6 @@
 -- Programs whose rows are small.
+--   small_is     they are small where each row is
+--   rows_are     each row of such a program is small
 use Rattle.std.proofs.Common.{◌≡◌, ℕ, ℤ, zero, suc, ◌<◌, ◌≤◌, arith, subst, List, [], ◌∷◌, length, ⊎_elim}
 use Rattle.std.proofs.lemmas.Int.{ints}
 use Rattle.std.proofs.lemmas.Bool.{cases_eq, cases_lt}
@@ -7,6 +9,7 @@ use Rattle.ipet_rows.specs.Programs.{Row, Program, row_at, cost_at}
 use Rattle.ipet_rows.specs.DualRowLaws.{found_here, found_later}
 use Rattle.simplex_rules.specs.NarrowOpening.{IsUpTo, IsSmall}
 use Rattle.simplex_tableau.specs.FirstTerms.{AreSmall}
+use Rattle.simplex_tableau.specs.TermLaws.{small_terms}
 use Rattle.path_lp.specs.Small.{IsSmallRow}
 
 small_number : (ts : List (ℕ × ℤ)) (e : ℕ) → IsAscending ts → AreSmall ts → IsUpTo 8589934592 (coefficient ts e)
@@ -41,3 +44,6 @@ small_is p n all few rises costs rows = record {
       (λ (past : length p.rows ≤ k). no_number p.rows k e past) (cases_lt k (length p.rows));
   rights = λ k. ⊎_elim (λ (below : k < length p.rows). (rows k (omega (arith, all, below))).right) (λ (past : length p.rows ≤ k). no_right p.rows k past) (cases_lt k (length p.rows));
 }
+
+pub rows_are : (p : Program) (k : ℕ) → IsAscending (row_at p.rows k).terms → IsSmall p → IsSmallRow (row_at p.rows k)
+rows_are p k rises small = record { terms = small_terms (row_at p.rows k).terms rises (small.numbers k); right = small.rights k }

@@ -237,7 +237,7 @@ pub first_is : (w : ℕ) (p : Program) (lines : List HeldTerms) (costs : List (�
 first_is w p lines costs width are objective =
     subst (λ (l : List HeldTerms). IsFirst p (seen w l costs)) (sym are) (subst (λ (l : List (ℕ × ℤ)). IsFirst p (seen w (first_rows p.rows (slacks_from p)) l)) (sym objective) (first_made w p width))
 
--- ---- small numbers
+-- ---- rows with their slacks
 
 pub slack_rises : (right : ℤ) (ts : List (ℕ × ℤ)) (s : ℕ) → 2 ≤ s → IsWithin (s - 2) ts → IsAscending ts → IsAscending (first_terms right ts s)
 slack_rises right ts s least within rises = first_rises (s - 2) right ts s within (omega arith) rises

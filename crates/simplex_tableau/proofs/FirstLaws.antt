@@ -11,15 +11,17 @@ use Rattle.ipet_rows.specs.UseLaws.{vanish_is}
 use Rattle.ipet_rows.specs.Sums.{coefficient, coefficient_of, StartsAbove, IsAscending}
 use Rattle.ipet_rows.specs.Programs.{Row, Program, IsWithin, row_at}
 use Rattle.ipet_rows.specs.SumLaws.{term_here, term_elsewhere}
+use Rattle.ipet_rows.specs.DualRowLaws.{found_here, found_later}
 use Rattle.dual_check.specs.Terms.{term_if}
 use Rattle.simplex_rules.specs.Lines.{spread, line_gcd}
 use Rattle.simplex_rules.specs.Tableaus.{Held, Tableau, Generator, placed, turned, slack_line, next_slack, row_lines, generators, width_from, cost_terms, objective_line, slacks_from, width_of, held_of}
 use Rattle.simplex_rules.specs.FirstTableau.{beyond, within_more, spread_is}
 use Rattle.simplex_rules.specs.HandedOut.{width_above}
+use Rattle.simplex_rules.specs.NarrowOpening.{IsUpTo}
 use Rattle.simplex_rules.specs.Steps.{divisor_above, line_gcd_least, line_gcd_divides}
 use Rattle.simplex_tableau.specs.TermLaws.{turned_within}
 use Rattle.simplex_tableau.specs.Sparse.{HeldTerms, shown_rows, seen, IsKept, AreKept}
-use Rattle.simplex_tableau.specs.FirstTerms.{first_terms, slack_held, row_held, first_rows, some_costs, first_costs}
+use Rattle.simplex_tableau.specs.FirstTerms.{first_terms, slack_held, row_held, first_rows, some_costs, first_costs, AreSmall}
 use Rattle.simplex_tableau.specs.Started.{IsFirst}
 
 -- ---- numbers of joined terms
@@ -237,7 +239,21 @@ pub first_is : (w : ℕ) (p : Program) (lines : List HeldTerms) (costs : List (�
 first_is w p lines costs width are objective =
     subst (λ (l : List HeldTerms). IsFirst p (seen w l costs)) (sym are) (subst (λ (l : List (ℕ × ℤ)). IsFirst p (seen w (first_rows p.rows (slacks_from p)) l)) (sym objective) (first_made w p width))
 
--- ---- rows with their slacks
+-- ---- small numbers
+
+pub small_terms : (ts : List (ℕ × ℤ)) → IsAscending ts → ((e : ℕ) → IsUpTo 8589934592 (coefficient ts e)) → AreSmall ts
+small_terms [] rises small = tt
+small_terms (t ∷ ts) rises small =
+    let here : t.1 ≡ coefficient (t ∷ ts) t.0 = found_here t ts t.0 rises refl in (
+      subst (λ (z : ℤ). IsUpTo 8589934592 z) (sym here) (small t.0),
+      small_terms ts rises.1 (λ e. ⊎_elim
+          (λ (q : t.0 ≡ e).
+          let none : coefficient ts e ≡ pos 0 = (let sum : coefficient (t ∷ ts) e ≡ coefficient_of t e +ℤ coefficient ts e = refl in
+          let whole : t.1 ≡ coefficient (t ∷ ts) e = found_here t ts e rises q in omega (arith, ints, sum, whole, term_here t.0 e t.1 q)) in
+          (omega (arith, ints, none), omega (arith, ints, none)))
+          (λ (d : t.0 ≡ e → ⊥). subst (λ (z : ℤ). IsUpTo 8589934592 z) (sym (found_later t ts e d)) (small e))
+          (cases_eq t.0 e)),
+    )
 
 pub slack_rises : (right : ℤ) (ts : List (ℕ × ℤ)) (s : ℕ) → 2 ≤ s → IsWithin (s - 2) ts → IsAscending ts → IsAscending (first_terms right ts s)
 slack_rises right ts s least within rises = first_rises (s - 2) right ts s within (omega arith) rises

@@ -2,10 +2,9 @@
 --   nothing_before     no number before the first term's place
 --   each_of, each_at   a number divides each term's number where it divides each place's, and the other way
 --   divided_is         the divided line, times the divisor, is the line
---   small_terms        terms are small where each place's number is
 --   ..rises, ..within  what is made keeps the order, and the width
 use Rattle.std.proofs.Common.{◌≡◌, ℕ, ℤ, pos, suc, ◌<◌, ◌≤◌, arith, refl, sym, ◌∙◌, List, [], ◌∷◌, subst, ⊎_elim}
-use Rattle.std.specs.Prelude.{◌+ℤ◌, ◌*ℤ◌, ◌≤ℤ◌}
+use Rattle.std.specs.Prelude.{◌*ℤ◌, ◌≤ℤ◌}
 use Rattle.std.specs.Int.{int_div_euclid}
 use Rattle.std.proofs.lemmas.Int.{ints}
 use Rattle.std.proofs.lemmas.Bool.{cases_eq}
@@ -17,8 +16,6 @@ use Rattle.ipet_rows.specs.SumLaws.{times_sum, term_here, term_elsewhere}
 use Rattle.ipet_rows.specs.DualRowLaws.{found_here, found_later}
 use Rattle.simplex_rules.specs.Tableaus.{turned}
 use Rattle.simplex_rules.specs.Steps.{exact}
-use Rattle.simplex_rules.specs.NarrowOpening.{IsUpTo}
-use Rattle.simplex_tableau.specs.FirstTerms.{AreSmall}
 use Rattle.simplex_tableau.specs.Reducing.{divided_terms, DividesEach}
 
 -- no number up to a place that the terms are above
@@ -102,18 +99,3 @@ turned_rises (t ∷ ts) rises = (turned_starts t.0 ts rises.0, turned_rises ts r
 pub turned_within : (w : ℕ) (ts : List (ℕ × ℤ)) → IsWithin w ts → IsWithin w (turned ts)
 turned_within w [] within = tt
 turned_within w (t ∷ ts) within = (within.0, turned_within w ts within.1)
-
--- terms are small where each place's number is
-pub small_terms : (ts : List (ℕ × ℤ)) → IsAscending ts → ((e : ℕ) → IsUpTo 8589934592 (coefficient ts e)) → AreSmall ts
-small_terms [] rises small = tt
-small_terms (t ∷ ts) rises small =
-    let here : t.1 ≡ coefficient (t ∷ ts) t.0 = found_here t ts t.0 rises refl in (
-      subst (λ (z : ℤ). IsUpTo 8589934592 z) (sym here) (small t.0),
-      small_terms ts rises.1 (λ e. ⊎_elim
-          (λ (q : t.0 ≡ e).
-          let none : coefficient ts e ≡ pos 0 = (let sum : coefficient (t ∷ ts) e ≡ coefficient_of t e +ℤ coefficient ts e = refl in
-          let whole : t.1 ≡ coefficient (t ∷ ts) e = found_here t ts e rises q in omega (arith, ints, sum, whole, term_here t.0 e t.1 q)) in
-          (omega (arith, ints, none), omega (arith, ints, none)))
-          (λ (d : t.0 ≡ e → ⊥). subst (λ (z : ℤ). IsUpTo 8589934592 z) (sym (found_later t ts e d)) (small e))
-          (cases_eq t.0 e)),
-    )

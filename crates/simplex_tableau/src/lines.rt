@@ -107,7 +107,7 @@ fn turned_line(
 }
 
 /// Appends the lines of a row, and tells the next slack.
-#[tactic(auto, using(crate::specs::TermLaws::small_terms, crate::proofs::FirstLaws::terms_room))]
+#[tactic(auto, using(crate::proofs::FirstLaws::small_terms, crate::proofs::FirstLaws::terms_room))]
 pub fn push_row(
     alloc: Global,
     rows: &Rows,

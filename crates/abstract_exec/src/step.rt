@@ -1,6 +1,6 @@
 //! Steps of places.
 
-ghost use Rattle.std.specs.Prelude.{◌≡◌, ◌<◌, ◌-◌, ◌^◌, ◌++◌, ◌∷◌, [], suc, length, take, drop, slice_get, Some, IfOk, OnOk};
+ghost use Rattle.std.specs.Prelude.{◌≡◌, ◌<◌, ◌+◌, ◌-◌, ◌^◌, ◌↔◌, IsTrue, ◌++◌, ◌∷◌, [], suc, length, take, drop, slice_get, Some, IfOk, OnOk};
 ghost use Rattle.domain_core.specs.Outlines.{shape_of};
 ghost use Rattle.domain_core.specs.Machines.{IsAlong};
 ghost use Rattle.worklist_rules.specs.Events.{book_at_faults, spread_spots, spread_book};
@@ -109,9 +109,17 @@ fn followed<S: Stepper, R: Recorder>(
     Ok(Outcome { places, faults })
 }
 
+/// Whether 32 bits number so many places and as many more.
+fn have_room(places: usize, more: usize) -> bool
+    requires { places < 2 ^ 32 }
+    ensures { IsTrue result ↔ places + more < 2 ^ 32 }
+{
+    more <= u32::MAX as usize - places
+}
+
 /// Steps a place of a line: its successors take its room. Answers its node, and the faults there.
 ///
-/// A line of more than 4,294,967,295 places is want of memory.
+/// A line of more than 4,294,967,295 places is want of memory, and none of fewer is, where no allocation is refused.
 pub fn step_place<S: Stepper, R: Recorder>(
     alloc: Global,
     stepper: &S,
@@ -137,7 +145,7 @@ pub fn step_place<S: Stepper, R: Recorder>(
         places: made,
         faults,
     } = followed(alloc, stepper, outline, place, book)?;
-    if made.len() > u32::MAX as usize - places.len() {
+    if !have_room(places.len(), made.len()) {
         return Err(AllocError);
     }
     put_all(places, at, made)?;

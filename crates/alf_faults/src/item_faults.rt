@@ -1,6 +1,6 @@
 //! What is wrong with a program.
 
-ghost use Rattle.std.specs.Prelude.{◌≡◌, IfOk};
+ghost use Rattle.std.specs.Prelude.{◌≡◌, ◌≤◌, ◌^◌, IfOk, IfSome, IfNone};
 ghost use Rattle.alf_faults.specs.Fault.{Duplicate};
 ghost use Rattle.alf_faults.specs.FoundFaults.{told, fault_of};
 ghost use Rattle.alf_faults.specs.Duplicates.{number_twice};
@@ -34,12 +34,20 @@ pub fn owned(alloc: Global, found: Found) -> Result<ItemFault, AllocError>
         Found::Size(name, None) => Ok(ItemFault::Size(Name::new(alloc, name.bytes())?, None)),
         Found::Size(name, Some(place)) => {
             // Items are numbered by 32 bits, and one after those is told as want of memory.
-            let Ok(number) = u32::try_from(place) else {
+            let Some(number) = item_number(place) else {
                 return Err(AllocError);
             };
             Ok(ItemFault::Size(Name::new(alloc, name.bytes())?, Some(number)))
         }
     }
+}
+
+// The number of the item at a place, where 32 bits hold it.
+fn item_number(place: usize) -> Option<u32>
+    ensures number { IfSome result (λ number. number ≡ place) }
+    ensures past { IfNone result (2 ^ 32 ≤ place) }
+{
+    u32::try_from(place).ok()
 }
 
 // The number in digits.

@@ -1,6 +1,6 @@
 //! The memory of a run.
 
-ghost use Rattle.std.specs.Prelude.{◌≡◌, ◌<◌, List, [], ◌∷◌, length, IfOk, OnOk, OnErr};
+ghost use Rattle.std.specs.Prelude.{◌≡◌, ◌<◌, ◌+◌, ◌^◌, ◌↔◌, IsTrue, List, [], ◌∷◌, length, IfOk, OnOk, OnErr};
 ghost use Rattle.alf_ops.specs.declared.history.RunEvent.{RunEvent};
 ghost use Rattle.alf_ops.specs.Histories.{load};
 ghost use Rattle.alf_check.specs.CheckedPrograms.{seen};
@@ -16,6 +16,13 @@ use alf_check::Checked;
 use alf_ops::{RunFault, Value};
 use std::alloc::{AllocError, Global};
 use std::marker::Model;
+
+/// Whether 64 bits have no mark after this one.
+fn is_last(mark: u64) -> bool
+    ensures { IsTrue result ↔ mark + 1 ≡ 2 ^ 64 }
+{
+    mark == u64::MAX
+}
 
 /// The frames of a program and what each of their bytes holds.
 ///
@@ -62,7 +69,7 @@ impl Frames {
     {
         let number = func as usize;
         let mark = mark_in(&self.functions, Some(func));
-        if mark == u64::MAX {
+        if is_last(mark) {
             return Err(AllocError);
         }
         self.functions[number] = Activity {

@@ -1,6 +1,6 @@
 //! Ranks of functions, or a cycle of calls.
 
-ghost use Rattle.std.specs.Prelude.{◌≡◌, map, slice_index_or, IfOk, IfErr};
+ghost use Rattle.std.specs.Prelude.{◌≡◌, ◌<◌, ◌^◌, ◌↔◌, IsTrue, map, slice_index_or, IfOk, IfErr};
 ghost use Rattle.c_unit.specs.Units.{unit_of};
 ghost use Rattle.c_rules.specs.Names.{text_at};
 ghost use Rattle.c_rules.specs.Units.{definitions};
@@ -13,6 +13,13 @@ use c_unit::CUnit;
 use flow_base::Name;
 use graph_walks::{CallFault, call_ranks};
 use std::alloc::{AllocError, Global};
+
+// Whether 32 bits number so many.
+fn are_few(count: usize) -> bool
+    ensures { IsTrue result ↔ count < 2 ^ 32 }
+{
+    count <= u32::MAX as usize
+}
 
 /// A rank for each function that is defined, so that each call leads from a higher rank to a lower one, or the
 /// first cycle of calls. Functions are counted by the order of their definitions, and may be 4,294,967,295 at most;
@@ -27,7 +34,7 @@ pub fn function_ranks(
     ensures ranked { IfOk result (λ ranks. IsRanked (calls_of (unit_of unit.now)) ranks.items) }
     ensures cycle { IfErr result (λ fault. IsFaultOf (calls_of (unit_of unit.now)) fault) }
 {
-    if functions.names().len() > u32::MAX as usize {
+    if !are_few(functions.names().len()) {
         return Err(CallFault::Memory);
     }
     match call_table(alloc, functions, &unit.externals) {

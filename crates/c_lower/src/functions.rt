@@ -1,6 +1,6 @@
 //! Functions, lowered.
 
-ghost use Rattle.std.specs.Prelude.{◌≡◌, ◌<◌, ◌^◌, ℕ, List, ◌∷◌, ◌++◌, map, IfOk, OnOk};
+ghost use Rattle.std.specs.Prelude.{◌≡◌, ◌<◌, ◌≤◌, ◌+◌, ◌^◌, ℕ, List, ◌∷◌, ◌++◌, map, IfOk, OnOk, IfSome, IfNone};
 ghost use Rattle.alf_program.specs.Tree as alf;
 ghost use Rattle.c_unit.specs.Tree.{ExternalTree, Declaration, Definition, declarator_of, external_of, statement_of, statements_of};
 ghost use Rattle.c_unit.specs.Units.{unit_of};
@@ -57,6 +57,14 @@ fn function(
     })
 }
 
+// The number of the next function, where 32 bits have one.
+fn next_function(function: u32) -> Option<u32>
+    ensures next { IfSome result (λ next. next ≡ function + 1) }
+    ensures past { IfNone result (2 ^ 32 ≤ function + 1) }
+{
+    function.checked_add(1)
+}
+
 // Puts a function of this number, and gives the next number. One beyond 32 bits is want of memory.
 fn put_function(
     code: Code<'_, '_>,
@@ -81,7 +89,7 @@ fn put_function(
     let func = function(code, scopes, given, parameters, body)?;
     scopes.leave()?;
     funcs.push(func)?;
-    match code.function.checked_add(1) {
+    match next_function(code.function) {
         Some(next) => Ok(next),
         None => Err(AllocError),
     }

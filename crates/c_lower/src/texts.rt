@@ -1,6 +1,6 @@
 //! Programs of ALF to which programs of C are lowered.
 
-ghost use Rattle.std.specs.Prelude.{◌≡◌, IfOk, OnOk};
+ghost use Rattle.std.specs.Prelude.{◌≡◌, ◌≤◌, ◌^◌, ◌↔◌, IsTrue, length, IfOk, OnOk};
 ghost use Rattle.alf_program.specs.Tree.{program_of};
 ghost use Rattle.alf_program.specs.Writable.{IsWritable};
 ghost use Rattle.alf_check.specs.Checking.{Passes};
@@ -13,10 +13,18 @@ use crate::program_laws::spelled_programs_have_the_outcome_of_their_unit;
 use crate::text_laws::spelled_programs_pass;
 use alf_program::Program;
 use c_check::CProgram;
+use c_unit::CUnit;
 use std::alloc::{AllocError, Global};
 
 // As many as 32 bits can number.
 const MOST_TOKENS: u64 = 4_294_967_296;
+
+// Whether the unit has at most so many tokens.
+fn are_few(unit: &CUnit) -> bool
+    ensures { IsTrue result ↔ length unit.now.tokens.items ≤ 2 ^ 32 }
+{
+    unit.tokens.len() as u64 <= MOST_TOKENS
+}
 
 /// The program of ALF that a program of C is lowered to.
 ///
@@ -34,7 +42,7 @@ pub fn lower_text(alloc: Global, program: &CProgram) -> Result<Program, AllocErr
     spelled_programs_have_the_outcome_of_their_unit();
     program.keeps();
     let unit = program.unit();
-    if MOST_TOKENS < unit.tokens.len() as u64 {
+    if !are_few(unit) {
         return Err(AllocError);
     }
     let text = lower_unit(alloc, unit)?;

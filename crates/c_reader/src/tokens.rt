@@ -1,6 +1,6 @@
 //! The tokens of a text, as the grammar sees them.
 
-ghost use Rattle.std.specs.Prelude.{◌≡◌, map, IfOk};
+ghost use Rattle.std.specs.Prelude.{◌≡◌, ◌+◌, ◌^◌, ◌↔◌, IsTrue, map, IfOk};
 ghost use Rattle.c_tokens.specs.Tokens.{tokens_of};
 ghost use Rattle.c_reader.specs.Reading.{seen_in, numbered};
 
@@ -25,7 +25,14 @@ pub struct CutToken {
     pub span: Span,
 }
 
-/// The tokens of a text in order. A text of more tokens than have numbers wants memory.
+// Whether 32 bits have no number after this one.
+fn is_last(number: u32) -> bool
+    ensures { IsTrue result ↔ number + 1 ≡ 2 ^ 32 }
+{
+    number == u32::MAX
+}
+
+/// The tokens of a text in order. A text of more tokens than 32 bits number wants memory.
 pub fn cut(alloc: Global, text: &[u8]) -> Result<Vec<CutToken>, AllocError>
     ensures { IfOk result (λ tokens. map (seen_in text.now) tokens.items ≡ numbered 0 (tokens_of text.now)) }
 {
@@ -34,7 +41,7 @@ pub fn cut(alloc: Global, text: &[u8]) -> Result<Vec<CutToken>, AllocError>
     let mut tokens = Vec::new(alloc);
     let mut number = 0;
     while let Some(token) = cursor.next() {
-        if number == u32::MAX {
+        if is_last(number) {
             return Err(AllocError);
         }
         let span = Span {

@@ -1,6 +1,6 @@
 //! The function whose code is lowered, and the numbers of what its code allocates.
 
-ghost use Rattle.std.specs.Prelude.{◌≡◌, ◌+◌, IfOk};
+ghost use Rattle.std.specs.Prelude.{◌≡◌, ◌≤◌, ◌+◌, ◌^◌, IfOk, OnErr};
 
 use object_layout::Table;
 use std::alloc::{AllocError, Global};
@@ -18,7 +18,8 @@ pub struct Code<'b, 'a> {
 
 /// A number that is so much greater. One beyond 64 bits is want of memory.
 pub fn greater(by: u64, number: u64) -> Result<u64, AllocError>
-    ensures { IfOk result (λ sum. sum ≡ by + number) }
+    ensures sum { IfOk result (λ sum. sum ≡ by + number) }
+    ensures past { OnErr result (2 ^ 64 ≤ by + number) }
 {
     match by.checked_add(number) {
         Some(sum) => Ok(sum),

@@ -14,7 +14,7 @@ use crate::blocks::block_named;
 use crate::cost_entry::{cost_entry, cost_of, default_cost, has_cost_top};
 use crate::document::document;
 use crate::fault::TableFault;
-use crate::keys::{entries_at, nth};
+use crate::keys::{entries_at, entry_count, nth};
 use alf_check::Checked;
 use std::alloc::Global;
 use toml::{Table, Value};
@@ -25,7 +25,7 @@ use toml::{Table, Value};
 /// `default` is 1 where it is absent. `[[cost]]` entries have `function`, a text, and `block` and `cost`,
 /// whole numbers. A cost is 0 to 4,294,967,295.
 ///
-/// Takes time linear in the file and in the blocks of the program.
+/// 2^32 entries or more are want of memory. Takes time linear in the file and in the blocks of the program.
 pub fn costs(alloc: Global, bytes: &[u8], checked: &Checked) -> Result<Costs, TableFault>
     ensures means { IfOk result (λ costs. MeansCosts bytes.now (seen checked.now) costs) }
     ensures refused { IfErr result (λ fault. fault ≢ Memory → RefusesCosts bytes.now (seen checked.now) fault) }
@@ -69,7 +69,7 @@ fn all_costs(
     ensures all { IfOk result (λ costs. IsCostTable (seen checked.now) default (map view values.now) costs) }
     ensures first { IfErr result (λ fault. fault ≢ Memory → IsFirstFault (cost_judging (seen checked.now)) (map view values.now) fault) }
 {
-    let Ok(count) = u32::try_from(values.len()) else {
+    let Some(count) = entry_count(values) else {
         return Err(TableFault::Memory);
     };
     let mut costs = Costs::alike(alloc, checked, default)?;

@@ -17,7 +17,7 @@ use crate::document::document;
 use crate::fault::TableFault;
 use crate::frames::input_frame;
 use crate::input_entry::{Cells, Run, has_input_top, input_entry, run_of};
-use crate::keys::{entries_at, nth};
+use crate::keys::{entries_at, entry_count, nth};
 use crate::row_list::add_rows;
 use crate::taken::{any_marked, mark};
 use alf_check::{Checked, FrameRow, InputRow};
@@ -30,7 +30,7 @@ use toml::{Table, Value};
 /// `count`, which is 1 where it is absent; all but the name are whole numbers. A frame is global or an
 /// argument of the function that the program starts with. The cells follow one another.
 ///
-/// Takes time linear in the file and in the frames, and a mark for each byte of a frame of the
+/// 2^32 entries or more are want of memory. Takes time linear in the file and in the frames, and a mark for each byte of a frame of the
 /// greatest size.
 pub fn inputs(alloc: Global, bytes: &[u8], checked: &Checked) -> Result<Vec<InputRow>, TableFault>
     ensures means { IfOk result (λ rows. MeansInputs bytes.now (seen checked.now) rows.items) }
@@ -69,7 +69,7 @@ fn all_rows(alloc: Global, checked: &Checked, values: &[Value]) -> Result<Vec<In
     ensures keep { IfOk result (λ rows. KeepInputs (seen checked.now) rows.items) }
     ensures first { IfErr result (λ fault. fault ≢ Memory → IsFirstFault (input_judging (seen checked.now)) (map view values.now) fault) }
 {
-    let Ok(count) = u32::try_from(values.len()) else {
+    let Some(count) = entry_count(values) else {
         return Err(TableFault::Memory);
     };
     let mut marks = marks_of(alloc, checked)?;

@@ -1,6 +1,6 @@
 //! What stands at the keys of a table.
 
-ghost use Rattle.std.specs.Prelude.{◌≡◌, ◌<◌, length, map, Some, slice_get};
+ghost use Rattle.std.specs.Prelude.{◌≡◌, ◌<◌, ◌≤◌, ◌^◌, length, map, Some, slice_get, IfSome, IfNone};
 ghost use Rattle.std.specs.Option.{option_map, option_copied};
 ghost use Rattle.std.specs.List.{list_all};
 ghost use Rattle.toml.specs.View.{table_view, view};
@@ -46,6 +46,14 @@ pub fn entries_at<'a>(table: &'a Table, key: &str) -> Option<&'a [Value]>
         Some(value) => tables_of(value),
         None => Some(&[]),
     }
+}
+
+// How many entries there are, where 32 bits number them.
+pub fn entry_count(values: &[Value]) -> Option<u32>
+    ensures count { IfSome result (λ count. count ≡ length values.now) }
+    ensures past { IfNone result (2 ^ 32 ≤ length values.now) }
+{
+    u32::try_from(values.len()).ok()
 }
 
 // The members of an array of tables.

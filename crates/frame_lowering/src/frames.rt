@@ -1,6 +1,6 @@
 //! The frames of a function: its locals and the results of its calls, in the order of the text.
 
-ghost use Rattle.std.specs.Prelude.{◌≡◌, ◌+◌, ◌++◌, [], ◌∷◌, map, IfOk, OnOk};
+ghost use Rattle.std.specs.Prelude.{◌≡◌, ◌≤◌, ◌+◌, ◌^◌, ◌++◌, [], ◌∷◌, map, IfOk, OnOk, OnErr};
 ghost use Rattle.std.specs.Option.{option_map};
 ghost use Rattle.alf_program.specs.Tree.{allocation_of};
 ghost use Rattle.c_unit.specs.Tree.{call_of, value_of, effect_of, local_of, local_shape_of, statement_of, statements_of};
@@ -19,7 +19,8 @@ use std::alloc::AllocError;
 
 // The number after a call. One beyond 64 bits is want of memory.
 fn after(calls: u64, given: Outcome) -> Result<u64, AllocError>
-    ensures { IfOk result (λ next. next ≡ calls + effects.calls_of_outcome given) }
+    ensures next { IfOk result (λ next. next ≡ calls + effects.calls_of_outcome given) }
+    ensures past { OnErr result (2 ^ 64 ≤ calls + effects.calls_of_outcome given) }
 {
     let own = match given {
         Outcome::Nothing => 0,

@@ -1,6 +1,6 @@
 //! What globals hold at first.
 
-ghost use Rattle.std.specs.Prelude.{◌≡◌, ◌+◌, [], ◌∷◌, ◌++◌, map, IfOk, OnOk};
+ghost use Rattle.std.specs.Prelude.{◌≡◌, ◌≤◌, ◌+◌, ◌^◌, [], ◌∷◌, ◌++◌, map, IfOk, OnOk, OnErr};
 ghost use Rattle.alf_ops.specs.TwosComplement.{word};
 ghost use Rattle.alf_program.specs.Tree.{initial_of};
 ghost use Rattle.c_unit.specs.Tree.{declarator_of, shape_of, external_of};
@@ -102,7 +102,8 @@ fn further_elements(constants: &[Constant]) -> &[Constant]
 
 // The offset of the next element. One beyond 32 bits is want of memory; no text that is read has one.
 fn after(offset: u32, kind: Integer) -> Result<u32, AllocError>
-    ensures { IfOk result (λ next. next ≡ offset + sizes.bytes_of_type kind) }
+    ensures next { IfOk result (λ next. next ≡ offset + sizes.bytes_of_type kind) }
+    ensures past { OnErr result (2 ^ 32 ≤ offset + sizes.bytes_of_type kind) }
 {
     match offset.checked_add(bytes_of_type(kind)) {
         Some(next) => Ok(next),

@@ -1,6 +1,6 @@
 //! All objects of a unit: the globals, and then the parameters and locals of each function.
 
-ghost use Rattle.std.specs.Prelude.{◌≡◌, [], ◌∷◌, ◌++◌, List, map, IfOk, OnOk};
+ghost use Rattle.std.specs.Prelude.{◌≡◌, ◌≤◌, ◌+◌, ◌^◌, [], ◌∷◌, ◌++◌, List, map, IfOk, OnOk, IfSome, IfNone};
 ghost use Rattle.c_unit.specs.Tree.{declarator_of, shape_of, ExternalTree, external_of};
 ghost use Rattle.c_unit.specs.Units.{unit_of};
 ghost use Rattle.c_rules.specs.Units as checks;
@@ -112,6 +112,14 @@ fn put_owned(
     Ok(())
 }
 
+// The number of the next function, where 32 bits have one.
+fn next_owner(owner: u32) -> Option<u32>
+    ensures next { IfSome result (λ next. next ≡ owner + 1) }
+    ensures past { IfNone result (2 ^ 32 ≤ owner + 1) }
+{
+    owner.checked_add(1)
+}
+
 // Puts the objects of a function, if this defines one, and gives the number of the next function.
 fn put_function(
     words: &Words<'_>,
@@ -127,7 +135,7 @@ fn put_function(
         External::Define(_, _, _, parameters, body) => {
             put_parameters(owner, objects, parameters)?;
             put_all_locals(words, owner, objects, body)?;
-            match owner.checked_add(1) {
+            match next_owner(owner) {
                 Some(next) => Ok(next),
                 None => Err(AllocError),
             }

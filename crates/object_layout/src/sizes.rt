@@ -1,6 +1,6 @@
 //! Sizes of objects, in bits.
 
-ghost use Rattle.std.specs.Prelude.{◌≡◌, ◌*◌, IfOk};
+ghost use Rattle.std.specs.Prelude.{◌≡◌, ◌≤◌, ◌*◌, ◌^◌, IfOk, OnErr};
 ghost use Rattle.c_unit.specs.Tree.{local_shape_of};
 ghost use Rattle.c_meaning.specs.Objects as meaning;
 ghost use Rattle.c_meaning.specs.Values.{bits_of_type as bits_of};
@@ -25,7 +25,8 @@ pub fn count_at(words: &Words<'_>, size: u32) -> u32
 
 /// The bits of so many elements of the type. A size beyond 32 bits is want of memory; no text that is read has one.
 pub fn bits_of_array(words: &Words<'_>, kind: Integer, size: u32) -> Result<u32, AllocError>
-    ensures { IfOk result (λ bits. bits ≡ meaning.count_at words.now size * bits_of kind) }
+    ensures bits { IfOk result (λ bits. bits ≡ meaning.count_at words.now size * bits_of kind) }
+    ensures past { OnErr result (2 ^ 32 ≤ meaning.count_at words.now size * bits_of kind) }
 {
     match count_at(words, size).checked_mul(bits_of_type(kind)) {
         Some(bits) => Ok(bits),
@@ -49,7 +50,8 @@ pub fn bits_of_local(
     kind: Integer,
     shape: &LocalShape,
 ) -> Result<u32, AllocError>
-    ensures { IfOk result (λ bits. bits ≡ meaning.bits_of_local words.now kind (local_shape_of shape.now)) }
+    ensures bits { IfOk result (λ bits. bits ≡ meaning.bits_of_local words.now kind (local_shape_of shape.now)) }
+    ensures past { OnErr result (2 ^ 32 ≤ meaning.bits_of_local words.now kind (local_shape_of shape.now)) }
 {
     match shape {
         LocalShape::Integer(_) => Ok(bits_of_type(kind)),

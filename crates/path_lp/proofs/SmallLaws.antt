@@ -1,9 +1,13 @@
 -- Programs whose rows are small.
-use Rattle.std.proofs.Common.{◌≡◌, ℕ, ℤ, zero, suc, ◌<◌, ◌≤◌, arith, subst, List, [], ◌∷◌, length, ⊎_elim}
+--   small_is     they are small where each row is
+--   rows_are     each row of such a program is small
+use Rattle.std.proofs.Common.{◌≡◌, ℕ, ℤ, pos, zero, suc, ◌<◌, ◌≤◌, arith, refl, sym, subst, List, [], ◌∷◌, length, ⊎_elim}
+use Rattle.std.specs.Prelude.{◌+ℤ◌}
 use Rattle.std.proofs.lemmas.Int.{ints}
 use Rattle.std.proofs.lemmas.Bool.{cases_eq, cases_lt}
-use Rattle.ipet_rows.specs.Sums.{coefficient, IsAscending}
+use Rattle.ipet_rows.specs.Sums.{coefficient, coefficient_of, IsAscending}
 use Rattle.ipet_rows.specs.Programs.{Row, Program, row_at, cost_at}
+use Rattle.ipet_rows.specs.SumLaws.{term_here}
 use Rattle.ipet_rows.specs.DualRowLaws.{found_here, found_later}
 use Rattle.simplex_rules.specs.NarrowOpening.{IsUpTo, IsSmall}
 use Rattle.simplex_tableau.specs.FirstTerms.{AreSmall}
@@ -41,3 +45,21 @@ small_is p n all few rises costs rows = record {
       (λ (past : length p.rows ≤ k). no_number p.rows k e past) (cases_lt k (length p.rows));
   rights = λ k. ⊎_elim (λ (below : k < length p.rows). (rows k (omega (arith, all, below))).right) (λ (past : length p.rows ≤ k). no_right p.rows k past) (cases_lt k (length p.rows));
 }
+
+-- terms are small where each column's number is
+terms_small : (ts : List (ℕ × ℤ)) → IsAscending ts → ((e : ℕ) → IsUpTo 8589934592 (coefficient ts e)) → AreSmall ts
+terms_small [] rises small = tt
+terms_small (t ∷ ts) rises small = (
+  subst (λ (z : ℤ). IsUpTo 8589934592 z) (sym (found_here t ts t.0 rises refl)) (small t.0),
+  terms_small ts rises.1 (λ e. ⊎_elim
+      (λ (q : t.0 ≡ e).
+      let sum : coefficient (t ∷ ts) e ≡ coefficient_of t e +ℤ coefficient ts e = refl in
+      let whole : t.1 ≡ coefficient (t ∷ ts) e = found_here t ts e rises q in
+      let none : coefficient ts e ≡ pos 0 = omega (arith, ints, sum, whole, term_here t.0 e t.1 q) in
+      (omega (arith, ints, none), omega (arith, ints, none)))
+      (λ (d : t.0 ≡ e → ⊥). subst (λ (z : ℤ). IsUpTo 8589934592 z) (sym (found_later t ts e d)) (small e))
+      (cases_eq t.0 e)),
+)
+
+pub rows_are : (p : Program) (k : ℕ) → IsAscending (row_at p.rows k).terms → IsSmall p → IsSmallRow (row_at p.rows k)
+rows_are p k rises small = record { terms = terms_small (row_at p.rows k).terms rises (small.numbers k); right = small.rights k }

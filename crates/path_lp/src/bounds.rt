@@ -13,7 +13,7 @@ ghost use Rattle.simplex_rules.specs.OutlineOpenings.{AreLimited};
 ghost use Rattle.path_lp.specs.Solving.{HoldFrom};
 ghost use Rattle.path_lp.specs.Bounding.{word_at, told_path_bound, told_duals, opening_sum, AreHeld, IsAbove, IsGreatest};
 
-use crate::running::solve;
+use crate::running::solve_small;
 use crate::sizes::{costs_fit, facts_fit};
 use crate::solved::{PathBound, SolveEnd};
 use domain_core::Outline;
@@ -52,8 +52,8 @@ fn value(rows: &Rows, duals: &Duals) -> u64
 /// and the multipliers that show it. The costs are those of the outline's nodes. The report's other parts are not
 /// looked at.
 ///
-/// Want of memory is the only other answer; it is also given where 32 bits do not number the rows, the columns
-/// or the places of the tableau.
+/// Want of memory is the only other answer; with no allocation refused it is given exactly where 32 bits do not number
+/// the rows, the columns or the places of the tableau.
 pub fn path_bound(
     alloc: Global,
     outline: &Outline,
@@ -92,7 +92,7 @@ pub fn path_bound(
     verdicts_bound_each_run();
     let rows = rows(alloc, outline, report)?;
     rows.kept();
-    let solved = solve(alloc, &rows, pivots)?;
+    let solved = solve_small(alloc, &rows, pivots)?;
     let bound = value(&rows, &solved.duals);
     Ok(PathBound {
         value: bound,

@@ -1,6 +1,6 @@
 //! Whether a program's numbers are small.
 
-ghost use Rattle.std.specs.Prelude.{◌≡◌, ◌<◌, ◌^◌, ℕ, true, length};
+ghost use Rattle.std.specs.Prelude.{◌<◌, ◌^◌, ◌↔◌, ℕ, IsTrue, length};
 ghost use Rattle.ipet_rows.specs.Programs.{row_at, cost_at};
 ghost use Rattle.simplex_rules.specs.NarrowOpening.{IsUpTo, IsSmall};
 ghost use Rattle.simplex_tableau.specs.FirstTerms.{AreSmall};
@@ -13,14 +13,14 @@ const MOST: i128 = 8_589_934_592;
 
 /// The number has about 33 bits.
 fn is_near(number: i128) -> bool
-    ensures { result ≡ true → IsUpTo 8589934592 number }
+    ensures { IsTrue result ↔ IsUpTo 8589934592 number }
 {
     -MOST <= number && number <= MOST
 }
 
 /// Each number has about 33 bits.
 fn are_near(terms: &[(u32, i128)]) -> bool
-    ensures { result ≡ true → AreSmall terms.now }
+    ensures { IsTrue result ↔ AreSmall terms.now }
 {
     let mut rest = terms;
     while let Some((term, others)) = rest.split_first() {
@@ -35,7 +35,7 @@ fn are_near(terms: &[(u32, i128)]) -> bool
 /// The numbers of the row have about 33 bits.
 fn is_small_row(rows: &Rows, row: u32) -> bool
     requires { row < length rows.now.program.rows }
-    ensures { result ≡ true → IsSmallRow (row_at rows.now.program.rows row) }
+    ensures { IsTrue result ↔ IsSmallRow (row_at rows.now.program.rows row) }
 {
     if !is_near(rows.right(row)) {
         return false;
@@ -53,9 +53,9 @@ fn read_costs(rows: &Rows)
 }
 
 /// Coefficients and right sides have about 33 bits, as those of an outline and a report have.
-#[tactic(auto, using(crate::proofs::SmallLaws::small_is))]
+#[tactic(auto, using(crate::proofs::SmallLaws::small_is, crate::proofs::SmallLaws::rows_are))]
 pub fn is_small(rows: &Rows) -> bool
-    ensures { result ≡ true → IsSmall rows.now.program }
+    ensures { IsTrue result ↔ IsSmall rows.now.program }
 {
     rows.kept();
     read_costs(rows);

@@ -1,6 +1,6 @@
 //! The check of a report.
 
-ghost use Rattle.std.specs.Prelude.{◌≡◌, ◌<ℤ◌, ◌<◌, ◌≤◌, ◌+◌, ◌^◌, pos, length, IfOk, None};
+ghost use Rattle.std.specs.Prelude.{◌≡◌, ◌<ℤ◌, ◌<◌, ◌≤◌, ◌+◌, ◌^◌, ◌↔◌, IsTrue, pos, length, IfOk, None};
 ghost use Rattle.domain_core.specs.Outlines.{shape_of};
 ghost use Rattle.domain_core.specs.Machines.{IsAlong};
 ghost use Rattle.flow_facts.specs.Reports.{certificate_of, reported};
@@ -136,6 +136,13 @@ fn end_objection<S: Stepper>(
     Ok(objection)
 }
 
+// Whether the pool counts so many events.
+fn are_few(events: usize) -> bool
+    ensures { IsTrue result ↔ events ≤ 4294967290 }
+{
+    events <= 4294967290
+}
+
 // The same, from the events on.
 fn applied_objection<S: Stepper>(
     alloc: Global,
@@ -152,7 +159,7 @@ fn applied_objection<S: Stepper>(
     requires scaled { pos 0 <ℤ cert.now.scale }
     ensures { IfOk result (λ objection. IsChecked S.machine S.State.order stepper.now outline.now (reported report.now) objection) }
 {
-    if cert.events.len() > 4294967290 {
+    if !are_few(cert.events.len()) {
         return Err(AllocError);
     }
     let mut pool: Pool<S, FourRecorders> = Pool::start(alloc, stepper, outline)?;
@@ -167,8 +174,8 @@ fn applied_objection<S: Stepper>(
 /// them.
 ///
 /// Takes time by the events and by what steps take, then by the facts times the nodes and by the rows; and memory for the
-/// places that are left, then for the rows. Want of memory is the only other answer; it is also given for a certificate of
-/// more than 4,294,967,290 events.
+/// places that are left, then for the rows. Want of memory is the only other answer; with no allocation
+/// refused it is given for a certificate of more than 4,294,967,290 events, and for no other.
 pub fn objection_to<S: Stepper>(
     alloc: Global,
     stepper: &S,

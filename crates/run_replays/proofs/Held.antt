@@ -1,14 +1,18 @@
 -- What is told of a run, from how it went.
+--   passed_low    the node that is passed is one of the outline
 --   told_stop     a run that comes to a node too often stops there
 --   told_end      what is told of a run that is over
+--   some_place    where one line passes, its place is found
 --   inside_more, outside_at, all_inside   values that are inside their ranges one by one, and the first that is not
 --   words_more    the word of one value more
-use Rattle.std.proofs.Common.{◌≡◌, ◌<◌, ◌≤◌, ◌+◌, ◌==◌, ℕ, zero, suc, ℤ, List, [], ◌∷◌, ◌++◌, Bool, true, cond, Option, Some, None, Result, Ok, Err, get_or, length, map, reverse, take, inl, inr, add-one, refl, sym, ap, ◌∙◌, subst, arith}
-use Rattle.std.specs.Prelude.{slice_index, position}
-use Rattle.std.proofs.lemmas.Bool.{eq-eqb, cases_lt}
+use Rattle.std.proofs.Common.{◌≡◌, ◌<◌, ◌≤◌, ◌+◌, ◌==◌, ℕ, zero, suc, ℤ, List, [], ◌∷◌, ◌++◌, Bool, true, cond, Option, Some, None, Result, Ok, Err, get_or, length, map, reverse, take, inl, inr, lt-ltb, ⊎_elim, add-one, refl, sym, ap, ◌∙◌, subst, arith}
+use Rattle.std.specs.Prelude.{slice_index, position, count_by}
+use Rattle.std.specs.List.{position_or_len}
+use Rattle.std.proofs.lemmas.Bool.{eq-eqb, cases_lt, cond-true}
 use Rattle.std.proofs.lemmas.List.{length-map}
-use Rattle.std.proofs.lemmas.List.Sums.{sum_by_push}
-use Rattle.std.proofs.lemmas.Option.{slice_get_within, slice_get-get_or, same_Some}
+use Rattle.std.proofs.lemmas.List.Sums.{sum_by-cons, sum_by_push}
+use Rattle.std.proofs.lemmas.Option.{none-some, slice_get_within, slice_get-get_or, same_Some}
+use Rattle.lists.specs.Tests.{by_test}
 use Rattle.alf_ops.specs.declared.history.RunFault.{RunFault}
 use Rattle.alf_check.specs.CheckedPrograms.{NumberedProgram}
 use Rattle.alf_check.specs.declared.rows.InputRow.{InputRow}
@@ -36,15 +40,40 @@ use Rattle.run_replays.proofs.Allowing.{are_within}
 abbrev bit : Bool → ℕ
 bit v = cond v 1 0
 
+-- where none passes, none is counted
+none_counted : {A : Type 0} (p : A → Bool) (xs : List A) → length xs ≤ position_or_len p xs → count_by p xs ≡ 0
+none_counted p [] past = refl
+none_counted p (x ∷ xs) past =
+    let all : count_by p (x ∷ xs) ≡ bit (p x) + count_by p xs = sum_by-cons (λ y. bit (p y)) x xs in
+    by_test (p x)
+    (λ is. absurd (let here : position_or_len p (x ∷ xs) ≡ 0 = rw is refl in omega (arith, past, here)))
+    (λ clear.
+    let zero_here : bit (p x) ≡ 0 = ap (λ (v : Bool). bit v) clear in
+    let next : position_or_len p (x ∷ xs) ≡ suc (position_or_len p xs) = rw clear refl in
+    let later = none_counted p xs (omega (arith, past, next)) in
+    omega (arith, all, zero_here, later))
+
+-- where one passes, its place is found
+pub some_place : {A : Type 0} (p : A → Bool) (xs : List A) → count_by p xs ≡ 1 → position p xs ≡ None → ⊥
+some_place p xs one none = ⊎_elim
+    (λ (low : position_or_len p xs < length xs). none-some (position_or_len p xs) (sym none ∙ cond-true _ _ None (lt-ltb (position_or_len p xs) (length xs) low)))
+    (λ (past : length xs ≤ position_or_len p xs). let zero_of = none_counted p xs past in omega (arith, zero_of, one))
+    (cases_lt (position_or_len p xs) (length xs))
+
 module _ (program : NumberedProgram) (graph : GraphParts) (o : Outlined) (begin : Moment) (report : Reported) (visits : List ℕ) (outline : IsOutlineOf (plan_of graph) (shape_of o))
     (long : length visits ≡ length o.nodes) (most : (n : ℕ) → n < length o.nodes → slice_index visits n ≡ most_of n report.facts) where
+  -- the node that is passed is one of the outline
+  pub passed_low : (n : ℕ) → IsPassed program graph begin visits n → n < length o.nodes
+  passed_low n passed =
+      let there : n < length graph.nodes = slice_get_within graph.nodes n passed.reaches.node passed.reaches.number in
+      let count : length o.nodes ≡ length graph.nodes = sym (length-map o.nodes (λ row. row.scope)) ∙ outline.one_each ∙ length-map graph.nodes place_of in
+      omega (arith, there, count)
+
   -- a run that comes to a node too often stops there
   pub told_stop : (n place : ℕ) → IsPassed program graph begin visits n → position (λ f. tells_total n f) report.facts ≡ Some place
       → TellsRun program graph.nodes begin (shape_of o) (costs_of o) report (Err (NoFact (first_line report + place)))
   told_stop n place passed is =
-      let there : n < length graph.nodes = slice_get_within graph.nodes n passed.reaches.node passed.reaches.number in
-      let count : length o.nodes ≡ length graph.nodes = sym (length-map o.nodes (λ row. row.scope)) ∙ outline.one_each ∙ length-map graph.nodes place_of in
-      let line = most n (omega (arith, there, count)) in
+      let line = most n (passed_low n passed) in
       let full = passed.full in
       let more : places n (passed.before ++ n ∷ []) ≡ places n passed.before + bit (n == n) = sum_by_push (λ m. bit (n == m)) passed.before n in
       let one : bit (n == n) ≡ 1 = ap bit (eq-eqb n n refl) in

@@ -82,7 +82,8 @@ fn told_of_run(
         Walked::Over(run) => Ok(told_of(outline, report, &run)),
         Walked::Passed(node) => match place_of_line(&report.facts, node) {
             Some(place) => Ok(Err(Objection::NoFact(first_line(outline, report) + place as u64))),
-            None => Err(AllocError),
+            // Each node has one `dead` or `total` line.
+            None => unreachable!(),
         },
     }
 }

@@ -1,6 +1,6 @@
 //! The values of a run.
 
-ghost use Rattle.std.specs.Prelude.{◌≡◌, ◌≤◌, ◌↔◌, IsTrue, All, length, IfOk, IfSome, IfNone};
+ghost use Rattle.std.specs.Prelude.{◌≡◌, ◌<◌, ◌≤◌, ◌^◌, ◌↔◌, IsTrue, All, length, IfOk, IfSome, IfNone};
 ghost use Rattle.alf_check.specs.declared.rows.InputRow.{InputRow};
 ghost use Rattle.alf_ops.specs.TwosComplement.{word};
 ghost use Rattle.alf_runs.specs.Starts.{IsWithin, AreWithin, words_of as words_of_values};
@@ -11,13 +11,14 @@ use report_objections::Objection;
 use std::alloc::{AllocError, Global};
 use whole_numbers::Whole;
 
-/// That a value is outside of the range of its row, for the first one that is.
+/// That a value is outside of the range of its row, for the first one that is. 2^32 rows or more are want of memory, and
+/// nothing else is.
 pub fn outside(rows: &[InputRow], values: &[i64]) -> Result<Option<Objection>, AllocError>
     requires one_each { length values.now ≡ length rows.now }
     ensures none { IfOk result (λ outside. IfNone outside (AreWithin rows.now values.now)) }
     ensures some { IfOk result (λ outside. IfSome outside (λ e. IsOutside rows.now values.now e)) }
 {
-    if rows.len() > 4294967295 {
+    if !are_few(rows.len()) {
         return Err(AllocError);
     }
     for k in 0..rows.len() {
@@ -26,6 +27,13 @@ pub fn outside(rows: &[InputRow], values: &[i64]) -> Result<Option<Objection>, A
         }
     }
     Ok(None)
+}
+
+// Whether 32 bits number so many.
+fn are_few(count: usize) -> bool
+    ensures { IsTrue result ↔ count < 2 ^ 32 }
+{
+    count <= u32::MAX as usize
 }
 
 // Whether the value is inside the range of the row.

@@ -1,6 +1,6 @@
 //! A run, step by step.
 
-ghost use Rattle.std.specs.Prelude.{◌≡◌, length, IfOk};
+ghost use Rattle.std.specs.Prelude.{◌≡◌, ◌-◌, ◌^◌, length, IfOk};
 ghost use Rattle.alf_check.specs.CheckedPrograms.{seen};
 ghost use Rattle.alf_check.specs.Inputs.{KeepInputs};
 ghost use Rattle.alf_runs.specs.Starts.{start};
@@ -19,11 +19,18 @@ use domain_core::{Outline, Recorder};
 use flow_graph::{Graph, graphs_are_expansions};
 use std::alloc::{AllocError, Global};
 
+// How many nodes a run may have, so that 32 bits count them in each recorder.
+fn most_turns() -> u32
+    ensures { result ≡ 2 ^ 32 - 2 }
+{
+    4294967294
+}
+
 /// Makes the run whose inputs have these words, enters it in a book, and stops where a node would be there more often than
 /// it is allowed.
 ///
 /// Keeps no trace: memory is that of the recorder and of the machine. A run of more than 4,294,967,294 nodes is want of
-/// memory.
+/// memory, and no shorter one is, where no allocation is refused.
 pub fn walk<R: Recorder>(
     alloc: Global,
     checked: &Checked,
@@ -52,7 +59,7 @@ pub fn walk<R: Recorder>(
     let mut left = allowed;
     let mut cost = 0u64;
     let mut at = 0u32;
-    for turn in 0..4294967294u32 {
+    for turn in 0..most_turns() {
         if left[at as usize] == 0 {
             return Ok(Walked::Passed(at));
         }

@@ -31,7 +31,8 @@ fn first_rows(alloc: Global, rows: &Rows, slacks: u32) -> Result<Vec<HeldLine>, 
 }
 
 /// The tableau before the opening: each row is a line with its slack, an equation two, and the objective has
-/// minus the costs. Where 32 bits do not number its places, memory is said to be wanting.
+/// minus the costs. Exactly where 32 bits do not number its places, memory is said to be wanting with no allocation
+/// refused.
 #[tactic(auto, using(crate::proofs::FirstLaws::first_kept, crate::proofs::FirstLaws::costs_kept, crate::proofs::FirstLaws::first_is, crate::specs::RowSteps::columns_below))]
 pub fn first_tableau(alloc: Global, rows: &Rows) -> Result<SparseTableau, AllocError>
     requires { IsSmall rows.now.program }

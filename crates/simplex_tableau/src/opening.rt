@@ -48,17 +48,16 @@ fn open_next(
     rows.kept();
     let (row, column) = rows.opening(i);
     let line = line_of(rows, row);
-    let Some(place) = column.checked_add(2) else {
-        return Err(AllocError);
-    };
+    // A program has fewer than 2^32 - 1 columns.
+    let place = column + 2;
     match tableau.opened(alloc, line, place)? {
         None => unreachable!(),
         Some(out) => Ok(out),
     }
 }
 
-/// The tableau after the opening: for each opening in order its row is pivoted on its column. Where 32 bits do
-/// not number the places, memory is said to be wanting.
+/// The tableau after the opening: for each opening in order its row is pivoted on its column. Exactly where 32 bits
+/// do not number the places, memory is said to be wanting with no allocation refused.
 #[tactic(auto, using(crate::proofs::OpeningSteps::first_opened, crate::proofs::OpeningSteps::all_opened))]
 pub fn started(alloc: Global, rows: &Rows) -> Result<SparseTableau, AllocError>
     requires small { IsSmall rows.now.program }

@@ -1,13 +1,14 @@
 //! The number of places.
 
-ghost use Rattle.std.specs.Prelude.{◌≡◌, IfSome};
+ghost use Rattle.std.specs.Prelude.{◌≡◌, ◌≤◌, ◌^◌, IfSome, IfNone};
 ghost use Rattle.simplex_rules.specs.Tableaus.{width_of, slacks_from, next_slack};
 
 use dual_check::Rows;
 
 /// The next slack after those of a row, where 32 bits number it.
 fn next_place(equation: bool, slack: u32) -> Option<u32>
-    ensures { IfSome result (λ next. next ≡ next_slack equation slack) }
+    ensures next { IfSome result (λ next. next ≡ next_slack equation slack) }
+    ensures past { IfNone result (2 ^ 32 ≤ next_slack equation slack) }
 {
     if equation {
         slack.checked_add(2)
@@ -19,15 +20,17 @@ fn next_place(equation: bool, slack: u32) -> Option<u32>
 /// The place of the first slack, where 32 bits number it.
 #[tactic(auto, using(crate::specs::RowSteps::slacks_are))]
 pub fn first_slack(rows: &Rows) -> Option<u32>
-    ensures { IfSome result (λ slack. slack ≡ slacks_from rows.now.program) }
+    ensures slack { IfSome result (λ slack. slack ≡ slacks_from rows.now.program) }
+    ensures past { IfNone result (2 ^ 32 ≤ slacks_from rows.now.program) }
 {
     rows.column_count().checked_add(2)
 }
 
 /// The number of places, where 32 bits number them.
-#[tactic(auto, using(crate::specs::RowSteps::width_next, crate::specs::RowSteps::rows_end))]
+#[tactic(auto, using(crate::specs::RowSteps::width_next, crate::specs::RowSteps::rows_end, crate::specs::RowSteps::slack_below, simplex_rules::specs::HandedOut::width_above))]
 pub fn width(rows: &Rows) -> Option<u32>
-    ensures { IfSome result (λ width. width ≡ width_of rows.now.program) }
+    ensures width { IfSome result (λ width. width ≡ width_of rows.now.program) }
+    ensures past { IfNone result (2 ^ 32 ≤ width_of rows.now.program) }
 {
     let Some(mut slack) = first_slack(rows) else {
         return None;

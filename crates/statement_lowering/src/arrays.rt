@@ -1,6 +1,6 @@
 //! What local arrays hold at first.
 
-ghost use Rattle.std.specs.Prelude.{◌≡◌, ◌+◌, IfOk, OnOk};
+ghost use Rattle.std.specs.Prelude.{◌≡◌, ◌≤◌, ◌+◌, ◌^◌, IfOk, OnOk, OnErr};
 ghost use Rattle.std.specs.Option.{option_map};
 ghost use Rattle.alf_program.specs.Tree as alf;
 ghost use Rattle.c_meaning.specs.Values as sizes;
@@ -77,7 +77,8 @@ fn put_elements(
 
 // The offset of the next element. One beyond 32 bits is want of memory; no text that is read has one.
 fn after(offset: u32, kind: Integer) -> Result<u32, AllocError>
-    ensures { IfOk result (λ next. next ≡ offset + sizes.bytes_of_type kind) }
+    ensures next { IfOk result (λ next. next ≡ offset + sizes.bytes_of_type kind) }
+    ensures past { OnErr result (2 ^ 32 ≤ offset + sizes.bytes_of_type kind) }
 {
     match offset.checked_add(bytes_of_type(kind)) {
         Some(next) => Ok(next),

@@ -1,5 +1,5 @@
 -- What is left to show of `step_place`.
-use Rattle.std.proofs.Common.{List, length, ap, arith}
+use Rattle.std.proofs.Common.{◌+◌, ◌<◌, List, length, ap, arith, rules}
 use Rattle.std.proofs.lemmas.List.Edits.{length-remove}
 use Rattle.worklist_rules.specs.Pools.{Spot}
 use Rattle.abstract_exec.proofs.Stepping.{few_after}
@@ -14,7 +14,7 @@ returns-clause-few g c =
     let left = ap (λ (xs : List (Spot g.row.S-State.Denot g.row.R.Denot)). length xs) c.in_ok-place.ensures.others in
     let at = c.requires.at in
     let room = c.requires.few in
-    let over = c.if-len.false in
+    let over : c.len.result + c.len-2.result < 4294967296 = search rules in
     let many = c.len.ensures in
     let old = c.len-2.ensures in
     let long = c.in_ok-made.field-0.places.ok.0 in

@@ -1,5 +1,5 @@
 -- Each function that is called has a row, and there are not too many.
-use Rattle.std.proofs.Common.{◌≡◌, ℕ, List, map, length, ap, sym, ◌∙◌, subst, rules}
+use Rattle.std.proofs.Common.{◌≡◌, ◌<◌, ℕ, List, map, length, ap, sym, ◌∙◌, subst, rules}
 use Rattle.std.proofs.lemmas.List.{length-map}
 use Rattle.c_unit.specs.declared.external.External.{External}
 use Rattle.c_unit.specs.Tree.{external_of}
@@ -26,5 +26,5 @@ call_ranks-requires-clause-count c =
     let same : length c.deref-in-Ok.result.now ≡ length c.names.result.now =
     sym (length-map c.deref-in-Ok.result.now (λ row. row.items)) ∙ ap length table ∙ row_count words names (unit_of c.args.unit.now).externals
     ∙ sym (ap length (c.names.ensures ∙ c.requires.names)) in
-    let few = c.if-names.false in
-    rw same (search rules)
+    let few : length c.names.result.now < 4294967296 = search rules in
+    rw same few

@@ -27,10 +27,11 @@ use Rattle.program_checks.specs.Checking.{IsCheckOf, HasOneCheck}
 use Rattle.command_plans.specs.Outcome.{Outcome, No, AreAlikeResults, refused}
 use Rattle.command_plans.specs.Work.{IsOnly, alike}
 use Rattle.unranked_runs.specs.Ranking.{unranked}
+use Rattle.answer_texts.specs.NoLines.{objection_line}
+use Rattle.answer_texts.specs.ReportFaultLines.{report_fault_line}
 use Rattle.sweet_cli.specs.Scopes.{ScopedProgram}
 use Rattle.sweet_cli.specs.Seen.{IsOutlined}
-use Rattle.sweet_cli.specs.NoLines.{objection_line}
-use Rattle.sweet_cli.specs.ReportFiles.{ReportSpelled, report_fault_line}
+use Rattle.sweet_cli.specs.ReportFiles.{ReportSpelled}
 use Rattle.sweet_cli.specs.Check.{CheckMeans, accepted}
 
 -- ---- the report that bytes spell

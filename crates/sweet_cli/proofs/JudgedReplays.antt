@@ -25,10 +25,10 @@ use Rattle.run_replays.specs.OneReplay.{Differ}
 use Rattle.run_replays.specs.Replays.{Told, Asks, objects, passes, IsOutside, IsReplayed, TellsValues, TellsRun}
 use Rattle.command_plans.specs.Outcome.{Outcome, No, AreAlikeResults, refused}
 use Rattle.command_plans.specs.Work.{IsOnly, alike}
-use Rattle.sweet_cli.specs.NoLines.{holds_line, objection_line}
+use Rattle.answer_texts.specs.NoLines.{holds_line, objection_line}
+use Rattle.answer_texts.specs.TableLines.{table_line}
 use Rattle.sweet_cli.specs.Replay.{ValuesMean, ReplayMeans, IsReplayOf}
 use Rattle.sweet_cli.specs.Scopes.{ScopedProgram}
-use Rattle.sweet_cli.specs.Tables.{table_line}
 use Rattle.sweet_cli.proofs.JudgedTables.{lines_one}
 
 -- ---- a values file

@@ -10,7 +10,8 @@ use Rattle.cost_table.specs.Inputs.{MeansInputs, RefusesInputs}
 use Rattle.cost_table.specs.Laws.{IsOne, AnswersInputs, AnswersCosts}
 use Rattle.command_plans.specs.Outcome.{Outcome, Source, AreAlikeResults, refused}
 use Rattle.command_plans.specs.Work.{IsOnly, alike}
-use Rattle.sweet_cli.specs.Tables.{table_line, InputsMean, CostsMean}
+use Rattle.answer_texts.specs.TableLines.{table_line}
+use Rattle.sweet_cli.specs.Tables.{InputsMean, CostsMean}
 
 -- a fault with a line is no want of memory
 pub not_memory : (role : List ℕ) (fault : TableFault) (text : List ℕ) → table_line role fault ≡ Some text → fault ≢ faults.Memory

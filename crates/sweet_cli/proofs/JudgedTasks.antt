@@ -13,8 +13,9 @@ use Rattle.response_time.specs.ScheduleLaws.{AllFinishInTime}
 use Rattle.command_plans.specs.Outcome.{Outcome, No, AreAlikeResults, refused}
 use Rattle.command_plans.specs.Log.{Log}
 use Rattle.command_plans.specs.Work.{IsOnly, alike}
-use Rattle.sweet_cli.specs.Tables.{table_line}
-use Rattle.sweet_cli.specs.Tasks.{TasksMean, ResponsesMean, late_line, tasks_told, answering, TellsResponses}
+use Rattle.answer_texts.specs.TableLines.{table_line}
+use Rattle.answer_texts.specs.ResponseText.{late_line}
+use Rattle.sweet_cli.specs.Tasks.{TasksMean, ResponsesMean, tasks_told, answering, TellsResponses}
 use Rattle.sweet_cli.proofs.JudgedTables.{lines_one}
 
 -- ---- a tasks file

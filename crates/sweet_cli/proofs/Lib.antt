@@ -1,5 +1,4 @@
 -- Shared lemmas.
-pub mod Signed
 pub mod Lows
 pub mod RanksRuns
 pub mod RanksTables

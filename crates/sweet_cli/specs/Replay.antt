@@ -39,11 +39,12 @@ use Rattle.command_plans.specs.Outcome.{Outcome, Source, No}
 use Rattle.command_plans.specs.Work.{Work, reads, judged, ◌>>=◌}
 use Rattle.program_files.specs.Programs.{most_bytes, too_long}
 use Rattle.program_files.specs.Told.{IsToldProgram}
+use Rattle.answer_texts.specs.TableLines.{table_line}
+use Rattle.answer_texts.specs.NoLines.{holds_line, objection_line}
 use Rattle.sweet_cli.specs.Words.{ReplayWords}
 use Rattle.sweet_cli.specs.Scopes.{ScopedProgram, scoped_in}
-use Rattle.sweet_cli.specs.Tables.{Tables, table_line, tables_in, AreInputs, AreCosts}
+use Rattle.sweet_cli.specs.Tables.{Tables, tables_in, AreInputs, AreCosts}
 use Rattle.sweet_cli.specs.ReportFiles.{report_in, IsToldReport}
-use Rattle.sweet_cli.specs.NoLines.{holds_line, objection_line}
 use Rattle.sweet_cli.specs.Task.{Task}
 
 -- ---- values

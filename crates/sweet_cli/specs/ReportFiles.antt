@@ -1,20 +1,16 @@
 -- The report that a command reads.
 --   most_report_bytes, long_report   the most bytes of a report's file, and the line of one that has more
---   place_line words place           the line of a place, after these words
---   report_fault_line departure      the line of a text that leaves the grammar of reports
 --   ReportSpelled bytes meaning      the report that the bytes spell, or the line of their first departure
 --   report_in file                   the file is read, and its report
 --   IsToldReport file files report   the told file spells the report
-use Rattle.std.specs.Prelude.{◌≡◌, ℕ, List, [], ◌∷◌, ◌++◌, Result, Ok, Err, Some, codes}
+use Rattle.std.specs.Prelude.{◌≡◌, ℕ, List, Result, Ok, Err, Some, codes}
 use Rattle.flow_base.specs.Outside.{Files}
-use Rattle.flow_base.specs.declared.place.Place.{Place}
 use Rattle.flow_facts.specs.Reports.{Reported}
-use Rattle.fact_words.specs.Numbers.{Syntax, Number}
 use Rattle.fact_text.specs.Language.{Departure, Means, SpellsReport}
 use Rattle.command_plans.specs.declared.reading.Role.TheVariants.{Report}
 use Rattle.command_plans.specs.Outcome.{Outcome, refused}
 use Rattle.command_plans.specs.Work.{Work, reads, judged, ◌>>=◌}
-use Rattle.program_files.specs.FaultLines.{place_text}
+use Rattle.answer_texts.specs.ReportFaultLines.{report_fault_line}
 
 -- the most bytes of a report's file
 abbrev pub most_report_bytes : ℕ
@@ -23,15 +19,6 @@ most_report_bytes = 67108864
 -- the line of one that has more
 abbrev pub long_report : List ℕ
 long_report = codes "fault 13 limit bytes 67108865\n"
-
--- the line of a place, after these words
-abbrev pub place_line : List ℕ → Place → List ℕ
-place_line words place = words ++ (32 ∷ (place_text place ++ 10 ∷ []))
-
--- the line of a departure
-abbrev pub report_fault_line : Departure → List ℕ
-report_fault_line (Syntax place) = place_line (codes "fault 60 syntax") place
-report_fault_line (Number place) = place_line (codes "fault 61 number") place
 
 -- the report that the bytes spell, or the line of their first departure from the grammar
 abbrev pub ReportSpelled : List ℕ → Result Reported Outcome → Type 0

@@ -1,12 +1,10 @@
 -- The scopes of a graph, as commands tell them.
 --   Scoped                      the number of each node's scope, and the scopes
 --   IsScoped graph scoped       they are those of the outline of the graph
---   irreducible_line graph ..   the line of three walks that show that a loop can be entered past its header
---   ScopesMean graph meaning    the scopes of the graph, or such a line
+--   ScopesMean graph meaning    the scopes of the graph, or the line of walks into a loop with two ways in
 --   ScopedProgram               a program with its graph and its scopes
 --   scoped_in given root        a file is read, and its program checked, expanded and given scopes
-use Rattle.std.specs.Prelude.{◌≡◌, ℕ, List, [], ◌∷◌, ◌++◌, Result, Ok, Err, codes}
-use Rattle.std.specs.List.{flat_map}
+use Rattle.std.specs.Prelude.{◌≡◌, ℕ, List, Result, Ok, Err}
 use Rattle.domain_core.specs.declared.outline.ScopeRow.{ScopeRow}
 use Rattle.domain_core.specs.Reducible.{IsEdge, IsReducible, IsCrossing}
 use Rattle.domain_core.specs.OutlineOf.{IsOutlineOf}
@@ -15,8 +13,8 @@ use Rattle.scope_graph.specs.Placing.{plan_of}
 use Rattle.command_plans.specs.Outcome.{Outcome, Example}
 use Rattle.command_plans.specs.Work.{Work, judged, done, ◌>>=◌}
 use Rattle.program_files.specs.Expanding.{Expanded, expanded_in}
+use Rattle.answer_texts.specs.ScopeLines.{irreducible_line}
 use Rattle.sweet_cli.specs.Words.{ProgramFile}
-use Rattle.sweet_cli.specs.RunText.{name_of}
 
 -- the number of each node's scope, and the scopes
 pub record Scoped : Type 0 where
@@ -28,15 +26,6 @@ pub record IsScoped (graph : GraphParts) (scoped : Scoped) : Type 0 where
   pub ranks : List ℕ
   pub outline : IsOutlineOf (plan_of graph) (record { edges = graph.edges; own = scoped.own; ranks = ranks; scopes = scoped.scopes })
   pub reducible : IsReducible (IsEdge graph.edges)
-
--- the names of the nodes of a walk, with a space before each
-abbrev pub walk_text : GraphParts → List ℕ → List ℕ
-walk_text graph nodes = flat_map (λ n. 32 ∷ name_of graph n) nodes
-
--- three walks: to a header, from it to a node with an edge back to it, and to that node without the header
-abbrev pub irreducible_line : GraphParts → List ℕ → List ℕ → List ℕ → List ℕ
-irreducible_line graph to_header to_tail around =
-    codes "fault 40 irreducible to-header" ++ (walk_text graph to_header ++ (codes " to-tail" ++ (walk_text graph to_tail ++ (codes " around" ++ (walk_text graph around ++ 10 ∷ [])))))
 
 -- the line shows that the graph is not reducible
 pub record IsIrreducible (graph : GraphParts) (outcome : Outcome) : Type 0 where

@@ -1,17 +1,15 @@
 -- The files of inputs and of costs that a command reads.
---   table_line role fault             the line of a file that is refused; the role is its word
 --   InputsMean bytes program meaning  the rows of an inputs file, or the line of its fault
 --   inputs_in program file            the file is read, and its rows; without a file there are none
 --   CostsMean bytes program meaning   the costs of a costs file, or the line of its fault
 --   costs_in program file             the file is read, and its costs; without a file every block costs 1
 --   tables_in program inputs costs    both
 --   AreInputs file files program rows, AreCosts file files program costs   the told files have these rows, these costs
-use Rattle.std.specs.Prelude.{◌≡◌, ℕ, List, [], ◌∷◌, ◌++◌, Result, Ok, Err, Option, None, Some, codes, decimal}
+use Rattle.std.specs.Prelude.{◌≡◌, ℕ, List, [], Result, Ok, Err, Option, None, Some, codes}
 use Rattle.flow_base.specs.Outside.{Files}
 use Rattle.alf_check.specs.CheckedPrograms.{NumberedProgram}
 use Rattle.alf_check.specs.declared.rows.InputRow.{InputRow}
 use Rattle.cost_table.specs.declared.fault.TableFault.{TableFault}
-use Rattle.cost_table.specs.declared.fault.TableFault.TheVariants as faults
 use Rattle.cost_table.specs.CostTables.{CostTable, one_each}
 use Rattle.cost_table.specs.Costs.{MeansCosts, RefusesCosts}
 use Rattle.cost_table.specs.Inputs.{MeansInputs, RefusesInputs}
@@ -19,23 +17,7 @@ use Rattle.command_plans.specs.declared.reading.Role.TheVariants.{Inputs, Costs}
 use Rattle.command_plans.specs.Outcome.{Outcome, Source}
 use Rattle.command_plans.specs.Work.{Work, reads, judged, done, ◌>>=◌}
 use Rattle.program_files.specs.Programs.{most_bytes, too_long}
-use Rattle.program_files.specs.CheckLines.{number_or_dash}
-use Rattle.program_files.specs.FaultLines.{limit_line}
-
--- ---- lines
-
--- the line of an entry
-abbrev pub entry_line : List ℕ → List ℕ → List ℕ → List ℕ
-entry_line words role place = words ++ (role ++ (32 ∷ (place ++ 10 ∷ [])))
-
--- the line of a file that is refused; want of memory has none
-abbrev pub table_line : List ℕ → TableFault → Option (List ℕ)
-table_line role faults.Toml = Some (codes "fault 70 toml " ++ (role ++ 10 ∷ []))
-table_line role (faults.Key place) = Some (entry_line (codes "fault 71 key ") role (number_or_dash place))
-table_line role (faults.Range place) = Some (entry_line (codes "fault 72 range ") role (decimal place))
-table_line role (faults.NoSuchCell place) = Some (entry_line (codes "fault 73 cell ") role (decimal place))
-table_line role (faults.Limit which count) = Some (limit_line which count)
-table_line role faults.Memory = None
+use Rattle.answer_texts.specs.TableLines.{table_line}
 
 -- ---- inputs
 

@@ -15,8 +15,8 @@ ghost use Rattle.sweet_cli.specs.Analyse.{ReportMeans, IsSoundReport, analysing,
 
 use crate::commands::scopes::{ScopedProgram, scoped_in};
 use crate::commands::tables::{Tables, tables_in};
-use crate::lines::left_line;
 use crate::words::{AnalyseWords, Merging};
+use answer_texts::left_line;
 use bounded_analyses::{
     BoundedAnalysis, a_program_has_one_bounded_analysis, found_reports_are_right,
 };

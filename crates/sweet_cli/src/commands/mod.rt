@@ -12,7 +12,7 @@ ghost use Rattle.sweet_cli.specs.Task.{KeepsPromise, no_outcome};
 mod counting;
 mod laid_out;
 mod report_files;
-pub mod scopes;
+mod scopes;
 mod tables;
 
 // The commands.

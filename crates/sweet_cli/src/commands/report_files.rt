@@ -6,7 +6,7 @@ ghost use Rattle.flow_facts.specs.Writable.{IsWritable};
 ghost use Rattle.command_plans.specs.Works.{Works, Judges};
 ghost use Rattle.sweet_cli.specs.ReportFiles.{ReportSpelled, report_in};
 
-use crate::lines::report_fault_line;
+use answer_texts::report_fault_line;
 use command_plans::{Role, Stop, Why, read_file};
 use fact_text::{one_meaning, read};
 use flow_base::Shelf;

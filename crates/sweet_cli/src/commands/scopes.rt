@@ -9,8 +9,8 @@ ghost use Rattle.sweet_cli.specs.Words.{file_meant};
 ghost use Rattle.sweet_cli.specs.Scopes.{ScopesMean, scoped_in};
 ghost use Rattle.sweet_cli.specs.Seen.{IsOutlined, scopes_seen, scoped_of};
 
-use crate::lines::irreducible_line;
 use crate::words::ProgramFile;
+use answer_texts::irreducible_line;
 use command_plans::{Stop, Why};
 use domain_core::{Outline, crossing_is_irreducible};
 use flow_base::Shelf;

@@ -8,8 +8,8 @@ ghost use Rattle.unranked_runs.specs.Ranking.{unranked};
 ghost use Rattle.sweet_cli.specs.Tables.{InputsMean, inputs_told, inputs_in, CostsMean, costs_told, costs_in, tables_in};
 ghost use Rattle.sweet_cli.specs.Seen.{tables_of};
 
-use crate::lines::table_line;
 use alf_check::{Checked, InputRow};
+use answer_texts::table_line;
 use command_plans::{Role, Stop, Why, read_file};
 use cost_table::{Costs, a_file_has_one_answer, costs, inputs};
 use flow_base::Shelf;

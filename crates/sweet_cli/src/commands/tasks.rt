@@ -5,7 +5,7 @@ ghost use Rattle.cost_table.specs.Tasks.{AreTasks, IsTask};
 ghost use Rattle.command_plans.specs.Works.{Works, Judges};
 ghost use Rattle.sweet_cli.specs.Tasks.{ResponsesMean, TasksMean, TellsResponses, answering, tasks_told};
 
-use crate::lines::{late_line, response_text, table_line};
+use answer_texts::{late_line, response_text, table_line};
 use command_plans::{Role, Stop, Why, read_file};
 use cost_table::{Task, a_tasks_file_has_one_answer, tasks as tasks_of};
 use flow_base::Shelf;

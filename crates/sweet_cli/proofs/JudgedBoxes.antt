@@ -9,7 +9,7 @@ use Rattle.program_bounder.specs.PathBounds.{path_answers}
 use Rattle.command_plans.specs.Outcome.{Outcome, Unbounded, AreAlikeResults}
 use Rattle.command_plans.specs.Work.{IsOnly, alike}
 use Rattle.answer_texts.specs.ScopeLines.{left_line}
-use Rattle.sweet_cli.specs.Scopes.{ScopedProgram}
+use Rattle.command_files.specs.Scopes.{ScopedProgram}
 use Rattle.sweet_cli.specs.Worst.{WorstMeans}
 
 -- the boxes of an answer, and its scope

@@ -9,7 +9,7 @@ use Rattle.cache_analysis.specs.Analyses.{IsAnalysis, HasOneAnalysis}
 use Rattle.command_plans.specs.Outcome.{Outcome, Unbounded, AreAlikeResults}
 use Rattle.command_plans.specs.Work.{IsOnly, alike}
 use Rattle.answer_texts.specs.ScopeLines.{left_line}
-use Rattle.sweet_cli.specs.Scopes.{ScopedProgram}
+use Rattle.command_files.specs.Scopes.{ScopedProgram}
 use Rattle.sweet_cli.specs.Cache.{CacheMeans}
 
 -- the lines of an answer, and its scope

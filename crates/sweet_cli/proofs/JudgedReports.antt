@@ -24,8 +24,8 @@ use Rattle.command_plans.specs.Outcome.{Outcome, Unbounded, AreAlikeResults}
 use Rattle.command_plans.specs.Work.{IsOnly, alike}
 use Rattle.unranked_runs.specs.Ranking.{unranked}
 use Rattle.answer_texts.specs.ScopeLines.{left_line}
-use Rattle.sweet_cli.specs.Scopes.{ScopedProgram}
-use Rattle.sweet_cli.specs.Seen.{IsOutlined}
+use Rattle.command_files.specs.Scopes.{ScopedProgram}
+use Rattle.command_files.specs.Seen.{IsOutlined}
 use Rattle.sweet_cli.specs.Analyse.{ReportMeans}
 
 -- other costs leave the names

@@ -3,7 +3,7 @@
 --   unbounded_line program n    the line of work that is left in the scope of a node
 use Rattle.std.specs.Prelude.{ℕ, List, slice_index}
 use Rattle.answer_texts.specs.ScopeLines.{left_line}
-use Rattle.sweet_cli.specs.Scopes.{Scoped, ScopedProgram}
+use Rattle.command_files.specs.Scopes.{Scoped, ScopedProgram}
 
 -- the number of a node's scope
 abbrev pub own_scope : Scoped → ℕ → ℕ

@@ -6,12 +6,8 @@ pub mod Words
 pub mod MadeFile
 -- commands, a file each, and their table
 pub mod Task
-pub mod Seen
-pub mod Scopes
-pub mod LaidOut
 pub mod LeftLines
 pub mod Counting
-pub mod Tables
 pub mod Analyse
 pub mod Print
 pub mod PrintC
@@ -20,7 +16,6 @@ pub mod Run
 pub mod Tasks
 pub mod Exact
 pub mod Worst
-pub mod ReportFiles
 pub mod Check
 pub mod Migrate
 pub mod Replay

@@ -9,16 +9,14 @@ ghost use Rattle.program_machines.specs.NodeCosts.{HasCosts};
 ghost use Rattle.report_objections.specs.Accepted.{IsScaled};
 ghost use Rattle.unranked_runs.specs.Ranking.{unranked};
 ghost use Rattle.command_plans.specs.Works.{Works, Judges};
+ghost use Rattle.command_files.specs.Seen.{IsOutlined, scoped_of, tables_of};
 ghost use Rattle.sweet_cli.specs.Words.{check_meant};
-ghost use Rattle.sweet_cli.specs.Seen.{IsOutlined, scoped_of, tables_of};
 ghost use Rattle.sweet_cli.specs.Check.{CheckMeans, IsAccepted, IsSoundOf, IsSoundTold, accepted, checking, report_judged};
 
 use crate::commands::analyse::priced;
-use crate::commands::report_files::report_in;
-use crate::commands::scopes::{ScopedProgram, scoped_in};
-use crate::commands::tables::{Tables, tables_in};
 use crate::words::CheckWords;
 use answer_texts::objection_line;
+use command_files::{ScopedProgram, Tables, report_in, scoped_in, tables_in};
 use command_plans::{Stop, Why};
 use cost_table::a_file_has_one_answer;
 use flow_base::Shelf;

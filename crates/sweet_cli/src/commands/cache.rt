@@ -15,7 +15,7 @@ ghost use Rattle.command_plans.specs.Works.{Works, Judges};
 ghost use Rattle.command_files.specs.Seen.{IsOutlined, scoped_of};
 ghost use Rattle.sweet_cli.specs.Words.{IsCacheWithin, cache_meant};
 ghost use Rattle.sweet_cli.specs.Analyse.{policy_of};
-ghost use Rattle.sweet_cli.specs.Cache.{CacheMeans, TellsCache, cache_shape, caching};
+ghost use Rattle.sweet_cli.specs.Cache.{CacheMeans, TellsCache, caching};
 
 use crate::commands::analyse::{policy, priced};
 use crate::words::{CacheWords, Merging};

@@ -1,6 +1,6 @@
 //! `tasks FILE`: the response times of the tasks of a file.
 
-ghost use Rattle.std.specs.Prelude.{◌≡◌, ◌<◌, length, IfOk, IfSome};
+ghost use Rattle.std.specs.Prelude.{◌<◌, length, IfOk, IfSome};
 ghost use Rattle.cost_table.specs.Tasks.{AreTasks, IsTask};
 ghost use Rattle.command_plans.specs.Works.{Works, Judges};
 ghost use Rattle.sweet_cli.specs.Tasks.{ResponsesMean, TellsResponses, answering};

@@ -19,14 +19,13 @@ use Rattle.worklist_rules.specs.Events.{opened}
 use Rattle.worklist_rules.specs.Policies.{IsPolicyRun}
 use Rattle.abstract_exec.specs.Explorations.{IsLeftIn}
 use Rattle.worklist_rules.specs.Runs.{EachIsHandled}
-use Rattle.worklist_rules.specs.RunLaws.{each_run_is_over}
+use Rattle.worklist_rules.specs.SummedLaws.{each_is_summed}
 use Rattle.report_soundness.specs.ReportTold.{costs_of}
 use Rattle.line_cache.specs.Lines.{penalty_of}
 use Rattle.line_cache.specs.Lru.{Contents, Access, missed_of}
 use Rattle.line_cache.specs.LruLaws.{accesses_turned}
 use Rattle.line_cache.specs.Traced.{accesses_of, accesses_along, cost_of}
 use Rattle.line_cache.specs.MissRules.{Counted, Collected, may_miss, IsBounded, miss_order, miss_recording}
-use Rattle.cached_runs.specs.Passing.{each_is_summed, run_ends}
 use Rattle.cached_runs.specs.Answers.{CacheLines}
 use Rattle.cached_runs.specs.CachedRuns.{has_line, hits_at, hits_below, told_lines, IsBoundFor, IsSound, IsClosed, IsLeft}
 
@@ -83,12 +82,14 @@ bound_for o b stepped past trace c turned bounded = record {
 
 -- where no place is left, the lines are sound
 pub sound_lines : {S T C : Type 0} (machine : S → Machine T C) (w : Pooled S T Counted Collected) → EachIsHandled machine miss_recording w → w.spots ≡ [] → IsSound (machine w.stepper).system w.outline (told_lines w)
-sound_lines machine w handled empty = record {
-  ends = λ run is_run. let over = each_run_is_over machine miss_recording w handled empty run is_run in run_ends (machine w.stepper).system run is_run over.last over.over;
-  right = λ c trace fault starts passes contents fits.
-      let summed = each_is_summed machine miss_recording w handled empty c trace fault starts passes in
-      bound_for w.outline w.book w.stepped summed.past trace contents summed.turned (summed.summed contents fits);
-}
+sound_lines machine w handled empty =
+    let each = each_is_summed machine miss_recording w handled empty in
+    record {
+      ends = each.ends;
+      right = λ c trace fault starts passes contents fits.
+          let is = each.right c trace fault starts passes in
+          bound_for w.outline w.book w.stepped (is.last ∷ is.past) trace contents is.turned (is.summed contents fits);
+    }
 
 -- so are lines that tell it along the outline that it explores
 pub sound_told : {S T C : Type 0} (machine : S → Machine T C) (w : Pooled S T Counted Collected) (o : Outlined) (hits : List ℕ) (bound : ℕ) → EachIsHandled machine miss_recording w → w.outline ≡ o

@@ -22,7 +22,7 @@ use Rattle.worklist_rules.specs.Policies.{IsPolicyRun}
 use Rattle.domain_core.specs.SystemRuns.{IsRun}
 use Rattle.abstract_exec.specs.Explorations.{IsLeftIn}
 use Rattle.report_soundness.specs.ReportTold.{costs_of}
-use Rattle.report_soundness.specs.Runs.{Passes, RunEnds}
+use Rattle.worklist_rules.specs.EndedRuns.{Passes, RunEnds}
 use Rattle.line_cache.specs.Lines.{sets_of, ways_of, penalty_of, first_of, end_of}
 use Rattle.line_cache.specs.Lru.{Contents, IsContents, Access, missed_of}
 use Rattle.line_cache.specs.Traced.{accesses_along}

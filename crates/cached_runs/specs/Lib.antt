@@ -1,5 +1,4 @@
 -- The files here, each after those that it cites.
-pub mod Passing
 pub mod Answers
 pub mod CachedRuns
 pub mod CachedLaws

@@ -23,7 +23,8 @@ use Rattle.memory_model.specs.SeenOrders.{parts_order, parts_are_order}
 use Rattle.transfer_rules.specs.PartMachines.{is_part_machine}
 use Rattle.abstract_step.specs.Steppers.{StepperParts, stepped_by}
 use Rattle.report_soundness.specs.ReportTold.{four_order, four_recording, found_of, told_report}
-use Rattle.report_soundness.specs.Runs.{Passes, IsSound as IsSoundSystem}
+use Rattle.worklist_rules.specs.EndedRuns.{Passes}
+use Rattle.report_soundness.specs.Runs.{IsSound as IsSoundSystem}
 use Rattle.report_soundness.specs.Exact.{IsExact, LoneRun}
 use Rattle.report_soundness.specs.EventLaws.{sound_events}
 use Rattle.report_soundness.specs.LoneLaws.{lone_report}

@@ -30,7 +30,8 @@ use Rattle.transfer_rules.specs.Points.{run_system, moment_at, points}
 use Rattle.transfer_rules.specs.PointLaws.{Promises}
 use Rattle.abstract_step.specs.Steppers.{StepperParts, stepped_by}
 use Rattle.report_soundness.specs.ReportTold.{costs_of}
-use Rattle.report_soundness.specs.Runs.{EndsWith, Passes, stops, moves, HasAlarm as HasFaultAlarm, IsSound as IsSoundSystem}
+use Rattle.worklist_rules.specs.EndedRuns.{EndsWith, Passes, stops, moves}
+use Rattle.report_soundness.specs.Runs.{HasAlarm as HasFaultAlarm, IsSound as IsSoundSystem}
 use Rattle.program_machines.specs.NodeCosts.{node_cost, HasCosts}
 use Rattle.program_machines.specs.ProgramRunLaws.{program_run, stands_there}
 use Rattle.program_analysis.specs.Sound.{HasAlarm, IsSound}

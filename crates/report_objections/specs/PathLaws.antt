@@ -22,10 +22,11 @@ use Rattle.ipet_rows.specs.Shaped.{FitOutline}
 use Rattle.ipet_rows.specs.Feasible.{MeetFacts, feasible, worth_cost}
 use Rattle.ipet_rows.specs.Bounds.{BoundsAll}
 use Rattle.report_soundness.specs.ReportTold.{costs_of}
-use Rattle.report_soundness.specs.Runs.{Passes, stops, moves, HasAlarm, IsSound}
+use Rattle.worklist_rules.specs.EndedRuns.{Passes, stops, moves}
+use Rattle.worklist_rules.specs.SummedLaws.{in_order}
+use Rattle.report_soundness.specs.Runs.{HasAlarm, IsSound}
 use Rattle.report_objections.specs.Shaping.{rows_of}
 use Rattle.report_objections.specs.Accepted.{CostAtMost}
-use Rattle.report_soundness.specs.CollectedLaws.{in_order}
 
 below_next : (cost v : ℕ) (z : ℤ) → z <ℤ (pos (suc v) *ℤ pos 1) → z ≡ pos cost → cost ≤ v
 below_next cost v z less is = omega (arith, ints, less, is)

@@ -20,7 +20,8 @@ use Rattle.flow_facts.specs.Reports.{Reported}
 use Rattle.dual_check.specs.Openings.{system_of}
 use Rattle.path_lp.specs.Bounding.{told_path_bound, IsAbove, IsGreatest}
 use Rattle.report_soundness.specs.ReportTold.{Found, told_report}
-use Rattle.report_soundness.specs.Runs.{Passes, IsSound}
+use Rattle.worklist_rules.specs.EndedRuns.{Passes}
+use Rattle.report_soundness.specs.Runs.{IsSound}
 use Rattle.report_soundness.specs.BoundTold.{HaveTotals}
 
 -- the report tells what was collected, and of each node that was stepped some total was

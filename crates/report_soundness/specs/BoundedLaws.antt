@@ -8,10 +8,9 @@
 --   events_totals, events_told   so it is of each pool that events led to
 --   met_at_bound, run_at_bound   where some run costs the count bound, the path bound is the count bound
 --   lone_bound         where the given report tells one run exactly, both are the run's cost
-use Rattle.std.proofs.Common.{◌≡◌, ◌≤◌, ◌<◌, ◌^◌, ℕ, pos, Bool, List, [], ◌∷◌, Option, None, Some, length, All, Contains, reverse, refl, sym, subst, arith}
+use Rattle.std.proofs.Common.{◌≡◌, ◌≤◌, ◌<◌, ◌^◌, ℕ, pos, Bool, List, [], ◌∷◌, Option, None, Some, length, All, reverse, refl, sym, subst, arith}
 use Rattle.std.specs.Prelude.{◌≤ℤ◌, ◌<ℤ◌}
 use Rattle.std.proofs.lemmas.Int.{ints}
-use Rattle.lists.specs.Members.{no_member}
 use Rattle.alf_ops.specs.declared.history.RunFault.{RunFault}
 use Rattle.domain_core.specs.declared.event.Event.{Event}
 use Rattle.domain_core.specs.Orders.{Order, IsOrder}
@@ -24,14 +23,15 @@ use Rattle.ipet_rows.specs.Uses.{IsEnded, run_cost}
 use Rattle.ipet_rows.specs.Shaped.{FitOutline}
 use Rattle.ipet_rows.specs.Feasible.{MeetFacts}
 use Rattle.simplex_rules.specs.OutlineOpenings.{AreLimited}
-use Rattle.worklist_rules.specs.Pools.{Spot, Pooled}
+use Rattle.worklist_rules.specs.Pools.{Pooled}
 use Rattle.worklist_rules.specs.Events.{opened, HappenAll}
 use Rattle.domain_core.specs.SystemRuns.{IsRun}
-use Rattle.worklist_rules.specs.Runs.{IsHandled, waits, passed}
 use Rattle.worklist_rules.specs.Kept.{IsKept}
 use Rattle.path_lp.specs.Bounding.{opening_sum, told_path_bound, IsAbove}
 use Rattle.report_soundness.specs.ReportTold.{FourRecorders, FourBooks, four_order, four_recording, found_of, costs_of, told_report}
-use Rattle.report_soundness.specs.Runs.{Passes, stops, moves, IsSound}
+use Rattle.worklist_rules.specs.EndedRuns.{Passes}
+use Rattle.worklist_rules.specs.SummedLaws.{each_is_summed}
+use Rattle.report_soundness.specs.Runs.{IsSound}
 use Rattle.report_soundness.specs.Exact.{LoneRun}
 use Rattle.report_soundness.specs.EventLaws.{four_kept, events_one_on}
 use Rattle.report_soundness.specs.BoundTold.{HaveTotals}
@@ -80,18 +80,6 @@ bounded_sound m o given report n along is sound told above =
 
 -- ---- closed explorations
 
-module _ {S T C : Type 0} (m : Machine T C) (w : Pooled S T FourRecorders FourBooks) (empty : w.spots ≡ []) where
-  collected : (past : List ℕ) → four_recording.sums_up w.outline w.book past → HaveTotals w.outline (found_of w)
-  collected past sums = summed_totals w.outline (found_of w) past (record { totals = sums.0.0; loops = sums.0.1; counts = sums.1.0; pairs = sums.1.1 })
-
-  -- a run that goes on from a point that is handled was collected where it ends
-  all_totals : {past : List ℕ} {n : ℕ} {c : C} {trace : List ℕ} {fault : Option RunFault}
-      → IsHandled m four_recording w past n c → Passes m.system n c trace fault → HaveTotals w.outline (found_of w)
-  all_totals (waits spot among stands) passes = no_member spot (subst (λ (spots : List (Spot T FourRecorders)). Contains spots spot) empty among)
-  all_totals {past} {n} (passed walk stepped goes ends fails) (stops {fault = None} way) = collected (n ∷ past) (ends way)
-  all_totals {past} {n} (passed walk stepped goes ends fails) (stops {fault = Some kind} way) = collected (n ∷ past) (fails kind way).1
-  all_totals (passed walk stepped goes ends fails) (moves {k = k} {d = d} step rest) = all_totals (goes k d step) rest
-
 -- a run of the system ends where the report is sound
 pub sound_runs : {C : Type 0} (system : System C) (o : Outlined) (report : Reported) → IsSound system o report
     → (run : ℕ → Option (ℕ × C)) → IsRun system run → HasRun system
@@ -102,7 +90,10 @@ sound_runs system o report sound run is =
 -- where no place is left and some run ends, of each node that was stepped some total was collected
 pub kept_totals : {S T C : Type 0} (machine : S → Machine T C) (w : Pooled S T FourRecorders FourBooks) → IsKept machine four_recording w → w.spots ≡ []
     → HasRun (machine w.stepper).system → HaveTotals w.outline (found_of w)
-kept_totals machine w kept empty run = all_totals (machine w.stepper) w empty (kept.handled run.start run.starts) run.passes
+kept_totals machine w kept empty run =
+    let is = (each_is_summed machine four_recording w kept.handled empty).right run.start run.trace run.fault run.starts run.passes in
+    summed_totals w.outline (found_of w) (is.last ∷ is.past)
+    (record { totals = is.summed.0.0; loops = is.summed.0.1; counts = is.summed.1.0; pairs = is.summed.1.1 })
 
 -- and the report is a told one
 pub kept_told : {S T C : Type 0} (machine : S → Machine T C) (w : Pooled S T FourRecorders FourBooks) → IsKept machine four_recording w → w.spots ≡ []

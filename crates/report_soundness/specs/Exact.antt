@@ -15,7 +15,7 @@ use Rattle.ipet_rows.specs.Uses.{run_cost}
 use Rattle.recorder_rules.specs.LoopRules.{is_loop, own_of}
 use Rattle.report_soundness.specs.BookTold.{IsCountedIn}
 use Rattle.report_soundness.specs.ReportTold.{costs_of}
-use Rattle.report_soundness.specs.Runs.{Passes}
+use Rattle.worklist_rules.specs.EndedRuns.{Passes}
 
 -- of the executions of the scope, low is the least count and high the greatest
 pub record AreExtremes (o : Shape) (s : ℕ) (trace : List ℕ) (count : List ℕ → ℕ) (low high : ℕ) : Type 0 where

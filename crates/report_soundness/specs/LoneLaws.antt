@@ -28,7 +28,7 @@ use Rattle.domain_core.specs.SystemRuns.{trace_to}
 use Rattle.worklist_rules.specs.Sharp.{IsSharp, IsSharpOver}
 use Rattle.worklist_rules.specs.SharpLaws.{sharp_start, sharp_events}
 use Rattle.report_soundness.specs.ReportTold.{FourRecorders, FourBooks, four_order, four_recording, found_of, told_report}
-use Rattle.report_soundness.specs.Runs.{EndsWith, Passes}
+use Rattle.worklist_rules.specs.EndedRuns.{EndsWith, Passes}
 use Rattle.report_soundness.specs.Exact.{IsExact, LoneRun}
 use Rattle.report_soundness.specs.EventLaws.{four_is_order, four_is_recording, four_suited, four_kept, events_one_on}
 use Rattle.report_soundness.specs.PointLaws.{points, is_run, ends_so, trace_is}

@@ -10,7 +10,7 @@ use Rattle.std.proofs.lemmas.List.{reverse-append, reverse-reverse}
 use Rattle.alf_ops.specs.declared.history.RunFault.{RunFault}
 use Rattle.domain_core.specs.Machines.{System}
 use Rattle.domain_core.specs.SystemRuns.{GoesOn, IsRun, trace_to, with_node}
-use Rattle.report_soundness.specs.Runs.{EndsWith, Passes, stops, moves}
+use Rattle.worklist_rules.specs.EndedRuns.{EndsWith, Passes, stops, moves}
 
 module _ {C : Type 0} (system : System C) where
   -- its points, in order

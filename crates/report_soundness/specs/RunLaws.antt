@@ -7,7 +7,7 @@ use Rattle.std.proofs.Common.{◌≡◌, ◌≤◌, ℕ, pos, Bool, true, false,
 use Rattle.std.specs.Prelude.{◌≤ℤ◌, slice_index}
 use Rattle.std.proofs.lemmas.Bool.{eq-eqb}
 use Rattle.std.proofs.lemmas.Int.{ints}
-use Rattle.std.proofs.lemmas.List.{reverse-append, append_assoc}
+use Rattle.std.proofs.lemmas.List.{reverse-append}
 use Rattle.std.proofs.lemmas.List.Folds.{list_any_at}
 use Rattle.std.proofs.lemmas.List.Sorted.{sum_by-IsPermutation, IsPermutation-reverse}
 use Rattle.alf_ops.specs.declared.history.RunFault.{RunFault}
@@ -23,7 +23,9 @@ use Rattle.ipet_rows.specs.Uses.{EndsAt, run_cost}
 use Rattle.ipet_rows.specs.Shaped.{FitOutline}
 use Rattle.report_soundness.specs.ReportTold.{Found, costs_of, told_facts, count_bound, told_report}
 use Rattle.report_soundness.specs.Exact.{LoneRun}
-use Rattle.report_soundness.specs.Runs.{Passes, stops, moves, HasAlarm, IsSound}
+use Rattle.worklist_rules.specs.EndedRuns.{Passes, stops, moves}
+use Rattle.worklist_rules.specs.SummedLaws.{in_order}
+use Rattle.report_soundness.specs.Runs.{HasAlarm, IsSound}
 use Rattle.path_lp.specs.Bounding.{IsAbove, opening_sum}
 use Rattle.report_soundness.specs.BoundToldLaws.{told_within}
 
@@ -38,10 +40,6 @@ same_last : (xs ys : List ℕ) (a b : ℕ) → xs ++ a ∷ [] ≡ ys ++ b ∷ []
 same_last xs ys a b same =
     let turned : a ∷ reverse xs ≡ b ∷ reverse ys = sym (reverse-append xs (a ∷ [])) ∙ ap (λ (zs : List ℕ). reverse zs) same ∙ reverse-append ys (b ∷ []) in
     cc
-
--- one node more, in the order of the run
-in_order : (past trace : List ℕ) (n : ℕ) → reverse (n ∷ past) ++ trace ≡ reverse past ++ (n ∷ trace)
-in_order past trace n = ap (λ (xs : List ℕ). xs ++ trace) (reverse-append (n ∷ []) past) ∙ append_assoc (reverse past) (n ∷ []) trace
 
 alarm_there : (facts : List Fact) (n : ℕ) (fault : RunFault) → Contains facts (Alarm n fault) → has_alarm facts n ≡ true
 alarm_there facts n fault there =

@@ -15,7 +15,8 @@ ghost use Rattle.domain_core.specs.SystemRuns.{IsRun};
 ghost use Rattle.worklist_rules.specs.Kept.{IsKept};
 ghost use Rattle.path_lp.specs.Bounding.{IsAbove};
 ghost use Rattle.report_soundness.specs.ReportTold.{FourRecorders, FourBooks, four_order, four_recording, found_of, costs_of, told_report};
-ghost use Rattle.report_soundness.specs.Runs.{Passes, IsSound};
+ghost use Rattle.worklist_rules.specs.EndedRuns.{Passes};
+ghost use Rattle.report_soundness.specs.Runs.{IsSound};
 ghost use Rattle.report_soundness.specs.Exact.{LoneRun};
 ghost use Rattle.report_soundness.specs.Bounded.{IsTold, HasRun, bounded, HasPathBound, IsPathSound, IsPathBounded, IsWithinCount};
 

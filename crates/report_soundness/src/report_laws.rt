@@ -12,7 +12,8 @@ ghost use Rattle.worklist_rules.specs.Policies.{IsPolicyRun};
 ghost use Rattle.worklist_rules.specs.Kept.{IsKept};
 ghost use Rattle.report_soundness.specs.ReportTold.{FourRecorders, FourBooks, Found, four_order, four_recording, books_of, found_of, count_bound, told_report};
 ghost use Rattle.report_soundness.specs.Numbers.{AreOrderly, CostsFit};
-ghost use Rattle.report_soundness.specs.Runs.{Passes, IsSound};
+ghost use Rattle.worklist_rules.specs.EndedRuns.{Passes};
+ghost use Rattle.report_soundness.specs.Runs.{IsSound};
 ghost use Rattle.report_soundness.specs.Exact.{LoneRun};
 
 use domain_core::Stepper;

@@ -3,7 +3,7 @@
 --   own_accepted     so the words end, and so alone
 use Rattle.std.proofs.Common.{◌≡◌, ◌≤◌, ℕ, Bool, true, List, length, Option, Some, refl, sym, ap, subst}
 use Rattle.flow_base.specs.Outside.{Files}
-use Rattle.fact_text.specs.Language.{SpellsReport, HasOneMeaning}
+use Rattle.fact_text.specs.Language.{SpellsReport}
 use Rattle.fact_text.specs.Laws.{ReportTextsSpell}
 use Rattle.bounded_analyses.specs.Analyses.{IsPrintedReport}
 use Rattle.bounded_analyses.specs.Sound.{ClosedExplorationsHaveTotals}
@@ -11,17 +11,18 @@ use Rattle.program_checks.specs.Checking.{HasOneCheck}
 use Rattle.command_plans.specs.Log.{Log, log_with}
 use Rattle.command_plans.specs.Outcome.{Ending, Finished, Stopped, AreAlikeEndings}
 use Rattle.command_plans.specs.Work.{EndsSo, ends_one}
+use Rattle.command_files.specs.Laws.{FilesMeanTheirReport}
+use Rattle.command_files.specs.ReportFiles.{most_report_bytes, report_in}
 use Rattle.sweet_cli.specs.Words.{AnalyseWords, Command}
 use Rattle.sweet_cli.specs.Analyse.{analysing, policy_of}
-use Rattle.sweet_cli.specs.ReportFiles.{most_report_bytes, report_in}
 use Rattle.sweet_cli.specs.Check.{report_judged, checking, accepted}
 use Rattle.sweet_cli.specs.Laws.{check_words, HoldSame, OwnReportsAreAccepted}
 use Rattle.sweet_cli.specs.Table.{task_for_some, task_of}
 use Rattle.sweet_cli.proofs.Carried.{program_carried, tables_carried}
-use Rattle.sweet_cli.proofs.JudgedChecks.{spelled_only, accepted_only}
+use Rattle.sweet_cli.proofs.JudgedChecks.{accepted_only}
 use Rattle.sweet_cli.proofs.OwnReports.{own_checked}
 
-module _ (one : HasOneCheck) (totals : ClosedExplorationsHaveTotals) (meanings : (bytes : List ℕ) → HasOneMeaning bytes) (spell : ReportTextsSpell) where
+module _ (one : HasOneCheck) (totals : ClosedExplorationsHaveTotals) (meant_only : FilesMeanTheirReport) (spell : ReportTextsSpell) where
   -- `check` of the text accepts it, whatever was read before
   accepted_again : (given : AnalyseWords) (report : List ℕ) (files later : Files) (before after : Log) (text : List ℕ) → given.certified ≡ true
       → (analysing given).steps.Gives (Some files) before text after → HoldSame given files later → later report ≡ Some text → length text ≤ most_report_bytes
@@ -48,7 +49,7 @@ module _ (one : HasOneCheck) (totals : ClosedExplorationsHaveTotals) (meanings :
             (
               told,
               log,
-              (text, log, (refl, short, there), (spelled_only text (meanings text) told spelled, refl)),
+              (text, log, (refl, short, there), (meant_only text told spelled, refl)),
               (accepted_only one program tables.rows tables.costs told accepted checked refl, refl),
             ),
           ),

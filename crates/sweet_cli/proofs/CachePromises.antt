@@ -14,12 +14,12 @@ use Rattle.command_plans.specs.Log.{Log, log_of}
 use Rattle.command_plans.specs.Work.{IsOnly}
 use Rattle.command_plans.specs.Works.{Works}
 use Rattle.program_files.specs.Told.{IsToldProgram}
+use Rattle.answer_texts.specs.CacheText.{cache_text}
+use Rattle.command_files.specs.Scopes.{ScopedProgram}
+use Rattle.command_files.specs.LaidOut.{laid_out_in}
+use Rattle.command_files.specs.Tables.{Tables, tables_in}
 use Rattle.sweet_cli.specs.Words.{ProgramFile, CacheWords}
-use Rattle.sweet_cli.specs.Scopes.{ScopedProgram}
-use Rattle.sweet_cli.specs.LaidOut.{laid_out_in}
-use Rattle.sweet_cli.specs.Tables.{Tables, tables_in}
 use Rattle.sweet_cli.specs.Analyse.{policy_of}
-use Rattle.sweet_cli.specs.CacheText.{cache_text}
 use Rattle.sweet_cli.specs.Cache.{cache_shape, CacheMeans, caching, TellsCache}
 use Rattle.sweet_cli.proofs.Promises.{told_tables, inputs_keep}
 

@@ -18,9 +18,9 @@ use Rattle.command_plans.specs.Work.{Work, reads, judged, done, ◌>>=◌}
 use Rattle.program_files.specs.Programs.{most_bytes, too_long, ProgramMeans, program_in, meant, CheckMeans, numbered_in}
 use Rattle.program_files.specs.Units.{unit_too_long, UnitMeans, unit_in, UnitCheckMeans, checked_unit_in}
 use Rattle.program_files.specs.Expanding.{lowered_in, checked_in, GraphMeans, expanded_in}
+use Rattle.command_files.specs.Scopes.{ScopesMean, scoped_in}
+use Rattle.command_files.specs.Tables.{InputsMean, inputs_told, inputs_in, CostsMean, costs_told, costs_in, tables_in}
 use Rattle.sweet_cli.specs.Words.{ProgramFile, Alf, C}
-use Rattle.sweet_cli.specs.Scopes.{ScopesMean, scoped_in}
-use Rattle.sweet_cli.specs.Tables.{InputsMean, inputs_told, inputs_in, CostsMean, costs_told, costs_in, tables_in}
 
 module _ (files later : Files) where
   -- what it gives over the files it gives over the later ones, whatever was read before

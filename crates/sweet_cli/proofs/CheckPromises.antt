@@ -16,10 +16,10 @@ use Rattle.cost_table.specs.Laws.{RowsKeepTheRules}
 use Rattle.command_plans.specs.Log.{Log, log_of}
 use Rattle.command_plans.specs.Works.{Works}
 use Rattle.program_files.specs.Told.{IsToldProgram}
+use Rattle.command_files.specs.Scopes.{ScopedProgram, scoped_in}
+use Rattle.command_files.specs.Tables.{Tables, tables_in}
+use Rattle.command_files.specs.ReportFiles.{report_in, IsToldReport}
 use Rattle.sweet_cli.specs.Words.{CheckWords}
-use Rattle.sweet_cli.specs.Scopes.{ScopedProgram, scoped_in}
-use Rattle.sweet_cli.specs.Tables.{Tables, tables_in}
-use Rattle.sweet_cli.specs.ReportFiles.{report_in, IsToldReport}
 use Rattle.sweet_cli.specs.Check.{report_judged, checking, IsSoundOf, IsSoundTold, IsAccepted, accepted}
 use Rattle.sweet_cli.proofs.Promises.{told_graph, told_tables, inputs_keep}
 

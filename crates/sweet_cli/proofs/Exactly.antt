@@ -28,8 +28,8 @@ use Rattle.bounded_analyses.specs.Analyses.{IsBoundedReport, IsPrintedReport}
 use Rattle.bounded_analyses.specs.AlikeBounds.{bounded_of}
 use Rattle.bounded_analyses.specs.Sound.{LoneBoundsAgree}
 use Rattle.command_plans.specs.Outcome.{Outcome, Unbounded}
-use Rattle.sweet_cli.specs.Scopes.{ScopedProgram, IsScoped}
-use Rattle.sweet_cli.specs.LeftLines.{left_line}
+use Rattle.answer_texts.specs.ScopeLines.{left_line}
+use Rattle.command_files.specs.Scopes.{ScopedProgram, IsScoped}
 use Rattle.sweet_cli.specs.Run.{IsLeft, low_start}
 use Rattle.sweet_cli.specs.Analyse.{IsLeftAt}
 use Rattle.sweet_cli.specs.Exact.{TellsOneRun, OneInputIsToldExactly}

@@ -34,11 +34,11 @@ use Rattle.command_plans.specs.Log.{Log, log_of}
 use Rattle.command_plans.specs.Work.{Work, IsOnly, judged}
 use Rattle.command_plans.specs.Works.{Works, Judges, Tells}
 use Rattle.program_files.specs.Told.{IsToldProgram}
-use Rattle.sweet_cli.specs.Scopes.{ScopedProgram, scoped_in}
-use Rattle.sweet_cli.specs.Tables.{Tables, tables_in}
+use Rattle.answer_texts.specs.SummaryText.{steps_among, summary_text, turns_of}
+use Rattle.command_files.specs.Scopes.{ScopedProgram, scoped_in}
+use Rattle.command_files.specs.Tables.{Tables, tables_in}
 use Rattle.sweet_cli.specs.Analyse.{policy_of, ReportMeans}
-use Rattle.sweet_cli.specs.MadeProgram.{made_words}
-use Rattle.sweet_cli.specs.SummaryText.{steps_among, summary_text, turns_of}
+use Rattle.sweet_cli.specs.MadeFile.{made_words}
 use Rattle.sweet_cli.specs.Generate.{EndsOver, TellsSummary, summing}
 use Rattle.sweet_cli.proofs.Promises.{told_graph, told_tables}
 use Rattle.sweet_cli.proofs.SoundReports.{SoundPrint}

@@ -8,8 +8,8 @@ use Rattle.program_bounder.specs.InputRows.{ranges_of}
 use Rattle.program_bounder.specs.PathBounds.{path_answers}
 use Rattle.command_plans.specs.Outcome.{Outcome, Unbounded, AreAlikeResults}
 use Rattle.command_plans.specs.Work.{IsOnly, alike}
-use Rattle.sweet_cli.specs.Scopes.{ScopedProgram}
-use Rattle.sweet_cli.specs.LeftLines.{left_line}
+use Rattle.answer_texts.specs.ScopeLines.{left_line}
+use Rattle.command_files.specs.Scopes.{ScopedProgram}
 use Rattle.sweet_cli.specs.Worst.{WorstMeans}
 
 -- the boxes of an answer, and its scope

@@ -8,8 +8,8 @@ use Rattle.cached_runs.specs.Answers.{CacheLines, CacheAnswer, Told, Unbounded a
 use Rattle.cache_analysis.specs.Analyses.{IsAnalysis, HasOneAnalysis}
 use Rattle.command_plans.specs.Outcome.{Outcome, Unbounded, AreAlikeResults}
 use Rattle.command_plans.specs.Work.{IsOnly, alike}
-use Rattle.sweet_cli.specs.Scopes.{ScopedProgram}
-use Rattle.sweet_cli.specs.LeftLines.{left_line}
+use Rattle.answer_texts.specs.ScopeLines.{left_line}
+use Rattle.command_files.specs.Scopes.{ScopedProgram}
 use Rattle.sweet_cli.specs.Cache.{CacheMeans}
 
 -- the lines of an answer, and its scope

@@ -1,9 +1,8 @@
--- What a report is answered is its only answer, and so is what the bytes of its file spell.
---   spelled_only, departed_only    the report that was read, and the line of the departure that was met
+-- What a report is answered is its only answer.
 --   accepted_only, refused_only    that nothing speaks against the report, and the line of what does
 --   check_of                       what is answered by the checked parts of a program is answered for the program
 --   writable_scaled                a report that some text spells has a scale of at least 1
-use Rattle.std.proofs.Common.{◌≡◌, ◌≤◌, ℕ, ℤ, List, Result, Ok, Err, Option, None, Some, IfSome, IsSomeAnd, pos, refl, ap, sym, ◌∙◌, subst, arith}
+use Rattle.std.proofs.Common.{◌≡◌, ◌≤◌, ℕ, ℤ, List, Result, Ok, Err, Option, None, Some, IfSome, pos, refl, ap, sym, ◌∙◌, subst, arith}
 use Rattle.std.specs.Prelude.{◌<ℤ◌}
 use Rattle.std.proofs.lemmas.Int.{ints}
 use Rattle.std.proofs.lemmas.Option.{none-some, same_Some}
@@ -16,7 +15,6 @@ use Rattle.cost_table.specs.CostTables.{CostTable}
 use Rattle.domain_core.specs.Outlines.{Outlined, IsOutline, shape_of}
 use Rattle.flow_facts.specs.Reports.{Certificate, Reported}
 use Rattle.flow_facts.specs.Writable.{IsWritable, CertificateIsWritable}
-use Rattle.fact_text.specs.Language.{Departure, Means, HasOneMeaning}
 use Rattle.memory_model.specs.SeenOrders.{parts_order}
 use Rattle.abstract_step.specs.Steppers.{stepped_by}
 use Rattle.program_machines.specs.NodeCosts.{HasCosts}
@@ -24,48 +22,13 @@ use Rattle.report_objections.specs.declared.objection.Objection.{Objection}
 use Rattle.report_objections.specs.Accepted.{IsScaled}
 use Rattle.report_objections.specs.Checks.{IsChecked}
 use Rattle.program_checks.specs.Checking.{IsCheckOf, HasOneCheck}
-use Rattle.command_plans.specs.Outcome.{Outcome, No, AreAlikeResults, refused}
+use Rattle.command_plans.specs.Outcome.{Outcome, No, AreAlikeResults}
 use Rattle.command_plans.specs.Work.{IsOnly, alike}
 use Rattle.unranked_runs.specs.Ranking.{unranked}
-use Rattle.sweet_cli.specs.Scopes.{ScopedProgram}
-use Rattle.sweet_cli.specs.Seen.{IsOutlined}
-use Rattle.sweet_cli.specs.NoLines.{objection_line}
-use Rattle.sweet_cli.specs.ReportFiles.{ReportSpelled, report_fault_line}
+use Rattle.answer_texts.specs.NoLines.{objection_line}
+use Rattle.command_files.specs.Scopes.{ScopedProgram}
+use Rattle.command_files.specs.Seen.{IsOutlined}
 use Rattle.sweet_cli.specs.Check.{CheckMeans, accepted}
-
--- ---- the report that bytes spell
-
-module _ (bytes : List ℕ) (one : HasOneMeaning bytes) where
-  -- bytes mean one thing
-  means_one : (m n : Result Reported Departure) → Means bytes m → Means bytes n → m ≡ n
-  means_one m n h k = sym (one.only m h) ∙ one.only n k
-
-  departures_one : (d e : Departure) → Means bytes (Err d) → Means bytes (Err e) → d ≡ e
-  departures_one d e h k = let same : ◌≡◌ {A = Result Reported Departure} (Err d) (Err e) = means_one (Err d) (Err e) h k in cc
-
-  reports_one : (a b : Reported) → Means bytes (Ok a) → Means bytes (Ok b) → a ≡ b
-  reports_one a b h k = let same : ◌≡◌ {A = Result Reported Departure} (Ok a) (Ok b) = means_one (Ok a) (Ok b) h k in cc
-
-  departs_not : (d : Departure) (report : Reported) → Means bytes (Err d) → Means bytes (Ok report) → ⊥
-  departs_not d report h k = let same : Err d ≡ Ok report = means_one (Err d) (Ok report) h k in cc
-
-  -- the report that was read is the only meaning
-  pub spelled_only : (report : Reported) → Means bytes (Ok report) → IsOnly (ReportSpelled bytes) (Ok report)
-  spelled_only report h = record { means = h; only = only }
-    where
-      only : (y : Result Reported Outcome) → ReportSpelled bytes y → AreAlikeResults (Ok report) y
-      only (Ok b) k = reports_one report b h k
-      only (Err o) (d, k, e) = departs_not d report k h
-
-  -- the line of the departure that was met is the only meaning
-  pub departed_only : (o : Option Departure) (text : List ℕ) → IsSomeAnd o (λ departure. text ≡ report_fault_line departure) → IfSome o (λ departure. Means bytes (Err departure))
-      → IsOnly (ReportSpelled bytes) (Err (refused text))
-  departed_only None text line h = absurd line
-  departed_only (Some d) text line h = record { means = (d, h, ap refused line); only = only }
-    where
-      only : (y : Result Reported Outcome) → ReportSpelled bytes y → AreAlikeResults (Err (refused text)) y
-      only (Ok b) k = departs_not d b h k
-      only (Err o) (f, k, e) = alike (refused text) o (ap refused (line ∙ ap report_fault_line (departures_one d f h k)) ∙ sym e)
 
 -- ---- what the report is answered
 

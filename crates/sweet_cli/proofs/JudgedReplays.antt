@@ -1,18 +1,14 @@
--- What the bytes of a values file mean is their only meaning, and what is told of a replay is one thing.
---   values_only, values_refused_only   the numbers, and the line of the file's fault
+-- What is told of a replay is one thing.
 --   HasOneReplay                two things that are told of one replay along one outline are one
 --   held_only, objected_only    the run's cost, and the line of what speaks against the report
-use Rattle.std.proofs.Common.{◌≡◌, ◌<◌, ℕ, ℤ, List, length, Result, Ok, Err, Some, codes, refl, ap, sym, ◌∙◌, subst}
+use Rattle.std.proofs.Common.{◌≡◌, ◌<◌, ℕ, ℤ, List, length, Result, Ok, Err, ap, sym, ◌∙◌, subst}
 use Rattle.std.proofs.lemmas.List.{length-map}
 use Rattle.alf_check.specs.declared.rows.InputRow.{InputRow}
 use Rattle.alf_check.specs.CheckedPrograms.{NumberedProgram}
 use Rattle.alf_runs.specs.Starts.{AreWithin, start, words_of}
 use Rattle.flow_graph.specs.Nodes.{Node}
 use Rattle.flow_graph.specs.Graphs.{HasProgram}
-use Rattle.cost_table.specs.declared.fault.TableFault.{TableFault}
 use Rattle.cost_table.specs.CostTables.{CostTable}
-use Rattle.cost_table.specs.Laws.{IsOne, AnswersValues}
-use Rattle.cost_table.specs.RunValues.{MeansValues, RefusesValues}
 use Rattle.domain_core.specs.declared.outline.NodeRow.{NodeRow}
 use Rattle.domain_core.specs.Outlines.{Outlined, Shape, shape_of}
 use Rattle.flow_facts.specs.Reports.{Reported}
@@ -23,40 +19,11 @@ use Rattle.report_objections.specs.Shaping.{IsShaped}
 use Rattle.report_soundness.specs.ReportTold.{costs_of, named_nodes}
 use Rattle.run_replays.specs.OneReplay.{Differ}
 use Rattle.run_replays.specs.Replays.{Told, Asks, objects, passes, IsOutside, IsReplayed, TellsValues, TellsRun}
-use Rattle.command_plans.specs.Outcome.{Outcome, No, AreAlikeResults, refused}
+use Rattle.command_plans.specs.Outcome.{Outcome, No, AreAlikeResults}
 use Rattle.command_plans.specs.Work.{IsOnly, alike}
-use Rattle.sweet_cli.specs.NoLines.{holds_line, objection_line}
-use Rattle.sweet_cli.specs.Replay.{ValuesMean, ReplayMeans, IsReplayOf}
-use Rattle.sweet_cli.specs.Scopes.{ScopedProgram}
-use Rattle.sweet_cli.specs.Tables.{table_line}
-use Rattle.sweet_cli.proofs.JudgedTables.{lines_one}
-
--- ---- a values file
-
-module _ (bytes : List ℕ) (n : ℕ) (one : IsOne (AnswersValues bytes n)) where
-  values_one : (a b : List ℤ) → MeansValues bytes n a → MeansValues bytes n b → a ≡ b
-  values_one a b h k = let same : ◌≡◌ {A = Result (List ℤ) TableFault} (Ok a) (Ok b) = one (Ok a) (Ok b) h k in cc
-
-  refusals_one : (f g : TableFault) → RefusesValues bytes n f → RefusesValues bytes n g → f ≡ g
-  refusals_one f g h k = let same : ◌≡◌ {A = Result (List ℤ) TableFault} (Err f) (Err g) = one (Err f) (Err g) h k in cc
-
-  values_not : (a : List ℤ) (f : TableFault) → MeansValues bytes n a → RefusesValues bytes n f → ⊥
-  values_not a f h k = let same : ◌≡◌ {A = Result (List ℤ) TableFault} (Ok a) (Err f) = one (Ok a) (Err f) h k in cc
-
-  pub values_only : (values : List ℤ) → MeansValues bytes n values → IsOnly (ValuesMean bytes n) (Ok values)
-  values_only values h = record { means = h; only = only }
-    where
-      only : (y : Result (List ℤ) Outcome) → ValuesMean bytes n y → AreAlikeResults (Ok values) y
-      only (Ok other) k = values_one values other h k
-      only (Err o) k = values_not values k.fault h k.refuses
-
-  pub values_refused_only : (fault : TableFault) (text : List ℕ) → RefusesValues bytes n fault → table_line (codes "values") fault ≡ Some text
-      → IsOnly (ValuesMean bytes n) (Err (refused text))
-  values_refused_only fault text h line = record { means = record { fault = fault; refuses = h; line = line; cause = refl }; only = only }
-    where
-      only : (y : Result (List ℤ) Outcome) → ValuesMean bytes n y → AreAlikeResults (Err (refused text)) y
-      only (Ok values) k = values_not values fault k h
-      only (Err o) k = alike (refused text) o (lines_one (codes "values") fault k.fault text o (refusals_one fault k.fault h k.refuses) line k.line k.cause)
+use Rattle.answer_texts.specs.NoLines.{holds_line, objection_line}
+use Rattle.command_files.specs.Scopes.{ScopedProgram}
+use Rattle.sweet_cli.specs.Replay.{ReplayMeans, IsReplayOf}
 
 -- ---- along two outlines of one shape, with the same names and costs
 

@@ -23,9 +23,9 @@ use Rattle.bounded_analyses.specs.AlikeBounds.{bounded_of}
 use Rattle.command_plans.specs.Outcome.{Outcome, Unbounded, AreAlikeResults}
 use Rattle.command_plans.specs.Work.{IsOnly, alike}
 use Rattle.unranked_runs.specs.Ranking.{unranked}
-use Rattle.sweet_cli.specs.Scopes.{ScopedProgram}
-use Rattle.sweet_cli.specs.Seen.{IsOutlined}
-use Rattle.sweet_cli.specs.LeftLines.{left_line}
+use Rattle.answer_texts.specs.ScopeLines.{left_line}
+use Rattle.command_files.specs.Scopes.{ScopedProgram}
+use Rattle.command_files.specs.Seen.{IsOutlined}
 use Rattle.sweet_cli.specs.Analyse.{ReportMeans}
 
 -- other costs leave the names

@@ -13,8 +13,8 @@ use Rattle.program_machines.specs.NodeCosts.{node_cost}
 use Rattle.command_plans.specs.Outcome.{Outcome, Unbounded, AreAlike, AreAlikeResults}
 use Rattle.command_plans.specs.Work.{IsOnly, alike}
 use Rattle.program_files.specs.Expanding.{Expanded}
-use Rattle.sweet_cli.specs.RunText.{run_text}
-use Rattle.sweet_cli.specs.Scopes.{ScopedProgram}
+use Rattle.answer_texts.specs.RunText.{run_text}
+use Rattle.command_files.specs.Scopes.{ScopedProgram}
 use Rattle.sweet_cli.specs.LeftLines.{unbounded_line}
 use Rattle.sweet_cli.specs.Run.{IsLeft, RunMeans, IsRunText, low_start}
 use Rattle.sweet_cli.specs.Counting.{CountsRun}

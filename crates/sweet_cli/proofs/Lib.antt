@@ -1,11 +1,7 @@
 -- Shared lemmas.
-pub mod Signed
 pub mod Lows
 pub mod RanksRuns
-pub mod RanksTables
-pub mod JudgedTables
 pub mod JudgedTasks
-pub mod JudgedScopes
 pub mod JudgedReports
 pub mod SoundReports
 pub mod Staying
@@ -23,7 +19,6 @@ pub mod MigratePromises
 pub mod JudgedReplays
 pub mod RankedReplays
 pub mod ReplayPromises
-pub mod JudgedLayouts
 pub mod JudgedCaches
 pub mod CachePromises
 pub mod Carried

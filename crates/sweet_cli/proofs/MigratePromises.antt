@@ -6,7 +6,7 @@ use Rattle.fact_text.specs.Language.{SpellsReport}
 use Rattle.fact_text.specs.Laws.{SpelledWhereWritable, ReportTextsSpell}
 use Rattle.report_forms.specs.Migrating.{migrated, migrated_writable}
 use Rattle.command_plans.specs.Log.{Log}
-use Rattle.sweet_cli.specs.ReportFiles.{report_in}
+use Rattle.command_files.specs.ReportFiles.{report_in}
 use Rattle.sweet_cli.specs.Migrate.{migrating, IsMigratedReport}
 
 -- a text that the work gives spells the report of the told file in the second form

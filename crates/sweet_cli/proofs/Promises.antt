@@ -29,10 +29,10 @@ use Rattle.program_files.specs.Programs.{program_in}
 use Rattle.program_files.specs.Units.{unit_in}
 use Rattle.program_files.specs.Expanding.{Expanded, expanded_in}
 use Rattle.program_files.specs.Told.{IsToldUnit, IsToldProgram}
+use Rattle.command_files.specs.Tables.{inputs_in, inputs_told, costs_in, costs_told, Tables, tables_in, AreInputs, AreCosts}
+use Rattle.command_files.specs.Scopes.{ScopedProgram, scoped_in}
 use Rattle.sweet_cli.specs.Task.{Task, KeepsPromise, Promised}
 use Rattle.sweet_cli.specs.Words.{ProgramFile, AnalyseWords, LowerWords, RunWords}
-use Rattle.sweet_cli.specs.Tables.{inputs_in, inputs_told, costs_in, costs_told, Tables, tables_in, AreInputs, AreCosts}
-use Rattle.sweet_cli.specs.Scopes.{ScopedProgram, scoped_in}
 use Rattle.sweet_cli.specs.Analyse.{policy_of, ReportMeans, analysing, IsSoundReport}
 use Rattle.flow_facts.specs.Reports.{Reported}
 use Rattle.fact_words.specs.Canonical.{report_text}

@@ -19,8 +19,8 @@ use Rattle.report_soundness.specs.ReportTold.{costs_of}
 use Rattle.run_replays.specs.Replays.{Told, objects, passes, Reaches, IsStop, TellsRun, stops, ends, TellsValues, IsReplayed}
 use Rattle.unranked_runs.specs.Ranking.{unranked, with_ranks}
 use Rattle.unranked_runs.specs.RankedRuns.{step_same, after_same}
+use Rattle.command_files.specs.Seen.{IsOutlined}
 use Rattle.sweet_cli.specs.Replay.{IsReplayOf}
-use Rattle.sweet_cli.specs.Seen.{IsOutlined}
 use Rattle.sweet_cli.proofs.RanksRuns.{runs}
 
 module _ (p : NumberedProgram) (r s : List ℕ) where

@@ -24,10 +24,11 @@ use Rattle.run_replays.specs.Replays.{Told, Asks, objects, passes, TellsRun, sto
 use Rattle.command_plans.specs.Log.{Log, log_of}
 use Rattle.command_plans.specs.Works.{Works}
 use Rattle.program_files.specs.Told.{IsToldProgram}
+use Rattle.command_files.specs.Values.{values_told, values_in, AreValues}
+use Rattle.command_files.specs.Scopes.{ScopedProgram, scoped_in}
+use Rattle.command_files.specs.Tables.{Tables, tables_in}
 use Rattle.sweet_cli.specs.Words.{ReplayWords}
-use Rattle.sweet_cli.specs.Replay.{values_told, values_in, AreValues, IsReplayOf, run_judged, replaying, HoldsOfRun, IsHeldTold, TellsReplay}
-use Rattle.sweet_cli.specs.Scopes.{ScopedProgram, scoped_in}
-use Rattle.sweet_cli.specs.Tables.{Tables, tables_in}
+use Rattle.sweet_cli.specs.Replay.{IsReplayOf, run_judged, replaying, HoldsOfRun, IsHeldTold, TellsReplay}
 use Rattle.sweet_cli.proofs.CheckPromises.{told_report}
 use Rattle.sweet_cli.proofs.Promises.{told_graph, told_tables, inputs_keep}
 

@@ -14,7 +14,7 @@ use Rattle.program_machines.specs.NodeCosts.{HasCosts}
 use Rattle.program_checks.specs.Sound.{IsSoundFor, IsSound}
 use Rattle.unranked_runs.specs.Ranking.{unranked}
 use Rattle.unranked_runs.specs.RankedRuns as ranks_runs
-use Rattle.sweet_cli.specs.Seen.{IsOutlined}
+use Rattle.command_files.specs.Seen.{IsOutlined}
 use Rattle.sweet_cli.specs.Check.{IsSoundOf}
 use Rattle.sweet_cli.proofs.SoundReports.{ranked_costs}
 

@@ -14,11 +14,11 @@ use Rattle.command_plans.specs.Log.{Log, log_of}
 use Rattle.command_plans.specs.Work.{IsOnly}
 use Rattle.command_plans.specs.Works.{Works}
 use Rattle.program_files.specs.Told.{IsToldProgram}
+use Rattle.answer_texts.specs.WorstText.{worst_text}
+use Rattle.command_files.specs.Scopes.{ScopedProgram, scoped_in}
+use Rattle.command_files.specs.Tables.{Tables, tables_in}
 use Rattle.sweet_cli.specs.Words.{WorstWords}
-use Rattle.sweet_cli.specs.Scopes.{ScopedProgram, scoped_in}
-use Rattle.sweet_cli.specs.Tables.{Tables, tables_in}
 use Rattle.sweet_cli.specs.Analyse.{policy_of}
-use Rattle.sweet_cli.specs.WorstText.{worst_text}
 use Rattle.sweet_cli.specs.Worst.{WorstMeans, worsting, TellsWorst}
 use Rattle.sweet_cli.proofs.Promises.{told_graph, told_tables, inputs_keep}
 

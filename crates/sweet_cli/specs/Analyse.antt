@@ -34,10 +34,10 @@ use Rattle.bounded_analyses.specs.Sound.{IsSound}
 use Rattle.command_plans.specs.Outcome.{Outcome, Unbounded}
 use Rattle.command_plans.specs.Work.{Work, judged, done, ◌>>=◌}
 use Rattle.program_files.specs.Told.{IsToldProgram}
+use Rattle.answer_texts.specs.ScopeLines.{left_line}
+use Rattle.command_files.specs.Scopes.{ScopedProgram, scoped_in}
+use Rattle.command_files.specs.Tables.{tables_in, AreInputs, AreCosts}
 use Rattle.sweet_cli.specs.Words.{AnalyseWords, Merging, Never, Exits, Joins}
-use Rattle.sweet_cli.specs.Scopes.{ScopedProgram, scoped_in}
-use Rattle.sweet_cli.specs.Tables.{tables_in, AreInputs, AreCosts}
-use Rattle.sweet_cli.specs.LeftLines.{left_line}
 use Rattle.sweet_cli.specs.Task.{Task}
 
 -- the policy that merges there

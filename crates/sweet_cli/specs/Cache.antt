@@ -22,13 +22,13 @@ use Rattle.cache_analysis.specs.Sound.{IsSound}
 use Rattle.command_plans.specs.Outcome.{Outcome, Unbounded}
 use Rattle.command_plans.specs.Work.{Work, judged, done, ◌>>=◌}
 use Rattle.program_files.specs.Told.{IsToldProgram}
+use Rattle.answer_texts.specs.ScopeLines.{left_line}
+use Rattle.answer_texts.specs.CacheText.{cache_text}
+use Rattle.command_files.specs.Scopes.{ScopedProgram}
+use Rattle.command_files.specs.LaidOut.{laid_out_in}
+use Rattle.command_files.specs.Tables.{tables_in, AreInputs, AreCosts}
 use Rattle.sweet_cli.specs.Words.{CacheWords}
-use Rattle.sweet_cli.specs.Scopes.{ScopedProgram}
-use Rattle.sweet_cli.specs.LaidOut.{laid_out_in}
-use Rattle.sweet_cli.specs.Tables.{tables_in, AreInputs, AreCosts}
-use Rattle.sweet_cli.specs.LeftLines.{left_line}
 use Rattle.sweet_cli.specs.Analyse.{policy_of}
-use Rattle.sweet_cli.specs.CacheText.{cache_text}
 use Rattle.sweet_cli.specs.Task.{Task}
 
 -- the cache

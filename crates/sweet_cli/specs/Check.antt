@@ -25,11 +25,11 @@ use Rattle.program_checks.specs.Sound.{IsSound}
 use Rattle.command_plans.specs.Outcome.{Outcome, No}
 use Rattle.command_plans.specs.Work.{Work, judged, ◌>>=◌}
 use Rattle.program_files.specs.Told.{IsToldProgram}
+use Rattle.answer_texts.specs.NoLines.{objection_line}
+use Rattle.command_files.specs.Scopes.{ScopedProgram, scoped_in}
+use Rattle.command_files.specs.Tables.{Tables, tables_in, AreInputs, AreCosts}
+use Rattle.command_files.specs.ReportFiles.{report_in, IsToldReport}
 use Rattle.sweet_cli.specs.Words.{CheckWords}
-use Rattle.sweet_cli.specs.Scopes.{ScopedProgram, scoped_in}
-use Rattle.sweet_cli.specs.Tables.{Tables, tables_in, AreInputs, AreCosts}
-use Rattle.sweet_cli.specs.ReportFiles.{report_in, IsToldReport}
-use Rattle.sweet_cli.specs.NoLines.{objection_line}
 use Rattle.sweet_cli.specs.Task.{Task}
 
 -- the text of a report that is accepted

@@ -22,7 +22,7 @@ use Rattle.program_machines.specs.NodeCosts.{node_cost}
 use Rattle.program_machines.specs.Starts.{AreLone}
 use Rattle.program_analysis.specs.SoundLaws.{IsOutcomeOf}
 use Rattle.command_plans.specs.Outcome.{Outcome}
-use Rattle.sweet_cli.specs.Scopes.{ScopedProgram, IsScoped}
+use Rattle.command_files.specs.Scopes.{ScopedProgram, IsScoped}
 use Rattle.sweet_cli.specs.Run.{IsLeft, low_start}
 use Rattle.sweet_cli.specs.Analyse.{ReportMeans}
 

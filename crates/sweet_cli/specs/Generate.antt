@@ -15,11 +15,11 @@ use Rattle.command_plans.specs.Outcome.{Outcome, IsOfFiles}
 use Rattle.command_plans.specs.Log.{Log}
 use Rattle.command_plans.specs.Work.{Work, judged, done, ◌>>=◌}
 use Rattle.program_files.specs.Told.{IsToldProgram}
-use Rattle.sweet_cli.specs.Scopes.{scoped_in}
-use Rattle.sweet_cli.specs.Tables.{tables_in}
+use Rattle.answer_texts.specs.SummaryText.{summary_text, turns_of}
+use Rattle.command_files.specs.Scopes.{scoped_in}
+use Rattle.command_files.specs.Tables.{tables_in}
 use Rattle.sweet_cli.specs.Analyse.{policy_of, ReportMeans, IsSoundOf}
-use Rattle.sweet_cli.specs.MadeProgram.{made_files, made_words}
-use Rattle.sweet_cli.specs.SummaryText.{summary_text, turns_of}
+use Rattle.sweet_cli.specs.MadeFile.{made_files, made_words}
 use Rattle.sweet_cli.specs.Task.{Task}
 
 -- as `analyse` does with these words, but that the numbers of the report are told

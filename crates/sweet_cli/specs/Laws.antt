@@ -21,11 +21,11 @@ use Rattle.command_plans.specs.Log.{Log}
 use Rattle.command_plans.specs.Outcome.{Ending, Finished, ending_unread}
 use Rattle.command_plans.specs.Work.{EndsSo, HasOneEnding}
 use Rattle.program_files.specs.Told.{IsProgramOfUnit}
+use Rattle.command_files.specs.Scopes.{ScopedProgram, scoped_in}
+use Rattle.command_files.specs.Tables.{Tables, tables_in, AreInputs}
+use Rattle.command_files.specs.ReportFiles.{most_report_bytes}
 use Rattle.sweet_cli.specs.Words.{AnalyseWords, CheckWords, Analyse, Check, command_of}
-use Rattle.sweet_cli.specs.Scopes.{ScopedProgram, scoped_in}
-use Rattle.sweet_cli.specs.Tables.{Tables, tables_in, AreInputs}
 use Rattle.sweet_cli.specs.Analyse.{analysing, policy_of}
-use Rattle.sweet_cli.specs.ReportFiles.{most_report_bytes}
 use Rattle.sweet_cli.specs.Check.{accepted}
 use Rattle.sweet_cli.specs.Table.{task_of}
 

@@ -1,26 +1,13 @@
--- Words, lines, commands, and the laws of answers.
+-- Words, commands, and the laws of answers.
 
 -- words
 pub mod Words
--- lines
-pub mod FaultWords
--- what is told of a run
-pub mod RunText
--- what is told of boxes of inputs
-pub mod WorstText
--- what is told of a cache
-pub mod CacheText
--- the program that is made, and what is told of it
-pub mod MadeProgram
-pub mod SummaryText
+-- the program that is made, as a file
+pub mod MadeFile
 -- commands, a file each, and their table
 pub mod Task
-pub mod Seen
-pub mod Scopes
-pub mod LaidOut
 pub mod LeftLines
 pub mod Counting
-pub mod Tables
 pub mod Analyse
 pub mod Print
 pub mod PrintC
@@ -29,8 +16,6 @@ pub mod Run
 pub mod Tasks
 pub mod Exact
 pub mod Worst
-pub mod NoLines
-pub mod ReportFiles
 pub mod Check
 pub mod Migrate
 pub mod Replay

@@ -9,7 +9,7 @@ use Rattle.fact_words.specs.Canonical.{report_text}
 use Rattle.fact_text.specs.Language.{SpellsReport}
 use Rattle.report_forms.specs.Migrating.{migrated}
 use Rattle.command_plans.specs.Work.{Work, done, ◌>>=◌}
-use Rattle.sweet_cli.specs.ReportFiles.{report_in, IsToldReport}
+use Rattle.command_files.specs.ReportFiles.{report_in, IsToldReport}
 use Rattle.sweet_cli.specs.Task.{Task}
 
 unfoldable pub migrating : List ℕ → Work (List ℕ)

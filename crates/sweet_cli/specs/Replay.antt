@@ -1,7 +1,4 @@
 -- `replay FILE REPORT`: the one run from given values is held against a report.
---   IsValuesLine bytes n outcome, ValuesMean bytes n meaning   the n numbers of a values file, or the line of its fault
---   values_in n file                the file is read, and its numbers; without a file they are those of a file with none
---   AreValues file files n values   the told file has these numbers
 --   IsReplayOf program graph rows costs report values told   so is told of the run, by the outline of the program's graph
 --   IsObjected program rows costs report values outcome   something speaks against the report, and the outcome tells the first
 --   ReplayMeans program rows costs report values meaning  the run's cost, or this
@@ -12,7 +9,7 @@
 --                                   the cost
 --   TellsReplay given files text    the promise: so it is of the program and the tables of the told files
 --   replay given                    the task
-use Rattle.std.specs.Prelude.{◌≡◌, ◌≤◌, ℕ, ℤ, List, length, map, All, Result, Ok, Err, Option, None, Some, IfSome, codes}
+use Rattle.std.specs.Prelude.{◌≡◌, ◌≤◌, ℕ, ℤ, List, length, map, All, Result, Ok, Err, IfSome}
 use Rattle.flow_base.specs.Outside.{Files}
 use Rattle.alf_check.specs.declared.rows.InputRow.{InputRow}
 use Rattle.alf_check.specs.CheckedPrograms.{NumberedProgram}
@@ -22,9 +19,7 @@ use Rattle.alf_runs.specs.Outcomes.{Outcome as RunOutcome}
 use Rattle.alf_runs.specs.Runs.{cost_of}
 use Rattle.alf_runs.specs.Starts.{AreWithin, start, words_of}
 use Rattle.alf_interp.specs.Traces.{Runs}
-use Rattle.cost_table.specs.declared.fault.TableFault.{TableFault}
 use Rattle.cost_table.specs.CostTables.{CostTable}
-use Rattle.cost_table.specs.RunValues.{MeansValues, RefusesValues}
 use Rattle.domain_core.specs.Outlines.{Outlined, shape_of}
 use Rattle.domain_core.specs.OutlineOf.{IsOutlineOf}
 use Rattle.scope_graph.specs.Placing.{plan_of}
@@ -34,53 +29,16 @@ use Rattle.report_soundness.specs.Runs.{HasAlarm}
 use Rattle.program_machines.specs.NodeCosts.{node_cost, HasCosts}
 use Rattle.report_objections.specs.declared.objection.Objection.{Objection}
 use Rattle.run_replays.specs.Replays.{Told, fault_of, IsReplayed}
-use Rattle.command_plans.specs.declared.reading.Role.TheVariants.{Values}
-use Rattle.command_plans.specs.Outcome.{Outcome, Source, No}
-use Rattle.command_plans.specs.Work.{Work, reads, judged, ◌>>=◌}
-use Rattle.program_files.specs.Programs.{most_bytes, too_long}
+use Rattle.command_plans.specs.Outcome.{Outcome, No}
+use Rattle.command_plans.specs.Work.{Work, judged, ◌>>=◌}
 use Rattle.program_files.specs.Told.{IsToldProgram}
+use Rattle.answer_texts.specs.NoLines.{holds_line, objection_line}
+use Rattle.command_files.specs.Values.{values_in, AreValues}
+use Rattle.command_files.specs.Scopes.{ScopedProgram, scoped_in}
+use Rattle.command_files.specs.Tables.{Tables, tables_in, AreInputs, AreCosts}
+use Rattle.command_files.specs.ReportFiles.{report_in, IsToldReport}
 use Rattle.sweet_cli.specs.Words.{ReplayWords}
-use Rattle.sweet_cli.specs.Scopes.{ScopedProgram, scoped_in}
-use Rattle.sweet_cli.specs.Tables.{Tables, table_line, tables_in, AreInputs, AreCosts}
-use Rattle.sweet_cli.specs.ReportFiles.{report_in, IsToldReport}
-use Rattle.sweet_cli.specs.NoLines.{holds_line, objection_line}
 use Rattle.sweet_cli.specs.Task.{Task}
-
--- ---- values
-
--- the line tells what is wrong with the values
-pub record IsValuesLine (bytes : List ℕ) (n : ℕ) (outcome : Outcome) : Type 0 where
-  pub fault : TableFault
-  pub refuses : RefusesValues bytes n fault
-  pub line : table_line (codes "values") fault ≡ Some outcome.text
-  pub cause : outcome.cause ≡ Source
-
--- the n numbers of a values file, or the line of its fault
-abbrev pub ValuesMean : List ℕ → ℕ → Result (List ℤ) Outcome → Type 0
-ValuesMean bytes n (Ok values) = MeansValues bytes n values
-ValuesMean bytes n (Err outcome) = IsValuesLine bytes n outcome
-
--- the file is read, and its numbers
-unfoldable pub values_told : ℕ → List ℕ → Work (List ℤ)
-values_told n file = do
-  bytes ← reads Values file most_bytes too_long
-  judged (ValuesMean bytes n)
-
--- a file without numbers
-abbrev pub no_values : List ℕ
-no_values = codes "values = []\n"
-
--- without a file the numbers are those of a file without any
-abbrev pub values_in : ℕ → Option (List ℕ) → Work (List ℤ)
-values_in n None = judged (ValuesMean no_values n)
-values_in n (Some file) = values_told n file
-
--- the told file has these numbers; without a file there are none
-abbrev pub AreValues : Option (List ℕ) → Files → ℕ → List ℤ → Type 0
-AreValues None files n values = MeansValues no_values n values
-AreValues (Some file) files n values = (bytes : List ℕ) × (files file ≡ Some bytes) × MeansValues bytes n values
-
--- ---- the run
 
 -- so is told of the run, by the outline of the program's graph, with names and costs of its nodes
 pub record IsReplayOf (program : NumberedProgram) (graph : GraphParts) (rows : List InputRow) (costs : CostTable) (report : Reported) (values : List ℤ) (told : Told) : Type 0 where

@@ -23,10 +23,10 @@ use Rattle.command_plans.specs.Outcome.{Outcome, Unbounded}
 use Rattle.command_plans.specs.Work.{Work, judged, done, ◌>>=◌}
 use Rattle.program_files.specs.Expanding.{Expanded}
 use Rattle.program_files.specs.Told.{IsToldProgram}
+use Rattle.answer_texts.specs.RunText.{run_text}
+use Rattle.command_files.specs.Scopes.{ScopedProgram, scoped_in}
+use Rattle.command_files.specs.Tables.{tables_in, AreInputs, AreCosts}
 use Rattle.sweet_cli.specs.Words.{RunWords}
-use Rattle.sweet_cli.specs.Scopes.{ScopedProgram, scoped_in}
-use Rattle.sweet_cli.specs.Tables.{tables_in, AreInputs, AreCosts}
-use Rattle.sweet_cli.specs.RunText.{run_text}
 use Rattle.sweet_cli.specs.LeftLines.{unbounded_line}
 use Rattle.sweet_cli.specs.Task.{Task}
 

@@ -9,10 +9,10 @@ use Rattle.program_bounder.specs.declared.bounder.PathBounder.{PathBounder}
 use Rattle.command_plans.specs.Outcome.{Outcome}
 use Rattle.unranked_runs.specs.Ranking.{unranked}
 use Rattle.alf_check.specs.CheckedPrograms.{seen}
-use Rattle.sweet_cli.specs.declared.commands.tables.Tables.{Tables}
-use Rattle.sweet_cli.specs.declared.commands.scopes.ScopedProgram.{ScopedProgram as ScopedValue}
-use Rattle.sweet_cli.specs.Scopes.{ScopedProgram}
-use Rattle.sweet_cli.specs.Seen.{scopes_seen}
+use Rattle.command_files.specs.declared.tables.Tables.{Tables}
+use Rattle.command_files.specs.declared.scopes.ScopedProgram.{ScopedProgram as ScopedValue}
+use Rattle.command_files.specs.Scopes.{ScopedProgram}
+use Rattle.command_files.specs.Seen.{scopes_seen}
 use Rattle.sweet_cli.specs.Worst.{WorstMeans}
 
 -- the bounder of a program and its tables

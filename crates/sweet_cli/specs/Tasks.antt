@@ -1,63 +1,22 @@
 -- `tasks FILE`: the response times of the tasks of a file.
---   TasksMean bytes meaning          the tasks of a tasks file, or the line of its fault
---   tasks_told file                  the file is read, and its tasks
---   response_line told               the line of a task and its time
---   response_text tasks times        a line for each task, in the order of the file
---   late_line task                   the line of a task that is late
 --   ResponsesMean tasks meaning      the response times of a task set, or that a task is late, with the first
 --   answering file                   the order of work
 --   TellsResponses file files text   the promise: the text tells times in which each job finishes, in each schedule of the tasks of the file
 --   tasks file                       the task
-use Rattle.std.specs.Prelude.{◌≡◌, ℕ, List, [], ◌∷◌, ◌++◌, Result, Ok, Err, Some, codes, decimal}
-use Rattle.std.specs.List.{flat_map, zip}
+use Rattle.std.specs.Prelude.{◌≡◌, ℕ, List, Result, Ok, Err, Some}
 use Rattle.flow_base.specs.Outside.{Files}
-use Rattle.flow_graph.specs.Names.{quoted}
-use Rattle.cost_table.specs.declared.fault.TableFault.{TableFault}
 use Rattle.cost_table.specs.declared.task_set.Task.{Task as TimedTask}
 use Rattle.cost_table.specs.Tasks.{AreTasks}
-use Rattle.cost_table.specs.TaskFiles.{MeansTasks, RefusesTasks}
+use Rattle.cost_table.specs.TaskFiles.{MeansTasks}
 use Rattle.response_time.specs.Responses.{AreResponses, IsFirstLate}
 use Rattle.response_time.specs.ScheduleLaws.{FinishWithin}
-use Rattle.command_plans.specs.declared.reading.Role.TheVariants as roles
-use Rattle.command_plans.specs.Outcome.{Outcome, Source, No}
-use Rattle.command_plans.specs.Work.{Work, reads, judged, done, ◌>>=◌}
-use Rattle.program_files.specs.Programs.{most_bytes, too_long}
-use Rattle.sweet_cli.specs.Tables.{table_line}
+use Rattle.command_plans.specs.Outcome.{Outcome, No}
+use Rattle.command_plans.specs.Work.{Work, judged, done, ◌>>=◌}
+use Rattle.answer_texts.specs.ResponseText.{late_line, response_text}
+use Rattle.command_files.specs.TaskFiles.{tasks_told}
 use Rattle.sweet_cli.specs.Task.{Task}
 
--- ---- the file
-
--- the line tells what is wrong with the tasks
-pub record IsTasksLine (bytes : List ℕ) (outcome : Outcome) : Type 0 where
-  pub fault : TableFault
-  pub refuses : RefusesTasks bytes fault
-  pub line : table_line (codes "tasks") fault ≡ Some outcome.text
-  pub cause : outcome.cause ≡ Source
-
--- the tasks of a tasks file, or the line of its fault
-abbrev pub TasksMean : List ℕ → Result (List TimedTask) Outcome → Type 0
-TasksMean bytes (Ok tasks) = MeansTasks bytes tasks
-TasksMean bytes (Err outcome) = IsTasksLine bytes outcome
-
--- the file is read, and its tasks
-unfoldable pub tasks_told : List ℕ → Work (List TimedTask)
-tasks_told file = do
-  bytes ← reads roles.Tasks file most_bytes too_long
-  judged (TasksMean bytes)
-
 -- ---- response times
-
--- `response "NAME" R`
-abbrev pub response_line : TimedTask × ℕ → List ℕ
-response_line told = codes "response " ++ (quoted told.0.name ++ (32 ∷ (decimal told.1 ++ 10 ∷ [])))
-
--- a line for each task, in the order of the file
-abbrev pub response_text : List TimedTask → List ℕ → List ℕ
-response_text tasks times = flat_map response_line (zip tasks times)
-
--- `no late "NAME"`
-abbrev pub late_line : TimedTask → List ℕ
-late_line task = codes "no late " ++ (quoted task.name ++ 10 ∷ [])
 
 -- a task is late, and the outcome tells the first
 pub record IsLateOutcome (tasks : List TimedTask) (outcome : Outcome) : Type 0 where

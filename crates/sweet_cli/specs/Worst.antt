@@ -22,12 +22,12 @@ use Rattle.program_bounder.specs.PathBounds.{path_answers}
 use Rattle.command_plans.specs.Outcome.{Outcome, Unbounded}
 use Rattle.command_plans.specs.Work.{Work, judged, done, ◌>>=◌}
 use Rattle.program_files.specs.Told.{IsToldProgram}
+use Rattle.answer_texts.specs.ScopeLines.{left_line}
+use Rattle.answer_texts.specs.WorstText.{worst_text}
+use Rattle.command_files.specs.Scopes.{ScopedProgram, scoped_in}
+use Rattle.command_files.specs.Tables.{tables_in, AreInputs, AreCosts}
 use Rattle.sweet_cli.specs.Words.{WorstWords}
-use Rattle.sweet_cli.specs.Scopes.{ScopedProgram, scoped_in}
-use Rattle.sweet_cli.specs.Tables.{tables_in, AreInputs, AreCosts}
-use Rattle.sweet_cli.specs.LeftLines.{left_line}
 use Rattle.sweet_cli.specs.Analyse.{policy_of}
-use Rattle.sweet_cli.specs.WorstText.{worst_text}
 use Rattle.sweet_cli.specs.Task.{Task}
 
 -- in some box places are left, and the outcome tells the scope of the first such box

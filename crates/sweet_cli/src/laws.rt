@@ -7,8 +7,9 @@ use bounded_analyses::{
     a_program_has_one_bounded_analysis, bounds_of_an_input_alone_agree,
     closed_explorations_have_totals,
 };
+use command_files::a_file_means_its_report;
 use cost_table::a_file_has_one_answer;
-use fact_text::{one_meaning, writable_reports_are_spelled};
+use fact_text::writable_reports_are_spelled;
 use program_checks::a_report_has_one_check;
 use scope_graph::a_graph_has_one_outline;
 use unranked_analyses::an_input_alone_is_told_exactly;
@@ -35,7 +36,7 @@ pub fn own_reports_are_accepted()
 {
     a_report_has_one_check();
     closed_explorations_have_totals();
-    one_meaning();
+    a_file_means_its_report();
     writable_reports_are_spelled();
 }
 

@@ -13,9 +13,6 @@ mod words;
 // What nodes cost.
 mod node_costs;
 
-// The lines of answers.
-mod lines;
-
 // The commands, and the program.
 mod commands;
 mod top;

@@ -14,6 +14,8 @@ pub mod StepLaws
 pub mod MergeLaws
 pub mod EventLaws
 pub mod RunLaws
+pub mod EndedRuns
+pub mod SummedLaws
 pub mod PolicyLaws
 pub mod Sharp
 pub mod SharpLaws

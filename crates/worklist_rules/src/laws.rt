@@ -9,7 +9,9 @@ ghost use Rattle.worklist_rules.specs.Pools.{Pooled};
 ghost use Rattle.worklist_rules.specs.Events.{opened, HappenAll};
 ghost use Rattle.worklist_rules.specs.Policies.{IsPolicyRun};
 ghost use Rattle.domain_core.specs.SystemRuns.{IsRun};
+ghost use Rattle.worklist_rules.specs.Kept.{IsKept};
 ghost use Rattle.worklist_rules.specs.Runs.{EachRun, EachRunIsOver};
+ghost use Rattle.worklist_rules.specs.EndedRuns.{EachIsSummed};
 ghost use Rattle.worklist_rules.specs.Sharp.{IsSharp};
 
 use crate::Policy;
@@ -25,6 +27,17 @@ pub fn each_run_is_waited_for_or_over<S: Stepper, R: Recorder>()
     ensures over { (stepper : S) (o : Outlined) (events : List Event) (w : Pooled S S.State R R.Book) → (S.machine stepper).kept → IsSuited R.recording o
         → IsAlong S.State S.Concrete (shape_of o) (S.machine stepper) → HappenAll S.machine S.State.order R.order R.recording (opened S.machine R.recording stepper o) events w
         → w.spots ≡ [] → EachRunIsOver S.machine R.recording w }
+{}
+
+/// Whatever the stepper and the recorder: where no place is left, each run of the stepper's system ends;
+/// and of each run that ends the book sums the trace up, its nodes were stepped, and its fault was told at
+/// its last node. `kept` says so of each pool that keeps what pools keep, and `events` of each pool that
+/// events led to from its start.
+pub fn each_is_summed<S: Stepper, R: Recorder>()
+    ensures kept { (w : Pooled S S.State R R.Book) → IsKept S.machine R.recording w → w.spots ≡ [] → EachIsSummed S.machine R.recording w }
+    ensures events { (stepper : S) (o : Outlined) (events : List Event) (w : Pooled S S.State R R.Book) → (S.machine stepper).kept → IsSuited R.recording o
+        → IsAlong S.State S.Concrete (shape_of o) (S.machine stepper) → HappenAll S.machine S.State.order R.order R.recording (opened S.machine R.recording stepper o) events w
+        → w.spots ≡ [] → EachIsSummed S.machine R.recording w }
 {}
 
 /// Where a system has one start, each event leaves the pool exactly where the run is, or the run is

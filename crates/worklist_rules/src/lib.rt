@@ -14,6 +14,7 @@ mod policy;
 mod laws;
 
 pub use laws::{
-    a_pool_has_one_policy_run, a_sharp_pool_follows_its_run, each_run_is_waited_for_or_over,
+    a_pool_has_one_policy_run, a_sharp_pool_follows_its_run, each_is_summed,
+    each_run_is_waited_for_or_over,
 };
 pub use policy::Policy;

@@ -9,17 +9,16 @@ ghost use Rattle.flow_facts.specs.Writable.{IsWritable};
 ghost use Rattle.program_machines.specs.NodeCosts.{HasCosts};
 ghost use Rattle.report_soundness.specs.Certified.{printed_as};
 ghost use Rattle.command_plans.specs.Works.{Works, Judges};
+ghost use Rattle.command_files.specs.Seen.{IsOutlined, scoped_of};
 ghost use Rattle.sweet_cli.specs.Words.{analyse_meant};
-ghost use Rattle.sweet_cli.specs.Seen.{IsOutlined, scoped_of};
 ghost use Rattle.sweet_cli.specs.Analyse.{ReportMeans, IsSoundReport, analysing, policy_of};
 
-use crate::commands::scopes::{ScopedProgram, scoped_in};
-use crate::commands::tables::{Tables, tables_in};
-use crate::lines::left_line;
 use crate::words::{AnalyseWords, Merging};
+use answer_texts::left_line;
 use bounded_analyses::{
     BoundedAnalysis, a_program_has_one_bounded_analysis, found_reports_are_right,
 };
+use command_files::{ScopedProgram, Tables, scoped_in, tables_in};
 use command_plans::{Stop, Why};
 use cost_table::{Costs, a_file_has_one_answer};
 use fact_text::print;

@@ -2,15 +2,15 @@
 
 ghost use Rattle.std.specs.Prelude.{◌≡◌, [], ◌∷◌, IfOk, IfSome};
 ghost use Rattle.command_plans.specs.Works.{Works, Judges};
-ghost use Rattle.sweet_cli.specs.MadeProgram.{made_files, made_name, made_text};
+ghost use Rattle.answer_texts.specs.MadeProgram.{made_text};
+ghost use Rattle.sweet_cli.specs.MadeFile.{made_files, made_name};
 ghost use Rattle.sweet_cli.specs.Generate.{EndsOver, TellsSummary, summing};
 
 use crate::commands::analyse::report_of;
-use crate::commands::scopes::scoped_in;
-use crate::commands::tables::tables_in;
-use crate::lines::{made_text, summary_text};
 use crate::words::{Merging, ProgramFile};
+use answer_texts::{made_text, summary_text};
 use bounded_analyses::found_reports_are_right;
+use command_files::{scoped_in, tables_in};
 use command_plans::Stop;
 use cost_table::a_file_has_one_answer;
 use flow_base::{Shelf, SureShelf};

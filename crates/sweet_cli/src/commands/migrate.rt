@@ -4,7 +4,7 @@ ghost use Rattle.std.specs.Prelude.{IfOk, IfSome};
 ghost use Rattle.command_plans.specs.Works.{Works};
 ghost use Rattle.sweet_cli.specs.Migrate.{IsMigratedReport, migrating};
 
-use crate::commands::report_files::report_in;
+use command_files::report_in;
 use command_plans::Stop;
 use fact_text::{print, writable_reports_are_spelled};
 use flow_base::Shelf;

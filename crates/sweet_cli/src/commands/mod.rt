@@ -8,12 +8,8 @@ ghost use Rattle.sweet_cli.specs.Words.{IsWithinRanges, command_meant, file_mean
 ghost use Rattle.sweet_cli.specs.Table.{print_task, task_for, task_of};
 ghost use Rattle.sweet_cli.specs.Task.{KeepsPromise, no_outcome};
 
-// What commands have in common.
+// A run that is counted.
 mod counting;
-mod laid_out;
-mod report_files;
-pub mod scopes;
-mod tables;
 
 // The commands.
 mod analyse;

@@ -1,31 +1,27 @@
 //! `replay FILE REPORT`: the one run from given values is held against a report.
 
-ghost use Rattle.std.specs.Prelude.{◌≡◌, length, option_map, IfOk, IfSome};
+ghost use Rattle.std.specs.Prelude.{◌≡◌, length, IfOk, IfSome};
 ghost use Rattle.alf_check.specs.CheckedPrograms.{NumberedProgram, seen};
 ghost use Rattle.alf_check.specs.Inputs.{KeepInputs};
 ghost use Rattle.flow_graph.specs.Numbering.{IsGraph};
 ghost use Rattle.flow_facts.specs.Reports.{reported};
 ghost use Rattle.program_machines.specs.NodeCosts.{HasCosts};
 ghost use Rattle.command_plans.specs.Works.{Works, Judges};
+ghost use Rattle.command_files.specs.Seen.{IsOutlined, scoped_of, tables_of};
 ghost use Rattle.sweet_cli.specs.Words.{replay_meant};
 ghost use Rattle.run_replays.specs.Replays.{IsReplayed};
-ghost use Rattle.sweet_cli.specs.Seen.{IsOutlined, scoped_of, tables_of};
-ghost use Rattle.sweet_cli.specs.Replay.{ReplayMeans, TellsReplay, ValuesMean, replaying, run_judged, values_in, values_told};
+ghost use Rattle.sweet_cli.specs.Replay.{ReplayMeans, TellsReplay, replaying, run_judged};
 
 use crate::commands::analyse::priced;
-use crate::commands::report_files::report_in;
-use crate::commands::scopes::{ScopedProgram, scoped_in};
-use crate::commands::tables::{Tables, tables_in};
-use crate::lines::{holds_line, objection_line, table_line};
 use crate::words::ReplayWords;
-use alf_check::InputRow;
-use command_plans::{Role, Stop, Why, read_file};
-use cost_table::{a_file_has_one_answer, a_values_file_has_one_answer, values};
+use answer_texts::{holds_line, objection_line};
+use command_files::{ScopedProgram, Tables, report_in, scoped_in, tables_in, values_in};
+use command_plans::{Stop, Why};
+use cost_table::a_file_has_one_answer;
 use flow_base::Shelf;
 use flow_facts::Report;
 use flow_graph::graphs_are_expansions;
 use program_analysis::a_program_has_one_analysis;
-use program_files::{MOST_BYTES, TOO_LONG};
 use report_checks::is_shaped;
 use report_objections::Objection;
 use run_replays::a_replay_tells_one_thing;
@@ -75,54 +71,6 @@ fn run_judged<F: Shelf>(
     let values = values_in(alloc, &tables.rows, given.values, shelf)?;
     let text = told(alloc, program, tables, &report, &values)?;
     Ok(text)
-}
-
-// The values of a run. Without a file they are those of a file without any.
-fn values_in<F: Shelf>(
-    alloc: Global,
-    rows: &[InputRow],
-    file: Option<&str>,
-    shelf: &mut F,
-) -> Result<Vec<i64>, Stop>
-    ensures work { Works (values_in (length rows.now) (option_map (λ name. name.now) file.entry)) (λ values. values.items)
-        (F.state shelf.old) result (F.state shelf.new) }
-    ensures one_each { IfOk result (λ values. length values.items ≡ length rows.now) }
-{
-    match file {
-        None => values_meant(alloc, b"values = []\n", rows),
-        Some(file) => values_told(alloc, rows, file, shelf),
-    }
-}
-
-// The values of a values file.
-#[tactic(auto, unfolding(crate::specs::Replay::values_told))]
-fn values_told<F: Shelf>(
-    alloc: Global,
-    rows: &[InputRow],
-    file: &str,
-    shelf: &mut F,
-) -> Result<Vec<i64>, Stop>
-    ensures work { Works (values_told (length rows.now) file.now) (λ values. values.items)
-        (F.state shelf.old) result (F.state shelf.new) }
-    ensures one_each { IfOk result (λ values. length values.items ≡ length rows.now) }
-{
-    let bytes = read_file(alloc, shelf, Role::Values, file, MOST_BYTES, TOO_LONG)?;
-    values_meant(alloc, &bytes, rows)
-}
-
-// The values that the bytes mean.
-fn values_meant(alloc: Global, bytes: &[u8], rows: &[InputRow]) -> Result<Vec<i64>, Stop>
-    ensures means { Judges (ValuesMean bytes.now (length rows.now)) (λ values. values.items) result }
-    ensures one_each { IfOk result (λ values. length values.items ≡ length rows.now) }
-{
-    a_values_file_has_one_answer();
-    match values(alloc, bytes, rows) {
-        Ok(values) => Ok(values),
-        Err(fault) => match table_line(alloc, "values", &fault) {
-            Ok(line) => Err(Stop::Told(Why::Source, line)),
-            Err(_) => Err(Stop::Memory),
-        },
-    }
 }
 
 // What is told of the run, with these costs of blocks.

@@ -7,20 +7,21 @@ ghost use Rattle.alf_check.specs.Inputs.{KeepInputs};
 ghost use Rattle.flow_graph.specs.Numbering.{IsGraph};
 ghost use Rattle.command_plans.specs.Works.{Works, Judges};
 ghost use Rattle.alf_ops.specs.TwosComplement.{word};
+ghost use Rattle.command_files.specs.Seen.{scopes_seen, scoped_of};
 ghost use Rattle.sweet_cli.specs.Words.{run_meant};
-ghost use Rattle.sweet_cli.specs.Seen.{scoped_of};
+ghost use Rattle.sweet_cli.specs.LeftLines.{own_scope, unbounded_line};
 ghost use Rattle.sweet_cli.specs.Run.{low_words, RunMeans, running, TellsRun};
 
 use crate::commands::counting::counted;
-use crate::commands::scopes::{ScopedProgram, scoped_in};
-use crate::commands::tables::{Tables, tables_in};
-use crate::lines::{run_text, unbounded_line};
 use crate::words::RunWords;
 use alf_check::InputRow;
 use alf_interp::Counted;
 use alf_runs::{a_run_has_one_end, active_frames_follow_the_call_path};
+use answer_texts::{left_line, run_text};
+use command_files::{ScopedProgram, Tables, scoped_in, tables_in};
 use command_plans::{Stop, Why};
 use cost_table::a_file_has_one_answer;
+use domain_core::Outline;
 use flow_base::Shelf;
 use flow_graph::graphs_are_expansions;
 use std::alloc::{AllocError, Global};
@@ -73,6 +74,30 @@ fn told(
             Err(Stop::Told(Why::Unbounded, line))
         }
     }
+}
+
+// The line of a run with more nodes than the turns, where this node comes after so many.
+fn unbounded_line(alloc: Global, program: &ScopedProgram, n: u32) -> Result<Vec<u8>, AllocError>
+    ensures { IfOk result (λ line. line.items ≡ unbounded_line (scoped_of program.now) n) }
+{
+    let outline = &program.outline;
+    let line = left_line(
+        alloc,
+        &program.expanded.graph,
+        outline,
+        own_scope(outline, n),
+    )?;
+    Ok(line)
+}
+
+// The scope of a node.
+fn own_scope(outline: &Outline, n: u32) -> u32
+    ensures { result ≡ own_scope (scopes_seen outline.now) n }
+{
+    if n < outline.node_count() {
+        return outline.node(n).scope;
+    }
+    0
 }
 
 // The words of the low ends of the ranges.

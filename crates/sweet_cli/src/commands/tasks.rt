@@ -1,15 +1,15 @@
 //! `tasks FILE`: the response times of the tasks of a file.
 
-ghost use Rattle.std.specs.Prelude.{◌≡◌, ◌<◌, length, IfOk, IfSome};
+ghost use Rattle.std.specs.Prelude.{◌<◌, length, IfOk, IfSome};
 ghost use Rattle.cost_table.specs.Tasks.{AreTasks, IsTask};
 ghost use Rattle.command_plans.specs.Works.{Works, Judges};
-ghost use Rattle.sweet_cli.specs.Tasks.{ResponsesMean, TasksMean, TellsResponses, answering, tasks_told};
+ghost use Rattle.sweet_cli.specs.Tasks.{ResponsesMean, TellsResponses, answering};
 
-use crate::lines::{late_line, response_text, table_line};
-use command_plans::{Role, Stop, Why, read_file};
-use cost_table::{Task, a_tasks_file_has_one_answer, tasks as tasks_of};
+use answer_texts::{late_line, response_text};
+use command_files::tasks_told;
+use command_plans::{Stop, Why};
+use cost_table::{Task, a_tasks_file_has_one_answer};
 use flow_base::Shelf;
-use program_files::{MOST_BYTES, TOO_LONG};
 use response_time::{
     RespondFault, a_task_set_has_one_answer, every_job_finishes_in_its_response_time, respond,
 };
@@ -36,31 +36,6 @@ fn answering<F: Shelf>(alloc: Global, file: &str, shelf: &mut F) -> Result<Vec<u
     let times = times_meant(alloc, &tasks)?;
     let text = response_text(alloc, &tasks, &times)?;
     Ok(text)
-}
-
-// The tasks of the file.
-#[tactic(auto, unfolding(crate::specs::Tasks::tasks_told))]
-fn tasks_told<F: Shelf>(alloc: Global, file: &str, shelf: &mut F) -> Result<Vec<Task>, Stop>
-    ensures work { Works (tasks_told file.now) (λ tasks. tasks.items) (F.state shelf.old) result (F.state shelf.new) }
-    ensures keep { IfOk result (λ tasks. AreTasks tasks.items) }
-{
-    let bytes = read_file(alloc, shelf, Role::Tasks, file, MOST_BYTES, TOO_LONG)?;
-    tasks_meant(alloc, &bytes)
-}
-
-// The tasks that the bytes mean.
-fn tasks_meant(alloc: Global, bytes: &[u8]) -> Result<Vec<Task>, Stop>
-    ensures means { Judges (TasksMean bytes.now) (λ tasks. tasks.items) result }
-    ensures keep { IfOk result (λ tasks. AreTasks tasks.items) }
-{
-    a_tasks_file_has_one_answer();
-    match tasks_of(alloc, bytes) {
-        Ok(tasks) => Ok(tasks),
-        Err(fault) => match table_line(alloc, "tasks", &fault) {
-            Ok(line) => Err(Stop::Told(Why::Source, line)),
-            Err(_) => Err(Stop::Memory),
-        },
-    }
 }
 
 // The response times of the tasks.

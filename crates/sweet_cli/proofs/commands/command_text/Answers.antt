@@ -1,5 +1,5 @@
 -- Each command keeps its own promise.
-use Rattle.sweet_cli.specs.MadeProgram.{made_files}
+use Rattle.sweet_cli.specs.MadeFile.{made_files}
 use Rattle.sweet_cli.specs.Generate.{EndsOver, summing}
 use Rattle.sweet_cli.proofs.GeneratePromises.{judged_works, kept_anyway}
 use Rattle.sweet_cli.proofs.commands.command_text.Goals as goal

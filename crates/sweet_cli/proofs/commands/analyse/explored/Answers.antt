@@ -8,7 +8,7 @@ use Rattle.bounded_analyses.specs.Analyses.{IsPrintedReport}
 use Rattle.command_plans.specs.Outcome.{Outcome, Unbounded}
 use Rattle.command_plans.specs.Work.{IsOnly}
 use Rattle.unranked_runs.specs.Ranking.{unranked}
-use Rattle.sweet_cli.specs.Seen.{scoped_of}
+use Rattle.command_files.specs.Seen.{scoped_of}
 use Rattle.sweet_cli.specs.Analyse.{ReportMeans}
 use Rattle.unranked_runs.specs.RankedGraphs as ranks
 use Rattle.sweet_cli.proofs.JudgedReports.{report_only, left_only, printed_of, left_of}

@@ -3,8 +3,8 @@ use Rattle.std.proofs.Common.{subst}
 use Rattle.flow_facts.specs.Reports.{reported}
 use Rattle.worklist_rules.specs.declared.policy.Policy.{Policy}
 use Rattle.command_plans.specs.Works.{Judges}
-use Rattle.sweet_cli.specs.Scopes.{ScopedProgram}
-use Rattle.sweet_cli.specs.Seen.{scoped_of}
+use Rattle.command_files.specs.Scopes.{ScopedProgram}
+use Rattle.command_files.specs.Seen.{scoped_of}
 use Rattle.sweet_cli.specs.Analyse.{ReportMeans}
 use Rattle.sweet_cli.proofs.commands.analyse.report_of.Goals as goal
 

@@ -3,9 +3,9 @@ use Rattle.std.proofs.Common.{Option, subst}
 use Rattle.flow_base.specs.Outside.{Files}
 use Rattle.cached_runs.specs.Answers.{lines_of}
 use Rattle.command_plans.specs.Log.{log_of}
+use Rattle.command_files.specs.Seen.{scoped_of, tables_of}
+use Rattle.command_files.specs.Tables.{tables_in}
 use Rattle.sweet_cli.specs.Words.{cache_meant}
-use Rattle.sweet_cli.specs.Seen.{scoped_of, tables_of}
-use Rattle.sweet_cli.specs.Tables.{tables_in}
 use Rattle.sweet_cli.proofs.CachePromises.{cache_told, tells_cache}
 use Rattle.sweet_cli.proofs.commands.cache.cache.Goals as goal
 

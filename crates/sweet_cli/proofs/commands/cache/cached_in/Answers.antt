@@ -13,9 +13,9 @@ use Rattle.cache_analysis.specs.Sound.{IsSound}
 use Rattle.command_plans.specs.Works.{Judges}
 use Rattle.unranked_runs.specs.Ranking.{unranked}
 use Rattle.unranked_runs.specs.RankedGraphs as ranks
-use Rattle.sweet_cli.specs.declared.commands.scopes.ScopedProgram.{ScopedProgram as ScopedValue}
-use Rattle.sweet_cli.specs.Scopes.{ScopedProgram}
-use Rattle.sweet_cli.specs.Seen.{IsOutlined, scoped_of}
+use Rattle.command_files.specs.declared.scopes.ScopedProgram.{ScopedProgram as ScopedValue}
+use Rattle.command_files.specs.Scopes.{ScopedProgram}
+use Rattle.command_files.specs.Seen.{IsOutlined, scoped_of}
 use Rattle.sweet_cli.specs.Analyse.{policy_of}
 use Rattle.sweet_cli.specs.Cache.{CacheMeans}
 use Rattle.sweet_cli.proofs.commands.cache.cached_in.Goals as goal

@@ -7,7 +7,7 @@ use Rattle.cached_runs.specs.Answers.{lines_of}
 use Rattle.cache_analysis.specs.Sound.{IsSound}
 use Rattle.command_plans.specs.Outcome.{Outcome, Unbounded}
 use Rattle.command_plans.specs.Work.{IsOnly}
-use Rattle.sweet_cli.specs.Seen.{scoped_of}
+use Rattle.command_files.specs.Seen.{scoped_of}
 use Rattle.sweet_cli.specs.Cache.{CacheMeans}
 use Rattle.sweet_cli.proofs.JudgedCaches.{lines_only, left_only}
 use Rattle.sweet_cli.proofs.commands.cache.explored.Goals as goal

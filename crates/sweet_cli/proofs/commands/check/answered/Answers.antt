@@ -12,7 +12,7 @@ use Rattle.command_plans.specs.Outcome.{No}
 use Rattle.command_plans.specs.Work.{IsOnly}
 use Rattle.unranked_runs.specs.Ranking.{unranked}
 use Rattle.unranked_runs.specs.RankedGraphs as ranks
-use Rattle.sweet_cli.specs.Seen.{scoped_of}
+use Rattle.command_files.specs.Seen.{scoped_of}
 use Rattle.sweet_cli.specs.Check.{CheckMeans, IsSoundOf}
 use Rattle.sweet_cli.proofs.JudgedChecks.{accepted_only, refused_only, check_of}
 use Rattle.sweet_cli.proofs.SoundChecks.{sound_of}

@@ -2,9 +2,9 @@
 use Rattle.std.proofs.Common.{Option, ◌∙◌, subst, IfSome}
 use Rattle.flow_base.specs.Outside.{Files}
 use Rattle.command_plans.specs.Log.{log_of}
+use Rattle.command_files.specs.Seen.{scoped_of, tables_of}
+use Rattle.command_files.specs.Tables.{tables_in}
 use Rattle.sweet_cli.specs.Words.{check_meant}
-use Rattle.sweet_cli.specs.Seen.{scoped_of, tables_of}
-use Rattle.sweet_cli.specs.Tables.{tables_in}
 use Rattle.sweet_cli.specs.Check.{IsSoundTold}
 use Rattle.sweet_cli.proofs.CheckPromises.{accepted_shown, checks_told, tells_sound}
 use Rattle.sweet_cli.proofs.commands.check.check.Goals as goal

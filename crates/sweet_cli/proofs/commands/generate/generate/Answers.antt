@@ -3,7 +3,7 @@ use Rattle.std.proofs.Common.{Option, Some, IfOk, IfSome, List, ℕ, ap, subst, 
 use Rattle.flow_base.specs.Outside.{Files}
 use Rattle.flow_base.specs.Sure.{seen_files}
 use Rattle.flow_base.specs.Held.{content_of}
-use Rattle.sweet_cli.specs.MadeProgram.{made_files}
+use Rattle.sweet_cli.specs.MadeFile.{made_files}
 use Rattle.sweet_cli.specs.Generate.{summing, TellsSummary}
 use Rattle.sweet_cli.proofs.GeneratePromises.{summed_only}
 use Rattle.sweet_cli.proofs.commands.generate.generate.Goals as goal

@@ -3,10 +3,10 @@ use Rattle.std.proofs.Common.{Option, None, true, subst}
 use Rattle.flow_base.specs.Outside.{Files}
 use Rattle.flow_facts.specs.Reports.{reported}
 use Rattle.command_plans.specs.Log.{log_of}
+use Rattle.command_files.specs.Seen.{scoped_of, tables_of}
+use Rattle.command_files.specs.Tables.{tables_in}
 use Rattle.sweet_cli.specs.Analyse.{policy_of}
-use Rattle.sweet_cli.specs.MadeProgram.{made_words}
-use Rattle.sweet_cli.specs.Seen.{scoped_of, tables_of}
-use Rattle.sweet_cli.specs.Tables.{tables_in}
+use Rattle.sweet_cli.specs.MadeFile.{made_words}
 use Rattle.sweet_cli.proofs.GeneratePromises.{summary_told, tells_summary}
 use Rattle.sweet_cli.proofs.SoundReports.{printed_sound}
 use Rattle.sweet_cli.proofs.commands.generate.summed.Goals as goal

@@ -6,7 +6,7 @@ use Rattle.flow_graph.specs.Graphs.{HasProgram}
 use Rattle.run_replays.specs.Replays.{Told, IsReplayed}
 use Rattle.unranked_runs.specs.Ranking.{unranked}
 use Rattle.unranked_runs.specs.RankedGraphs as ranks
-use Rattle.sweet_cli.specs.Seen.{scoped_of}
+use Rattle.command_files.specs.Seen.{scoped_of}
 use Rattle.sweet_cli.proofs.JudgedReplays.{held_only, objected_only}
 use Rattle.sweet_cli.proofs.Numbers.{differ}
 use Rattle.sweet_cli.proofs.RankedReplays.{replay_of}

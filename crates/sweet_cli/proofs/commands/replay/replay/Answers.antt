@@ -2,10 +2,10 @@
 use Rattle.std.proofs.Common.{Option, ◌∙◌, subst, IfSome}
 use Rattle.flow_base.specs.Outside.{Files}
 use Rattle.command_plans.specs.Log.{log_of}
+use Rattle.command_files.specs.Seen.{scoped_of, tables_of}
+use Rattle.command_files.specs.Tables.{tables_in}
 use Rattle.sweet_cli.specs.Words.{replay_meant}
 use Rattle.sweet_cli.specs.Replay.{IsHeldTold}
-use Rattle.sweet_cli.specs.Seen.{scoped_of, tables_of}
-use Rattle.sweet_cli.specs.Tables.{tables_in}
 use Rattle.sweet_cli.proofs.ReplayPromises.{held_told, replay_told, tells_replay}
 use Rattle.sweet_cli.proofs.commands.replay.replay.Goals as goal
 

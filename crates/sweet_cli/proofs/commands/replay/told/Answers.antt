@@ -2,7 +2,7 @@
 use Rattle.std.proofs.Common.{subst}
 use Rattle.flow_facts.specs.Reports.{reported}
 use Rattle.command_plans.specs.Works.{Judges}
-use Rattle.sweet_cli.specs.Scopes.{ScopedProgram}
+use Rattle.command_files.specs.Scopes.{ScopedProgram}
 use Rattle.sweet_cli.specs.Replay.{ReplayMeans}
 use Rattle.sweet_cli.proofs.commands.replay.told.Goals as goal
 

@@ -5,9 +5,9 @@ use Rattle.alf_check.specs.declared.rows.InputRow.{InputRow}
 use Rattle.alf_check.specs.CheckedPrograms.{seen}
 use Rattle.alf_check.specs.Inputs.{KeepsInput}
 use Rattle.alf_runs.specs.Places.{AreWords}
-use Rattle.sweet_cli.specs.Seen.{scoped_of}
 use Rattle.command_plans.specs.Work.{IsOnly}
 use Rattle.command_plans.specs.Outcome.{Outcome, Unbounded}
+use Rattle.command_files.specs.Seen.{scoped_of}
 use Rattle.sweet_cli.specs.Run.{RunMeans, low_start}
 use Rattle.sweet_cli.specs.Counting.{CountedAs}
 use Rattle.sweet_cli.proofs.Lows.{lows_within}

@@ -14,8 +14,8 @@ use Rattle.program_bounder.specs.InputCosts.{RunsCost}
 use Rattle.command_plans.specs.Works.{Judges}
 use Rattle.unranked_runs.specs.Ranking.{unranked}
 use Rattle.unranked_runs.specs.RankedGraphs as ranks
-use Rattle.sweet_cli.specs.Scopes.{ScopedProgram}
-use Rattle.sweet_cli.specs.Seen.{IsOutlined, scoped_of}
+use Rattle.command_files.specs.Scopes.{ScopedProgram}
+use Rattle.command_files.specs.Seen.{IsOutlined, scoped_of}
 use Rattle.sweet_cli.specs.SeenBounders.{BoxesMean}
 use Rattle.sweet_cli.specs.Analyse.{policy_of}
 use Rattle.sweet_cli.specs.Worst.{WorstMeans}

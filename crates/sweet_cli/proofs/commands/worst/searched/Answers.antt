@@ -2,7 +2,7 @@
 use Rattle.std.proofs.Common.{◌≡◌, refl, subst}
 use Rattle.program_bounder.specs.declared.bounder.PathBounder.{PathBounder}
 use Rattle.worst_inputs.specs.Searches.{found_of}
-use Rattle.sweet_cli.specs.LeftLines.{left_line}
+use Rattle.answer_texts.specs.ScopeLines.{left_line}
 use Rattle.sweet_cli.specs.SeenBounders.{scoped_in_bounder}
 use Rattle.sweet_cli.proofs.JudgedBoxes.{boxes_only, left_only}
 use Rattle.sweet_cli.proofs.commands.worst.searched.Goals as goal

@@ -3,9 +3,9 @@ use Rattle.std.proofs.Common.{Option, subst}
 use Rattle.flow_base.specs.Outside.{Files}
 use Rattle.worst_inputs.specs.Searches.{found_of}
 use Rattle.command_plans.specs.Log.{log_of}
+use Rattle.command_files.specs.Seen.{scoped_of, tables_of}
+use Rattle.command_files.specs.Tables.{tables_in}
 use Rattle.sweet_cli.specs.Words.{worst_meant}
-use Rattle.sweet_cli.specs.Seen.{scoped_of, tables_of}
-use Rattle.sweet_cli.specs.Tables.{tables_in}
 use Rattle.sweet_cli.proofs.WorstPromises.{boxes_told, tells_worst}
 use Rattle.sweet_cli.proofs.commands.worst.worst.Goals as goal
 

@@ -1,0 +1,8 @@
+-- The files of this folder.
+pub mod RanksTables
+pub mod JudgedTables
+pub mod JudgedTaskFiles
+pub mod JudgedValues
+pub mod JudgedScopes
+pub mod JudgedLayouts
+pub mod JudgedReportFiles

@@ -1,5 +1,0 @@
-use Rattle.std.proofs.Common.{length}
-use Rattle.sweet_cli.proofs.lines.run_lines.+push_globals.Given as goal
-
-abbrev pub decreases-push_globals : goal.decreases-push_globals
-decreases-push_globals l = length l.frames.now

@@ -1,5 +1,0 @@
-use Rattle.std.proofs.Common.{length}
-use Rattle.sweet_cli.proofs.lines.scope_lines.+push_walk.Given as goal
-
-abbrev pub decreases-push_walk : goal.decreases-push_walk
-decreases-push_walk l = length l.nodes.now

@@ -5,6 +5,7 @@ import pathlib
 import re
 import sys
 
+from .head import with_head
 from .preprocessor import lacking, preprocessed
 
 
@@ -54,8 +55,8 @@ def main(words):
         return 1
     from .program import safe
 
-    head = f"/* {safe(given.file)}, written in the profile of sweet; before each statement stands its line there */\n"
-    pathlib.Path(given.out).write_text(head + text, encoding="ascii", errors="replace")
+    out = with_head(safe(given.file), pathlib.Path(given.file).read_bytes(), text.encode("ascii", "replace"))
+    pathlib.Path(given.out).write_bytes(out)
     for line in told(program.notes):
         print(line, file=sys.stderr)
     if not given.is_tried:

@@ -213,7 +213,7 @@ class Statements(Expressions):
         if not lines:
             self.write("do {")
             self.block(node.stmt)
-            self.write(f"}} while ({found.text});")
+            self.write(f"}} {self.program.mark(node.cond)}while ({found.text});")
             return
         name = self.program.fresh()
         self.write(f"int {name} = 0;")
@@ -284,7 +284,7 @@ class Statements(Expressions):
     def case(self, node):
         if isinstance(node, (c_ast.Case, c_ast.Default)):
             label = "default" if isinstance(node, c_ast.Default) else f"case {self.case_value(node)}"
-            self.write(f"{label}: ;")
+            self.lines.append(f"{self.program.mark(node)}{label}: ;")
             for it in node.stmts or ():
                 self.case(it)
         else:

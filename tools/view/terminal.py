@@ -32,6 +32,9 @@ class Screen:
 
     def heading(self) -> list[str]:
         found = []
+        if self.view.origin:
+            out = self.view.origin.written
+            found += [f"What is proved speaks of {out}, which ./sweet-c wrote from this file.", ""]
         if self.view.differs:
             found += ["No line is marked. The rules of this viewer and of `sweet` do not agree on this file:"]
             found += [f"  {self.view.differs}", ""]
@@ -42,7 +45,7 @@ class Screen:
             report = self.found.report
             bound = "path bound" if self.found.model.is_by_path else "count bound"
             told = f"no run costs more than {report.path_bound} (path bound, {report.path_word})"
-            found.append(f"{self.view.path}: {told}")
+            found.append(f"{self.view.shown_path}: {told}")
             found.append(f"count bound {report.count_bound}; shares are of the {bound}")
             found += ["", f"{'in a run':>{self.count_width}} {'share':>5} {'line':>{self.number_width}}"]
         return [*self.view.notes, *([""] if self.view.notes else []), *found]

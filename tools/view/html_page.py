@@ -87,8 +87,8 @@ class Page:
             return ""
         out = element("code", escape(os.path.basename(origin.written)))
         lead = element("strong", "What is proved speaks of ", out)
-        words = f", which <code>./sweet-c</code> wrote from {escape(self.name)}. Counts, loops and alarms stand here at the "
-        words += f"line of {escape(self.name)} that each statement of it comes from, and the lists have its words."
+        words = f", which <code>./sweet-c</code> wrote from {escape(self.name)}. Counts, loops and alarms of each statement "
+        words += f"stand here at the line of {escape(self.name)} that it comes from; the lists have its words in {out}."
         summary = element("summary", "The text of ", out)
         text = element("details", summary, element("pre", escape(origin.written_text)), class_="raw")
         return element("div", lead, words, text, class_="from")

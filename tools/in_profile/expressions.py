@@ -165,6 +165,8 @@ class Expressions(Kinds):
     def product(self, value, factor):
         if factor == 1:
             return value
+        if value.text.isdigit() and int(value.text) * factor < 2**31:
+            return Value(str(int(value.text) * factor), INT, 0, True)
         value = self.shallow(value)
         return Value(f"{value.inner()} * {factor}", promoted(value.kind), value.depth + 1, value.is_fixed)
 
@@ -237,7 +239,7 @@ class Expressions(Kinds):
         if isinstance(kind, Pointer) and kind.rows:
             self.write(f"{place.text} = {place.text} {sign[0]} {count(kind.rows)};")
         elif isinstance(kind, Whole) and kind.is_truth:
-            self.write(f"{place.text} = ({place.inner()} {sign[0]} 1) != 0;")
+            self.write(f"{place.text} = 1;" if sign == "++" else f"{place.text} = !{self.shallow(place).inner()};")
         else:
             self.write(f"{place.inner()}{sign};")
 
@@ -430,6 +432,9 @@ class Expressions(Kinds):
                 return Value(text, INT, max(left.depth, right.depth) + 1)
             return self.split_condition(node, left, right, lines)
         value = self.value(node)
+        if isinstance(value.kind, Array):
+            self.program.note(node, "an array as a condition is 1")
+            return Value("1", INT, 0, True)
         if not isinstance(decayed(value.kind), Whole):
             raise Outside(node, "a null pointer")
         return value
@@ -464,7 +469,11 @@ class Expressions(Kinds):
         found = self.condition(node)
         _, first = self.apart(then)
         _, second = self.apart(other) if other else (None, [])
-        self.write(f"if ({found.text}) {{")
+        if second and not first:
+            found, first, second = self.truth_value(found), second, []
+            self.write(f"if (!({found.text})) {{")
+        else:
+            self.write(f"if ({found.text}) {{")
         self.lines += [f"    {it}" for it in first]
         if second:
             self.write("} else {")

@@ -6,7 +6,7 @@ import re
 from in_profile.command import parsed
 from in_profile.preprocessor import preprocessed
 from in_profile.program import Program
-from in_profile.trial import SHAPE, built, is_same, outcome, tail, told, trials
+from in_profile.trial import SHAPE, built, difference, is_same, outcome, tail
 
 WORDS = set("""auto break case char const continue default do double else enum extern float for goto if inline int long register restrict
 return short signed sizeof static struct switch typedef union unsigned void volatile while _Bool abort exit _exit __builtin_abort
@@ -41,8 +41,10 @@ def prefixed(text, prefix):
     return "".join(pieces)
 
 
-def differences(rewritten, room):
-    """What differs of each of the programs, in order: None where both texts do the same."""
+def outcomes(rewritten, room):
+    """What differs of each of the programs, in order, None where both texts do the same; and what the second text does."""
+    if not rewritten:
+        return []
     text, keys = SHAPE, []
     for i, it in enumerate(rewritten):
         kind = it.program.functions["main"]
@@ -54,13 +56,13 @@ def differences(rewritten, room):
     fault = built(text, keys, made)
     if fault and len(rewritten) > 1:
         half = len(rewritten) // 2
-        return differences(rewritten[:half], room) + differences(rewritten[half:], room)
+        return outcomes(rewritten[:half], room) + outcomes(rewritten[half:], room)
     if fault:
-        return [f"the compiler refuses a text: {fault}"]
-    return [different(it, made, 2 * i) for i, it in enumerate(rewritten)]
+        return [(f"the compiler refuses a text: {fault}", None)]
+    return [compared(it, made, 2 * i) for i, it in enumerate(rewritten)]
 
 
-def different(rewritten, made, index):
+def compared(rewritten, made, index):
     frames = [(name, size) for name, _, size in rewritten.frames()]
     first, second = (outcome(made, index + k, [], [], frames) for k in (0, 1))
-    return None if is_same(first, second) else f"{told(first)} before, and {told(second)} after: {first[2:]} {second[2:]}"
+    return (None if is_same(first, second) else difference(first, second), second)

@@ -105,7 +105,7 @@ class Expressions(Kinds):
             return Value(f"({kind.text()}){value.inner()}", kind, value.depth + 1, value.is_fixed)
         if isinstance(kind, Pointer) and isinstance(source, Pointer) and kind.to == source.to:
             return dataclasses.replace(value, kind=kind)
-        raise Outside(node, "a cast of a pointer")
+        raise Outside(node, "a null pointer" if value.text == "0" else "a cast of a pointer")
 
     def truth_of(self, value):
         """The value as `_Bool`."""
@@ -396,6 +396,8 @@ class Expressions(Kinds):
 
     def call(self, node):
         """A call as it may stand in the profile, and the type that it gives."""
+        if isinstance(node.name, c_ast.ID):
+            self.program.calls.setdefault(self.name, set()).add(node.name.name)
         kind = self.kind(node)
         name, arguments = node.name.name, node.args.exprs if node.args else []
         if not isinstance(self.program.scopes.find(name), Object):
@@ -409,7 +411,7 @@ class Expressions(Kinds):
         if len(values) != len(found.kind.parameters):
             raise Outside(node, f"a call of {name} with {len(values)} arguments")
         values = [self.put(*it) for it in zip(arguments, found.kind.parameters, values)]
-        self.program.called(self.name, name, node)
+        self.program.valued_calls += kind != VOID
         return f"{found.text}({', '.join(it.text for it in values)})", kind
 
     # ---- conditions

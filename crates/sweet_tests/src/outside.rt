@@ -116,7 +116,7 @@ migrate r | 0 | report | r
 tasks u.toml | 9 | tasks | u.toml
 tasks i.toml | 0 | tasks | i.toml"#;
 
-// The shelf of the program that returns at once, of inputs, of costs and of the program's report, where one read is to fail.
+// The shelf of the program that returns at once, of inputs, of costs and of its report, where one read is to fail.
 fn failing_shelf(alloc: Global, failing: &str) -> Result<MemoryShelf, AllocError> {
     let mut numbers = Vec::new(alloc);
     if let Ok(number) = failing.parse::<u64>() {

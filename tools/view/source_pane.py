@@ -171,7 +171,7 @@ class SourcePane:
             return element("span", "not called", class_="badge off")
         if len(paths) == 1:
             return ""
-        options = [element("option", f"all {len(paths)} calls, added up", value="")]
+        options = [element("option", f"{len(paths)} calls, added up", value="")]
         for number, path in enumerate(paths):
             options.append(element("option", f"call from line {escape(model.call_words(path))}", value=number))
         return element(

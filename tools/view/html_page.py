@@ -88,8 +88,9 @@ class Page:
             return ""
         out = element("code", escape(os.path.basename(origin.written)))
         lead = element("strong", "What is proved speaks of ", out)
-        words = f", which <code>./sweet-c</code> wrote from {escape(self.name)}. Counts, loops and alarms of each statement "
-        words += f"stand here at the line of {escape(self.name)} that it comes from; the lists have its words in {out}."
+        name = escape(self.name)
+        words = f", which <code>./sweet-c</code> wrote from {name}. Counts, loops and alarms of each statement "
+        words += f"stand here at the line of {name} that it comes from; the lists have its words in {out}."
         return element("div", lead, words, class_="from")
 
     def written_text(self) -> str:

@@ -33,7 +33,7 @@ def characters(node, text):
 
 def number(node):
     """The worth and the type of a constant."""
-    if node.type == "char":
+    if "'" in node.value:
         if node.value.startswith(("L", "u", "U")):
             raise Outside(node, "a wide character")
         found = characters(node, node.value[1:-1])

@@ -105,7 +105,7 @@ class Expressions(Kinds):
             return Value(f"({kind.text()}){value.inner()}", kind, value.depth + 1, value.is_fixed)
         if isinstance(kind, Pointer) and isinstance(source, Pointer) and kind.to == source.to:
             return dataclasses.replace(value, kind=kind)
-        raise Outside(node, "a cast of a pointer")
+        raise Outside(node, "a null pointer" if value.text == "0" else "a cast of a pointer")
 
     def truth_of(self, value):
         """The value as `_Bool`."""
@@ -165,6 +165,8 @@ class Expressions(Kinds):
     def product(self, value, factor):
         if factor == 1:
             return value
+        if value.text.isdigit() and int(value.text) * factor < 2**31:
+            return Value(str(int(value.text) * factor), INT, 0, True)
         value = self.shallow(value)
         return Value(f"{value.inner()} * {factor}", promoted(value.kind), value.depth + 1, value.is_fixed)
 
@@ -237,7 +239,7 @@ class Expressions(Kinds):
         if isinstance(kind, Pointer) and kind.rows:
             self.write(f"{place.text} = {place.text} {sign[0]} {count(kind.rows)};")
         elif isinstance(kind, Whole) and kind.is_truth:
-            self.write(f"{place.text} = ({place.inner()} {sign[0]} 1) != 0;")
+            self.write(f"{place.text} = 1;" if sign == "++" else f"{place.text} = !{self.shallow(place).inner()};")
         else:
             self.write(f"{place.inner()}{sign};")
 
@@ -394,6 +396,8 @@ class Expressions(Kinds):
 
     def call(self, node):
         """A call as it may stand in the profile, and the type that it gives."""
+        if isinstance(node.name, c_ast.ID):
+            self.program.calls.setdefault(self.name, set()).add(node.name.name)
         kind = self.kind(node)
         name, arguments = node.name.name, node.args.exprs if node.args else []
         if not isinstance(self.program.scopes.find(name), Object):
@@ -407,7 +411,7 @@ class Expressions(Kinds):
         if len(values) != len(found.kind.parameters):
             raise Outside(node, f"a call of {name} with {len(values)} arguments")
         values = [self.put(*it) for it in zip(arguments, found.kind.parameters, values)]
-        self.program.called(self.name, name, node)
+        self.program.valued_calls += kind != VOID
         return f"{found.text}({', '.join(it.text for it in values)})", kind
 
     # ---- conditions
@@ -430,6 +434,9 @@ class Expressions(Kinds):
                 return Value(text, INT, max(left.depth, right.depth) + 1)
             return self.split_condition(node, left, right, lines)
         value = self.value(node)
+        if isinstance(value.kind, Array):
+            self.program.note(node, "an array as a condition is 1")
+            return Value("1", INT, 0, True)
         if not isinstance(decayed(value.kind), Whole):
             raise Outside(node, "a null pointer")
         return value
@@ -464,7 +471,11 @@ class Expressions(Kinds):
         found = self.condition(node)
         _, first = self.apart(then)
         _, second = self.apart(other) if other else (None, [])
-        self.write(f"if ({found.text}) {{")
+        if second and not first:
+            found, first, second = self.truth_value(found), second, []
+            self.write(f"if (!({found.text})) {{")
+        else:
+            self.write(f"if ({found.text}) {{")
         self.lines += [f"    {it}" for it in first]
         if second:
             self.write("} else {")

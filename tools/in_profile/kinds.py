@@ -101,7 +101,9 @@ class Kinds:
             return found.kind.result
         if name in FAULTS:
             return VOID
-        raise Outside(node, f"a call of {name}, which has no definition here" if name else "a call through a pointer")
+        if name in ("", "assembly"):
+            raise Outside(node, name or "a call through a pointer")
+        raise Outside(node, f"a call of {name}, which has no definition here")
 
 
 def text_in(node):

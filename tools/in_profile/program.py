@@ -80,10 +80,6 @@ class Program:
         self.has_faults = True
         return f"{self.none} = 7 / {self.none}"
 
-    def called(self, caller, name, node):
-        self.calls.setdefault(caller, {}).setdefault(name, place_of(node))
-        self.valued_calls += self.functions[name].result != VOID
-
     def string(self, values):
         """The array of the file that holds a string."""
         key = tuple(values)
@@ -216,10 +212,18 @@ class Program:
         self.heads.append(f"{self.mark(node)}{kind.of.text()} {name}[{count(kind.lengths)}]{start};")
         return Object(name, kind)
 
+    def unnamed(self, node):
+        """What declares a tag alone: constants of an enumeration are taken, and a structure is not used yet."""
+        if isinstance(node.type, c_ast.Enum):
+            self.types.of(node.type)
+
     def declare(self, node):
         """An object or a prototype of the file."""
+        if node.name is None:
+            self.unnamed(node)
+            return
         kind = self.types.of(node.type)
-        if node.name is None or isinstance(kind, Function):
+        if isinstance(kind, Function):
             return
         if "extern" in node.storage and node.init is None:
             self.wanted.setdefault(node.name, node)
@@ -266,7 +270,7 @@ class Program:
             self.outside(it, node)
             name = node.decl.name if isinstance(node, c_ast.FuncDef) else getattr(node, "name", None)
             if name:
-                self.scopes.put(name, Missing())
+                self.scopes.levels[0].setdefault(name, Missing())
 
     def external(self, node, definitions):
         if isinstance(node, c_ast.Typedef):
@@ -321,6 +325,8 @@ class Program:
     def parameter(self, node):
         """Makes a parameter known, and gives its declaration."""
         try:
+            if isinstance(node, c_ast.ID):
+                raise Outside(node, None)
             kind, own = decayed(self.types.of(node.type)), self.name_of(node.name, node)
         except Outside:
             self.scopes.put(node.name, Missing())

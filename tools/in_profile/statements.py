@@ -121,14 +121,14 @@ class Statements(Expressions):
         try:
             self.declaration(node)
         except Outside:
-            if node.name:
-                self.program.scopes.put(node.name, Missing())
+            self.program.scopes.levels[-1].setdefault(node.name, Missing())
             raise
 
     def declaration(self, node):
-        kind = self.program.types.of(node.type)
         if node.name is None:
+            self.program.unnamed(node)
             return
+        kind = self.program.types.of(node.type)
         if "extern" in node.storage or isinstance(kind, Function):
             found = self.program.scopes.find(node.name)
             if found is not None and found is not self.program.scopes.levels[0].get(node.name):

@@ -1,5 +1,5 @@
-"""What the viewer must hold of texts that `sweet-c` wrote: it shows the lines that they came from, and none where a comment
-or a checksum does not fit."""
+"""What the viewer must hold of texts that `sweet-c` wrote: it shows the lines that they came from, and none where a
+comment or a checksum does not fit."""
 
 import collections.abc
 import hashlib
@@ -88,7 +88,7 @@ def lines_of(out: pathlib.Path, source: Source) -> list[int]:
 
 
 def edits(text: str, chance: random.Random) -> collections.abc.Iterator[Fault]:
-    """Texts that differ in one place, and what was changed; the checksums are those of the new text but in the first ones."""
+    """What was changed in one place, and the text with it. The first ones keep the old checksums."""
     head = FORM.match(text)
     rest = text[head.end() :]
     comments = list(re.finditer(r"/\* ([0-9]+) \*/ ", rest))

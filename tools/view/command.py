@@ -23,7 +23,8 @@ The variable SWEET names another program than ./sweet."""
 
 @dataclasses.dataclass(slots=True)
 class Options:
-    """Whether a text is wanted, whether of the file's own lines, and where the page goes: empty where no place was given."""
+    """Whether a text is wanted, whether of the file's own lines, and where the page goes: empty where that was not
+    told."""
 
     is_text: bool = False
     is_own: bool = False

@@ -39,8 +39,8 @@ class Analysis:
 class View:
     """A file with its text, the words of the call, and the program's answer with its status.
 
-    `origin` is the file that it was written from, if its lines are shown: `text` is then of that file. `differs` says why no line is marked, `refusal` why there is no report, and `place` where; `notes` are further
-    sentences.
+    `origin` is the file that it was written from, if its lines are shown: `text` is then of that file. `differs` says
+    why no line is marked, `refusal` why there is no report, and `place` where; `notes` are further sentences.
     """
 
     path: str
@@ -71,8 +71,8 @@ class View:
 
 
 def look(words: list[str], is_own: bool = False) -> View:
-    """The view for the words of `analyse`. The lines of the file itself are shown where `is_own` is set, whatever it was
-    written from."""
+    """The view for the words of `analyse`. The lines of the file itself are shown where `is_own` is set, also where it
+    was written from another."""
     path, options = options_of(words)
     if path is None:
         raise Unreadable("give a FILE, as ./sweet analyse takes it")

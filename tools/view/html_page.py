@@ -62,7 +62,8 @@ class Page:
         cells += [element("span", "line", class_="ln"), element("code")]
         top = element("div", *cells, class_="row top", aria_hidden="true") if self.found else ""
         rows = element("div", top, self.source.html(), class_="rows", role="list")
-        return element("section", self.legend() if self.found else "", rows, class_="source", aria_label="source")
+        parts = [self.legend() if self.found else "", rows, self.written_text()]
+        return element("section", *parts, class_="source", aria_label="source")
 
     # -- the head
 
@@ -87,11 +88,18 @@ class Page:
             return ""
         out = element("code", escape(os.path.basename(origin.written)))
         lead = element("strong", "What is proved speaks of ", out)
-        words = f", which <code>./sweet-c</code> wrote from {escape(self.name)}. Counts, loops and alarms of each statement "
-        words += f"stand here at the line of {escape(self.name)} that it comes from; the lists have its words in {out}."
-        summary = element("summary", "The text of ", out)
-        text = element("details", summary, element("pre", escape(origin.written_text)), class_="raw")
-        return element("div", lead, words, text, class_="from")
+        name = escape(self.name)
+        words = f", which <code>./sweet-c</code> wrote from {name}. Counts, loops and alarms of each statement "
+        words += f"stand here at the line of {name} that it comes from; the lists have its words in {out}."
+        return element("div", lead, words, class_="from")
+
+    def written_text(self) -> str:
+        """The text that the report is of, where another is shown."""
+        origin = self.view.origin
+        if origin is None:
+            return ""
+        summary = element("summary", "The text of ", element("code", escape(os.path.basename(origin.written))))
+        return element("details", summary, element("pre", escape(origin.written_text)), class_="raw")
 
     def warning(self) -> str:
         """Why no line is marked, and why there is no report."""

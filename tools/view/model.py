@@ -135,6 +135,9 @@ class Model:
 
     def item_text(self, item: Item) -> str:
         text = self.source.words_of(sorted(item.strong))
+        if item.kind == "switch" and not item.frames and item.role.startswith("test"):
+            # A constant alone, as of `while (1)`, would tell little.
+            return f"{text}, the {item.role}"
         return text + " …" if item.kind == "store" and text.endswith("=") else text
 
     def column_of(self, block: Block, line: int) -> int:

@@ -160,8 +160,10 @@ class SourcePane:
         return found
 
     def call_badges(self, line: int) -> list[str]:
-        model = self.found.model if self.found else None
-        return [self.chooser(it) for it in model.source.functions if model.tokens[it.named].line == line] if model else []
+        if not self.found:
+            return []
+        model = self.found.model
+        return [self.chooser(it) for it in model.source.functions if model.tokens[it.named].line == line]
 
     def chooser(self, function: Function) -> str:
         """Of a function that is called twice the calls, to see one of them alone."""
@@ -171,7 +173,7 @@ class SourcePane:
             return element("span", "not called", class_="badge off")
         if len(paths) == 1:
             return ""
-        options = [element("option", f"all {len(paths)} calls, added up", value="")]
+        options = [element("option", f"{len(paths)} calls, added up", value="")]
         for number, path in enumerate(paths):
             options.append(element("option", f"call from line {escape(model.call_words(path))}", value=number))
         return element(

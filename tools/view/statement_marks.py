@@ -43,9 +43,9 @@ class StatementMarks:
             end = token.end
 
     def line_of(self, token: int) -> int:
-        """The line of a token, from 1; 0 where no comment holds for it."""
+        """The line of a token in the file, from 1; 0 where no comment holds for it, or one that names another file."""
         place = self.places[token]
-        return place[1] if place else 0
+        return place[1] if place and not place[0] else 0
 
     def is_marked(self, token: int) -> bool:
         return self.has_own[token] and not self.places[token][0]

@@ -2,11 +2,11 @@
 
 Held are, on each page, outside of blocks of code:
 
-- paths: what is quoted and has the form of a path is there, from the top, from `crates/`, from the page's own folder, or in a
-  crate that the same paragraph names; in `crates/NAME/README.md` a word of capitals stands for any name;
+- paths: what is quoted and has the form of a path is there, from the top, from `crates/`, from the page's own folder,
+  or in a crate that the same paragraph names; in `crates/NAME/README.md` a word of capitals stands for any name;
 - links: the file is there, and has the heading that the link names;
-- names: what is quoted and has an underscore or a capital inside is a word of the sources, of the scripts or of the examples;
-  in `CRATE::NAME` the name is one of that crate;
+- names: what is quoted and has an underscore or a capital inside is a word of the sources, of the scripts or of the
+  examples; in `CRATE::NAME` the name is one of that crate;
 - clauses: in `CLAUSE` of `CALL` both stand in one source;
 - the files of `specs/` that a crate's page lists in a table;
 - counts of crates, families, commands, edits of the gate and rows of tests, where `COUNTS` knows the phrase;
@@ -23,7 +23,7 @@ SOURCES = (".rt", ".antt")
 QUOTED = re.compile(r"`([^`\n]+)`")
 PATH = re.compile(r"[\w.*+-]+(?:/[\w.*+-]*)+|\w+\.(?:rt|antt)")
 NAME = re.compile(r"\w+(?:::\w+)*")
-CONTRACTS = ("README.md", "theorems.md", "trust.md", "how-to.md", "architecture.md", "caches.md", "schedules.md", "boxes.md")
+CONTRACTS = "README.md theorems.md trust.md how-to.md architecture.md caches.md schedules.md boxes.md".split()
 OF = re.compile(r"((?:`\w+`(?:,\s+|\s+and\s+)?)+)\s+of\s+`([\w:]+)`")
 
 
@@ -142,7 +142,8 @@ def wrong_clauses(page, text):
     for names, of in OF.findall(text):
         *crate, name = of.split("::")
         crates = [it for it in crate if it in sources()] or list(sources())
-        beside = [words_of(path) for it in crates for path in sources()[it] if name == path.stem or name in words_of(path)]
+        paths = [path for it in crates for path in sources()[it]]
+        beside = [words_of(it) for it in paths if name == it.stem or name in words_of(it)]
         for clause in re.findall(r"\w+", re.sub(r"`\s+and\s+`", "` `", names)) if beside else ():
             if not any(clause in it for it in beside):
                 yield f"no source has `{clause}` beside `{of}`"
@@ -188,6 +189,16 @@ def commands():
     return {name: re.findall(r"\w+", f"{values} {flags}") for name, values, flags in re.findall(form, text)}
 
 
+def gcc_programs():
+    """How many programs of C have results of gcc."""
+    return rows("lower_tests/src/programs.rt", r"^=> ")
+
+
+def expression_rows():
+    """How many statements are lowered for their expressions."""
+    return rows("lower_tests/src/expressions.rt", r"^(?!\s*//|\s*let).* => ")
+
+
 # A phrase of the pages with a number, and how many there are.
 COUNTS = {
     r"fall into (\d+) families": lambda: family_count(),
@@ -195,9 +206,9 @@ COUNTS = {
     r"crates and (\d+) edits, it was": lambda: len([*TOP.glob("crates/*/must-fail/*.edit")]),
     r"where there are (\d+) now": lambda: len(crates_below("sweet")),
     r"The program has (\w+) commands": lambda: len(commands()),
-    r"(\d+) programs (?:with|are held against the results of) gcc": lambda: rows("lower_tests/src/programs.rt", r"^=> "),
-    r"(\d+) programs with what gcc": lambda: rows("lower_tests/src/programs.rt", r"^=> "),
-    r"(\d+) statements, each row of the tables": lambda: rows("lower_tests/src/expressions.rt", r"^(?!\s*//|\s*let).* => "),
+    r"(\d+) programs (?:with|are held against the results of) gcc": lambda: gcc_programs(),
+    r"(\d+) programs with what gcc": lambda: gcc_programs(),
+    r"(\d+) statements, each row of the tables": lambda: expression_rows(),
     r"(\d+) statements with ways": lambda: rows("lower_tests/src/statements.rt", r" => "),
     r"(\d+) values (?:of operators|for the)": lambda: rows("base_tests/src/values.rt", r"^[a-z_]+ [0-9 ]*\| .* = "),
     r"(\d+) reports in which two lines": lambda: rows("fact_tests/src/swaps.rt", r"^\d+ \d+ => "),

@@ -1,6 +1,6 @@
 //! Functions, lowered.
 
-ghost use Rattle.std.specs.Prelude.{◌≡◌, ◌<◌, ◌≤◌, ◌+◌, ◌^◌, ℕ, List, ◌∷◌, ◌++◌, map, IfOk, OnOk, IfSome, IfNone};
+ghost use Rattle.std.specs.Prelude.{◌≡◌, ◌<◌, ◌+◌, ◌^◌, ℕ, List, ◌∷◌, ◌++◌, map, SomeIff, IfOk, OnOk};
 ghost use Rattle.alf_program.specs.Tree as alf;
 ghost use Rattle.c_unit.specs.Tree.{ExternalTree, Declaration, Definition, declarator_of, external_of, statement_of, statements_of};
 ghost use Rattle.c_unit.specs.Units.{unit_of};
@@ -59,8 +59,7 @@ fn function(
 
 // The number of the next function, where 32 bits have one.
 fn next_function(function: u32) -> Option<u32>
-    ensures next { IfSome result (λ next. next ≡ function + 1) }
-    ensures past { IfNone result (2 ^ 32 ≤ function + 1) }
+    ensures { SomeIff result (function + 1 < 2 ^ 32) (function + 1) }
 {
     function.checked_add(1)
 }

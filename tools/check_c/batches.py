@@ -6,7 +6,7 @@ import re
 from in_profile.command import parsed
 from in_profile.preprocessor import preprocessed
 from in_profile.program import Program
-from in_profile.trial import SHAPE, built, difference, is_same, outcome, tail
+from in_profile.trial import SHAPE, built, difference, is_same, outcomes, tail
 
 WORDS = set("""auto break case char const continue default do double else enum extern float for goto if inline int long register restrict
 return short signed sizeof static struct switch typedef union unsigned void volatile while _Bool abort exit _exit __builtin_abort
@@ -41,7 +41,7 @@ def prefixed(text, prefix):
     return "".join(pieces)
 
 
-def outcomes(rewritten, room):
+def compared(rewritten, room):
     """What differs of each of the programs, in order, None where both texts do the same; and what the second text does."""
     if not rewritten:
         return []
@@ -56,13 +56,10 @@ def outcomes(rewritten, room):
     fault = built(text, keys, made)
     if fault and len(rewritten) > 1:
         half = len(rewritten) // 2
-        return outcomes(rewritten[:half], room) + outcomes(rewritten[half:], room)
+        return compared(rewritten[:half], room) + compared(rewritten[half:], room)
     if fault:
         return [(f"the compiler refuses a text: {fault}", None)]
-    return [compared(it, made, 2 * i) for i, it in enumerate(rewritten)]
-
-
-def compared(rewritten, made, index):
-    frames = [(name, size) for name, _, size in rewritten.frames()]
-    first, second = (outcome(made, index + k, [], [], frames) for k in (0, 1))
-    return (None if is_same(first, second) else difference(first, second), second)
+    runs = [(2 * i + k, [], [], [(name, size) for name, _, size in it.frames()]) for i, it in enumerate(rewritten) for k in (0, 1)]
+    found = outcomes(made, runs)
+    pairs = zip(found[::2], found[1::2])
+    return [(None if is_same(first, second) else difference(first, second), second) for first, second in pairs]

@@ -11,7 +11,7 @@ import tomllib
 
 from .types import Pointer, VOID
 
-TRIALS, SECONDS = 22, 20
+TRIALS, OUT_OF_TIME = 22, 26
 WORDS = ["cc", "-std=gnu99", "-fwrapv", "-fsigned-char", "-fno-strict-aliasing", "-fno-builtin", "-fno-stack-protector", "-fno-pie", "-no-pie",
          "-w", "-nostdlib", "-static", "-Dexit=sweet_exit", "-D_exit=sweet_exit", "-Dabort=sweet_abort", "-fcf-protection=none"]
 SHAPE = "\nstruct sweet_program { int (*call)(const int *); void *const *places; const int *sizes; int count; };\n"
@@ -19,49 +19,79 @@ DRIVER = SHAPE + """
 extern const struct sweet_program *const sweet_programs[];
 static const struct sweet_program *sweet_chosen;
 #ifdef __i386__
-static long sweet_call(long number, long a, long b, long c)
-{ long r; __asm__ volatile("int $0x80" : "=a"(r) : "a"(number), "b"(a), "c"(b), "d"(c) : "memory"); return r; }
-enum { READ = 3, WRITE = 4, END = 1 };
+static long sweet_call(long number, long a, long b, long c, long d)
+{ long r; __asm__ volatile("int $0x80" : "=a"(r) : "a"(number), "b"(a), "c"(b), "d"(c), "S"(d) : "memory"); return r; }
+enum { END = 1, FORK = 2, READ = 3, WRITE = 4, TIMER = 104, WAIT = 114 };
 #else
-static long sweet_call(long number, long a, long b, long c)
-{ long r; __asm__ volatile("syscall" : "=a"(r) : "a"(number), "D"(a), "S"(b), "d"(c) : "memory", "rcx", "r11"); return r; }
-enum { READ = 0, WRITE = 1, END = 60 };
+static long sweet_call(long number, long a, long b, long c, long d)
+{ long r; register long e __asm__("r10") = d;
+  __asm__ volatile("syscall" : "=a"(r) : "a"(number), "D"(a), "S"(b), "d"(c), "r"(e) : "memory", "rcx", "r11"); return r; }
+enum { READ = 0, WRITE = 1, TIMER = 38, FORK = 57, END = 60, WAIT = 61 };
 #endif
 void *memcpy(void *to, const void *from, unsigned long count)
 { char *t = to; const char *f = from; while (count--) *t++ = *f++; return to; }
 void *memset(void *to, int it, unsigned long count) { char *t = to; while (count--) *t++ = it; return to; }
 static void sweet_write(const void *at, long count)
-{ while (count > 0) { long done = sweet_call(WRITE, 1, (long)at, count); if (done <= 0) break; at = (const char *)at + done; count -= done; } }
+{
+    while (count > 0) {
+        long done = sweet_call(WRITE, 1, (long)at, count, 0);
+        if (done <= 0) break;
+        at = (const char *)at + done; count -= done;
+    }
+}
 static void sweet_end(int how, int worth)
 {
     int head[2] = {how, worth};
     sweet_write(head, sizeof head);
-    for (int i = 0; i < sweet_chosen->count; i++) sweet_write(sweet_chosen->places[i], sweet_chosen->sizes[i]);
-    for (;;) sweet_call(END, 0, 0, 0);
+    for (int i = 0; how < 2 && i < sweet_chosen->count; i++) sweet_write(sweet_chosen->places[i], sweet_chosen->sizes[i]);
+    for (;;) sweet_call(END, 0, 0, 0, 0);
 }
 void sweet_exit(int worth) { sweet_end(1, worth); }
 void sweet_abort(void) { sweet_end(2, 0); }
 void sweet_built_in(void) __asm__("abort");
 void sweet_built_in(void) { sweet_end(2, 0); }
+static int sweet_is_out;
 static int sweet_word(void)
 {
     int word = 0; char *at = (char *)&word; long count = sizeof word;
-    while (count > 0) { long done = sweet_call(READ, 0, (long)at, count); if (done <= 0) break; at += done; count -= done; }
+    while (count > 0) {
+        long done = sweet_call(READ, 0, (long)at, count, 0);
+        if (done <= 0) { sweet_is_out = 1; break; }
+        at += done; count -= done;
+    }
     return word;
+}
+static int sweet_sets[4096][4];
+static void sweet_trial(int index)
+{
+    int arguments[16], count, i, j, status = 0;
+    sweet_chosen = sweet_programs[index];
+    for (i = 0; i < 16; i++) arguments[i] = sweet_word();
+    count = sweet_word();
+    for (i = 0; i < count; i++) for (j = 0; j < 4; j++) sweet_sets[i][j] = sweet_word();
+    long child = sweet_call(FORK, 0, 0, 0, 0);
+    if (child == 0) {
+        long limit[4] = {0, 0, SECONDS, 0};
+        sweet_call(TIMER, 1, (long)limit, 0, 0);
+        for (i = 0; i < count; i++)
+            memcpy((char *)sweet_chosen->places[sweet_sets[i][0]] + sweet_sets[i][1], &sweet_sets[i][3], sweet_sets[i][2]);
+        sweet_end(0, sweet_chosen->call(arguments));
+    }
+    sweet_call(WAIT, child, (long)&status, 0, 0);
+    if (status & 127) {
+        int head[2] = {3, status & 127};
+        sweet_write(head, sizeof head);
+    }
 }
 __attribute__((force_align_arg_pointer)) void _start(void)
 {
-    int arguments[16], count, i;
-    sweet_chosen = sweet_programs[sweet_word()];
-    for (i = 0; i < 16; i++) arguments[i] = sweet_word();
-    count = sweet_word();
-    for (i = 0; i < count; i++) {
-        int frame = sweet_word(), offset = sweet_word(), size = sweet_word(), worth = sweet_word();
-        memcpy((char *)sweet_chosen->places[frame] + offset, &worth, size);
+    for (;;) {
+        int index = sweet_word();
+        if (sweet_is_out) sweet_call(END, 0, 0, 0, 0);
+        sweet_trial(index);
     }
-    sweet_end(0, sweet_chosen->call(arguments));
 }
-"""
+""".replace("SECONDS", "5")
 
 
 @functools.cache
@@ -73,7 +103,7 @@ def compiler():
         for bits in ("-m32", "-m64"):
             built = subprocess.run([*WORDS, bits, "-o", made, source], capture_output=True)
             try:
-                if built.returncode == 0 and subprocess.run([made], input=b"\0" * 128, capture_output=True, timeout=SECONDS).returncode in (0, -11):
+                if built.returncode == 0 and subprocess.run([made], stdin=subprocess.DEVNULL).returncode == 0:
                     return [*WORDS, bits], bits == "-m32"
             except OSError:
                 continue
@@ -116,24 +146,26 @@ def built(text, keys, made):
     return ran.stderr[:600] if ran.returncode else None
 
 
-def outcome(made, index, arguments, sets, frames):
-    """How a run ends, with what it gives, and what the globals hold."""
-    given = struct.pack("<i", index) + b"".join(struct.pack("<I", it % 2**32) for it in (arguments + [0] * 16)[:16])
-    given += struct.pack("<i", len(sets)) + b"".join(struct.pack("<iiiI", *it[:3], it[3] % 2**32) for it in sets)
-    try:
-        ran = subprocess.run([made], input=given, capture_output=True, timeout=SECONDS)
-    except subprocess.TimeoutExpired:
-        return ("no end in time",)
-    if ran.returncode < 0 or len(ran.stdout) < 8:
-        return ("a fault",)
-    how, worth = struct.unpack("<ii", ran.stdout[:8])
-    if how == 2:
-        return ("a fault",)
-    held, at = {}, 8
-    for name, size in frames:
-        held[name] = ran.stdout[at : at + size].hex()
-        at += size
-    return ("exit" if how else "returned", worth, held)
+def outcomes(made, runs):
+    """How each run ends, with what it gives, and what the globals hold. A run has a program's number, arguments, sets and frames."""
+    given = b""
+    for index, arguments, sets, _ in runs:
+        given += struct.pack("<i", index) + b"".join(struct.pack("<I", it % 2**32) for it in (arguments + [0] * 16)[:16])
+        given += struct.pack("<i", len(sets)) + b"".join(struct.pack("<iiiI", *it[:3], it[3] % 2**32) for it in sets)
+    wrote = subprocess.run([made], input=given, capture_output=True).stdout
+    found, at = [], 0
+    for *_, frames in runs:
+        how, worth = struct.unpack_from("<ii", wrote, at)
+        at += 8
+        if how > 1:
+            found.append(("no end in time",) if how == 3 and worth == OUT_OF_TIME else ("a fault",))
+            continue
+        held = {}
+        for name, size in frames:
+            held[name] = wrote[at : at + size].hex()
+            at += size
+        found.append(("exit" if how else "returned", worth, held))
+    return found
 
 
 def is_same(first, second):
@@ -197,7 +229,7 @@ def tried(program, source, text, inputs):
     frames = [(name, it.text, it.kind.size) for name, it in sorted(program.objects.items())]
     own, new = [(name, size) for name, _, size in frames], [(name, size) for _, name, size in frames]
     root = program.scopes.levels[0][program.root].text
-    wrong = number = 0
+    wrong = 0
     with tempfile.TemporaryDirectory(prefix="sweet-c-") as room:
         before, after = pathlib.Path(room, "before"), pathlib.Path(room, "after")
         fault = built(source + SHAPE + tail("in", program.root, kind, own), ["in"], before)
@@ -205,13 +237,11 @@ def tried(program, source, text, inputs):
         if fault:
             print(f"sweet-c: the compiler refuses a text:\n{fault}", file=sys.stderr)
             return 1
-        for values in trials(ranges_in(inputs)):
-            number += 1
-            arguments, sets = placed(values, program, [name for name, _ in own])
-            first, second = (outcome(made, 0, arguments, sets, own) for made in (before, after))
+        runs = [(0, *placed(values, program, [name for name, _ in own]), own) for values in trials(ranges_in(inputs))]
+        for number, (first, second) in enumerate(zip(outcomes(before, runs), outcomes(after, runs)), 1):
             if not is_same(first, second):
                 wrong += 1
                 print(f"sweet-c: trial {number} differs: {difference(first, second)}", file=sys.stderr)
     bits = "for 32 bits" if compiler()[1] else "for 64 bits, with long and sizes in 32"
-    print(f"sweet-c: {number} trials, compiled {bits}: {wrong} differ", file=sys.stderr)
+    print(f"sweet-c: {len(runs)} trials, compiled {bits}: {wrong} differ", file=sys.stderr)
     return wrong

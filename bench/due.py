@@ -40,13 +40,14 @@ class Reader:
 
     def number(self, most, least=0):
         word, begin = self.word(), self.at
-        form = r"0|-?[1-9]\d*" if least < 0 or most == WIDE - 1 else r"0|[1-9]\d*"
-        if not re.fullmatch(form, word, re.A):
+        is_wide = most == WIDE - 1
+        if not re.fullmatch(r"-?\d+" if is_wide else r"\d+", word, re.A):
             self.syntax(begin)
         value = int(word)
-        if not (-WIDE if most == WIDE - 1 else least) <= value <= most:
+        # zeros before it or not
+        if value > most or is_wide and value < -WIDE:
             raise Departs("fault 61 number", begin)
-        if value < least:
+        if value < least or word != str(value):
             self.syntax(begin)
         self.take(word)
         return value
@@ -63,10 +64,8 @@ class Reader:
         if not found:
             self.syntax(self.at)
         for digits in re.findall(r'(?:\.|:)(\d+)', re.sub(r'"[^"]*"', "", found[0])):
-            if not re.fullmatch(r"0|[1-9]\d*", digits):
+            if not re.fullmatch(r"0|[1-9]\d*", digits) or int(digits) > COUNT:
                 self.syntax(self.at)
-            if int(digits) > COUNT:
-                raise Departs("fault 61 number", self.at)
         self.take(found[0])
 
     def part(self, kind, form):

@@ -7,6 +7,7 @@ use std::test::Fail;
 // Words, and the code and the text that answer them.
 const ANSWERS: &str = r#"generate 1 => 0 nodes 9;scopes 3;turns 8;count-bound 7;path-bound 7;
 generate 3 => 0 nodes 23;scopes 7;turns 44;count-bound 43;path-bound 43;
+generate 40 => 0 nodes 282;scopes 81;turns 35342;count-bound 35341;path-bound 35341;
 generate 00000000000000000003 => 0 nodes 23;scopes 7;turns 44;count-bound 43;path-bound 43;
 generate -- 3 => 0 nodes 23;scopes 7;turns 44;count-bound 43;path-bound 43;
 generate 0 => 1 fault usage;

@@ -30,10 +30,24 @@ fn a_file_has_at_most_so_many_bytes(rt: HostRuntime) -> Result<(), Fail> {
     Ok(())
 }
 
-// What answers the line, where a program that returns at once lies beside a file `t.toml` of so many
-// line feeds.
+#[test]
+fn a_million_braces_depart_at_the_second(rt: HostRuntime) -> Result<(), Fail> {
+    let alloc = rt.alloc();
+    let braces = vec![in alloc; b'{'; 1_000_000]?;
+    let (status, text) = answer_of(alloc, "analyse a.alf", &braces)?;
+    assert_eq!(rt; status, Status::Source);
+    assert_eq!(rt; text.as_slice(), b"fault 10 syntax 1 2\n".as_slice());
+    Ok(())
+}
+
+// What answers the line, where a program that returns at once and its report lie beside a file `t.toml` of
+// so many line feeds.
 fn told_of_lines(alloc: Global, line: &str, count: usize) -> Result<Vec<u8>, AllocError> {
     let mut files = files_of(alloc, RETURNS.as_bytes())?;
+    files.push((
+        String::from_str(alloc, "r")?,
+        REPORT.as_bytes().to_vec(alloc)?,
+    ))?;
     files.push((
         String::from_str(alloc, "t.toml")?,
         vec![in alloc; b'\n'; count]?,
@@ -45,19 +59,26 @@ fn told_of_lines(alloc: Global, line: &str, count: usize) -> Result<Vec<u8>, All
 }
 
 // The words, how many line feeds `t.toml` has, and what is told.
-const TOML_LENGTHS: &str = r#"run a.alf --inputs t.toml | 1048576 => returned;turns 2;cost 1;
+const FURTHER_LENGTHS: &str = r#"run a.alf --inputs t.toml | 1048576 => returned;turns 2;cost 1;
 run a.alf --inputs t.toml | 1048577 => fault 13 limit bytes 1048577;
 run a.alf --costs t.toml | 1048576 => returned;turns 2;cost 1;
 run a.alf --costs t.toml | 1048577 => fault 13 limit bytes 1048577;
 run a.alf --inputs t.toml --costs no.toml | 1048577 => fault 13 limit bytes 1048577;
 run a.alf --inputs a.alf --costs t.toml | 1048577 => fault 70 toml inputs;
 analyse a.alf --inputs t.toml --costs no.toml | 1048577 => fault 13 limit bytes 1048577;
-analyse a.alf --costs t.toml | 1048577 => fault 13 limit bytes 1048577;"#;
+analyse a.alf --costs t.toml | 1048577 => fault 13 limit bytes 1048577;
+tasks t.toml | 1048577 => fault 13 limit bytes 1048577;
+replay a.alf r --at t.toml | 1048576 => fault 71 key values -;
+replay a.alf r --at t.toml | 1048577 => fault 13 limit bytes 1048577;
+replay a.alf t.toml --at no | 67108865 => fault 13 limit bytes 67108865;
+check a.alf t.toml | 67108865 => fault 13 limit bytes 67108865;
+migrate t.toml | 67108864 => fault 60 syntax 1 1;
+migrate t.toml | 67108865 => fault 13 limit bytes 67108865;"#;
 
 #[test]
-fn a_file_of_inputs_or_costs_has_at_most_so_many_bytes(rt: HostRuntime) -> Result<(), Fail> {
+fn a_further_file_has_at_most_so_many_bytes(rt: HostRuntime) -> Result<(), Fail> {
     let alloc = rt.alloc();
-    for line in TOML_LENGTHS.lines() {
+    for line in FURTHER_LENGTHS.lines() {
         let asked = side(line, 0);
         let count = field(asked, 1).parse::<usize>().unwrap_or(0);
         let text = told_of_lines(alloc, field(asked, 0), count)?;
@@ -78,6 +99,7 @@ analyse a.alf --costs no.toml | 9 | costs | no.toml
 analyse a.alf --inputs i.toml | 1 | inputs | i.toml
 analyse a.alf --costs c.toml --inputs i.toml | 1 | inputs | i.toml
 analyse a.alf --costs c.toml --inputs i.toml | 2 | costs | c.toml
+analyse a.alf --inputs i.toml --costs c.toml | 0 | program | a.alf
 analyse a.alf --inputs no.toml --costs no.toml | 9 | inputs | no.toml
 analyse b.alf --inputs no.toml --costs no.toml | 9 | program | b.alf
 print a.alf | 0 | program | a.alf

@@ -1,100 +1,197 @@
-"""Random programs whose meaning C fixes: no expression has two effects that C may make in either order."""
+"""Random programs whose meaning C fixes: where C leaves an order open, no part reads or writes what another one writes."""
 
 import random
 
-TYPES = ["int", "unsigned", "short", "unsigned short", "char", "unsigned char"]
+TYPES = ["int", "unsigned", "short", "unsigned short", "char", "unsigned char", "signed char", "long", "unsigned long", "_Bool"]
+ARRAYS = {"m": (2, 3), "r": (4,), "n": (2, 2, 2)}
+
+
+class Part:
+    """An expression: its text, and the names that it reads and writes."""
+
+    def __init__(self, text, reads=(), writes=()):
+        self.text, self.reads, self.writes = text, frozenset(reads), frozenset(writes)
+
+    def is_apart(self, other):
+        return not (self.writes & (other.reads | other.writes) or other.writes & self.reads)
+
+    def joined(self, text, *others):
+        reads = self.reads.union(*(it.reads for it in others))
+        return Part(text, reads, self.writes.union(*(it.writes for it in others)))
 
 
 class Maker:
     def __init__(self, seed):
-        self.random, self.depth, self.names, self.fresh = random.Random(seed), 0, [], 0
+        self.random, self.names, self.functions, self.fresh, self.pointers = random.Random(seed), [], {}, 0, {}
 
     def pick(self, *of):
         return self.random.choice(of)
 
+    def below(self, most):
+        return self.random.randrange(most)
+
+    # ---- expressions
+
+    def constant(self):
+        return Part(self.pick(str(self.below(200)), str(-self.below(300)), f"0x{self.below(2**32):x}", f"{self.below(70000)}u", f"0{self.below(512):o}",
+                              "'a'", "'\\n'", "'\\377'", "sizeof m", "sizeof(short)", "sizeof *r", "LOW", "HIGH", "2147483647", "(-2147483647 - 1)"))
+
+    def name(self):
+        it = self.pick(*self.names)
+        return Part(it, [it])
+
+    def element(self, depth):
+        """An element of an array or behind a pointer, which may be assigned."""
+        if self.pointers and self.below(4) == 0:
+            pointer = self.pick(*self.pointers)
+            form = self.pick("*{0}", "{0}[0]", "*({0} + 1)", "{0}[1]")
+            return Part(form.format(pointer), [pointer, self.pointers[pointer]])
+        array = self.pick(*ARRAYS)
+        indexes = [self.index(length, depth) for length in ARRAYS[array]]
+        found = indexes[0]
+        for it in indexes[1:]:
+            if not found.is_apart(it):
+                return Part(array + "[0]" * len(indexes), [array])
+            found = found.joined("", it)
+        text = array + "".join(f"[{it.text}]" for it in indexes)
+        return found.joined(text, Part("", [array])) if array not in found.writes else Part(array + "[1]" * len(indexes), [array])
+
+    def index(self, length, depth):
+        if self.below(2):
+            return Part(str(self.below(length)))
+        inner = self.expression(depth - 1) if depth > 0 and self.below(3) == 0 else self.name()
+        return inner.joined(f"({inner.text}) & {length - 1 if length & (length - 1) == 0 else 1}")
+
     def leaf(self):
-        return self.pick(*self.names, str(self.random.randrange(-9, 100)), f"m[{self.random.randrange(2)}][{self.random.randrange(3)}]")
+        return self.pick(self.name(), self.name(), self.constant(), self.element(0))
 
-    def pure(self, depth):
-        """An expression without an effect."""
-        if depth == 0:
+    def both(self, depth, made):
+        """Two parts in an order that C leaves open."""
+        a, b = made(depth - 1), made(self.below(depth))
+        return (a, b) if a.is_apart(b) else (a, self.constant())
+
+    def expression(self, depth):
+        """An expression, with effects or without."""
+        if depth <= 0:
             return self.leaf()
-        a, b = self.pure(depth - 1), self.pure(self.random.randrange(depth))
-        kind = self.random.randrange(10)
-        if kind < 4:
-            return f"({a} {self.pick('+', '-', '*', '&', '|', '^')} {b})"
-        if kind == 4:
-            return f"({a} {self.pick('<', '>', '<=', '>=', '==', '!=')} {b})"
+        kind = self.below(20)
+        if kind < 5:
+            a, b = self.both(depth, self.expression)
+            return a.joined(f"({a.text} {self.pick('+', '-', '*', '&', '|', '^')} {b.text})", b)
         if kind == 5:
-            return f"({a} {self.pick('/', '%')} {self.random.randrange(1, 9)})"
+            a, b = self.both(depth, self.expression)
+            return a.joined(f"({a.text} {self.pick('<', '>', '<=', '>=', '==', '!=')} {b.text})", b)
         if kind == 6:
-            return f"({a} {self.pick('<<', '>>')} {self.random.randrange(5)})"
+            a, b = self.both(depth, self.expression)
+            return a.joined(f"({a.text} {self.pick('/', '%')} (({b.text}) & 7 | 1))", b)
         if kind == 7:
-            return f"({a} {self.pick('&&', '||')} {b})"
-        if kind == 8:
-            return f"({self.pick('!', '~', '- ')}{a})"
-        return f"({a} ? {b} : {self.leaf()})"
+            a, b = self.both(depth, self.expression)
+            return a.joined(f"({a.text} {self.pick('<<', '>>')} (({b.text}) & {self.pick(7, 15, 31)}))", b)
+        if kind < 10:
+            a, b = self.expression(depth - 1), self.expression(depth - 1)
+            return a.joined(f"({a.text} {self.pick('&&', '||')} {b.text})", b)
+        if kind == 10:
+            a = self.expression(depth - 1)
+            return a.joined(f"({self.pick('!', '~', '- ', '+ ', '!!')}{a.text})")
+        if kind == 11:
+            a = self.expression(depth - 1)
+            return a.joined(f"(({self.pick(*TYPES)}){a.text})")
+        if kind in (12, 13):
+            a, b, c = (self.expression(depth - 1) for _ in range(3))
+            return a.joined(f"({a.text} ? {b.text} : {c.text})", b, c)
+        if kind == 14:
+            a, b = self.effect(depth - 1), self.expression(depth - 1)
+            return a.joined(f"({a.text}, {b.text})", b)
+        return self.effect(depth)
 
-    def effect(self):
-        """An expression with one effect, or with effects in an order that C fixes."""
-        name = self.pick(*self.names)
-        kind = self.random.randrange(8)
-        if kind == 0:
-            return f"({name}{self.pick('++', '--')})"
-        if kind == 1:
-            return f"({self.pick('++', '--')}{name})"
-        if kind == 2:
-            return f"({name} = {self.pure(2)})"
-        if kind == 3:
-            return f"({name} {self.pick('+', '-', '*', '^', '|')}= {self.pure(1)})"
-        if kind == 4:
-            return f"f({self.pure(1)}, {self.pure(1)})"
-        if kind == 5:
-            return f"({self.pure(1)} && {self.effect()})"
-        if kind == 6:
-            return f"({self.pure(1)} || {self.effect()})"
-        return f"({self.pure(1)} ? {self.effect()} : {self.pure(1)})"
+    def effect(self, depth):
+        """An assignment, a step or a call."""
+        kind = self.below(8) if self.functions else self.below(5)
+        if kind >= 5:
+            return self.call(depth)
+        place = self.pick(self.name(), self.name(), self.element(depth))
+        base = place.text.split("[")[0] if place.text[0] not in "*(" else ""
+        written = place.joined("", Part("", (), [it for it in place.reads if it in (base, *self.pointers.values()) or it == place.text]))
+        if kind < 2:
+            return written.joined(f"({self.pick('++{0}', '--{0}', '{0}++', '{0}--').format(f'({place.text})' if place.text[0] == '*' else place.text)})")
+        value = self.expression(depth - 1)
+        if not value.is_apart(place) or value.writes & written.writes:
+            value = self.constant()
+        sign = self.pick("=", "=", "+=", "-=", "*=", "^=", "|=", "&=")
+        return written.joined(f"({place.text} {sign} {value.text})", value)
+
+    def call(self, depth):
+        name = self.pick(*self.functions)
+        count, reads, writes = self.functions[name]
+        given = []
+        for _ in range(count):
+            it = self.expression(depth - 1)
+            given.append(it if all(map(it.is_apart, given)) else self.constant())
+        whole = Part("").joined("", *given)
+        return whole.joined(f"{name}({', '.join(it.text for it in given)})", Part("", reads, writes))
+
+    # ---- statements
 
     def statement(self, depth, in_loop):
-        kind = self.random.randrange(11 if depth else 5)
+        kind = self.below(14 if depth > 0 else 4)
         if kind < 3:
-            return f"{self.pick(*self.names)} = {self.pick(self.effect(), self.pure(3))};"
+            return f"{self.effect(3).text};"
         if kind == 3:
-            return f"{self.effect()};"
-        if kind == 4:
-            return f"m[{self.random.randrange(2)}][{self.random.randrange(3)}] {self.pick('=', '+=')} {self.pure(2)};"
-        if kind in (5, 6):
-            test = self.pick(self.pure(2), self.effect())
-            return f"if ({test}) {self.block(depth - 1, in_loop)} else {self.block(depth - 1, in_loop)}"
-        if kind == 7:
-            self.fresh += 1
-            name = f"k{self.fresh}"
-            tail = f", {self.pick(*self.names)}++" if self.random.randrange(2) else ""
-            return f"for (int {name} = 0; {name} < {self.random.randrange(1, 5)}; {name}++{tail}) {self.block(depth - 1, True)}"
+            a, b = self.effect(2), self.effect(2)
+            return f"{a.text}, {b.text};"
+        if kind < 6:
+            other = self.pick("", f" else {self.block(depth - 1, in_loop)}", f" else if ({self.expression(2).text}) {self.block(depth - 1, in_loop)}")
+            return f"if ({self.expression(3).text}) {self.block(depth - 1, in_loop)}{other}"
+        self.fresh += 1
+        name = f"k{self.fresh}"
+        if kind in (6, 7):
+            tail = f", {self.effect(2).text}" if self.below(2) else ""
+            test = f" && {self.expression(2).text}" if self.below(3) == 0 else ""
+            return f"for (int {name} = 0; {name} < {self.below(4) + 1}{test}; {name}++{tail}) {self.block(depth - 1, True)}"
         if kind == 8:
-            self.fresh += 1
-            name = f"k{self.fresh}"
-            test = f"{name}-- > 0 && {self.pick(self.pure(1), self.effect(), '1')}"
-            return f"{{ int {name} = 4; while ({test}) {self.block(depth - 1, True)} }}"
+            return f"{{ int {name} = 4; while ({name}-- > 0 && {self.expression(2).text}) {self.block(depth - 1, True)} }}"
         if kind == 9:
-            self.fresh += 1
-            name = f"k{self.fresh}"
-            return f"{{ int {name} = 0; do {self.block(depth - 1, True)} while (++{name} < 3 && {self.pure(1)}); }}"
-        cases = " ".join(f"case {i}: {self.statement(0, False)} {self.pick('break;', '')}" for i in range(3))
-        return f"switch ({self.pure(1)} & 3) {{ {cases} default: {self.statement(0, False)} }}"
+            return f"{{ int {name} = 0; do {self.block(depth - 1, True)} while (++{name} < 3 && {self.expression(2).text}); }}"
+        if kind == 10:
+            cases = " ".join(f"case {self.pick(i, f'{i + 3} - 3')}: {self.statement(0, False)} {self.pick('break;', '')}" for i in range(3))
+            return f"switch ({self.expression(2).text} & 3) {{ {cases} default: {self.statement(0, False)} }}"
+        if kind == 11:
+            a, b = self.expression(2), self.expression(2)
+            return f"{{ {self.pick(*TYPES)} {name}[3] = {{{a.text}, 7}}; {self.pick(*self.names)} ^= {name}[1] + {name}[{self.below(3)}]; }}"
+        if kind == 12:
+            shadow = self.pick(*self.names)
+            return f"{{ {self.pick(*TYPES)} {name} = {self.expression(2).text}; {{ short {shadow} = {name} + 1; {name} += {shadow}++; }} r[1] += {name}; }}"
+        return f"{{ static {self.pick(*TYPES)} {name} = {self.below(50)}; {name} += {self.expression(2).text}; r[2] ^= {name}; }}"
 
     def block(self, depth, in_loop):
-        lines = [self.statement(depth, in_loop) for _ in range(self.random.randrange(1, 4))]
-        if in_loop and self.random.randrange(4) == 0:
-            lines.insert(0, f"if ({self.pure(1)}) {self.pick('continue;', 'break;')}")
+        lines = [self.statement(depth, in_loop) for _ in range(self.random.randrange(1, 3))]
+        if in_loop and self.below(4) == 0:
+            lines.insert(self.below(2), f"if ({self.expression(2).text}) {self.pick('continue;', 'break;')}")
         return "{ " + " ".join(lines) + " }"
 
+    # ---- programs
+
+    def function(self, name, globals_):
+        """A function of narrow types, which changes its own globals alone."""
+        kept = self.names, self.functions, self.pointers
+        own = self.random.sample(globals_, 2)
+        self.names, self.functions, self.pointers = [*own, "p", "q"], {}, {}
+        # elements are read and written too: the arrays count as read and written by each function
+        body = " ".join(self.statement(1, False) for _ in range(2))
+        text = f"{self.pick('', 'static ')}{self.pick(*TYPES)} {name}({self.pick(*TYPES)} p, {self.pick(*TYPES)} q)\n{{ {body} return {self.expression(2).text}; }}\n"
+        self.names, self.functions, self.pointers = kept
+        self.functions = {**self.functions, name: (2, frozenset({*own, *ARRAYS}), frozenset({*own, *ARRAYS}))}
+        return text
+
     def program(self):
-        globals_ = [f"g{i}" for i in range(4)]
-        text = "".join(f"{self.pick(*TYPES)} {it} = {self.random.randrange(100)};\n" for it in globals_)
-        text += "int m[2][3] = {{1, 2, 3}, {4, 5, 6}};\n"
-        self.names = [*globals_, "a", "b"]
-        text += f"int f(int a, int b) {{ static int calls; calls++; g1 += b; return {self.pure(2)} + calls; }}\n"
-        self.names = [*globals_, "x", "y"]
-        body = "\n    ".join(self.statement(3, False) for _ in range(8))
-        return text + f"int main(void) {{\n    int x = 1;\n    unsigned y = 2;\n    {body}\n    return (x ^ y ^ g0 ^ g1) & 127;\n}}\n"
+        globals_ = [f"g{i}" for i in range(5)]
+        text = f"enum {{ LOW = -{self.below(5)}, HIGH = {self.below(99)} }};\ntypedef {self.pick(*TYPES[:6])} word;\n"
+        text += "".join(f"{self.pick(*TYPES, 'word')} {it} = {self.below(100)};\n" for it in globals_)
+        text += f"{self.pick(*TYPES)} m[2][3] = {{{{1, 2}}, {{4, {self.below(300)}, 6}}}};\n{self.pick(*TYPES)} r[4] = {{[2] = 'x', 5}};\n"
+        text += f"{self.pick(*TYPES)} n[2][2][2] = {{1, 2, 3, 4, [1] = {{{{5}}, 7}}}};\n"
+        text += self.function("f", globals_) + self.function("g", globals_)
+        self.names, self.pointers = [*globals_, "x", "y", "z"], {}
+        body = "\n    ".join(self.statement(2, False) for _ in range(4))
+        ends = "for (int i = 0; i < 12; i++) h = h * 31 + (i < 6 ? m[i / 3][i % 3] : i < 8 ? r[i - 6] : n[i & 1][i >> 1 & 1][1]);"
+        return (f"{text}int main(void) {{\n    {self.pick(*TYPES)} x = 1;\n    unsigned y = 2;\n    {self.pick(*TYPES)} z = {self.constant().text};\n"
+                f"    {body}\n    unsigned h = x ^ y ^ z;\n    {ends}\n    return h;\n}}\n")

@@ -4,7 +4,7 @@ import re
 
 from pycparser import c_ast
 
-from .types import INT, UNSIGNED, Outside, Whole, common, promoted, wrapped
+from .types import INT, UNSIGNED, Number, Outside, Whole, common, promoted, wrapped
 
 ESCAPES = {"n": 10, "t": 9, "r": 13, "0": 0, "a": 7, "b": 8, "f": 12, "v": 11, "\\": 92, "'": 39, '"': 34, "?": 63}
 
@@ -14,7 +14,7 @@ def characters(node, text):
     found, at = [], 0
     while at < len(text):
         if text[at] != "\\":
-            found += text[at].encode()
+            found += text[at].encode("latin-1", "replace")
             at += 1
             continue
         it = re.match(r"\\(x[0-9a-fA-F]+|[0-7]{1,3}|.)", text[at:])
@@ -33,10 +33,13 @@ def characters(node, text):
 
 def number(node):
     """The worth and the type of a constant."""
-    if node.type == "char":
+    if "'" in node.value:
         if node.value.startswith(("L", "u", "U")):
             raise Outside(node, "a wide character")
-        return wrapped(characters(node, node.value[1:-1])[0], Whole(8, True)), INT
+        found = characters(node, node.value[1:-1])
+        if len(found) != 1:
+            raise Outside(node, "a constant of several characters")
+        return wrapped(found[0], Whole(8, True)), INT
     it = re.fullmatch(r"(0[xX][0-9a-fA-F]+|0[bB][01]+|[0-9]+)([uUlL]*)", node.value)
     if not it:
         raise Outside(node, "floating point")
@@ -56,11 +59,18 @@ def number(node):
     return worth, kind
 
 
+def text_of(worth, kind=INT):
+    """A number as it is written in the profile, of the type where that is 32 bits."""
+    if worth == -(2**31):
+        return "0x80000000"
+    return f"{worth}u" if worth >= 2**31 or kind == UNSIGNED else str(worth)
+
+
 class Constants:
     """Expressions of constants, with the constants of enumerations and sizes of types."""
 
-    def __init__(self):
-        self.named, self.size_of = {}, None
+    def __init__(self, scopes):
+        self.scopes, self.size_of, self.type_of = scopes, None, None
 
     def value(self, node):
         return self.typed(node)[0]
@@ -69,10 +79,10 @@ class Constants:
         """The worth and the type, or Outside where the expression is none of constants."""
         if isinstance(node, c_ast.Constant) and node.type != "string":
             return number(node)
-        if isinstance(node, c_ast.ID) and node.name in self.named:
-            return self.named[node.name], INT
+        if isinstance(node, c_ast.ID) and isinstance(self.scopes.find(node.name), Number):
+            return self.scopes.find(node.name).worth, INT
         if isinstance(node, c_ast.Cast):
-            kind = self.size_of.types.of(node.to_type)
+            kind = self.type_of(node.to_type)
             if isinstance(kind, Whole):
                 return wrapped(self.value(node.expr), kind), promoted(kind)
         if isinstance(node, c_ast.UnaryOp):
@@ -80,7 +90,9 @@ class Constants:
         if isinstance(node, c_ast.BinaryOp):
             return self.binary(node)
         if isinstance(node, c_ast.TernaryOp):
-            return self.typed(node.iftrue if self.value(node.cond) else node.iffalse)
+            (a, first), (b, second) = self.typed(node.iftrue), self.typed(node.iffalse)
+            kind = common(first, second)
+            return wrapped(a if self.value(node.cond) else b, kind), kind
         raise Outside(node, "an expression that is no constant")
 
     def unary(self, node):

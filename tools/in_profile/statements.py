@@ -2,8 +2,9 @@
 
 from pycparser import c_ast
 
-from .expressions import Expressions, has_effect
-from .types import VOID, Array, Outside, Pointer, Whole, count, decayed
+from .constants import text_of
+from .expressions import Expressions, declared, has_effect
+from .types import INT, VOID, Array, Function, Missing, Object, Outside, Pointer, Whole, count, place_of
 
 
 def continues(node):
@@ -15,32 +16,29 @@ def continues(node):
     return any(continues(it) for _, it in node.children())
 
 
+EXPRESSIONS = (c_ast.ID, c_ast.Constant, c_ast.Cast, c_ast.ExprList, c_ast.ArrayRef, c_ast.UnaryOp, c_ast.BinaryOp, c_ast.TernaryOp,
+               c_ast.Assignment, c_ast.FuncCall, c_ast.StructRef, c_ast.CompoundLiteral)
+STATEMENTS = (c_ast.Compound, c_ast.If, c_ast.While, c_ast.DoWhile, c_ast.For, c_ast.Switch, c_ast.Return, c_ast.Goto, c_ast.Label,
+              c_ast.Decl, c_ast.DeclList)
+
+
 class Statements(Expressions):
     """The body of a function: `lines` is its text so far."""
 
     def __init__(self, program, name, kind):
         super().__init__(program)
-        self.name, self.kind, self.lines, self.scopes, self.mark = name, kind, [], [], ""
+        self.name, self.result_kind, self.lines, self.mark = name, kind.result, [], ""
 
     def write(self, line):
-        self.lines.append(self.mark + line)
-        self.mark = ""
-
-    def look_up(self, node):
-        for scope in reversed(self.scopes):
-            if node.name in scope:
-                return scope[node.name]
-        if node.name in self.program.objects:
-            return self.program.objects[node.name]
-        if node.name in self.program.functions:
-            return node.name, self.program.functions[node.name]
-        raise Outside(node, f"{node.name}, which has no definition here")
+        self.lines.append(line if line.startswith(("}", "{")) else self.mark + line)
 
     def inside(self, made):
         """The lines that a call writes, one step further in, in a scope of their own."""
-        self.scopes.append({})
-        _, lines = self.apart(made)
-        self.scopes.pop()
+        self.program.scopes.levels.append({})
+        try:
+            _, lines = self.apart(made)
+        finally:
+            self.program.scopes.levels.pop()
         self.lines += [f"    {it}" for it in lines]
 
     def block(self, node):
@@ -50,10 +48,10 @@ class Statements(Expressions):
         """Writes a statement; what is outside of the profile is noted, and the rest is gone through all the same."""
         if node is None:
             return
+        kept = self.mark
+        if not isinstance(node, c_ast.Compound):
+            self.mark = self.program.mark(node)
         try:
-            coord = getattr(node, "coord", None)
-            if coord and not isinstance(node, (c_ast.Compound, c_ast.EmptyStatement)):
-                self.mark = f"/* {coord.line} */ "
             name = f"put_{type(node).__name__.lower()}"
             if hasattr(self, name):
                 getattr(self, name)(node, is_whole) if name == "put_compound" else getattr(self, name)(node)
@@ -61,7 +59,30 @@ class Statements(Expressions):
                 self.effect(node)
         except Outside as it:
             self.program.outside(it, node)
-        self.mark = ""
+            self.further(node)
+        self.mark = kept
+
+    def further(self, node):
+        """Tells what else is outside in a statement of which something is: each part is gone through for itself."""
+        if isinstance(node, c_ast.For):
+            self.inside(lambda: self.parts(node))
+        elif not isinstance(node, (c_ast.Struct, c_ast.Union, c_ast.Enum, c_ast.FuncDecl)):
+            self.parts(node)
+
+    def parts(self, node):
+        for role, it in node.children():
+            if role == "field" or (role == "name" and isinstance(node, c_ast.FuncCall)):
+                continue
+            if isinstance(it, STATEMENTS):
+                self.statement(it)
+                continue
+            try:
+                if isinstance(it, EXPRESSIONS):
+                    self.apart(lambda: self.value(it))
+                    continue
+            except Outside as fault:
+                self.program.outside(fault, it)
+            self.further(it)
 
     def put_compound(self, node, is_whole):
         if is_whole:
@@ -85,6 +106,9 @@ class Statements(Expressions):
     def put_pragma(self, node):
         pass
 
+    def put_staticassert(self, node):
+        pass
+
     def put_label(self, node):
         self.statement(node.stmt)
 
@@ -94,44 +118,50 @@ class Statements(Expressions):
     # ---- declarations
 
     def put_decl(self, node):
-        self.program.enumerations(node.type)
+        try:
+            self.declaration(node)
+        except Outside:
+            self.program.scopes.levels[-1].setdefault(node.name, Missing())
+            raise
+
+    def declaration(self, node):
         if node.name is None:
+            self.program.unnamed(node)
             return
         kind = self.program.types.of(node.type)
-        if "extern" in node.storage:
+        if "extern" in node.storage or isinstance(kind, Function):
+            found = self.program.scopes.find(node.name)
+            if found is not None and found is not self.program.scopes.levels[0].get(node.name):
+                raise Outside(node, f"{node.name} of the file behind a local of its name")
             return
         if "static" in node.storage:
             self.program.note(node, "a static local becomes an object of the file")
-            self.scopes[-1][node.name] = self.program.static_local(self.name, node)
-            return
-        if kind == VOID or not isinstance(kind, (Whole, Pointer, Array)):
+            self.program.scopes.put(node.name, self.program.static_local(self.name, node))
+        elif kind == VOID or not isinstance(kind, (Whole, Pointer, Array)):
             raise Outside(node, "a declaration of this form")
-        if isinstance(kind, Array):
+        elif isinstance(kind, Array):
             self.put_array(node, kind)
-            return
-        name = self.program.name_of(node.name)
-        start = ""
-        if node.init is not None:
+        else:
+            name = self.program.name_of(node.name, node)
+            self.program.scopes.put(node.name, Object(name, kind))
             init = node.init.exprs[0] if isinstance(node.init, c_ast.InitList) else node.init
-            start = f" = {self.right_side(init, kind)}"
-        self.scopes[-1][node.name] = (name, kind)
-        self.write(f"{kind.to.text()} *{name}{start};" if isinstance(kind, Pointer) else f"{kind.text()} {name}{start};")
+            self.write(f"{declared(kind, name)}{'' if init is None else f' = {self.right_side(init, kind)}'};")
 
     def put_array(self, node, kind):
+        name = self.program.name_of(node.name, node)
+        self.program.scopes.put(node.name, Object(name, kind))
         kind, values = self.program.filled(node, kind)
-        name = self.program.name_of(node.name)
-        self.scopes[-1][node.name] = (name, kind)
+        self.program.scopes.put(node.name, Object(name, kind))
+        self.program.elements += count(kind.lengths)
         head = f"{kind.of.text()} {name}[{count(kind.lengths)}]"
         if values is None:
             self.write(f"{head};")
-        elif all(isinstance(it, int) for it in values):
-            self.write(f"{head} = {{{', '.join(map(str, values))}}};")
-        else:
-            self.program.note(node, "an initialiser that is no constant becomes assignments")
-            self.write(f"{head} = {{{', '.join('0' if not isinstance(it, int) else str(it) for it in values)}}};")
-            for i, it in enumerate(values):
-                if not isinstance(it, int):
-                    self.write(f"{name}[{i}] = {self.right_side(it, kind.of)};")
+            return
+        self.write(f"{head} = {{{', '.join(text_of(it) if isinstance(it, int) else '0' for it in values)}}};")
+        for i, it in enumerate(values):
+            if not isinstance(it, int):
+                self.program.note(node, "an initialiser that is no constant becomes assignments")
+                self.write(f"{name}[{i}] = {self.right_side(it, kind.of)};")
 
     # ---- branches and loops
 
@@ -139,53 +169,66 @@ class Statements(Expressions):
         found = self.condition(node.cond)
         self.write(f"if ({found.text}) {{")
         self.block(node.iftrue)
-        if node.iffalse is not None:
+        other = node.iffalse
+        while isinstance(other, c_ast.If):
+            found, lines = self.apart(lambda: self.condition(other.cond))
+            if lines:
+                break
+            self.write(f"}} else {self.program.mark(other)}if ({found.text}) {{")
+            self.block(other.iftrue)
+            other = other.iffalse
+        if other is not None:
             self.write("} else {")
-            self.block(node.iffalse)
+            self.block(other)
         self.write("}")
 
+    def test(self, node):
+        """The condition of a loop, and the lines before it."""
+        return self.apart(lambda: self.truth_value(self.condition(node)))
+
     def put_while(self, node):
-        found, lines = self.apart(lambda: self.condition(node.cond))
+        found, lines = self.test(node.cond)
         self.loop(f"while ({found.text}) {{", "while (1) {", found, lines, node.stmt)
 
-    def loop(self, plain, endless, found, lines, body, first=()):
+    def loop(self, plain, endless, found, lines, body):
         """A loop by its condition, or an endless one that tests it where lines go before it."""
-        if not lines:
-            self.write(plain)
-        else:
+        self.write(endless if lines else plain)
+        if lines:
             self.program.note(body, "what a condition of a loop does is made in the loop, before its test")
-            self.write(endless)
-            self.lines += [f"    {it}" for it in (*first, *lines)]
-            self.write(f"    if (!({found.text}))")
-            self.write("        break;")
+            self.lines += [f"    {it}" for it in (*lines, *self.leaving(found))]
         self.block(body)
         self.write("}")
 
+    def leaving(self, found):
+        """The test that ends a loop, as it stands in it."""
+        return [f"{self.mark}if (!({found.text}))", f"    {self.mark}break;"]
+
     def put_dowhile(self, node):
-        if isinstance(node.cond, c_ast.Constant) and node.cond.value == "0" and not continues(node.stmt):
-            if not self.leaves(node.stmt):
-                self.write("{")
-                self.block(node.stmt)
-                self.write("}")
-                return
-        found, lines = self.apart(lambda: self.condition(node.cond))
+        if self.is_zero(node.cond) and not continues(node.stmt) and not self.leaves(node.stmt):
+            self.write("{")
+            self.block(node.stmt)
+            self.write("}")
+            return
+        found, lines = self.test(node.cond)
         if not lines:
             self.write("do {")
             self.block(node.stmt)
-            self.write(f"}} while ({found.text});")
+            self.write(f"}} {self.program.mark(node.cond)}while ({found.text});")
             return
         name = self.program.fresh()
         self.write(f"int {name} = 0;")
         self.program.note(node, "what a condition of a loop does is made in the loop, before its test")
         self.write("while (1) {")
-        self.write(f"    if ({name}) {{")
-        self.lines += [f"        {it}" for it in lines]
-        self.write(f"        if (!({found.text}))")
-        self.write("            break;")
-        self.write("    }")
-        self.write(f"    {name} = 1;")
+        self.again(name, [*lines, *self.leaving(found)])
         self.block(node.stmt)
         self.write("}")
+
+    def again(self, name, lines):
+        """What is made at the beginning of each pass through a loop but the first."""
+        self.lines += [f"    {self.mark}if ({name}) {{", *(f"        {it}" for it in lines), "    }", f"    {self.mark}{name} = 1;"]
+
+    def is_zero(self, node):
+        return isinstance(node, c_ast.Constant) and node.value == "0"
 
     def leaves(self, node):
         """Whether a `break` of the loop stands in its body."""
@@ -206,37 +249,26 @@ class Statements(Expressions):
                 self.put_decl(it)
         elif node.init is not None:
             self.effect(node.init)
-        found, lines = self.apart(lambda: self.condition(node.cond)) if node.cond is not None else (None, [])
+        found, lines = self.test(node.cond) if node.cond is not None else (None, [])
         _, steps = self.apart(lambda: self.effect(node.next) if node.next is not None else None)
         test = found.text if found and not lines else ""
-        if len(steps) <= 1:
-            step = steps[0].rstrip(";") if steps else ""
-            if not step.startswith(("{", "if", "int ", "unsigned ", "short ", "char ")):
-                plain = f"for (; {test}; {step}) {{"
-                self.loop(plain, plain, found, lines, node.stmt)
-                return
-        if not continues(node.stmt):
-            self.write(f"for (; {test};) {{" if not lines else "for (;;) {")
-            if lines:
-                self.lines += [f"    {it}" for it in lines]
-                self.write(f"    if (!({found.text}))")
-                self.write("        break;")
-            self.block(node.stmt)
-            self.lines += [f"    {it}" for it in steps]
-            self.write("}")
+        step = steps[0].removeprefix(self.mark).rstrip(";") if steps else ""
+        if len(steps) <= 1 and not step.startswith(("{", "if", "int ", "unsigned ", "short ", "char ")):
+            self.loop(f"for (; {test}; {step}) {{", f"for (;; {step}) {{", found, lines, node.stmt)
             return
-        name = self.program.fresh()
-        self.write(f"int {name} = 0;")
-        self.write("for (;;) {")
-        self.write(f"    if ({name}) {{")
-        self.lines += [f"        {it}" for it in steps]
-        self.write("    }")
-        self.write(f"    {name} = 1;")
-        self.lines += [f"    {it}" for it in lines]
-        if found:
-            self.write(f"    if (!({found.text}))")
-            self.write("        break;")
-        self.block(node.stmt)
+        self.program.note(node, "what a for makes after each pass becomes statements")
+        if continues(node.stmt):
+            name = self.program.fresh()
+            self.write(f"int {name} = 0;")
+            self.write("for (;;) {")
+            self.again(name, steps)
+            self.lines += [f"    {it}" for it in (*lines, *(self.leaving(found) if found else ()))]
+            self.block(node.stmt)
+        else:
+            self.write(f"for (; {test};) {{")
+            self.lines += [f"    {it}" for it in (*lines, *(self.leaving(found) if lines else ()), "{")]
+            self.inside(lambda: self.block(node.stmt))
+            self.lines += ["    }", *(f"    {it}" for it in steps)]
         self.write("}")
 
     def put_switch(self, node):
@@ -252,7 +284,7 @@ class Statements(Expressions):
     def case(self, node):
         if isinstance(node, (c_ast.Case, c_ast.Default)):
             label = "default" if isinstance(node, c_ast.Default) else f"case {self.case_value(node)}"
-            self.write(f"{label}: ;")
+            self.lines.append(f"{self.program.mark(node)}{label}: ;")
             for it in node.stmts or ():
                 self.case(it)
         else:
@@ -260,7 +292,7 @@ class Statements(Expressions):
 
     def case_value(self, node):
         worth = self.program.constants.value(node.expr)
-        return worth if worth < 2**31 else worth - 2**32
+        return text_of(worth if worth < 2**31 else worth - 2**32)
 
     def put_case(self, node):
         raise Outside(node, "a case inside another statement")
@@ -276,17 +308,17 @@ class Statements(Expressions):
     def put_return(self, node):
         if node.expr is None:
             self.write("return;")
-            return
-        if self.kind.result == VOID:
+        elif self.result_kind == VOID:
             self.effect(node.expr)
             self.write("return;")
-            return
-        self.write(f"return {self.right_side(node.expr, self.kind.result)};")
+        else:
+            self.write(f"return {self.right_side(node.expr, self.result_kind)};")
 
     def put_funccall(self, node):
         name = node.name.name if isinstance(node.name, c_ast.ID) else ""
-        if name == "exit" and self.name == self.program.root and name not in self.program.functions and node.args:
-            self.program.note(node, "exit of the root becomes return")
-            self.write(f"return {self.right_side(node.args.exprs[0], self.kind.result)};")
+        is_end = name in ("exit", "_exit") and self.name == self.program.root and node.args and self.result_kind == INT
+        if is_end and self.program.scopes.find(name) is None:
+            self.program.note(node, f"{name} of the root becomes return")
+            self.write(f"return {self.right_side(node.args.exprs[0], self.result_kind)};")
             return
         self.effect(node)

@@ -6,20 +6,26 @@ from pycparser import c_ast
 
 
 class Outside(Exception):
-    """What the profile has no place for, and where."""
+    """What the profile has no place for, and where. Without a reason it follows from one that is told elsewhere."""
 
     def __init__(self, node, why):
         super().__init__(why)
-        self.line = node.coord.line if getattr(node, "coord", None) else 0
-        self.why = why
+        self.place, self.why = place_of(node), why
+
+
+def place_of(node):
+    """The file and the line of a node, or None."""
+    coord = getattr(node, "coord", None)
+    return (str(coord.file), coord.line) if coord else None
 
 
 @dataclasses.dataclass(frozen=True)
 class Whole:
-    """A whole number: its bits, and whether it has a sign."""
+    """A whole number: its bits, whether it has a sign, and whether it is `_Bool`, which holds 0 and 1 alone."""
 
     bits: int
     signed: bool
+    is_truth: bool = False
 
     def text(self):
         word = {8: "char", 16: "short", 32: "int"}[self.bits]
@@ -62,8 +68,9 @@ class Function:
 
 
 VOID = "void"
-INT, UNSIGNED = Whole(32, True), Whole(32, False)
+INT, UNSIGNED, TRUTH = Whole(32, True), Whole(32, False), Whole(8, False, True)
 WORDS = {
+    ("_Bool",): TRUTH,
     ("char",): Whole(8, True), ("char", "signed"): Whole(8, True), ("char", "unsigned"): Whole(8, False),
     ("short",): Whole(16, True), ("int", "short"): Whole(16, True), ("short", "signed"): Whole(16, True),
     ("int", "short", "signed"): Whole(16, True), ("short", "unsigned"): Whole(16, False),
@@ -72,10 +79,43 @@ WORDS = {
     ("long", "signed"): INT, ("int", "long", "signed"): INT, ("long", "unsigned"): UNSIGNED,
     ("int", "long", "unsigned"): UNSIGNED,
 }
-NAMED = {
-    "int8_t": Whole(8, True), "uint8_t": Whole(8, False), "int16_t": Whole(16, True), "uint16_t": Whole(16, False),
-    "int32_t": INT, "uint32_t": UNSIGNED, "size_t": UNSIGNED, "ptrdiff_t": INT, "intptr_t": INT, "uintptr_t": UNSIGNED,
-}
+@dataclasses.dataclass(frozen=True)
+class Object:
+    """What a name of an object or a function is written as, and its type."""
+
+    text: str
+    kind: object
+
+
+@dataclasses.dataclass(frozen=True)
+class Number:
+    """A constant of an enumeration."""
+
+    worth: int
+
+
+@dataclasses.dataclass(frozen=True)
+class Named:
+    """A name of a type; the type is an Outside where the profile has none."""
+
+    kind: object
+
+
+class Missing:
+    """A name whose declaration is outside of the profile, which is told there."""
+
+
+class Scopes:
+    """What names mean, from the file to the innermost block."""
+
+    def __init__(self):
+        self.levels, self.enumeration_of = [{}], None
+
+    def find(self, name):
+        return next((it[name] for it in reversed(self.levels) if name in it), None)
+
+    def put(self, name, what):
+        self.levels[-1][name] = what
 
 
 def count(lengths):
@@ -104,21 +144,23 @@ def common(a, b):
 
 def wrapped(value, kind):
     """The number that a value becomes in a type."""
+    if kind.is_truth:
+        return int(value != 0)
     value %= 1 << kind.bits
     return value - (1 << kind.bits) if kind.signed and value >> (kind.bits - 1) else value
 
 
 class Types:
-    """What declared types are: names of types, and constants of enumerations."""
+    """What declared types are, where `scopes` tell what names mean."""
 
-    def __init__(self, constant):
-        self.named, self.constant = dict(NAMED), constant
+    def __init__(self, scopes, constant, outside):
+        self.scopes, self.constant, self.outside = scopes, constant, outside
 
     def of(self, node):
         """The type that a declarator of pycparser has."""
+        if "volatile" in (*(getattr(node, "quals", None) or ()), *(getattr(node, "dim_quals", None) or ())):
+            raise Outside(node, "volatile")
         if isinstance(node, (c_ast.TypeDecl, c_ast.Typename)):
-            if "volatile" in (getattr(node, "quals", None) or []):
-                raise Outside(node, "volatile")
             return self.of(node.type)
         if isinstance(node, c_ast.IdentifierType):
             return self.of_words(node)
@@ -129,20 +171,30 @@ class Types:
         if isinstance(node, c_ast.FuncDecl):
             return self.function(node)
         if isinstance(node, c_ast.Enum):
-            return INT
+            return self.enumeration(node)
         if isinstance(node, (c_ast.Struct, c_ast.Union)):
             raise Outside(node, "struct or union")
         raise Outside(node, "a type of this form")
+
+    def enumeration(self, node):
+        """As gcc has it: without a sign where no constant is below 0."""
+        found = self.scopes.find(f"enum {node.name}") if node.name else None
+        if node.values:
+            found = self.scopes.enumeration_of(node)
+        return found or UNSIGNED
 
     def of_words(self, node):
         words = tuple(sorted(node.names))
         if words == ("void",):
             return VOID
-        if len(words) == 1 and words[0] in self.named:
-            return self.named[words[0]]
+        found = self.scopes.find(words[0]) if len(words) == 1 else None
+        if isinstance(found, Named):
+            if isinstance(found.kind, Outside):
+                raise Outside(node, found.kind.why)
+            return found.kind
         if words in WORDS:
             return WORDS[words]
-        if words.count("long") == 2 or "int64_t" in words or "uint64_t" in words:
+        if words.count("long") == 2:
             raise Outside(node, "64 bits")
         if {"float", "double"} & {*words}:
             raise Outside(node, "floating point")
@@ -163,6 +215,8 @@ class Types:
     def array(self, node):
         inner = self.of(node.type)
         length = None if node.dim is None else self.constant(node.dim)
+        if length is not None and length < 1:
+            raise Outside(node, "an array without elements")
         if isinstance(inner, Whole):
             return Array(inner, (length,))
         if isinstance(inner, Array):
@@ -170,16 +224,33 @@ class Types:
         raise Outside(node, "an array of pointers")
 
     def function(self, node):
-        result = self.of(node.type)
-        if isinstance(result, Pointer):
-            raise Outside(node, "a function that gives a pointer")
-        parameters = []
+        """The type of a function; all that is outside in it is told."""
+        result, parameters, late = None, [], None
+        try:
+            result = self.of(node.type)
+            if isinstance(result, Pointer):
+                raise Outside(node, "a function that gives a pointer")
+        except Outside as it:
+            late = it
         for it in node.args.params if node.args else ():
-            if isinstance(it, c_ast.EllipsisParam):
-                raise Outside(it, "a variable number of arguments")
-            if isinstance(it, c_ast.ID):
-                raise Outside(it, "parameters in the old form")
-            kind = self.of(it.type)
-            if kind != VOID:
-                parameters.append(decayed(kind))
+            try:
+                kind = self.parameter(it)
+                if kind != VOID:
+                    parameters.append(kind)
+            except Outside as fault:
+                self.outside(fault, it)
+                late = late or Outside(it, None)
+        if late:
+            raise late
         return Function(result, tuple(parameters))
+
+    def parameter(self, node):
+        """The type of a parameter: an array is a pointer."""
+        if isinstance(node, c_ast.EllipsisParam):
+            raise Outside(node, "a variable number of arguments")
+        if isinstance(node, c_ast.ID):
+            raise Outside(node, "parameters in the old form")
+        kind = self.of(node.type)
+        if isinstance(kind, Function):
+            raise Outside(node, "a pointer to a function")
+        return decayed(kind)

@@ -9,7 +9,8 @@ report.
     alf_tree, alf_file, comparison, source                             texts of ALF, and the comparison with them
     graph, report, path_rows, dual_simplex                             nodes, the report's lines, a best point of it
     model, lines, loops, alarms, exclusions, row_order                 what is said of lines, loops and nodes
-    program, refusals, given_inputs, file_view                         the program's answers, and all that is shown
+    program, refusals, name_places, given_inputs, file_view            the program's answers, and all that is shown
+    statement_marks, origin                                            the lines of what `sweet-c` wrote a text from
     html_page, source_pane, panel, graph_picture, terminal             the two forms; markup and part_row serve them
     command                                                            the words
 """

@@ -16,6 +16,8 @@ TOKEN = re.compile(
 """,
     re.X | re.S,
 )
+# As it is shown, a text may have strings, and bytes of no token.
+SHOWN = re.compile(r'(?P<string>"(?:\\.|[^"\\\n])*")|' + TOKEN.pattern, re.X | re.S)
 ESCAPES = {"'\\n'": 10, "'\\t'": 9, "'\\0'": 0, "'\\\\'": 92, "'\\''": 39}
 
 
@@ -39,12 +41,24 @@ class Token:
 
 
 def tokens_of(text: str) -> list[Token]:
-    """The tokens in order. A line ends at a line feed alone."""
+    """The tokens in order, of a text that has no others."""
+    found = tokens_by(TOKEN, text)
+    for it in found:
+        if it.kind == "other":
+            raise Differs(f"a byte of no token at line {it.line + 1}")
+    return found
+
+
+def shown_tokens(text: str) -> list[Token]:
+    """The tokens of any text of C, in order."""
+    return tokens_by(SHOWN, text)
+
+
+def tokens_by(form: re.Pattern, text: str) -> list[Token]:
+    """The pieces of a text but for space and comments. A line ends at a line feed alone."""
     found, line, begin = [], 0, 0
-    for match in TOKEN.finditer(text):
+    for match in form.finditer(text):
         piece = match.group()
-        if match.lastgroup == "other":
-            raise Differs(f"a byte of no token at line {line + 1}")
         if match.lastgroup != "space":
             found.append(Token(match.lastgroup, piece, match.start(), line, match.start() - begin))
         if "\n" in piece:

@@ -1,5 +1,6 @@
 """The words of `./sweet-view`."""
 
+import dataclasses
 import os
 import pathlib
 import sys
@@ -8,28 +9,39 @@ from view import html_page, terminal
 from view.file_view import Unreadable, View, look
 from view.program import program_path
 
-USAGE = """usage: ./sweet-view [--text] [-o OUT] FILE [words of ./sweet analyse]
+USAGE = """usage: ./sweet-view [--text] [--own-lines] [-o OUT] FILE [words of ./sweet analyse]
 
 Writes the report of `./sweet analyse` on the source of FILE, of C or of ALF, as a page of HTML that needs no network.
 
   -o OUT   the page goes to OUT, and to standard output where that is -; without it to NAME.html in this folder
   --text   prints the view for a terminal instead
+  --own-lines   shows the lines of FILE also where ./sweet-c wrote it; without it those of the file that it came from
 
 The status is 0 where lines are marked, 1 where they are not (the page tells why), and 2 where there is no page.
 The variable SWEET names another program than ./sweet."""
 
 
+@dataclasses.dataclass(slots=True)
+class Options:
+    """Whether a text is wanted, whether of the file's own lines, and where the page goes: empty where that was not
+    told."""
+
+    is_text: bool = False
+    is_own: bool = False
+    out: str | None = None
+
+
 def main(words: list[str]) -> int:
-    is_text, out, rest = options_of(words)
-    if not rest or rest[0] in ("-h", "--help"):
+    options, rest = options_of(words)
+    if not rest or rest[0] in ("-h", "--help") or options.out == "":
         print(USAGE, file=sys.stdout if rest else sys.stderr)
-        return 0 if rest else 2
+        return 0 if rest and options.out != "" else 2
     try:
-        view = look(rest)
-        if is_text:
+        view = look(rest, options.is_own)
+        if options.is_text:
             print_text(view)
         else:
-            write_page(view, out)
+            write_page(view, options.out)
     except Unreadable as error:
         return fail(str(error))
     except OSError as error:
@@ -37,17 +49,19 @@ def main(words: list[str]) -> int:
     return 0 if view.analysis else 1
 
 
-def options_of(words: list[str]) -> tuple[bool, str | None, list[str]]:
-    """Whether a text is wanted, where the page goes, and the words of `analyse`."""
-    is_text, out, rest, ahead = False, None, [], iter(words)
+def options_of(words: list[str]) -> tuple[Options, list[str]]:
+    """The options, and the words of `analyse`."""
+    options, rest, ahead = Options(), [], iter(words)
     for word in ahead:
         if word == "--text":
-            is_text = True
+            options.is_text = True
+        elif word == "--own-lines":
+            options.is_own = True
         elif word == "-o":
-            out = next(ahead, None)
+            options.out = next(ahead, "")
         else:
             rest.append(word)
-    return is_text, out, rest
+    return options, rest
 
 
 def fail(why: str) -> int:

@@ -10,6 +10,7 @@ from view.given_inputs import given_at_lines
 from view.lines import Lines
 from view.loops import Loops
 from view.model import Model
+from view.origin import Apart, Origin, moved, origin_of
 from view.program import call, options_of
 from view.refusals import refusal_of, waiting_place
 from view.report import Report
@@ -38,8 +39,8 @@ class Analysis:
 class View:
     """A file with its text, the words of the call, and the program's answer with its status.
 
-    `differs` says why no line is marked, `refusal` why there is no report, and `place` where; `notes` are further
-    sentences.
+    `origin` is the file that it was written from, if its lines are shown: `text` is then of that file. `differs` says
+    why no line is marked, `refusal` why there is no report, and `place` where; `notes` are further sentences.
     """
 
     path: str
@@ -48,6 +49,7 @@ class View:
     answer: str = ""
     status: int = 0
     source: Source | None = None
+    origin: Origin | None = None
     report: Report | None = None
     analysis: Analysis | None = None
     differs: str = ""
@@ -57,14 +59,20 @@ class View:
     notes: list[str] = dataclasses.field(default_factory=list)
 
     @property
+    def shown_path(self) -> str:
+        """The path of the text."""
+        return self.origin.path if self.origin else self.path
+
+    @property
     def rows(self) -> list[str]:
         """The lines of the text. A line ends at a line feed alone."""
         rows = self.text.split("\n")
         return rows[:-1] if rows[-1] == "" else rows
 
 
-def look(words: list[str]) -> View:
-    """The view for the words of `analyse`."""
+def look(words: list[str], is_own: bool = False) -> View:
+    """The view for the words of `analyse`. The lines of the file itself are shown where `is_own` is set, also where it
+    was written from another."""
     path, options = options_of(words)
     if path is None:
         raise Unreadable("give a FILE, as ./sweet analyse takes it")
@@ -73,6 +81,8 @@ def look(words: list[str]) -> View:
     view = View(path, words, read_text(path), answer.text, answer.status, notes=other_program())
     try:
         view.source = source_of(view, root, is_c)
+        if view.source and is_c and not is_own:
+            move(view)
         if answer.status == 0:
             view.report = report_of(answer.text)
             view.analysis = analysis_of(view.source, view.report, root)
@@ -86,6 +96,16 @@ def look(words: list[str]) -> View:
     if view.source and "--inputs" in options:
         give(view, options["--inputs"])
     return view
+
+
+def move(view: View) -> None:
+    """Puts what is shown at the lines of the file that a text of `sweet-c` was written from, where they are known."""
+    try:
+        view.origin = origin_of(view.path, view.source)
+    except Apart as apart:
+        view.notes.append(str(apart))
+    if view.origin:
+        view.source, view.text = moved(view.source, view.origin), view.origin.text
 
 
 def other_program() -> list[str]:

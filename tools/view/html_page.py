@@ -26,7 +26,7 @@ class Page:
     def __init__(self, view: View) -> None:
         self.view, self.found = view, view.analysis
         self.source = SourcePane(view)
-        self.name = os.path.basename(view.path)
+        self.name = os.path.basename(view.shown_path)
 
     def html(self) -> str:
         panel = Panel(self.found) if self.found else None
@@ -62,7 +62,8 @@ class Page:
         cells += [element("span", "line", class_="ln"), element("code")]
         top = element("div", *cells, class_="row top", aria_hidden="true") if self.found else ""
         rows = element("div", top, self.source.html(), class_="rows", role="list")
-        return element("section", self.legend() if self.found else "", rows, class_="source", aria_label="source")
+        parts = [self.legend() if self.found else "", rows, self.written_text()]
+        return element("section", *parts, class_="source", aria_label="source")
 
     # -- the head
 
@@ -72,12 +73,33 @@ class Page:
             [
                 element("h1", escape(self.name)),
                 element("p", element("code", escape(command)), class_="cmd"),
+                self.origin(),
                 self.warning(),
                 self.bare_report() if self.view.status == 0 and not self.found else "",
                 element("div", *self.figures(), class_="stats") if self.found else "",
                 *(element("p", escape(it), class_="note") for it in self.view.notes),
             ]
         )
+
+    def origin(self) -> str:
+        """That the report is of another text than the one that is shown."""
+        origin = self.view.origin
+        if origin is None:
+            return ""
+        out = element("code", escape(os.path.basename(origin.written)))
+        lead = element("strong", "What is proved speaks of ", out)
+        name = escape(self.name)
+        words = f", which <code>./sweet-c</code> wrote from {name}. Counts, loops and alarms of each statement "
+        words += f"stand here at the line of {name} that it comes from; the lists have its words in {out}."
+        return element("div", lead, words, class_="from")
+
+    def written_text(self) -> str:
+        """The text that the report is of, where another is shown."""
+        origin = self.view.origin
+        if origin is None:
+            return ""
+        summary = element("summary", "The text of ", element("code", escape(os.path.basename(origin.written))))
+        return element("details", summary, element("pre", escape(origin.written_text)), class_="raw")
 
     def warning(self) -> str:
         """Why no line is marked, and why there is no report."""

@@ -55,6 +55,9 @@ class Lines:
         if not parts:
             return NOTHING
         state = "noway" if best is None else "dead" if best[1] == 0 else "live"
+        if self.model.source.is_moved:
+            # All stand at the first column, in the order of the text that they were moved from.
+            parts = [(column, text) for text, column in {text: column for column, text in parts}.items()]
         shown = parts if len({text for _, text in parts}) > 1 else []
         return LineFacts(best, share, self.model.level(heat), state, shown)
 

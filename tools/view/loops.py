@@ -59,6 +59,9 @@ class Loops:
         head, body = function.block_of_label[statement.head], function.block_of_label[statement.body]
         is_test = function.last_item(head).kind == "switch"
         unit = "visit" if statement.word == "loop" else "test" if is_test and head != body else "turn"
+        if self.model.source.is_moved and head != body and not function.last_item(head).frames:
+            # Written without a test at its head: the loop that it came from may have had one.
+            statement, unit = dataclasses.replace(statement, word="loop"), "visit"
         same = [it for it in function.loops if function.block_of_label[it.head] == head]
         line = self.model.tokens[statement.token].line
         return Loop(statement, function, line, unit, len(same) > 1)

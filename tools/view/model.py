@@ -135,6 +135,9 @@ class Model:
 
     def item_text(self, item: Item) -> str:
         text = self.source.words_of(sorted(item.strong))
+        if item.kind == "switch" and not item.frames and item.role.startswith("test"):
+            # A constant alone, as of `while (1)`, would tell little.
+            return f"{text}, the {item.role}"
         return text + " …" if item.kind == "store" and text.endswith("=") else text
 
     def column_of(self, block: Block, line: int) -> int:
@@ -146,14 +149,16 @@ class Model:
         return function.last_item(block).strong[0]
 
     def call_places(self, path: tuple[int, ...]) -> list[str]:
-        """Where an instance is called from, outermost first: lines, and columns where a line has several calls."""
+        """Where an instance is called from, outermost first: lines, and columns where a line has several calls. Of
+        lines that tokens were moved to no columns are known."""
         found = []
         for count, block in enumerate(path):
             function = self.graph.function_at(path[:count])
             token = self.tokens[self.call_token(function, block)]
             calls = [it for it in range(len(function.blocks)) if function.last_item(it).kind == "call"]
             here = [it for it in calls if self.tokens[self.call_token(function, it)].line == token.line]
-            found.append(f"{token.line + 1}:{token.column + 1}" if len(here) > 1 else str(token.line + 1))
+            column = f" (call {here.index(block) + 1})" if self.source.is_moved else f":{token.column + 1}"
+            found.append(f"{token.line + 1}{column}" if len(here) > 1 else str(token.line + 1))
         return found
 
     def call_words(self, path: tuple[int, ...]) -> str:

@@ -61,7 +61,8 @@ class Panel:
         return shown + more(len(nodes) - FIRST, "more", element("ol", *rows[FIRST + 1 :], class_="list"))
 
     def part(self, node: Node) -> str:
-        counted = "" if node.counted == node.high else f"counted {count_text(node.counted)} times"
+        times = "once" if node.counted == 1 else f"{count_text(node.counted)} times"
+        counted = "" if node.counted == node.high else f"counted {times}"
         told = ", ".join(it for it in (self.caller(node), counted) if it)
         return item(
             "li",

@@ -3,6 +3,7 @@
 import dataclasses
 
 from view.graph import Graph
+from view.name_places import named_place
 from view.source import Source
 
 # Faults of C with a line and a column.
@@ -35,6 +36,10 @@ def refusal_of(answer: str, status: int, text: str, is_c: bool) -> Refusal:
     said = f"The analysis answers `{line or 'nothing'}` (status {status})."
     kind, *words = line.split(" ") if line else [""]
     told = PLACED if is_c else PLACED_OF_ALF
+    if is_c and kind == "fault" and len(words) > 2:
+        place = named_place(words[0], [it.strip('"') for it in words[2:]], text)
+        if place:
+            return Refusal(said, place)
     if kind != "fault" or len(words) < 4 or words[0] not in told:
         return Refusal(said)
     row, column = int(words[2]) - 1, int(words[3]) - 1

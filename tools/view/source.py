@@ -14,7 +14,10 @@ SURPRISES = (IndexError, KeyError, ValueError, TypeError, RecursionError, Attrib
 
 @dataclasses.dataclass(slots=True)
 class Source:
-    """A text with its tokens and functions. `held` counts the items that were compared with the program's."""
+    """A text with its tokens and functions. `held` counts the items that were compared with the program's.
+
+    `is_moved` tells that the places of the tokens are lines of the file that `sweet-c` wrote the text from.
+    """
 
     text: str
     tokens: list[Token]
@@ -22,6 +25,7 @@ class Source:
     globals: dict[str, c_units.Global] = dataclasses.field(default_factory=dict)
     held: int = 0
     is_c: bool = True
+    is_moved: bool = False
 
     def words_of(self, tokens: list[int]) -> str:
         """Tokens as they stand, with one space where space or other tokens are between them."""

@@ -36,12 +36,13 @@ class SourcePane:
         self.starts = [0]
         for row in self.rows:
             self.starts.append(self.starts[-1] + len(row) + 1)
-        self.tokens = view.source.tokens if view.source else []
+        # Those of the text that is shown. Where it is another than the program's, no token is known to be in a block.
+        self.tokens = view.origin.tokens if view.origin else view.source.tokens if view.source else []
         self.tokens_on: dict[int, list[int]] = {}
         for number, token in enumerate(self.tokens):
             self.tokens_on.setdefault(token.line, []).append(number)
         self.blocks_at: dict[int, list[Block]] = {}
-        for block in self.found.model.blocks.values() if self.found else ():
+        for block in self.found.model.blocks.values() if self.found and not view.origin else ():
             for token in block.tokens if block.is_shown else ():
                 self.blocks_at.setdefault(token, []).append(block)
 
@@ -159,8 +160,10 @@ class SourcePane:
         return found
 
     def call_badges(self, line: int) -> list[str]:
-        functions = self.found.model.source.functions if self.found else []
-        return [self.chooser(it) for it in functions if self.tokens[it.named].line == line]
+        if not self.found:
+            return []
+        model = self.found.model
+        return [self.chooser(it) for it in model.source.functions if model.tokens[it.named].line == line]
 
     def chooser(self, function: Function) -> str:
         """Of a function that is called twice the calls, to see one of them alone."""
@@ -170,7 +173,7 @@ class SourcePane:
             return element("span", "not called", class_="badge off")
         if len(paths) == 1:
             return ""
-        options = [element("option", f"all {len(paths)} calls, added up", value="")]
+        options = [element("option", f"{len(paths)} calls, added up", value="")]
         for number, path in enumerate(paths):
             options.append(element("option", f"call from line {escape(model.call_words(path))}", value=number))
         return element(
@@ -178,7 +181,7 @@ class SourcePane:
         )
 
     def alarm(self, line: int, alarm: Alarm) -> str:
-        tokens = [self.tokens[it] for it in alarm.tokens if self.tokens[it].line == line]
+        tokens = [it for it in (self.found.model.tokens[number] for number in alarm.tokens) if it.line == line]
         column = column_in(self.rows[line], tokens[0].column) if tokens else 0
         others = [str(it + 1) for it in alarm.lines if it != line]
         where = f" here or at line{'s' if len(others) > 1 else ''} {', '.join(others)}" if others else ""

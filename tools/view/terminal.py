@@ -3,6 +3,7 @@
 from view.exclusions import lines_text
 from view.file_view import View
 from view.lines import NOTHING, LineFacts
+from view.markup import shortened
 from view.part_row import column_in, labels_row
 from view.report import percent_text
 
@@ -32,6 +33,9 @@ class Screen:
 
     def heading(self) -> list[str]:
         found = []
+        if self.view.origin:
+            out = self.view.origin.written
+            found += [f"What is proved speaks of {out}, which ./sweet-c wrote from this file.", ""]
         if self.view.differs:
             found += ["No line is marked. The rules of this viewer and of `sweet` do not agree on this file:"]
             found += [f"  {self.view.differs}", ""]
@@ -42,7 +46,7 @@ class Screen:
             report = self.found.report
             bound = "path bound" if self.found.model.is_by_path else "count bound"
             told = f"no run costs more than {report.path_bound} (path bound, {report.path_word})"
-            found.append(f"{self.view.path}: {told}")
+            found.append(f"{self.view.shown_path}: {told}")
             found.append(f"count bound {report.count_bound}; shares are of the {bound}")
             found += ["", f"{'in a run':>{self.count_width}} {'share':>5} {'line':>{self.number_width}}"]
         return [*self.view.notes, *([""] if self.view.notes else []), *found]
@@ -80,10 +84,19 @@ class Screen:
             found.append(self.paint(BOLD_RED, " " * column_in(row, self.view.place[1]) + "^ " + self.view.place[2]))
         return found
 
+    def group_words(self, group: list[int]) -> str:
+        """The lines of a group, and its parts where these lines have others, too."""
+        model = self.found.model
+        text = lines_text(model, group)
+        lines = {model.nodes[it].block.home for it in group}
+        is_split = any(len([it for it in model.at_line[line] if it.home == line]) > 1 for line in lines)
+        parts = dict.fromkeys(model.nodes[it].block.text for it in group)
+        words = f" ({shortened(' / '.join(parts), 40)})" if is_split else ""
+        return ("lines " if "," in text or "–" in text else "line ") + text + words
+
     def exclusions(self) -> list[str]:
         found = []
         for it in self.found.exclusions if self.found else ():
-            lines = [lines_text(self.found.model, group) for group in it.groups]
-            told = " | ".join(("lines " if "," in text or "–" in text else "line ") + text for text in lines)
+            told = " | ".join(self.group_words(group) for group in it.groups)
             found.append(f"  in one {self.found.loops.scope_words(it.scope)} only one of: {told}")
         return ["", "Never together:", *found] if found else []

@@ -30,8 +30,8 @@ use toml::{Table, Value};
 /// `count`, which is 1 where it is absent; all but the name are whole numbers. A frame is global or an
 /// argument of the function that the program starts with. The cells follow one another.
 ///
-/// 2^32 entries or more are want of memory. Takes time linear in the file and in the frames, and a mark for each byte of a frame of the
-/// greatest size.
+/// 2^32 entries or more are want of memory. Takes time linear in the file and in the frames, and a mark for each byte
+/// of a frame of the greatest size.
 pub fn inputs(alloc: Global, bytes: &[u8], checked: &Checked) -> Result<Vec<InputRow>, TableFault>
     ensures means { IfOk result (λ rows. MeansInputs bytes.now (seen checked.now) rows.items) }
     ensures keep { IfOk result (λ rows. KeepInputs (seen checked.now) rows.items) }

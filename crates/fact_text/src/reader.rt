@@ -1,6 +1,6 @@
 //! A place in a text, and what is read of single words there.
 
-ghost use Rattle.std.specs.Prelude.{◌≡◌, ◌≤◌, ◌<◌, ◌-◌, ◌^◌, None, Some, IfOk, IfErr, IfSome};
+ghost use Rattle.std.specs.Prelude.{◌≡◌, ◌≤◌, ◌<◌, ◌-◌, None, Some, IfOk, IfErr};
 ghost use Rattle.std.specs.Option.{option_map};
 ghost use Rattle.grammar.specs.Form.{first, after};
 ghost use Rattle.fact_words.specs.Ahead.{lexeme};
@@ -34,7 +34,6 @@ impl<'a> Reader<'a> {
     fn next(&mut self) -> Option<Token<'a>>
         ensures token { option_map lexeme result ≡ first (position self.old) }
         ensures rest { position self.new ≡ after (position self.old) }
-        ensures short { IfSome result (λ token. token.left < 2 ^ 63) }
     {
         match self.cursor.next() {
             Some(token) => Some(token),
@@ -54,7 +53,6 @@ impl<'a> Reader<'a> {
     fn token(&mut self) -> Result<Token<'a>, Departure>
         ensures found { IfOk result (λ token. first (position self.old) ≡ Some (lexeme token)) }
         ensures rest { IfOk result (λ token. position self.new ≡ after (position self.old)) }
-        ensures short { IfOk result (λ token. token.left < 2 ^ 63) }
         ensures end { IfErr result (λ departure. (departure ≡ Syntax 0) × (first (position self.old) ≡ None)) }
     {
         match self.next() {
@@ -95,7 +93,11 @@ impl<'a> Reader<'a> {
         if !token.line {
             return Ok(token);
         }
-        Err(Departure::Syntax(token.left + 1))
+        match token.left.checked_add(1) {
+            Some(left) => Err(Departure::Syntax(left)),
+            // No text is so long.
+            None => Err(Departure::Memory),
+        }
     }
 
     /// This word, which begins a line.

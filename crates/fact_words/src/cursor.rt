@@ -1,4 +1,4 @@
-ghost use Rattle.std.specs.Prelude.{◌≡◌, ◌<◌, ◌^◌, ◌++◌, [], IsNone, IfSome};
+ghost use Rattle.std.specs.Prelude.{◌≡◌, ◌++◌, [], IsNone};
 ghost use Rattle.fact_words.specs.Tokens.{tokens_of, others_of};
 ghost use Rattle.fact_words.specs.Ahead.{ahead, taken};
 
@@ -45,8 +45,6 @@ impl<'a> Cursor<'a> {
     pub fn next(&mut self) -> Option<Token<'a>>
         ensures token { ahead self.old ≡ taken result ++ ahead self.new }
         ensures end { IsNone result → ahead self.old ≡ [] }
-        // No text is so long that one more byte has no number.
-        ensures short { IfSome result (λ token. token.left < 2 ^ 63) }
     {
         let Some(rest) = self.rest else {
             return None;

@@ -9,5 +9,3 @@ pub mod PathLaws
 pub mod SoundLaws
 pub mod OneLaws
 pub mod OwnLaws
-pub mod Replays
-pub mod ReplayLaws

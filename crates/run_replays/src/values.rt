@@ -1,6 +1,6 @@
 //! The values of a run.
 
-ghost use Rattle.std.specs.Prelude.{◌≡◌, ◌<◌, ◌≤◌, ◌^◌, ◌↔◌, IsTrue, All, length, IfOk, IfSome, IfNone};
+ghost use Rattle.std.specs.Prelude.{◌≡◌, ◌≤◌, ◌^◌, ◌↔◌, IsTrue, All, length, IfOk, OnErr, IfSome, IfNone};
 ghost use Rattle.alf_check.specs.declared.rows.InputRow.{InputRow};
 ghost use Rattle.alf_ops.specs.TwosComplement.{word};
 ghost use Rattle.alf_runs.specs.Starts.{IsWithin, AreWithin, words_of as words_of_values};
@@ -17,8 +17,9 @@ pub fn outside(rows: &[InputRow], values: &[i64]) -> Result<Option<Objection>, A
     requires one_each { length values.now ≡ length rows.now }
     ensures none { IfOk result (λ outside. IfNone outside (AreWithin rows.now values.now)) }
     ensures some { IfOk result (λ outside. IfSome outside (λ e. IsOutside rows.now values.now e)) }
+    ensures many { OnErr result (2 ^ 32 ≤ length rows.now) }
 {
-    if !are_few(rows.len()) {
+    if rows.len() > 4294967295 {
         return Err(AllocError);
     }
     for k in 0..rows.len() {
@@ -27,13 +28,6 @@ pub fn outside(rows: &[InputRow], values: &[i64]) -> Result<Option<Objection>, A
         }
     }
     Ok(None)
-}
-
-// Whether 32 bits number so many.
-fn are_few(count: usize) -> bool
-    ensures { IsTrue result ↔ count < 2 ^ 32 }
-{
-    count <= u32::MAX as usize
 }
 
 // Whether the value is inside the range of the row.

@@ -17,9 +17,9 @@ use std::alloc::Global;
 /// once.
 ///
 /// The words are judged first, then of the program's file its length, its text and its checks, then its
-/// graph and scopes, then the inputs, then the costs, then its runs. A file has at most 1,048,576 bytes,
-/// and without `--turns` the turns are 100,000. `Memory` comes where memory runs out; a read may have
-/// failed before.
+/// graph and scopes, then the inputs, the costs, the report and the values, then its runs. A report has at
+/// most 67,108,864 bytes, and each other file 1,048,576; without `--turns` the turns are 100,000. `Memory`
+/// comes where memory runs out; a read may have failed before.
 pub fn run<F: Shelf, W: Sink>(alloc: Global, words: &[String], shelf: &mut F, out: &mut W) -> Status
     // One write was made, of the text of the answer, and no file was read but in its turn; this very text keeps the
     // promise of the command.

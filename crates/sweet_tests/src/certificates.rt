@@ -1,7 +1,8 @@
 //! Reports with a certificate, as `analyse --cert` prints them.
 
-use crate::answers::{REPORT, RETURNS, answer_of, field, side, three_files, told};
+use crate::answers::{REPORT, RETURNS, answer_of, answer_over, field, side, three_files, told};
 use crate::notation::program_of;
+use crate::programs::program_named;
 use std::alloc::{AllocError, Global};
 use std::test::Fail;
 use sweet_cli::Status;
@@ -70,6 +71,34 @@ fn the_events_are_those_of_the_policy(rt: HostRuntime) -> Result<(), Fail> {
         let program = program_of(alloc, "-", field(asked, 0), field(asked, 1))?;
         let found = events_of(alloc, program.as_str(), field(asked, 2), field(asked, 3))?;
         assert_eq!(rt; found.as_str(), side(line, 1), "{line}");
+    }
+    Ok(())
+}
+
+// Programs, how they are merged, and their inputs.
+const OWN: &str =
+    r#"insertion sort | joins | [[input]];frame="a";offset=0;size=32;count=10;low=-100;high=100
+two tests that exclude each other | none | [[input]];frame="x";offset=0;size=32;low=0;high=9
+a loop bounded by an input | exits | [[input]];frame="n";offset=0;size=32;low=0;high=10
+a case that always comes | joins | [[input]];frame="x";offset=0;size=32;low=3;high=3
+a pointer to one of two arrays | joins | [[input]];frame="c";offset=0;size=32;low=0;high=1"#;
+
+#[test]
+fn what_is_printed_with_a_certificate_is_accepted(rt: HostRuntime) -> Result<(), Fail> {
+    let alloc = rt.alloc();
+    for line in OWN.lines() {
+        let program = program_named(field(line, 0));
+        let files = three_files(alloc, program, field(line, 2), "default = 1")?;
+        let words = format!(in alloc;
+            "analyse a.alf --inputs i.toml --cert --merge {}",
+            field(line, 1)
+        )?;
+        let (status, report) = answer_over(alloc, words.as_str(), files)?;
+        assert_eq!(rt; status, Status::Done, "{line}");
+        let mut files = three_files(alloc, program, field(line, 2), "default = 1")?;
+        files.push((String::from_str(alloc, "r")?, report))?;
+        let found = told(alloc, "check a.alf r --inputs i.toml", files)?;
+        assert_eq!(rt; found.as_str(), "0 accepted;", "{line}");
     }
     Ok(())
 }

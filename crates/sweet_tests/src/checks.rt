@@ -84,7 +84,13 @@ apart | path-bound 4 least; | path-bound 3 least; => 4 no bound 4;
 joined | total 5 1 1; | total 5 1 1;pair 0 2 4; | scale 1; | scale 1;mul 0; => 4 no column 1;
 a case |  |  => 0 accepted;
 a case | dead 3; | dead 2; | total 2 1 1; | total 3 1 1; => 4 no fact 7;
-a case, as totals | total 3 0 0; | total 3 1 1; => 4 no fact 10;"#;
+a case, as totals | total 3 0 0; | total 3 1 1; => 4 no fact 10;
+a division | alarm 1 divide; |  | cert;step 0; | cert; => 4 no left 0;
+a division | alarm 1 divide; |  | cert;step 0; | cert;step 1; => 4 no event 0;
+a division | alarm 1 divide; |  | count-bound 1; | count-bound 0; => 4 no alarm 1 divide;
+ten turns, form 1 | count-bound 23; | count-bound 22; | mul 0;mul 0;mul 1; | mul 0;mul 0;mul -1; => 4 no count-bound;
+ten turns, form 1 | total 4 1 1; | total 4 1 1;pair 0 1 4; | mul 0;end; | mul 0;mul 0;end; => 4 no fact 15;
+ten turns, form 1 | scale 1;mul 0;mul 0;mul 0;mul 0;mul 0;mul 0;mul 0;mul 0;mul 0;mul 1;mul 0;mul 1;mul 0;mul 1;mul 0;mul 1;mul 0; | scale 2;mul 0;mul 0;mul 0;mul 0;mul 0;mul 0;mul 0;mul 0;mul 0;mul 2;mul 0;mul 2;mul 0;mul 2;mul 0;mul 2;mul 0; => 0 accepted;"#;
 
 #[test]
 fn a_report_is_checked_by_each_of_its_lines(rt: HostRuntime) -> Result<(), Fail> {

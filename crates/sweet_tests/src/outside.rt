@@ -68,7 +68,7 @@ fn a_file_of_inputs_or_costs_has_at_most_so_many_bytes(rt: HostRuntime) -> Resul
 }
 
 // The words, the number of the read that is to fail, what is told, and the name that is kept. The files
-// are `a.alf`, `i.toml` and `c.toml`.
+// are `a.alf`, `i.toml`, `c.toml` and `r`.
 const READS: &str = r#"analyse b.alf | 9 | program | b.alf
 analyse b.alf --turns 5 | 9 | program | b.alf
 analyse a.alf | 0 | program | a.alf
@@ -106,16 +106,27 @@ check a.alf i.toml --inputs i.toml --costs c.toml | 1 | inputs | i.toml
 check a.alf i.toml --inputs i.toml --costs c.toml | 2 | costs | c.toml
 check a.alf i.toml --inputs i.toml --costs c.toml | 3 | report | i.toml
 check --costs no.toml a.alf no | 9 | costs | no.toml
+replay b.alf r | 9 | program | b.alf
+replay a.alf no --at no.toml | 9 | report | no
+replay a.alf r --at no.toml | 9 | values | no.toml
+replay a.alf r --at i.toml --inputs i.toml --costs c.toml | 3 | report | r
+replay a.alf r --at i.toml --inputs i.toml --costs c.toml | 4 | values | i.toml
+migrate no | 9 | report | no
+migrate r | 0 | report | r
 tasks u.toml | 9 | tasks | u.toml
 tasks i.toml | 0 | tasks | i.toml"#;
 
-// The shelf of the program that returns at once, of inputs and of costs, where one read is to fail.
+// The shelf of the program that returns at once, of inputs, of costs and of its report, where one read is to fail.
 fn failing_shelf(alloc: Global, failing: &str) -> Result<MemoryShelf, AllocError> {
     let mut numbers = Vec::new(alloc);
     if let Ok(number) = failing.parse::<u64>() {
         numbers.push(number)?;
     }
-    let files = three_files(alloc, RETURNS, "input=[]", "default=1")?;
+    let mut files = three_files(alloc, RETURNS, "input=[]", "default=1")?;
+    files.push((
+        String::from_str(alloc, "r")?,
+        REPORT.as_bytes().to_vec(alloc)?,
+    ))?;
     Ok(MemoryShelf::new(files, numbers))
 }
 
@@ -162,6 +173,13 @@ check a.alf i.toml --inputs a.alf | 2 | 2
 check a.alf i.toml --inputs i.toml --costs a.alf | 3 | 2
 check a.alf i.toml | 2 | 2
 check a.alf i.toml --inputs i.toml --costs c.toml | 4 | 2
+check a.alf r | 2 | 4
+replay a.alf i.toml --at i.toml | 2 | 2
+replay a.alf r --at i.toml | 3 | 2
+replay a.alf r | 2 | 0
+replay a.alf r --root f --at i.toml | 1 | 2
+migrate r | 1 | 0
+generate 1 | 0 | 0
 run a.alf --turns 1 | 1 | 3"#;
 
 #[test]

@@ -74,7 +74,19 @@ a division |  |  |  |  | values = [0];more = 1 => 2 fault 71 key values -;
 a division |  |  |  |  | values = [ => 2 fault 70 toml values;
 a case |  |  |  |  | values = [3] => 0 holds cost 2;
 a case |  |  |  |  | values = [4] => 4 no outside 0;
-a case | dead 3; | dead 2; | total 2 1 1; | total 3 1 1; | values = [3] => 4 no fact 7;"#;
+a case | dead 3; | dead 2; | total 2 1 1; | total 3 1 1; | values = [3] => 4 no fact 7;
+ten turns, form 1 | total 2 11 11; | total 2 5 5; | total 3 10 10; | total 3 4 4; | values = [] => 4 no fact 13;
+ten turns, form 1 | total 2 11 11; | total 2 5 5; | total 3 10 10; | total 3 5 5; | values = [] => 4 no fact 12;
+ten turns, form 1 | total 4 1 1;count-bound 23;path-bound 23 least; | total 4 0 0;count-bound 22;path-bound 22 least; |  |  | values = [] => 4 no fact 14;
+ten turns, form 1 | count-bound 23;path-bound 23 least; | count-bound 23; |  |  | values = [] => 0 holds cost 23;
+joined | total 2 0 1; | total 2 0 0; | total 4 0 1; | total 4 0 0; | values = [4] => 4 no fact 11;
+joined | total 2 0 1; | total 2 0 0; | total 4 0 1; | total 4 0 0; | values = [5] => 4 no fact 13;
+joined | total 2 0 1; | total 2 1 1; | total 4 0 1; | total 4 1 1; | values = [4] => 4 no fact 13;
+joined | total 2 0 1; | total 2 1 1; | total 4 0 1; | total 4 1 1; | values = [5] => 4 no fact 11;
+joined | total 5 1 1; | total 5 1 1;pair 0 2 4;pair 0 3 5; |  |  | values = [0] => 4 no fact 16;
+joined | count-bound 5;path-bound 5 least; | count-bound 4;path-bound 4 least; |  |  | values = [9] => 0 holds cost 4;
+joined | count-bound 5;path-bound 5 least; | count-bound 4;path-bound 3 least; |  |  | values = [9] => 4 no path-bound;
+joined |  |  |  |  | values = [10] => 4 no outside 0;"#;
 
 #[test]
 fn the_first_thing_that_speaks_against_a_report_is_told_of_the_run(

@@ -1,0 +1,68 @@
+"""Programs before and after `sweet-c`, many of them compiled as one."""
+
+import pathlib
+import re
+
+from in_profile.command import parsed
+from in_profile.preprocessor import preprocessed
+from in_profile.program import Program
+from in_profile.trial import SHAPE, built, difference, is_same, outcome, tail
+
+WORDS = set("""auto break case char const continue default do double else enum extern float for goto if inline int long register restrict
+return short signed sizeof static struct switch typedef union unsigned void volatile while _Bool abort exit _exit __builtin_abort
+__builtin_trap""".split())
+
+
+class Rewritten:
+    """A program of a text: what `sweet-c` makes of it, and what it says against it."""
+
+    def __init__(self, text, room):
+        given = pathlib.Path(room, "given.c")
+        given.write_text(text, encoding="latin-1")
+        is_plain = not re.search(r"#|//|/\*|__|\\\n|\b(inline|restrict|register)\b", text)
+        self.source = text if is_plain else preprocessed(str(given))
+        self.program = Program(parsed(self.source, str(given)), str(given))
+        self.made = self.program.written()
+        self.reasons = sorted((line, why) for _, line, why in self.program.reasons)
+        self.notes = {what for _, _, what in self.program.notes}
+
+    def frames(self):
+        """The globals: their names before and after, and their sizes."""
+        return [(name, it.text, it.kind.size) for name, it in sorted(self.program.objects.items())]
+
+
+def prefixed(text, prefix):
+    """The text, with each name of its own behind a prefix, so that many texts are one."""
+    text = re.sub(r"^#.*$", "", text, flags=re.M)
+    pieces = re.split(r"""("(?:[^"\\\n]|\\.)*"|'(?:[^'\\\n]|\\.)*'|/\*.*?\*/|\b[A-Za-z_]\w*|\b[0-9][\w.]*)""", text, flags=re.S)
+    for i in range(1, len(pieces), 2):
+        if re.fullmatch(r"[A-Za-z_]\w*", pieces[i]) and pieces[i] not in WORDS:
+            pieces[i] = prefix + pieces[i]
+    return "".join(pieces)
+
+
+def outcomes(rewritten, room):
+    """What differs of each of the programs, in order, None where both texts do the same; and what the second text does."""
+    if not rewritten:
+        return []
+    text, keys = SHAPE, []
+    for i, it in enumerate(rewritten):
+        kind = it.program.functions["main"]
+        for key, source, column in ((f"a{i}", it.source, 0), (f"b{i}", it.made, 1)):
+            keys.append(key)
+            frames = [(f"{key}_{frame[column]}", frame[2]) for frame in it.frames()]
+            text += prefixed(source, f"{key}_") + tail(key, f"{key}_main", kind, frames)
+    made = pathlib.Path(room, "batch")
+    fault = built(text, keys, made)
+    if fault and len(rewritten) > 1:
+        half = len(rewritten) // 2
+        return outcomes(rewritten[:half], room) + outcomes(rewritten[half:], room)
+    if fault:
+        return [(f"the compiler refuses a text: {fault}", None)]
+    return [compared(it, made, 2 * i) for i, it in enumerate(rewritten)]
+
+
+def compared(rewritten, made, index):
+    frames = [(name, size) for name, _, size in rewritten.frames()]
+    first, second = (outcome(made, index + k, [], [], frames) for k in (0, 1))
+    return (None if is_same(first, second) else difference(first, second), second)

@@ -1,0 +1,30 @@
+// volatile, assembly, sizes that are no constants, and characters of other kinds are out
+
+// 1: volatile; 2: volatile; 3: volatile
+volatile int v;
+int main(void) { volatile int *p = &v;
+  int x; volatile char c = 1;
+  return v; }
+
+// 2: assembly; 3: assembly
+int a;
+int main(void) { asm volatile("nop" : : "r"(a));
+  __asm__("hlt");
+  return 0; }
+
+// 2: an expression that is no constant
+int main(void) { int n = 3;
+  int a[n]; a[0] = 1; return a[0]; }
+
+// 1: a constant of several characters; 2: a wide character
+int main(void) { const int x = 'ab';
+  return L'a' + x; }
+
+// 1: an expression that is no constant; 2: an expression that is no constant
+int y; int x = y;
+int main(void) { static int z = y;
+  return x + z; }
+
+// 1: an array without elements; 1: more initialisers than members
+int a[2] = {1, 2, 3}; int b[0];
+int main(void) { return a[0]; }

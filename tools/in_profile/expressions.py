@@ -5,8 +5,8 @@ import dataclasses
 from pycparser import c_ast
 
 from .constants import number, text_of
-from .kinds import FAULTS, Kinds, form, text_in
-from .types import INT, UNSIGNED, VOID, Array, Function, Missing, Number, Object, Outside, Pointer, Whole, common, count, decayed, promoted
+from .kinds import Kinds, form, text_in
+from .types import INT, UNSIGNED, VOID, Array, Function, Number, Object, Outside, Pointer, Whole, common, count, decayed, promoted
 
 MOST_DEPTH = 10
 

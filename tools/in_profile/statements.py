@@ -3,8 +3,8 @@
 from pycparser import c_ast
 
 from .constants import text_of
-from .expressions import Expressions, declared, has_effect
-from .types import INT, VOID, Array, Function, Missing, Object, Outside, Pointer, Whole, count, place_of
+from .expressions import Expressions, declared
+from .types import INT, VOID, Array, Function, Missing, Object, Outside, Pointer, Whole, count
 
 
 def continues(node):

@@ -6,7 +6,7 @@
 --   inside_more, outside_at, all_inside   values that are inside their ranges one by one, and the first that is not
 --   words_more    the word of one value more
 use Rattle.std.proofs.Common.{◌≡◌, ◌<◌, ◌≤◌, ◌+◌, ◌==◌, ℕ, zero, suc, ℤ, List, [], ◌∷◌, ◌++◌, Bool, true, cond, Option, Some, None, Result, Ok, Err, get_or, length, map, reverse, take, inl, inr, lt-ltb, ⊎_elim, add-one, refl, sym, ap, ◌∙◌, subst, arith}
-use Rattle.std.specs.Prelude.{slice_index, position, count_by}
+use Rattle.std.specs.Prelude.{slice_index, position, count_by, not}
 use Rattle.std.specs.List.{position_or_len}
 use Rattle.std.proofs.lemmas.Bool.{eq-eqb, cases_lt, cond-true}
 use Rattle.std.proofs.lemmas.List.{length-map}
@@ -46,10 +46,10 @@ none_counted p [] past = refl
 none_counted p (x ∷ xs) past =
     let all : count_by p (x ∷ xs) ≡ bit (p x) + count_by p xs = sum_by-cons (λ y. bit (p y)) x xs in
     by_test (p x)
-    (λ is. absurd (let here : position_or_len p (x ∷ xs) ≡ 0 = rw is refl in omega (arith, past, here)))
+    (λ is. absurd (let here : position_or_len p (x ∷ xs) ≡ 0 = ap (λ (b : Bool). cond (not b) (1 + position_or_len p xs) 0) is in omega (arith, past, here)))
     (λ clear.
     let zero_here : bit (p x) ≡ 0 = ap (λ (v : Bool). bit v) clear in
-    let next : position_or_len p (x ∷ xs) ≡ suc (position_or_len p xs) = rw clear refl in
+    let next : position_or_len p (x ∷ xs) ≡ 1 + position_or_len p xs = ap (λ (b : Bool). cond (not b) (1 + position_or_len p xs) 0) clear in
     let later = none_counted p xs (omega (arith, past, next)) in
     omega (arith, all, zero_here, later))
 

@@ -108,7 +108,7 @@ fn a_report_that_is_cut_departs_where_its_next_line_would_begin(
 ) -> Result<(), Fail> {
     let alloc = rt.alloc();
     let mut cut = String::new(alloc);
-    let mut number = 1;
+    let mut number: u32 = 1;
     let row = row_of("ten turns, form 1");
     for line in side(row, 1).split(';') {
         if line.is_empty() {
@@ -119,7 +119,7 @@ fn a_report_that_is_cut_departs_where_its_next_line_would_begin(
         assert_eq!(rt; found.as_str(), wanted.as_str(), "{line}");
         cut.push_str(line)?;
         cut.push(';')?;
-        number += 1;
+        number = number.wrapping_add(1);
     }
     assert_eq!(rt; number, 61);
     Ok(())

@@ -8,9 +8,15 @@ from in_profile.preprocessor import preprocessed
 from in_profile.program import Program
 from in_profile.trial import SHAPE, built, difference, is_same, outcomes, tail
 
-WORDS = set("""auto break case char const continue default do double else enum extern float for goto if inline int long register restrict
-return short signed sizeof static struct switch typedef union unsigned void volatile while _Bool abort exit _exit __builtin_abort
-__builtin_trap""".split())
+WORDS = set("""auto break case char const continue default do double else enum extern float for goto if inline int long
+register restrict return short signed sizeof static struct switch typedef union unsigned void volatile while _Bool abort
+exit _exit __builtin_abort __builtin_trap""".split())
+# Strings, characters, comments, names and numbers.
+PIECES = re.compile(
+    r"""("(?:[^"\\\n]|\\.)*"|'(?:[^'\\\n]|\\.)*'"""
+    r"""|/\*.*?\*/|\b[A-Za-z_]\w*|\b[0-9][\w.]*)""",
+    re.S,
+)
 
 
 class Rewritten:
@@ -34,7 +40,7 @@ class Rewritten:
 def prefixed(text, prefix):
     """The text, with each name of its own behind a prefix, so that many texts are one."""
     text = re.sub(r"^#.*$", "", text, flags=re.M)
-    pieces = re.split(r"""("(?:[^"\\\n]|\\.)*"|'(?:[^'\\\n]|\\.)*'|/\*.*?\*/|\b[A-Za-z_]\w*|\b[0-9][\w.]*)""", text, flags=re.S)
+    pieces = PIECES.split(text)
     for i in range(1, len(pieces), 2):
         if re.fullmatch(r"[A-Za-z_]\w*", pieces[i]) and pieces[i] not in WORDS:
             pieces[i] = prefix + pieces[i]
@@ -42,7 +48,10 @@ def prefixed(text, prefix):
 
 
 def compared(rewritten, room):
-    """What differs of each of the programs, in order, None where both texts do the same; and what the second text does."""
+    """What differs of each of the programs, in order, and what the second text does.
+
+    It is None where both texts do the same.
+    """
     if not rewritten:
         return []
     text, keys = SHAPE, []
@@ -59,7 +68,8 @@ def compared(rewritten, room):
         return compared(rewritten[:half], room) + compared(rewritten[half:], room)
     if fault:
         return [(f"the compiler refuses a text: {fault}", None)]
-    runs = [(2 * i + k, [], [], [(name, size) for name, _, size in it.frames()]) for i, it in enumerate(rewritten) for k in (0, 1)]
+    frames = [[(name, size) for name, _, size in it.frames()] for it in rewritten]
+    runs = [(2 * i + k, [], [], it) for i, it in enumerate(frames) for k in (0, 1)]
     found = outcomes(made, runs)
     pairs = zip(found[::2], found[1::2])
     return [(None if is_same(first, second) else difference(first, second), second) for first, second in pairs]

@@ -12,9 +12,10 @@ WHOLE = """#ifndef SWEET_STDINT
 #define SWEET_STDINT
 typedef signed char int8_t; typedef unsigned char uint8_t; typedef short int16_t; typedef unsigned short uint16_t;
 typedef int int32_t; typedef unsigned int uint32_t; typedef long long int64_t; typedef unsigned long long uint64_t;
-typedef signed char int_least8_t; typedef unsigned char uint_least8_t; typedef short int_least16_t; typedef unsigned short uint_least16_t;
-typedef int int_least32_t; typedef unsigned int uint_least32_t; typedef signed char int_fast8_t; typedef unsigned char uint_fast8_t;
-typedef int int_fast16_t; typedef unsigned int uint_fast16_t; typedef int int_fast32_t; typedef unsigned int uint_fast32_t;
+typedef signed char int_least8_t; typedef unsigned char uint_least8_t; typedef short int_least16_t;
+typedef unsigned short uint_least16_t; typedef int int_least32_t; typedef unsigned int uint_least32_t;
+typedef signed char int_fast8_t; typedef unsigned char uint_fast8_t; typedef int int_fast16_t;
+typedef unsigned int uint_fast16_t; typedef int int_fast32_t; typedef unsigned int uint_fast32_t;
 typedef int intptr_t; typedef unsigned int uintptr_t; typedef long long intmax_t; typedef unsigned long long uintmax_t;
 #define INT8_MIN (-128)
 #define INT8_MAX 127
@@ -58,16 +59,17 @@ ASSERT = """#undef assert
 #endif
 """
 ONCE = "#ifndef SWEET_{0}\n#define SWEET_{0}\n{1}#endif\n"
+SIZED = ONCE.format("SIZES", SIZES)
+ENDS = "void abort(void); void exit(int);\n#define EXIT_SUCCESS 0\n#define EXIT_FAILURE 1\n"
 HEADERS = {
-    "inttypes.h": WHOLE, "stdint.h": WHOLE, "stddef.h": ONCE.format("SIZES", SIZES), "stdio.h": ONCE.format("SIZES", SIZES),
-    "string.h": ONCE.format("SIZES", SIZES), "time.h": ONCE.format("SIZES", SIZES), "ctype.h": "", "math.h": "",
-    "stdlib.h": ONCE.format("SIZES", SIZES) + "void abort(void); void exit(int);\n#define EXIT_SUCCESS 0\n#define EXIT_FAILURE 1\n",
+    "inttypes.h": WHOLE, "stdint.h": WHOLE, "stddef.h": SIZED, "stdio.h": SIZED, "string.h": SIZED, "time.h": SIZED,
+    "ctype.h": "", "math.h": "", "stdlib.h": SIZED + ENDS,
     "assert.h": ASSERT, "limits.h": ONCE.format("LIMITS", LIMITS),
     "stdbool.h": ONCE.format("TRUTH", "#define bool _Bool\n#define true 1\n#define false 0\n"),
 }
-DEFINED = ["-D__attribute__(x)=", "-D__extension__=", "-D__inline=", "-D__inline__=", "-Dinline=", "-D__restrict=", "-D__restrict__=",
-           "-Drestrict=", "-D__signed__=signed", "-D__const=const", "-D_Noreturn=", "-D__volatile__=volatile",
-           "-D__builtin_expect(x,y)=((long)(x))"]
+DEFINED = ["-D__attribute__(x)=", "-D__extension__=", "-D__inline=", "-D__inline__=", "-Dinline=",
+           "-D__restrict=", "-D__restrict__=", "-Drestrict=", "-D__signed__=signed", "-D__const=const",
+           "-D_Noreturn=", "-D__volatile__=volatile", "-D__builtin_expect(x,y)=((long)(x))"]
 
 
 def lacking(what, package):

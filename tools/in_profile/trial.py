@@ -12,8 +12,9 @@ import tomllib
 from .types import Pointer, VOID
 
 TRIALS, OUT_OF_TIME = 22, 26
-WORDS = ["cc", "-std=gnu99", "-fwrapv", "-fsigned-char", "-fno-strict-aliasing", "-fno-builtin", "-fno-stack-protector", "-fno-pie", "-no-pie",
-         "-w", "-nostdlib", "-static", "-Dexit=sweet_exit", "-D_exit=sweet_exit", "-Dabort=sweet_abort", "-fcf-protection=none"]
+WORDS = ["cc", "-std=gnu99", "-w", "-nostdlib", "-static", "-fwrapv", "-fsigned-char", "-fno-strict-aliasing",
+         "-fno-builtin", "-fno-stack-protector", "-fno-pie", "-no-pie", "-fcf-protection=none",
+         "-Dexit=sweet_exit", "-D_exit=sweet_exit", "-Dabort=sweet_abort"]
 SHAPE = "\nstruct sweet_program { int (*call)(const int *); void *const *places; const int *sizes; int count; };\n"
 DRIVER = SHAPE + """
 extern const struct sweet_program *const sweet_programs[];
@@ -25,7 +26,8 @@ enum { END = 1, FORK = 2, READ = 3, WRITE = 4, TIMER = 104, WAIT = 114 };
 #else
 static long sweet_call(long number, long a, long b, long c, long d)
 { long r; register long e __asm__("r10") = d;
-  __asm__ volatile("syscall" : "=a"(r) : "a"(number), "D"(a), "S"(b), "d"(c), "r"(e) : "memory", "rcx", "r11"); return r; }
+  __asm__ volatile("syscall" : "=a"(r) : "a"(number), "D"(a), "S"(b), "d"(c), "r"(e) : "memory", "rcx", "r11");
+  return r; }
 enum { READ = 0, WRITE = 1, TIMER = 38, FORK = 57, END = 60, WAIT = 61 };
 #endif
 void *memcpy(void *to, const void *from, unsigned long count)
@@ -43,7 +45,8 @@ static void sweet_end(int how, int worth)
 {
     int head[2] = {how, worth};
     sweet_write(head, sizeof head);
-    for (int i = 0; how < 2 && i < sweet_chosen->count; i++) sweet_write(sweet_chosen->places[i], sweet_chosen->sizes[i]);
+    for (int i = 0; how < 2 && i < sweet_chosen->count; i++)
+        sweet_write(sweet_chosen->places[i], sweet_chosen->sizes[i]);
     for (;;) sweet_call(END, 0, 0, 0, 0);
 }
 void sweet_exit(int worth) { sweet_end(1, worth); }
@@ -73,8 +76,10 @@ static void sweet_trial(int index)
     if (child == 0) {
         long limit[4] = {0, 0, SECONDS, 0};
         sweet_call(TIMER, 1, (long)limit, 0, 0);
-        for (i = 0; i < count; i++)
-            memcpy((char *)sweet_chosen->places[sweet_sets[i][0]] + sweet_sets[i][1], &sweet_sets[i][3], sweet_sets[i][2]);
+        for (i = 0; i < count; i++) {
+            char *place = sweet_chosen->places[sweet_sets[i][0]];
+            memcpy(place + sweet_sets[i][1], &sweet_sets[i][3], sweet_sets[i][2]);
+        }
         sweet_end(0, sweet_chosen->call(arguments));
     }
     sweet_call(WAIT, child, (long)&status, 0, 0);
@@ -126,14 +131,17 @@ def tail(key, root, kind, frames):
     call = f"{root}({given}); return 0;" if kind.result == VOID else f"return {root}({given});"
     places = "".join(f"(void *)&{name}, " for name, _ in frames)
     sizes = "".join(f"{size}, " for _, size in frames)
-    return (f"\nstatic int sweet_call_{key}(const int *sweet_given) {{ {call} }}\nstatic void *const sweet_places_{key}[] = {{{places}0}};\n"
+    members = f"sweet_call_{key}, sweet_places_{key}, sweet_sizes_{key}, {len(frames)}"
+    return (f"\nstatic int sweet_call_{key}(const int *sweet_given) {{ {call} }}\n"
+            f"static void *const sweet_places_{key}[] = {{{places}0}};\n"
             f"static const int sweet_sizes_{key}[] = {{{sizes}0}};\n"
-            f"const struct sweet_program sweet_program_{key} = {{sweet_call_{key}, sweet_places_{key}, sweet_sizes_{key}, {len(frames)}}};\n")
+            f"const struct sweet_program sweet_program_{key} = {{{members}}};\n")
 
 
 def table(keys):
     own = "".join(f"extern const struct sweet_program sweet_program_{key};\n" for key in keys)
-    return f"{own}const struct sweet_program *const sweet_programs[] = {{{''.join(f'&sweet_program_{key}, ' for key in keys)}0}};\n"
+    members = "".join(f"&sweet_program_{key}, " for key in keys)
+    return f"{own}const struct sweet_program *const sweet_programs[] = {{{members}0}};\n"
 
 
 def built(text, keys, made):
@@ -147,10 +155,14 @@ def built(text, keys, made):
 
 
 def outcomes(made, runs):
-    """How each run ends, with what it gives, and what the globals hold. A run has a program's number, arguments, sets and frames."""
+    """How each run ends, with what it gives, and what the globals hold.
+
+    A run has a program's number, arguments, sets and frames.
+    """
     given = b""
     for index, arguments, sets, _ in runs:
-        given += struct.pack("<i", index) + b"".join(struct.pack("<I", it % 2**32) for it in (arguments + [0] * 16)[:16])
+        words = (arguments + [0] * 16)[:16]
+        given += struct.pack("<i", index) + b"".join(struct.pack("<I", it % 2**32) for it in words)
         given += struct.pack("<i", len(sets)) + b"".join(struct.pack("<iiiI", *it[:3], it[3] % 2**32) for it in sets)
     wrote = subprocess.run([made], input=given, capture_output=True).stdout
     found, at = [], 0
@@ -190,7 +202,8 @@ def trials(rows):
             span = row["high"] - row["low"]
             for j in range(row.get("count", 1)):
                 number += 1
-                share = 0 if k == 0 else span if k == 1 else (k * 7919 + number * 104729 + k * k * 31 * number) % (span + 1)
+                between = (k * 7919 + number * 104729 + k * k * 31 * number) % (span + 1)
+                share = 0 if k == 0 else span if k == 1 else between
                 found.append((row["frame"], row["offset"] + j * row["size"] // 8, row["size"] // 8, row["low"] + share))
         yield found
 
@@ -198,7 +211,8 @@ def trials(rows):
 def placed(values, program, names):
     """Arguments of the root, and what is set in globals by number."""
     kind, node = program.functions[program.root], program.lines[program.root]
-    parameters = [f"{program.root}::{it.name}" for it in (node.type.args.params if node.type.args else ()) if getattr(it, "name", None)]
+    nodes = node.type.args.params if node.type.args else ()
+    parameters = [f"{program.root}::{it.name}" for it in nodes if getattr(it, "name", None)]
     arguments, sets = [0] * len(kind.parameters), []
     for frame, offset, size, worth in values:
         if frame in parameters:
@@ -218,7 +232,8 @@ def difference(first, second):
     """What is told of two outcomes that differ."""
     if len(first) < 3 or len(second) < 3 or first[1] != second[1]:
         return f"{told(first)} before, and {told(second)} after"
-    return "; ".join(f"{name} holds {it} before, and {second[2][name]} after" for name, it in first[2].items() if it != second[2][name])
+    changed = [name for name, it in first[2].items() if it != second[2][name]]
+    return "; ".join(f"{name} holds {first[2][name]} before, and {second[2][name]} after" for name in changed)
 
 
 def tried(program, source, text, inputs):

@@ -15,6 +15,7 @@ ORDER = (("facts", "f"), ("node", "gnnN"), ("scope", "gpnk"), ("loop", "nlh"), (
          ("pair", "nnn"), ("alarm", "nc"), ("count-bound", "b"), ("path-bound", "bw"), ("cert", ""), ("step", "n"), ("merge", "nn"),
          ("scale", "s"), ("mul", "m"), ("end", ""))
 AT = {kind: number for number, (kind, _) in enumerate(ORDER)}
+FACTS = {"loop", "count", "dead", "total", "pair", "alarm"}
 ONCE = {"facts", "count-bound", "path-bound", "cert", "scale", "end"}
 
 
@@ -103,11 +104,10 @@ class Reader:
             self.at += 1
             places.append(self.at)
             values.append(self.part(kind, form))
-        keys = {"loop": 1, "count": 2, "dead": 1, "total": 1, "pair": 3, "alarm": 2}.get(kind)
-        if keys:
-            if self.last == AT[kind] and not self.key < values[:keys]:
+        if kind in FACTS:
+            if self.last == AT[kind] and not self.key < values:
                 self.syntax(start)
-            self.key = values[:keys]
+            self.key = values
         if kind in ("loop", "count", "total") and values[-2] > values[-1]:
             self.syntax(places[-1])
         self.last = AT[kind]

@@ -4,6 +4,7 @@ pub mod Fitting
 pub mod LoadsAndStores
 pub mod Modular
 pub mod NamedOperators
+pub mod Operators
 pub mod Origins
 pub mod OutcomeSizes
 pub mod Rotations

@@ -13,7 +13,7 @@
 --   WordOfBytes             else it gives the word of the bytes
 --   NewestStore             the newest store since the owner was last entered that covers a byte
 --   ComesFromNewest         that is the store that the byte comes from
---   IsOneStore              two bytes of a cell that come from stores of exactly this cell come from the same store
+--   IsOneStore              two bytes of a cell that come from stores of exactly this cell come from stores of one value
 --   StoreKeepsSound, LoadFits   a store of a value that fits keeps a history sound, and a load of a sound history gives a value that fits
 --   HasOneAnswer            a load gives exactly one of a value and a fault
 use Rattle.std.specs.Prelude.{◌≡◌, ◌≢◌, ◌⊎◌, ◌↔◌, ℕ, Bool, true, false, not, List, ◌∷◌, ◌++◌, Option, Some, None, Ok, Err, ◌+◌, ◌*◌, ◌/◌, ◌%◌, ◌^◌, ◌<◌, ◌≤◌, ◌==◌, ◌&&◌, slice_get}
@@ -176,7 +176,7 @@ abbrev pub ComesFromNewest : Type 0
 ComesFromNewest = (owner : Option ℕ) (history : List RunEvent) (frame byte offset size : ℕ) (value : Value)
     → (origin owner frame history byte ≡ Some (left_by offset size value byte)) ↔ NewestStore owner history frame byte offset size value
 
--- two bytes of a cell that come from stores of exactly this cell come from the same store
+-- two bytes of a cell that come from stores of exactly this cell come from stores of one value
 abbrev pub IsOneStore : Type 0
 IsOneStore = (owner : Option ℕ) (frame : ℕ) (history : List RunEvent) (offset size first second : ℕ) (one other : Byte)
     → is_byte_of offset size first ≡ true

@@ -4,6 +4,7 @@ pub mod HistoryLaws
 pub mod Layouts
 pub mod Names
 pub mod OperandLaws
+pub mod OperatorLaws
 pub mod PointerLaws
 pub mod Pointers
 pub mod Readings

@@ -1,6 +1,7 @@
 //! What words, operators and the meaning of a run promise, as clauses of functions that do nothing.
 
 ghost use Rattle.alf_ops.specs.WordLaws.{ReadsTwosComplement, IsRead, ReadsByHighestBit, BelowItsSize, TruncatesTowardZero, MovesRound, LesserAndGreater, SelectsBytes, ConcatenatesWords};
+ghost use Rattle.alf_ops.specs.OperatorLaws.{ChoosesByBit, AddsWithCarry, SubtractsWithBorrow, Negates, MultipliesInFull, MultipliesReadings, DividesWords, ShiftsUp, RoundsDown, OrdersWords, TellsEqual, KeepsReading, TakesBitsOfBoth};
 ghost use Rattle.alf_ops.specs.Names.{HaveOwnNames};
 ghost use Rattle.alf_ops.specs.PointerLaws.{TableDecides, Unequal, Unordered, AsOffsets, Moves, Chosen, KindElsewhere, DividedPointer, OutcomeFits, FirstFaultCounts};
 ghost use Rattle.alf_ops.specs.HistoryLaws.{StoreThenLoad, StoreElsewhere, ReadsBack, EnterEmpties, EnterKeepsOthers, LeaveEnds, LeaveKeepsOthers, KindFirst, DeadNext, PastTheEnd, EmptyByte, PointerByte, WordOfBytes, ComesFromNewest, IsOneStore, StoreKeepsSound, LoadFits, HasOneAnswer};
@@ -23,6 +24,33 @@ pub fn words_are_cut_and_computed()
     ensures lesser { LesserAndGreater }
     ensures selected { SelectsBytes }
     ensures concatenated { ConcatenatesWords }
+{}
+
+/// A sum and its carry are the numbers added up, what is subtracted gives the number back, products
+/// are not cut, and a quotient and its rest give the number back.
+pub fn words_are_added_and_divided()
+    ensures sum { AddsWithCarry }
+    ensures difference { SubtractsWithBorrow }
+    ensures negative { Negates }
+    ensures product { MultipliesInFull }
+    ensures signed_product { MultipliesReadings }
+    ensures quotient { DividesWords }
+{}
+
+/// 1 chooses the first operand and 0 the second, shifts multiply and divide by powers of 2, and
+/// bits are those of both, of either and of just one of two words.
+pub fn words_are_chosen_and_shifted()
+    ensures chosen { ChoosesByBit }
+    ensures up { ShiftsUp }
+    ensures down { RoundsDown }
+    ensures bits { TakesBitsOfBoth }
+{}
+
+/// The orders are those of the numbers and of their signed readings, and an extension keeps them.
+pub fn words_are_ordered_as_they_read()
+    ensures order { OrdersWords }
+    ensures equal { TellsEqual }
+    ensures extended { KeepsReading }
 {}
 
 /// No two operators have one name.
@@ -106,7 +134,7 @@ pub fn a_load_reads_its_bytes()
 {}
 
 /// A byte comes from the newest store since the frame's function was entered that covers it, and
-/// bytes that come from stores of one cell come from one store.
+/// bytes that come from stores of one cell come from stores of one value.
 pub fn a_byte_comes_from_the_newest_store()
     ensures newest { ComesFromNewest }
     ensures one_store { IsOneStore }

@@ -1,6 +1,5 @@
 -- The files of this folder.
 pub mod Along
-pub mod Examples
 pub mod Growing
 pub mod KeptNodes
 pub mod Paths

@@ -12,3 +12,4 @@ pub mod Starts
 pub mod Statements
 pub mod Steps
 pub mod StoreLaws
+pub mod Worked

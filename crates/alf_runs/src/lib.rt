@@ -10,8 +10,14 @@
 // What the definitions promise.
 mod laws;
 
+// Small programs, worked out.
+mod worked;
+
 pub use laws::{
     a_run_has_one_continuation, a_run_has_one_end, a_step_leads_along_an_edge,
     active_frames_follow_the_call_path, starts_and_calls_store_without_a_fault,
     values_have_their_size,
+};
+pub use worked::{
+    addresses_fault_where_they_lead, calls_pass_entries_and_blocks, loads_read_what_was_stored,
 };

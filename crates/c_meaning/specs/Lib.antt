@@ -5,6 +5,7 @@ pub mod Endings
 pub mod Statements
 pub mod Programs
 pub mod Worked
+pub mod WorkedOperators
 pub mod Keeping
 pub mod MoreTurns
 pub mod Depth

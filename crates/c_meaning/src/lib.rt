@@ -7,10 +7,15 @@
 // What the definitions promise.
 mod laws;
 
-// Small programs, worked out.
+// Operators and small programs, worked out.
+mod operators;
 mod worked;
 
 pub use laws::{more_turns_keep_an_outcome, no_call_is_too_deep};
+pub use operators::{
+    bits_are_combined, conditions_are_zero_or_one, numbers_are_ordered_with_their_signs,
+    pointers_are_placed_in_their_objects, quotients_go_toward_zero, shifts_move_bits,
+};
 pub use worked::{
     a_case_goes_on_into_the_next, a_guard_keeps_a_division_from_its_fault,
     a_loop_without_end_uses_up_its_turns, a_pointer_goes_down_an_array,

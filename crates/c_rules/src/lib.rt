@@ -13,10 +13,14 @@
 // What the definitions promise.
 mod laws;
 
-// Small units, worked out.
+// Types and small units, worked out.
+mod types;
 mod worked;
 
 pub use laws::{every_program_stands, expressions_have_one_type};
+pub use types::{
+    addresses_are_of_places, operators_have_the_types_of_their_operands, pointers_keep_their_types,
+};
 pub use worked::{
     a_circle_is_told_by_its_names, a_root_is_defined, blocks_are_scopes,
     calls_name_functions_that_are_defined, labels_and_conditions_are_converted,

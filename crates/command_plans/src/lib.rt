@@ -19,7 +19,11 @@ mod reading;
 // The answer, before it is written.
 mod answer;
 
+// What the definitions promise.
+mod laws;
+
 pub use answer::Answer;
+pub use laws::{each_ending_has_its_code, outcomes_that_are_alike_have_one_text};
 pub use reading::{Role, read_file};
 pub use status::Status;
 pub use stop::{Stop, Why, stopped};

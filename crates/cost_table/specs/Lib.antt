@@ -10,3 +10,4 @@ pub mod Marks
 pub mod RunValues
 pub mod TaskFiles
 pub mod Tasks
+pub mod Worked

@@ -34,6 +34,7 @@ mod run_values;
 
 // What every file keeps.
 mod laws;
+mod worked;
 
 pub use block_costs::Costs;
 pub use cost_rows::costs;
@@ -43,3 +44,6 @@ pub use laws::{a_file_has_one_answer, a_tasks_file_has_one_answer, a_values_file
 pub use run_values::values;
 pub use task_list::tasks;
 pub use task_set::Task;
+pub use worked::{
+    globals_and_arguments_are_inputs, ranges_have_the_words_of_their_size, the_last_entry_tells_a_cost,
+};

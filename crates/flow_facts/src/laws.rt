@@ -1,8 +1,9 @@
 //! What the definitions promise, as clauses of functions that do nothing.
 
-ghost use Rattle.std.specs.Prelude.{◌≡◌, ◌⊎◌, List, ℕ};
+ghost use Rattle.std.specs.Prelude.{◌≡◌, ◌⊎◌, ◌↔◌, List, [], ◌∷◌, ℕ};
 ghost use Rattle.domain_core.specs.Outlines.{Shape};
-ghost use Rattle.flow_facts.specs.Facts.{IsWider, Meets};
+ghost use Rattle.flow_facts.specs.declared.fact.Fact.TheVariants.{Dead, Total};
+ghost use Rattle.flow_facts.specs.Facts.{IsWider, Meets, places};
 ghost use Rattle.flow_facts.specs.Writable.{IsBefore};
 
 use crate::Fact;
@@ -24,3 +25,9 @@ pub fn wider_facts_are_met(fact: Fact, wider: Fact)
 {
     let _ = (fact, wider);
 }
+
+/// A node that is dead stands nowhere in a trace: its total is 0 and no more.
+pub fn dead_nodes_have_no_total()
+    ensures none { (o : Shape) (trace : List ℕ) (n : ℕ) → Meets o trace (Dead n) ↔ Meets o trace (Total n 0 0) }
+    ensures places { places 3 (3 ∷ 4 ∷ 3 ∷ []) ≡ 2 }
+{}

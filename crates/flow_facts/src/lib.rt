@@ -26,7 +26,7 @@ mod laws;
 
 pub use certificate::Cert;
 pub use fact::{Fact, RunKind};
-pub use laws::{lines_order_facts, wider_facts_are_met};
+pub use laws::{dead_nodes_have_no_total, lines_order_facts, wider_facts_are_met};
 pub use order::stands_before;
 pub use report::{BoundWord, NodeLine, Report};
 pub use traces::{holds, is_about};

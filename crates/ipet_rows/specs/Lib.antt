@@ -17,7 +17,7 @@ pub mod OnceLaws
 pub mod IterationSums
 pub mod Feasible
 pub mod PathSparseLaws
-pub mod Examples
+pub mod Worked
 pub mod Firsts
 pub mod Fractions
 pub mod Duals

@@ -13,6 +13,9 @@
 // The program, and the point that a run is.
 mod path_laws;
 
+// Small outlines, worked out.
+mod worked;
+
 // What multipliers bound.
 mod dual_laws;
 mod verdict;
@@ -22,3 +25,4 @@ pub use path_laws::{
     column_counts_are_feasible, rows_weigh_what_is_used, runs_flow, terms_are_weights,
 };
 pub use verdict::Verdict;
+pub use worked::small_outlines_have_their_rows;

@@ -4,3 +4,5 @@ pub mod Cuts
 pub mod ItemRuns
 pub mod Following
 pub mod CheckedItems
+pub mod WorkedRuns
+pub mod WorkedStretches

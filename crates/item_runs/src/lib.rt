@@ -15,5 +15,9 @@ mod alf_item_laws;
 // Runs of items, and runs by nodes.
 mod laws;
 
+// Small items, worked out.
+mod worked;
+
 pub use alf_item_laws::{blocks_do_what_their_items_do, stretches_go_to_named_labels};
 pub use laws::{checked_programs_follow_their_items, runs_follow_items};
+pub use worked::{small_items_run_as_worked_out, small_stretches_end_as_worked_out};

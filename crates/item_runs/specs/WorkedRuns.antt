@@ -1,6 +1,7 @@
--- Runs of small items, worked out by hand.
-use Rattle.std.proofs.Common.{◌≡◌, ℕ, List, [], ◌∷◌, Some, None, false, refl}
-use Rattle.std.specs.Prelude.{◌==◌, if◌then◌else◌}
+-- Runs of small items, to be worked out.
+--   CallsAndReturns   a result is stored where the call wants it, and the root goes on
+--   JumpsAhead        a jump leads past what stands between
+use Rattle.std.specs.Prelude.{◌≡◌, ℕ, List, [], ◌∷◌, Some, None, false, ◌==◌, if◌then◌else◌}
 use Rattle.alf_ops.specs.declared.history.Value.TheVariants.{Int}
 use Rattle.alf_ops.specs.declared.history.RunFault.TheVariants.{Uninit}
 use Rattle.alf_ops.specs.declared.history.RunEvent.TheVariants.{Enter}
@@ -26,13 +27,13 @@ abbrev load_x : NamedExpression
 load_x = Load 32 (Address (120 ∷ []) 0)
 
 -- the root calls a function, which returns 4; the result is stored, and the root goes on and returns what it loads
-calls : ticks (with (Do (Call (102 ∷ []) [] (Some (120 ∷ [], 0))) ∷ Do (Return (Some load_x)) ∷ []) (Do (Return (Some (word 4))) ∷ [])) 3
+abbrev pub CallsAndReturns : Type 0
+CallsAndReturns = ticks (with (Do (Call (102 ∷ []) [] (Some (120 ∷ [], 0))) ∷ Do (Return (Some load_x)) ∷ []) (Do (Return (Some (word 4))) ∷ [])) 3
     (at_start (with (Do (Call (102 ∷ []) [] (Some (120 ∷ [], 0))) ∷ Do (Return (Some load_x)) ∷ []) (Do (Return (Some (word 4))) ∷ [])) (Enter 0 ∷ []))
     ≡ Done (Ended (record { returned = Some (Int 32 4); globals = Some (Int 32 4) ∷ [] }))
-calls = refl
 
 -- a jump leads past what stands between, and a load of nothing ends the run
-jumps : ticks (with (Do (Jump (65 ∷ [])) ∷ Do (Return None) ∷ Label (65 ∷ []) ∷ Do (Return (Some load_x)) ∷ []) []) 2
+abbrev pub JumpsAhead : Type 0
+JumpsAhead = ticks (with (Do (Jump (65 ∷ [])) ∷ Do (Return None) ∷ Label (65 ∷ []) ∷ Do (Return (Some load_x)) ∷ []) []) 2
     (at_start (with (Do (Jump (65 ∷ [])) ∷ Do (Return None) ∷ Label (65 ∷ []) ∷ Do (Return (Some load_x)) ∷ []) []) (Enter 0 ∷ []))
     ≡ Done (Faulted Uninit)
-jumps = refl

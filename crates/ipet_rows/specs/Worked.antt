@@ -1,9 +1,9 @@
--- Rows of small outlines, written out.
---   entry_and_block     an entry and one block that ends the run: two flows and two totals
---   loop_of_ten         a loop of ten turns: its two rows, and the two of its body's count
---   fault_column_last   a fault has a column of its own
---   pair_of_loop        a pair weighs the header against its two nodes
-use Rattle.std.specs.Prelude.{◌≡◌, ℕ, ℤ, pos, negsuc, true, false, None, Some, List, [], ◌∷◌, refl, drop}
+-- Rows of small outlines, to be worked out.
+--   EntryAndBlock     an entry and one block that ends the run: two flows and two totals
+--   LoopOfTen         a loop of ten turns: its two rows, and the two of its body's count
+--   FaultColumnLast   a fault has a column of its own
+--   PairOfLoop        a pair weighs the header against its two nodes
+use Rattle.std.specs.Prelude.{◌≡◌, ℕ, ℤ, pos, negsuc, true, false, None, Some, List, [], ◌∷◌, drop}
 use Rattle.alf_ops.specs.declared.history.RunFault.TheVariants.{Divide, Uninit}
 use Rattle.domain_core.specs.declared.scope_kind.ScopeKind.TheVariants.{Call, Loop as LoopScope}
 use Rattle.domain_core.specs.Outlines.{Shape}
@@ -21,7 +21,8 @@ abbrev pub most : List (ℕ × ℤ) → ℤ → Row
 most terms right = record { equation = false; terms = terms; right = right }
 
 -- an entry and one block that ends the run, each there once
-pub entry_and_block : (program_of two_nodes (0 ∷ 1 ∷ []) (Total 0 1 1 ∷ Total 1 1 1 ∷ [])).rows
+abbrev pub EntryAndBlock : Type 0
+EntryAndBlock = (program_of two_nodes (0 ∷ 1 ∷ []) (Total 0 1 1 ∷ Total 1 1 1 ∷ [])).rows
     ≡ equation ((0, pos 1) ∷ []) (pos 1)
     ∷ equation ((0, negsuc 0) ∷ (1, pos 1) ∷ []) (pos 0)
     ∷ most ((0, pos 1) ∷ []) (pos 1)
@@ -29,7 +30,6 @@ pub entry_and_block : (program_of two_nodes (0 ∷ 1 ∷ []) (Total 0 1 1 ∷ To
     ∷ most ((1, pos 1) ∷ []) (pos 1)
     ∷ most ((1, negsuc 0) ∷ []) (negsuc 0)
     ∷ []
-entry_and_block = refl
 
 -- edges 0-1, 1-2, 2-3, 2-4, 3-2 and 4-5: a loop with header 2 and body 3
 abbrev pub one_loop : Shape
@@ -41,18 +41,18 @@ one_loop = record {
 }
 
 -- a loop of ten turns: after five flows the two rows of the loop, and last the two of its body's count
-pub loop_of_ten : drop 5 (program_of one_loop (0 ∷ 1 ∷ 1 ∷ 1 ∷ 1 ∷ []) (Loop 1 11 11 ∷ Count 1 3 10 10 ∷ [])).rows
+abbrev pub LoopOfTen : Type 0
+LoopOfTen = drop 5 (program_of one_loop (0 ∷ 1 ∷ 1 ∷ 1 ∷ 1 ∷ []) (Loop 1 11 11 ∷ Count 1 3 10 10 ∷ [])).rows
     ≡ most ((1, negsuc 10) ∷ (2, pos 1) ∷ (3, pos 1) ∷ []) (pos 0)
     ∷ most ((1, pos 11) ∷ (2, negsuc 0) ∷ (3, negsuc 0) ∷ []) (pos 0)
     ∷ most ((1, negsuc 9) ∷ (4, pos 1) ∷ []) (pos 0)
     ∷ most ((1, pos 10) ∷ (4, negsuc 0) ∷ []) (pos 0)
     ∷ []
-loop_of_ten = refl
 
 -- a fault has a column of its own, after the edges, however many alarms there are
-pub fault_column_last : (program_of two_nodes (3 ∷ 7 ∷ []) (Dead 0 ∷ Alarm 1 Divide ∷ Alarm 1 Uninit ∷ [])).costs ≡ 3 ∷ 7 ∷ 7 ∷ []
-fault_column_last = refl
+abbrev pub FaultColumnLast : Type 0
+FaultColumnLast = (program_of two_nodes (3 ∷ 7 ∷ []) (Dead 0 ∷ Alarm 1 Divide ∷ Alarm 1 Uninit ∷ [])).costs ≡ 3 ∷ 7 ∷ 7 ∷ []
 
 -- a pair weighs the header against its two nodes
-pub pair_of_loop : drop 5 (program_of one_loop (0 ∷ 1 ∷ 1 ∷ 1 ∷ 1 ∷ []) (Pair 1 3 4 ∷ [])).rows ≡ most ((2, negsuc 0) ∷ (3, negsuc 0) ∷ (4, pos 1) ∷ (5, pos 1) ∷ []) (pos 0) ∷ []
-pair_of_loop = refl
+abbrev pub PairOfLoop : Type 0
+PairOfLoop = drop 5 (program_of one_loop (0 ∷ 1 ∷ 1 ∷ 1 ∷ 1 ∷ []) (Pair 1 3 4 ∷ [])).rows ≡ most ((2, negsuc 0) ∷ (3, negsuc 0) ∷ (4, pos 1) ∷ (5, pos 1) ∷ []) (pos 0) ∷ []

@@ -1,5 +1,9 @@
--- Stretches of small items, worked out by hand.
-use Rattle.std.proofs.Common.{◌≡◌, ℕ, List, [], ◌∷◌, Some, None, false, refl}
+-- Stretches of small items, to be worked out.
+--   StoresAndJumps   a label does nothing, a store is made, and a jump leads to its label
+--   EntersCalls      a call has the items after it ahead
+--   StopsAtNothing, StopsAtPointer   a load of nothing stops the stretch, and so does a switch on a pointer
+--   FirstPlace       of two places of a label the first counts
+use Rattle.std.specs.Prelude.{◌≡◌, ℕ, List, [], ◌∷◌, Some, None, false}
 use Rattle.alf_ops.specs.declared.history.Value.TheVariants.{Int}
 use Rattle.alf_ops.specs.declared.history.RunFault.TheVariants.{Kind, Uninit}
 use Rattle.alf_ops.specs.declared.history.FrameShape.{FrameShape}
@@ -22,22 +26,22 @@ abbrev x_at : NamedExpression
 x_at = Address (120 ∷ []) 0
 
 -- a label does nothing, a store is made, and a jump leads to its label
-jumps : stretch frames numbers (Label (65 ∷ []) ∷ Do (Store x_at (word 5)) ∷ Do (Jump (66 ∷ [])) ∷ Do (Return None) ∷ []) []
+abbrev pub StoresAndJumps : Type 0
+StoresAndJumps = stretch frames numbers (Label (65 ∷ []) ∷ Do (Store x_at (word 5)) ∷ Do (Jump (66 ∷ [])) ∷ Do (Return None) ∷ []) []
     ≡ Goes (66 ∷ []) (events.Store 0 0 32 (Int 32 5) ∷ [])
-jumps = refl
 
 -- a call has the items after it ahead
-calls : stretch frames numbers (Do (Call (102 ∷ []) (word 4 ∷ []) (Some (120 ∷ [], 0))) ∷ Do (Return None) ∷ []) []
+abbrev pub EntersCalls : Type 0
+EntersCalls = stretch frames numbers (Do (Call (102 ∷ []) (word 4 ∷ []) (Some (120 ∷ [], 0))) ∷ Do (Return None) ∷ []) []
     ≡ Enters 3 (Int 32 4 ∷ []) (Some (0, 0)) (Do (Return None) ∷ []) []
-calls = refl
 
 -- a load of nothing stops the stretch, and so does a switch on a pointer
-stops : stretch frames numbers (Do (Store x_at (Load 32 x_at)) ∷ Do (Return None) ∷ []) [] ≡ Stops Uninit
-stops = refl
+abbrev pub StopsAtNothing : Type 0
+StopsAtNothing = stretch frames numbers (Do (Store x_at (Load 32 x_at)) ∷ Do (Return None) ∷ []) [] ≡ Stops Uninit
 
-points : stretch frames numbers (Do (Switch x_at [] (65 ∷ [])) ∷ []) [] ≡ Stops Kind
-points = refl
+abbrev pub StopsAtPointer : Type 0
+StopsAtPointer = stretch frames numbers (Do (Switch x_at [] (65 ∷ [])) ∷ []) [] ≡ Stops Kind
 
 -- of two places of a label the first counts
-first_place : items_after (65 ∷ []) (Do (Return None) ∷ Label (65 ∷ []) ∷ Do (Jump (66 ∷ [])) ∷ Label (65 ∷ []) ∷ []) ≡ Do (Jump (66 ∷ [])) ∷ Label (65 ∷ []) ∷ []
-first_place = refl
+abbrev pub FirstPlace : Type 0
+FirstPlace = items_after (65 ∷ []) (Do (Return None) ∷ Label (65 ∷ []) ∷ Do (Jump (66 ∷ [])) ∷ Label (65 ∷ []) ∷ []) ≡ Do (Jump (66 ∷ [])) ∷ Label (65 ∷ []) ∷ []

@@ -1,5 +1,16 @@
--- Runs of small programs, worked out by hand: the checker computes each.
-use Rattle.std.proofs.Common.{◌≡◌, ℕ, true, false, List, [], ◌∷◌, Some, None, pos, negsuc, refl}
+-- Runs of small programs, worked out by hand: how each ends, its nodes and its cost.
+--   ComesTo program start steps nodes outcome total   the run is over after so many steps, and has these nodes and this outcome and cost
+--   CallsTwice            a function is called twice, and each call passes its entry and its block
+--   FaultsUnset, FaultsPartlySet    a load of bytes in which nothing was stored is the fault uninit
+--   FaultsAtPartOfPointer           a load of a part of a pointer is the fault mixed
+--   ReadsLowestFirst      a word is read byte by byte, the lowest first
+--   FaultsDangling        a load from a frame of a function that was left is the fault dead
+--   FaultsOutside         a result that does not fit where it goes is the fault bounds
+--   FaultsAtPointer       a switch on a pointer is the fault kind
+--   GivesBack             an input is there at the start, and an exported frame that holds nothing gives none
+--   LeavesFirst           the root is left before the exported frames are loaded: a frame of its own holds nothing
+--   FallsToTheDefault     a switch takes the first target of the word, else the default
+use Rattle.std.specs.Prelude.{◌≡◌, ℕ, true, false, List, [], ◌∷◌, Some, None, pos, negsuc}
 use Rattle.alf_ops.specs.declared.operator.Op.TheVariants.{Add, UMul, ZExt, Select}
 use Rattle.alf_ops.specs.declared.history.Value.TheVariants.{Int}
 use Rattle.alf_ops.specs.declared.history.RunFault.TheVariants.{Uninit, Mixed, Kind, Dead, Bounds}
@@ -39,9 +50,9 @@ function args frames blocks = record { name = []; args = args; frames = frames; 
 abbrev program : List FrameRow → List InitRow → List ℕ → List NumberedFunction → NumberedProgram
 program frames inits exports funcs = record { frames = frames; funcs = funcs; inits = inits; exports = exports; root = 0; ranks = [] }
 
--- a block costs 1, an entry nothing
+-- a block costs 1, an entry 10
 abbrev cost : Node → ℕ
-cost node = elim node.block as (λ _. ℕ) [ None ↦ 0 | Some b ↦ 1 ]
+cost node = elim node.block as (λ _. ℕ) [ None ↦ 10 | Some b ↦ 1 ]
 
 -- the run comes to this outcome after so many steps, and has these nodes before it
 pub record ComesTo (program : NumberedProgram) (start : Moment) (steps : ℕ) (nodes : List Node) (outcome : Outcome) (total : ℕ) : Type 0 where
@@ -65,10 +76,10 @@ two_calls = program (global ∷ local 1 ∷ []) [] (0 ∷ []) (
     )
 
 -- it returns 6 and leaves 6 in r, after eight nodes: in each call the called function's entry and its block
-two_calls_run : ComesTo two_calls (start two_calls [] []) 8
+abbrev pub CallsTwice : Type 0
+CallsTwice = ComesTo two_calls (start two_calls [] []) 8
     (entry_node [] ∷ block_node [] 0 ∷ entry_node (0 ∷ []) ∷ block_node (0 ∷ []) 0 ∷ block_node [] 1 ∷ entry_node (1 ∷ []) ∷ block_node (1 ∷ []) 0 ∷ block_node [] 2 ∷ [])
-    (Ended (record { returned = Some (Int 32 6); globals = Some (Int 32 6) ∷ [] })) 5
-two_calls_run = record { over = refl; passes = refl; costs = refl }
+    (Ended (record { returned = Some (Int 32 6); globals = Some (Int 32 6) ∷ [] })) 35
 
 -- ---- loads
 
@@ -76,22 +87,22 @@ two_calls_run = record { over = refl; passes = refl; costs = refl }
 abbrev unset : NumberedProgram
 unset = program (global ∷ []) [] [] (function [] [] (block [] (Switch (content 0) [] 1) ∷ block [] (Return None) ∷ []) ∷ [])
 
-unset_run : ComesTo unset (start unset [] []) 2 (entry_node [] ∷ block_node [] 0 ∷ []) (Faulted Uninit) 1
-unset_run = record { over = refl; passes = refl; costs = refl }
+abbrev pub FaultsUnset : Type 0
+FaultsUnset = ComesTo unset (start unset [] []) 2 (entry_node [] ∷ block_node [] 0 ∷ []) (Faulted Uninit) 11
 
 -- 32 bits are loaded of which 8 were stored
 abbrev partly_set : NumberedProgram
 partly_set = program (global ∷ []) [] [] (function [] [] (block (Store (Address 0 0) (word 8 5) ∷ []) (Return (Some (content 0))) ∷ []) ∷ [])
 
-partly_set_run : ComesTo partly_set (start partly_set [] []) 2 (entry_node [] ∷ block_node [] 0 ∷ []) (Faulted Uninit) 1
-partly_set_run = record { over = refl; passes = refl; costs = refl }
+abbrev pub FaultsPartlySet : Type 0
+FaultsPartlySet = ComesTo partly_set (start partly_set [] []) 2 (entry_node [] ∷ block_node [] 0 ∷ []) (Faulted Uninit) 11
 
 -- 8 bits of a pointer are loaded
 abbrev part_of_pointer : NumberedProgram
 part_of_pointer = program (global ∷ []) [] [] (function [] [] (block (Store (Address 0 0) (Address 0 0) ∷ []) (Return (Some (Load 8 (Address 0 0)))) ∷ []) ∷ [])
 
-part_of_pointer_run : ComesTo part_of_pointer (start part_of_pointer [] []) 2 (entry_node [] ∷ block_node [] 0 ∷ []) (Faulted Mixed) 1
-part_of_pointer_run = record { over = refl; passes = refl; costs = refl }
+abbrev pub FaultsAtPartOfPointer : Type 0
+FaultsAtPartOfPointer = ComesTo part_of_pointer (start part_of_pointer [] []) 2 (entry_node [] ∷ block_node [] 0 ∷ []) (Faulted Mixed) 11
 
 -- w holds 258; its two low bytes are read through a pointer, the lowest times 256
 abbrev low_byte : ℕ → NumberedExpression
@@ -111,9 +122,9 @@ bytes_of_word = program (global ∷ local 0 ∷ []) (record { frame = 0; offset 
     ∷ []
     )
 
-bytes_of_word_run : ComesTo bytes_of_word (start bytes_of_word [] []) 2 (entry_node [] ∷ block_node [] 0 ∷ [])
-    (Ended (record { returned = Some (Int 32 513); globals = Some (Int 32 258) ∷ [] })) 1
-bytes_of_word_run = record { over = refl; passes = refl; costs = refl }
+abbrev pub ReadsLowestFirst : Type 0
+ReadsLowestFirst = ComesTo bytes_of_word (start bytes_of_word [] []) 2 (entry_node [] ∷ block_node [] 0 ∷ [])
+    (Ended (record { returned = Some (Int 32 513); globals = Some (Int 32 258) ∷ [] })) 11
 
 -- ---- calls and what they leave
 
@@ -125,8 +136,8 @@ dangling = program (global ∷ local 1 ∷ []) [] [] (
     ∷ []
     )
 
-dangling_run : ComesTo dangling (start dangling [] []) 5 (entry_node [] ∷ block_node [] 0 ∷ entry_node (0 ∷ []) ∷ block_node (0 ∷ []) 0 ∷ block_node [] 1 ∷ []) (Faulted Dead) 3
-dangling_run = record { over = refl; passes = refl; costs = refl }
+abbrev pub FaultsDangling : Type 0
+FaultsDangling = ComesTo dangling (start dangling [] []) 5 (entry_node [] ∷ block_node [] 0 ∷ entry_node (0 ∷ []) ∷ block_node (0 ∷ []) 0 ∷ block_node [] 1 ∷ []) (Faulted Dead) 23
 
 -- the result of a call does not fit where it goes: the run ends at the return of the called function
 abbrev result_outside : NumberedProgram
@@ -134,15 +145,15 @@ result_outside = program (global ∷ []) [] [] (
     function [] [] (block [] (Call 1 [] (Some (0, 2)) 1) ∷ block [] (Return None) ∷ []) ∷ function [] [] (block [] (Return (Some (word 32 1))) ∷ []) ∷ []
     )
 
-result_outside_run : ComesTo result_outside (start result_outside [] []) 4 (entry_node [] ∷ block_node [] 0 ∷ entry_node (0 ∷ []) ∷ block_node (0 ∷ []) 0 ∷ []) (Faulted Bounds) 2
-result_outside_run = record { over = refl; passes = refl; costs = refl }
+abbrev pub FaultsOutside : Type 0
+FaultsOutside = ComesTo result_outside (start result_outside [] []) 4 (entry_node [] ∷ block_node [] 0 ∷ entry_node (0 ∷ []) ∷ block_node (0 ∷ []) 0 ∷ []) (Faulted Bounds) 22
 
 -- a pointer is switched on
 abbrev on_a_pointer : NumberedProgram
 on_a_pointer = program (global ∷ []) [] [] (function [] [] (block [] (Switch (Address 0 0) [] 1) ∷ block [] (Return None) ∷ []) ∷ [])
 
-on_a_pointer_run : ComesTo on_a_pointer (start on_a_pointer [] []) 2 (entry_node [] ∷ block_node [] 0 ∷ []) (Faulted Kind) 1
-on_a_pointer_run = record { over = refl; passes = refl; costs = refl }
+abbrev pub FaultsAtPointer : Type 0
+FaultsAtPointer = ComesTo on_a_pointer (start on_a_pointer [] []) 2 (entry_node [] ∷ block_node [] 0 ∷ []) (Faulted Kind) 11
 
 -- ---- inputs
 
@@ -153,6 +164,39 @@ input_row = record { frame = 0; offset = 0; size = 32; low = negsuc 2; high = po
 abbrev given_back : NumberedProgram
 given_back = program (global ∷ global ∷ []) [] (1 ∷ []) (function [] [] (block [] (Return (Some (content 0))) ∷ []) ∷ [])
 
-given_back_run : ComesTo given_back (start given_back (input_row ∷ []) (words_of (input_row ∷ []) (negsuc 1 ∷ []))) 2 (entry_node [] ∷ block_node [] 0 ∷ [])
-    (Ended (record { returned = Some (Int 32 4294967294); globals = None ∷ [] })) 1
-given_back_run = record { over = refl; passes = refl; costs = refl }
+abbrev pub GivesBack : Type 0
+GivesBack = ComesTo given_back (start given_back (input_row ∷ []) (words_of (input_row ∷ []) (negsuc 1 ∷ []))) 2 (entry_node [] ∷ block_node [] 0 ∷ [])
+    (Ended (record { returned = Some (Int 32 4294967294); globals = None ∷ [] })) 11
+
+-- ---- switches and exports
+
+-- main switches on a word; of two targets with one word the first counts; each block stores its number in the exported frame
+abbrev switched : ℕ → NumberedProgram
+switched n = program (global ∷ []) [] (0 ∷ []) (
+    function [] [] (
+    block [] (Switch (word 32 n) ((5, 1) ∷ (6, 2) ∷ (5, 2) ∷ []) 3)
+    ∷ block (Store (Address 0 0) (word 32 1) ∷ []) (Return None)
+    ∷ block (Store (Address 0 0) (word 32 2) ∷ []) (Return None)
+    ∷ block (Store (Address 0 0) (word 32 3) ∷ []) (Return None)
+    ∷ []
+    )
+    ∷ []
+    )
+
+-- the run leads to block b, and leaves its number
+abbrev LeadsTo : ℕ → ℕ → Type 0
+LeadsTo n b = ComesTo (switched n) (start (switched n) [] []) 3 (entry_node [] ∷ block_node [] 0 ∷ block_node [] b ∷ [])
+    (Ended (record { returned = None; globals = Some (Int 32 b) ∷ [] })) 12
+
+pub record FallsToTheDefault : Type 0 where
+  pub first : LeadsTo 5 1
+  pub second : LeadsTo 6 2
+  pub none : LeadsTo 7 3
+
+-- the root stores in a frame of its own, and that frame is exported
+abbrev own_frame : NumberedProgram
+own_frame = program (local 0 ∷ []) [] (0 ∷ []) (function [] (0 ∷ []) (block (Store (Address 0 0) (word 32 5) ∷ []) (Return (Some (content 0))) ∷ []) ∷ [])
+
+abbrev pub LeavesFirst : Type 0
+LeavesFirst = ComesTo own_frame (start own_frame [] []) 2 (entry_node [] ∷ block_node [] 0 ∷ [])
+    (Ended (record { returned = Some (Int 32 5); globals = None ∷ [] })) 11

@@ -1,0 +1,8 @@
+use Rattle.alf_ops.proofs.Operators.{chooses, rounds_down}
+use Rattle.alf_ops.proofs.laws.words_are_chosen_and_shifted.Goals as goal
+
+pub returns-clause-chosen : goal.returns-clause-chosen
+returns-clause-chosen c = chooses
+
+pub returns-clause-down : goal.returns-clause-down
+returns-clause-down c = rounds_down

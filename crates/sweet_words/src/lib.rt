@@ -23,6 +23,6 @@ pub use command::{
     AnalyseWords, CacheWords, CheckWords, Command, LowerWords, ReplayWords, RunWords, WorstWords,
 };
 pub use files::ProgramFile;
-pub use laws::options_stand_freely;
+pub use laws::{merges_have_their_words, options_stand_freely};
 pub use merging::Merging;
 pub use reading::{WordsFault, read};

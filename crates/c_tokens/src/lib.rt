@@ -34,6 +34,7 @@ mod laws;
 // What constants are worth: numbers and characters.
 mod characters;
 mod constant_numbers;
+mod worked;
 mod worth;
 
 pub use cursor::Cursor;
@@ -44,4 +45,5 @@ pub use laws::{
 };
 pub use places::place_of;
 pub use token::{Kind, Token};
+pub use worked::{characters_have_their_worth, constants_have_their_worth};
 pub use worth::{Worth, worth_of};

@@ -2,7 +2,7 @@
 --   depth calls n f   how many calls follow one another from f, of the first n
 --   settled           no more follow than there are functions but one, since the functions on the way differ
 --   has_ranks         so the depth with so many is a rank
-use Rattle.std.proofs.Common.{◌≡◌, ◌<◌, ◌≤◌, ◌+◌, ◌-◌, ℕ, zero, suc, max, Bool, true, false, List, [], ◌∷◌, length, get_or, set, replicate, length-set, Contains, inl, inr, refl, ap, sym, ◌∙◌, subst, arith}
+use Rattle.std.proofs.Common.{◌≡◌, ◌<◌, ◌≤◌, ◌+◌, ◌-◌, ℕ, zero, suc, max, Bool, true, false, List, [], ◌∷◌, length, get_or, set, replicate, length-set, Contains, inl, inr, refl, ap, sym, ◌∙◌, subst, zero-add, arith}
 use Rattle.std.proofs.Math.Nat.{le-max_left, le-max_right}
 use Rattle.std.proofs.lemmas.List.{length-replicate}
 use Rattle.std.proofs.lemmas.List.Sums.{count_by-le-length}
@@ -119,19 +119,22 @@ module _ (calls : List (List ℕ)) (within : CallsWithin calls) (falls : (f : �
       let low = caller_low calls f g call in
       let none = replicate (length calls) false in
       let enough : length calls ≤ suc (most + marked_count none) = omega arith in
-      let same = settled most none f (length-replicate (length calls) false) enough (λ k is. absurd (none_marked (length calls) k is)) low in
-      let less = is_above rank (get_or calls f []) g call in
-      omega arith
+      let same : rank f ≡ above rank (get_or calls f []) = settled most none f (length-replicate (length calls) false) enough (λ k is. absurd (none_marked (length calls) k is)) low in
+      let less : rank g < above rank (get_or calls f []) = is_above rank (get_or calls f []) g call in
+      omega (arith, same, less)
+
+  rank_at : (f : ℕ) → f < length calls → get_or (listed rank 0 (length calls)) f 0 ≡ rank f
+  rank_at f low = listed_at rank 0 (length calls) f low ∙ ap rank (zero-add f)
 
   pub has_ranks : HasRanks calls
   has_ranks = record {
     ranks = listed rank 0 (length calls);
     ranked = record {
       one_each = count_listed rank 0 (length calls);
-      within = λ f low. let at = listed_at rank 0 (length calls) f low in let few = depth_low calls most f in omega arith;
+      within = λ f low. let at = rank_at f low in let few : rank f ≤ length calls - 1 = depth_low calls most f in omega arith;
       falls = λ f g call.
-          let here = listed_at rank 0 (length calls) f (caller_low calls f g call) in
-          let there = listed_at rank 0 (length calls) g (within f g call) in
+          let here = rank_at f (caller_low calls f g call) in
+          let there = rank_at g (within f g call) in
           let less = rank_falls f g call in omega arith;
     };
   }

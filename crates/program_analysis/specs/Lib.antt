@@ -16,9 +16,9 @@ pub mod Alongside
 pub mod TwinRuns
 pub mod TwinMachines
 pub mod ProgramAnalyses
+pub mod Fitting
 pub mod LoneAnalyses
 pub mod BoundedAnalyses
 pub mod BoundedSound
-pub mod Fitting
 pub mod BoundedLaws
 pub mod AlikeBounds

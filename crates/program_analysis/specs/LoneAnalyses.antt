@@ -7,10 +7,10 @@ use Rattle.alf_check.specs.CheckedPrograms.{NumberedProgram}
 use Rattle.flow_graph.specs.Numbering.{GraphParts}
 use Rattle.cost_table.specs.CostTables.{CostTable}
 use Rattle.worklist_rules.specs.declared.policy.Policy.{Policy}
-use Rattle.transfer_rules.specs.Machines.{StepPromises}
-use Rattle.transfer_rules.specs.RunsInside.{StorePromises}
+use Rattle.abstract_step.specs.Steppers.{StepperParts}
 use Rattle.program_machines.specs.Starts.{AreLone}
 use Rattle.program_analysis.specs.Answers.{Answer}
+use Rattle.program_analysis.specs.Fitting.{PartsFit}
 use Rattle.program_analysis.specs.ExactLaws.{IsOneAnswer, LoneInputIsToldExactly}
 use Rattle.program_analysis.specs.ProgramAnalyses.{IsAnalysis}
 
@@ -19,11 +19,7 @@ abbrev pub LoneAnalysisIsExact : Type 0
 LoneAnalysisIsExact = (program : NumberedProgram) (graph : GraphParts) (rows : List InputRow) (costs : CostTable) (policy : Policy) (turns : ℕ) (answer : Answer) → AreLone rows
     → (h : IsAnalysis program graph rows costs policy turns answer) → IsOneAnswer (record { checked = h.checked; graph = graph; rows = rows }) h.outline turns answer
 
-pub lone_exact : StepPromises → StorePromises → LoneInputIsToldExactly → LoneAnalysisIsExact
-lone_exact steps stores law program graph rows costs policy turns answer lone h =
-    law (record { checked = h.checked; graph = graph; rows = rows }) h.outline policy turns answer
-    (record {
-      kept = record { machine = record { keeps = h.keeps; is = h.graph_is; inputs = h.inputs; promises = steps }; stores = stores };
-      outline = h.outline_kept;
-      is_of = h.outline_is;
-    }) lone h.found
+pub lone_exact : PartsFit → LoneInputIsToldExactly → LoneAnalysisIsExact
+lone_exact fit law program graph rows costs policy turns answer lone h =
+    let parts : StepperParts = record { checked = h.checked; graph = graph; rows = rows } in
+    law parts h.outline policy turns answer (fit parts h.outline h.keeps h.graph_is h.inputs h.outline_kept h.outline_is) lone h.found

@@ -68,11 +68,7 @@ pub fn parts_alone_are_told_exactly()
 pub fn an_input_alone_is_told_exactly()
     ensures { LoneAnalysisIsExact }
 {
-    a_step_leads_along_an_edge();
-    active_frames_follow_the_call_path();
-    graphs_are_expansions();
-    starts_and_calls_store_without_a_fault();
-    values_have_their_size();
+    parts_fit();
     parts_alone_are_told_exactly();
 }
 

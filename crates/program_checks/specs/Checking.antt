@@ -1,4 +1,4 @@
--- What the check of a report of a program answers, whatever ranks its functions have.
+-- What the check of a report of a program answers, whatever parts the code has it in.
 --   IsCheckOf program graph rows costs report answer   so is the answer, by the checked parts of the program and the outline of its graph
 --   HasOneCheck     a report has one such answer
 --   one_check       why

@@ -30,6 +30,7 @@ pub call_falls : (program : NumberedProgram) (ranks : List ℕ) → IsRanked (bl
 call_falls program ranks ranked k b f next args result block at ends = go (slice_get program.funcs k) refl at where
   calls : NumberedFunction → List ℕ
   calls function = called_in function.blocks
+
   go : (o : Option NumberedFunction) → slice_get program.funcs k ≡ o → slice_get (option_map_or (λ (function : NumberedFunction). function.blocks) o []) b ≡ Some block → slice_index ranks f < slice_index ranks k
   go None found none = absurd (none-some block none)
   go (Some function) found there =

@@ -533,12 +533,9 @@ module _ (whole : WholeProgram) (root : List ℕ) (none : HasNoFault whole) (wri
   -- ---- ranks
 
   count_calls : length (block_calls program) ≡ length (calls_in whole)
-  count_calls = omega (
-    arith,
-    length-map program.funcs (λ function. called_in function.blocks),
-    length-map whole.funcs (λ func. flat_map (called_by whole.funcs) func.items),
-    count_functions whole (length whole.decls) whole.funcs,
-  )
+  count_calls =
+      length-map program.funcs (λ (function : NumberedFunction). called_in function.blocks) ∙ count_functions whole (length whole.decls) whole.funcs
+      ∙ sym (length-map whole.funcs (λ (func : Function). flat_map (called_by whole.funcs) func.items))
 
   call_falls : (f g : ℕ) → Calls (block_calls program) f g → slice_index_or ranks g 0 < slice_index_or ranks f 0
   call_falls f g call =
@@ -555,7 +552,7 @@ module _ (whole : WholeProgram) (root : List ℕ) (none : HasNoFault whole) (wri
     ranks = ranks;
     ranked = record {
       one_each = has.ranked.one_each ∙ sym count_calls;
-      within = λ f low. omega (arith, has.ranked.within f (omega (arith, count_calls)), count_calls);
+      within = λ f low. subst (λ (n : ℕ). slice_index ranks f < n) (sym count_calls) (has.ranked.within f (subst (λ (n : ℕ). f < n) count_calls low));
       falls = call_falls;
     };
   }

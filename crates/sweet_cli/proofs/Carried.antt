@@ -7,6 +7,7 @@ use Rattle.std.proofs.Common.{◌≡◌, ℕ, List, [], Result, Option, None, So
 use Rattle.std.specs.Prelude.{IfSome}
 use Rattle.flow_base.specs.Outside.{Files}
 use Rattle.alf_check.specs.CheckedPrograms.{NumberedProgram}
+use Rattle.alf_check.specs.Numbered.{numbered}
 use Rattle.c_lowered.specs.Programs.{lowered}
 use Rattle.cost_table.specs.CostTables.{one_each}
 use Rattle.sweet_words.specs.Files.{file_name}

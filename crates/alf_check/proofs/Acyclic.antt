@@ -15,7 +15,7 @@ use Rattle.graph_walks.specs.CallLaws.{caller_low}
 use Rattle.alf_check.specs.Checking.{HasRanks}
 
 -- one more than the greatest of these, or 0 where there is none
-above : (ℕ → ℕ) → List ℕ → ℕ
+abbrev above : (ℕ → ℕ) → List ℕ → ℕ
 above over [] = 0
 above over (g ∷ gs) = max (suc (over g)) (above over gs)
 
@@ -38,7 +38,7 @@ above_none : (over : ℕ → ℕ) (gs : List ℕ) → ((g : ℕ) → Contains gs
 above_none over [] none = refl
 above_none over (g ∷ gs) none = absurd (none g (first_member g gs))
 
-depth : List (List ℕ) → ℕ → ℕ → ℕ
+abbrev depth : List (List ℕ) → ℕ → ℕ → ℕ
 depth calls zero f = 0
 depth calls (suc n) f = above (depth calls n) (get_or calls f [])
 
@@ -51,7 +51,7 @@ few_marked : (marks : List Bool) → marked_count marks ≤ length marks
 few_marked marks = count_by-le-length (λ (mark : Bool). mark) marks
 
 -- what a function gives for numbers in order
-listed : (ℕ → ℕ) → ℕ → ℕ → List ℕ
+abbrev listed : (ℕ → ℕ) → ℕ → ℕ → List ℕ
 listed rank n zero = []
 listed rank n (suc count) = rank n ∷ listed rank (suc n) count
 
@@ -72,7 +72,7 @@ module _ (calls : List (List ℕ)) (within : CallsWithin calls) (falls : (f : �
   on f g h way call = record { last = g; path = _; walk = goes_on way.walk way.call; call = call }
 
   -- calls lead from each of the marked functions to f
-  AllReach : List Bool → ℕ → Type 0
+  abbrev AllReach : List Bool → ℕ → Type 0
   AllReach marks f = (g : ℕ) → IsMarked marks g → Reaches calls g f
 
   -- with f marked, calls lead from each to what f calls
@@ -108,10 +108,10 @@ module _ (calls : List (List ℕ)) (within : CallsWithin calls) (falls : (f : �
       (λ h call. settled n (set marks f true) h (length-set marks f true ∙ long) (omega arith) (all_reach marks f h reach call) (within f h call)))
 
   -- the most calls that follow one another
-  most : ℕ
+  abbrev most : ℕ
   most = length calls - 1
 
-  rank : ℕ → ℕ
+  abbrev rank : ℕ → ℕ
   rank = depth calls most
 
   rank_falls : (f g : ℕ) → Calls calls f g → rank g < rank f

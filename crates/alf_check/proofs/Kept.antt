@@ -267,7 +267,7 @@ module _ (whole : WholeProgram) (root : List ℕ) (none : HasNoFault whole) (wri
   has : HasRanks (calls_in whole)
   has = acyclic_ranks (calls_in whole) (calls_within whole.funcs) passes.falls
 
-  ranks : List ℕ
+  abbrev ranks : List ℕ
   ranks = has.ranks
 
   abbrev rows : List FrameRow

@@ -16,7 +16,7 @@ use Rattle.alf_faults.specs.Fault.{is_exactly, any_from}
 use Rattle.alf_faults.specs.TermSizes.{term_size, operands_fit, same_size, return_size, is_bytes}
 use Rattle.alf_faults.specs.NoFault.{IsSeen, SeesFrames, SeesAllFrames, HasNoFault}
 use Rattle.alf_check.specs.declared.rows.FrameRow.{FrameRow}
-use Rattle.alf_check.specs.Kept.{IsSize, IsWordOf, SeesFrame, HasSize, HaveSizes, IsCellSize, IsFrameOf, InitFits, KeepsExport, KeepsStatement, ArgumentKeeps, GoesOn, TargetKeeps, CallKeeps, GivesSize, Gives, EachReturn, KeepsEnding, KeepsBlock, KeepsResult, IsBlockOf, HasOneReturnSize, KeepsFunction, HasFrame, IsBounded, IsWithinLimits, IsKept}
+use Rattle.alf_check.specs.Kept.{IsSize, IsWordOf, SeesFrame, HasSize, HaveSizes, IsCellSize, IsFrameOf, InitFits, KeepsExport, KeepsStatement, ArgumentKeeps, GoesOn, TargetKeeps, CallKeeps, GivesSize, Gives, EachReturn, KeepsEnding, KeepsBlock, KeepsResult, IsBlockOf, HasOneReturnSize, KeepsFunction, HasFrame, called_at, called_in, block_calls, IsBounded, IsWithinLimits, IsKept}
 use Rattle.alf_check.specs.KeptLaws.{cell_from, size_within}
 use Rattle.alf_program.specs.Writable.{PartsAreWritable, AllPartsAreWritable, ExpressionIsWritable, TargetIsWritable, AddressIsWritable, ItemIsWritable, AllocationIsWritable, InitialIsWritable, FunctionIsWritable, IsWritable, own_frames, frame_bytes, is_ending}
 use Rattle.std.specs.Str.{bytes_eq}
@@ -31,16 +31,17 @@ use Rattle.std.proofs.lemmas.List.{length-map, length-append}
 use Rattle.std.proofs.lemmas.List.Elements.{Contains-get_or, All-nil, All-cons, All-head, All-tail, All-contains}
 use Rattle.lists.specs.Images.{mapped, from_joined, mapped_at, some_image, all_images, all_joined, joined}
 use Rattle.alf_faults.specs.PlaceLaws.{place_within}
-use Rattle.graph_walks.specs.Calls.{CallsWithin, IsRanked}
+use Rattle.graph_walks.specs.Calls.{Calls, CallsWithin}
 use Rattle.graph_walks.specs.CallLaws.{caller_low}
 use Rattle.alf_check.specs.Numbers.{func_number, Numbers, row_for, frame_rows, frames_before, first_frame, block_number, numbers_in}
-use Rattle.alf_check.specs.Checking.{called_by, calls_among, calls_in, Passes}
+use Rattle.alf_check.specs.Checking.{called_by, calls_among, calls_in, HasRanks, Passes}
 use Rattle.std.specs.Option.{option_map_or}
 use Rattle.alf_program.specs.declared.program.Num.{Num}
 use Rattle.alf_program.specs.Tree as text
 use Rattle.alf_check.specs.CheckedPrograms.{NumberedBlock, NumberedFunction, NumberedProgram, Null, Store, Fall, Return, blocks_at}
 use Rattle.alf_check.specs.Blocks.{blocks_of}
 use Rattle.alf_check.specs.Numbered.{numbered_init, numbered_targets, statements_by, end_by, numbered_block, numbered_blocks, numbered_function, functions_from, export_number, numbered}
+use Rattle.alf_check.proofs.Acyclic.{has_ranks as acyclic_ranks}
 use Rattle.alf_check.proofs.Blocks.{in_items, some_block, block_within, last_of, goes_on}
 use Rattle.alf_check.proofs.Places.{exactly, by_option, same_name, its_name, first_place, stands, one_place, of_each, range_parts, range_has, all_in_range, range_apart, word_of, frame_of, StandAt, count_rows, same_bytes, frames_are, keeps_rows, is_frame, own_stand, args_stand, decls_stand, own_decls_stand, names_apart, sees, init_fits, export_keeps}
 
@@ -213,6 +214,14 @@ bytes_size : (o : Option ℕ) → is_bytes o ≡ true → (size : ℕ) × (o ≡
 bytes_size None e = absurd (false≢true e)
 bytes_size (Some size) e = (size, refl, eqb-true (size % 8) 0 e)
 
+-- an item calls function g
+pub record IsCalled (whole : WholeProgram) (item : BodyItem) (g : ℕ) : Type 0 where
+  pub label : List ℕ
+  pub args : List NamedExpression
+  pub result : Option (List ℕ × ℕ)
+  pub is : item ≡ Do (text.Call label args result)
+  pub number : func_number whole.funcs label ≡ g
+
 -- ---- functions and blocks by their places
 
 function_at : (whole : WholeProgram) (first : ℕ) (funcs : List Function) (k n : ℕ) → n ≡ first + frames_before funcs k
@@ -251,9 +260,15 @@ targets_apart block targets differ i j d low high same =
     let equal = one_place (λ (t : Num × List ℕ). t.0.bits) targets differ i j x.0 y.0 x.1 y.1 (ap (λ (z : ℕ × ℕ). z.0) x.2 ∙ same ∙ ap (λ (z : ℕ × ℕ). z.0) (sym y.2)) in
     absurd (omega arith)
 
-module _ (whole : WholeProgram) (root ranks : List ℕ) (none : HasNoFault whole) (written : IsWritable whole) (ranked : IsRanked (calls_in whole) ranks) where
+module _ (whole : WholeProgram) (root : List ℕ) (none : HasNoFault whole) (written : IsWritable whole) (passes : Passes whole root) where
   abbrev program : NumberedProgram
-  program = numbered whole root ranks
+  program = numbered whole root
+
+  has : HasRanks (calls_in whole)
+  has = acyclic_ranks (calls_in whole) (calls_within whole.funcs) passes.falls
+
+  abbrev ranks : List ℕ
+  ranks = has.ranks
 
   abbrev rows : List FrameRow
   rows = frame_rows whole
@@ -413,7 +428,7 @@ module _ (whole : WholeProgram) (root ranks : List ℕ) (none : HasNoFault whole
         let calls = λ (g : Function). flat_map (called_by whole.funcs) g.items in
         let row = get_or_from_slice_get (calls_in whole) k (calls func) [] (slice_get-map calls whole.funcs k ∙ ap (option_map calls) at) in
         let number = func_number whole.funcs label in
-        ranked.falls k number (subst (λ (xs : List ℕ). Contains xs number) (sym row)
+        has.ranked.falls k number (subst (λ (xs : List ℕ). Contains xs number) (sym row)
         (joined (called_by whole.funcs) func.items (Do (text.Call label args result)) number (contained func.items i (Do (text.Call label args result)) is) (first_member number [])))
 
     keeps_call : (b i : ℕ) (label : List ℕ) (args : List NamedExpression) (result : Option (List ℕ × ℕ)) → slice_get func.items i ≡ Some (Do (text.Call label args result)) → GoesOn program k b (suc b)
@@ -430,7 +445,6 @@ module _ (whole : WholeProgram) (root ranks : List ℕ) (none : HasNoFault whole
         subst (λ (f : ℕ). CallKeeps program k b f (map (term k func at) args) (option_map to result) (suc b)) (sym number) (record {
           function = function p called;
           at = there p called item.at;
-          lower = subst (λ (f : ℕ). slice_index_or ranks f 0 < slice_index_or ranks k 0) number (lower i label args result is);
           args_keep = arguments_fit k func at (Some p) (first_frame whole p) called.args args item.sizes item.sees w.1 (is_written p called item.at).args (args_stand whole p called item.at);
           gives = result_fits p called item.at result to (λ r first. agreed whole none p called item.at k func i label args result at is name item.agrees r first);
           result_keeps = by_option (λ o. IfSome o AddressIsWritable → ((target : List ℕ × ℕ) → o ≡ Some target → IsSeen whole func target.0) → KeepsResult rows k (option_map to o)) result
@@ -471,6 +485,21 @@ module _ (whole : WholeProgram) (root ranks : List ℕ) (none : HasNoFault whole
           (λ other. record { next_is = refl; there = omega (arith, goes_on func.items (is_written k func at).ends b part last part_at last_at other, count_at k func at) });
     })
 
+    -- ---- calls
+
+    -- what an item with this end calls
+    called_end : (next : ℕ) (item : BodyItem) (g : ℕ) → Contains (called_at (end_by (numbers k func at) next item)) g → IsCalled whole item g
+    called_end next (Do (text.Call label args result)) g c =
+        record { label = label; args = args; result = result; is = refl; number = first_or_further (func_number whole.funcs label) [] g c (λ e. e) (no_member g) }
+    called_end next item g c = no_member g c
+
+    -- a function that a block calls has a lower rank
+    block_falls : (b : ℕ) (block : NumberedBlock) → slice_get (function k func).blocks b ≡ Some block → (g : ℕ) → Contains (called_at block.ending) g → slice_index_or ranks g 0 < slice_index_or ranks k 0
+    block_falls = by_part k func at (λ b block. (g : ℕ) → Contains (called_at block.ending) g → slice_index_or ranks g 0 < slice_index_or ranks k 0) (λ b part last part_at last_at among g c.
+        let call = called_end (suc b) last g c in
+        subst (λ (f : ℕ). slice_index_or ranks f 0 < slice_index_or ranks k 0) call.number
+        (lower among.0 call.label call.args call.result (placed func.items last among ∙ ap Some call.is)))
+
     -- ---- functions
 
     keeps_function : KeepsFunction program k (function k func)
@@ -501,6 +530,33 @@ module _ (whole : WholeProgram) (root ranks : List ℕ) (none : HasNoFault whole
           returns = one_size k func at;
         }
 
+  -- ---- ranks
+
+  count_calls : length (block_calls program) ≡ length (calls_in whole)
+  count_calls =
+      length-map program.funcs (λ (function : NumberedFunction). called_in function.blocks) ∙ count_functions whole (length whole.decls) whole.funcs
+      ∙ sym (length-map whole.funcs (λ (func : Function). flat_map (called_by whole.funcs) func.items))
+
+  call_falls : (f g : ℕ) → Calls (block_calls program) f g → slice_index_or ranks g 0 < slice_index_or ranks f 0
+  call_falls f g call =
+      let calls = λ (function : NumberedFunction). called_in function.blocks in
+      let row = get_or (block_calls program) f [] in
+      let at = mapped_at calls program.funcs f row (slice_get-get_or (block_calls program) f [] (caller_low (block_calls program) f g call)) in
+      let is = of_function f at.0 at.1 in
+      let block = from_joined (λ (x : NumberedBlock). called_at x.ending) at.0.blocks g (subst (λ (xs : List ℕ). Contains xs g) (sym at.2) call) in
+      let there = subst (λ (x : NumberedFunction). slice_get x.blocks block.1.0 ≡ Some block.0) (sym is.2) (placed at.0.blocks block.0 block.1) in
+      block_falls f is.0 is.1 block.1.0 block.0 there g block.2
+
+  has_ranks : HasRanks (block_calls program)
+  has_ranks = record {
+    ranks = ranks;
+    ranked = record {
+      one_each = has.ranked.one_each ∙ sym count_calls;
+      within = λ f low. subst (λ (n : ℕ). slice_index ranks f < n) (sym count_calls) (has.ranked.within f (subst (λ (n : ℕ). f < n) count_calls low));
+      falls = call_falls;
+    };
+  }
+
   -- ---- programs
 
   has_frame : (f k : ℕ) (row : FrameRow) → slice_get rows f ≡ Some row → row.owner ≡ Some k → HasFrame program k f
@@ -525,10 +581,9 @@ module _ (whole : WholeProgram) (root ranks : List ℕ) (none : HasNoFault whole
     bytes = omega (arith, written.few_bytes, same_bytes rows 0 ∙ ap (sum_by frame_bytes) (frames_are whole));
   }
 
-  pub kept : Passes whole root → IsBounded program → IsKept program
-  kept passes bounded =
+  pub kept : IsBounded program → IsKept program
+  kept bounded =
       let count = count_functions whole (length whole.decls) whole.funcs in
-      let calls = length-map whole.funcs (λ func. flat_map (called_by whole.funcs) func.items) in
       record {
         checked = record { whole = whole; root = root; writable = written; passes = passes; numbers = refl };
         bounded = bounded;
@@ -541,6 +596,5 @@ module _ (whole : WholeProgram) (root ranks : List ℕ) (none : HasNoFault whole
         exports = all_images (KeepsExport rows) (export_number whole) whole.exports (λ name c. export_keeps whole name (none.exports name c));
         root = by_option (λ o. IsSome o → IfSome o (λ k. k < length whole.funcs) → unwrap_or o 0 < length program.funcs) (function_place whole.funcs root)
             (λ e some low. absurd (false≢true some)) (λ k e some low. omega arith) passes.starts (place_within _ whole.funcs);
-        ranked = omega (arith, ranked.one_each);
-        ranks_low = λ k below. omega (arith, ranked.within k (omega arith));
+        ranked = has_ranks;
       }

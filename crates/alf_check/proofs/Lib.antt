@@ -1,3 +1,4 @@
 pub mod Places
 pub mod Blocks
+pub mod Acyclic
 pub mod Kept

@@ -3,11 +3,11 @@
 --   BlockEnding         how a block ends
 --   NumberedBlock       statements that follow one another, and how they end
 --   NumberedFunction    a function: its name, the frames of its arguments, all its frames with those first, what they hold at first, and its blocks
---   NumberedProgram     a program: its frames, its functions, what global frames hold at first, the frames that it exports, the function that it starts with, and the rank of each function
---   blocks_at program f, rank_of program f   the blocks of function f, and its rank
+--   NumberedProgram     a program: its frames, its functions, what global frames hold at first, the frames that it exports, and the function that it starts with
+--   blocks_at program f   the blocks of function f
 --   CheckedParts        the same in the code's parts
 --   term_of, act_of, end_of, block_of, function_in, seen   what the code's values stand for
-use Rattle.std.specs.Prelude.{ℕ, List, [], map, Option, slice_get, slice_index}
+use Rattle.std.specs.Prelude.{ℕ, List, [], map, Option, slice_get}
 use Rattle.std.specs.Option.{option_map, option_map_or}
 use Rattle.alf_program.specs.Tree.{NumberedExpression, Number, Address, Load, Apply, expressions_of}
 use Rattle.alf_check.specs.declared.rows.FrameRow.{FrameRow}
@@ -53,15 +53,10 @@ pub record NumberedProgram : Type 0 where
   pub inits : List InitRow
   pub exports : List ℕ
   pub root : ℕ
-  pub ranks : List ℕ
 
 -- the blocks of function f
 abbrev pub blocks_at : NumberedProgram → ℕ → List NumberedBlock
 blocks_at program f = option_map_or (λ function. function.blocks) (slice_get program.funcs f) []
-
--- the rank of function f
-abbrev pub rank_of : NumberedProgram → ℕ → ℕ
-rank_of program f = slice_index program.ranks f
 
 -- ---- what the code's values stand for
 
@@ -72,7 +67,6 @@ pub record CheckedParts : Type 0 where
   pub inits : List InitRow
   pub exports : List ℕ
   pub root : ℕ
-  pub ranks : List ℕ
 
 abbrev pub term_step : Term-F NumberedExpression → NumberedExpression
 term_step (terms.Num n) = Number n
@@ -114,5 +108,4 @@ seen parts = record {
   inits = parts.inits;
   exports = parts.exports;
   root = parts.root;
-  ranks = parts.ranks;
 }

@@ -3,6 +3,7 @@
 --   calls_in whole            for each function those that it calls, in the order of the text
 --   name_at funcs f           the name of function f
 --   Passes whole root         nothing is wrong with the names and the sizes, no calls lead from a function back to it, and there is a function of this name to start with
+--   HasRanks calls            the functions have ranks, and each call leads from a higher one to a lower one
 --   IsRecursion whole names   the names of the functions on the first cycle of calls
 --   IsTold whole root fault   what the fault says is true, and nothing that is looked for before it is wrong
 use Rattle.std.specs.Prelude.{◌≡◌, ℕ, List, [], ◌∷◌, ⊤, map, None, Some, IsSome, slice_index_or}
@@ -12,7 +13,7 @@ use Rattle.alf_program.specs.Tree.{BodyItem, Function, WholeProgram, call_of}
 use Rattle.alf_faults.specs.Places.{function_place}
 use Rattle.alf_faults.specs.Fault.{Unknown, Duplicate, Size, earliest}
 use Rattle.alf_faults.specs.Faults.{faults_in}
-use Rattle.graph_walks.specs.Calls.{OnCycle, IsFirstCycle}
+use Rattle.graph_walks.specs.Calls.{OnCycle, IsFirstCycle, IsRanked}
 use Rattle.alf_check.specs.declared.fault.CheckFault.{CheckFault}
 use Rattle.alf_check.specs.declared.fault.CheckFault.TheVariants as told
 use Rattle.alf_check.specs.Numbers.{func_number}
@@ -37,6 +38,11 @@ pub record Passes (whole : WholeProgram) (root : List ℕ) : Type 0 where
   pub sound : faults_in whole ≡ []
   pub falls : (f : ℕ) → OnCycle (calls_in whole) f → ⊥
   pub starts : IsSome (function_place whole.funcs root)
+
+-- the functions have ranks, and each call leads from a higher one to a lower one
+pub record HasRanks (calls : List (List ℕ)) : Type 0 where
+  pub ranks : List ℕ
+  pub ranked : IsRanked calls ranks
 
 -- the names of the functions on the first cycle of calls
 pub record IsRecursion (whole : WholeProgram) (names : List (List ℕ)) : Type 0 where

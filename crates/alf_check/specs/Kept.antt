@@ -16,9 +16,10 @@
 --   IsBounded program        its counts are below 2^32 - 1
 --   IsWithinLimits program   its functions, frames and bytes of frames are within the limits of a text
 --   IsChecked program        the program is one that some text can spell and that passes the checks, with numbers in place of names
+--   block_calls program      for each function those that its blocks call
 --   IsKept program           the whole program keeps the rules
-use Rattle.std.specs.Prelude.{◌≡◌, ◌≢◌, ◌<◌, ◌≤◌, ◌+◌, ◌*◌, ◌/◌, ◌%◌, ◌^◌, ◌⊎◌, ℕ, suc, true, List, [], ◌∷◌, ◌++◌, length, All, AllPairs, Contains, Option, Some, None, slice_get}
-use Rattle.std.specs.List.{AllZip, sum_by}
+use Rattle.std.specs.Prelude.{◌≡◌, ◌≢◌, ◌<◌, ◌≤◌, ◌+◌, ◌*◌, ◌/◌, ◌%◌, ◌^◌, ◌⊎◌, ℕ, suc, true, List, [], ◌∷◌, ◌++◌, map, length, All, AllPairs, Contains, Option, Some, None, slice_get}
+use Rattle.std.specs.List.{AllZip, flat_map, sum_by}
 use Rattle.alf_ops.specs.Table.{result_size, operand_sizes}
 use Rattle.alf_program.specs.declared.program.Num.{Num}
 use Rattle.alf_program.specs.Tree.{NumberedExpression, NumberedExpressions, Number, Address, Load, Apply, Empty, With, WholeProgram}
@@ -26,9 +27,9 @@ use Rattle.alf_program.specs.Writable.{IsWritable}
 use Rattle.alf_faults.specs.Sizes.{is_export_size}
 use Rattle.alf_check.specs.declared.rows.FrameRow.{FrameRow}
 use Rattle.alf_check.specs.declared.rows.InitRow.{InitRow}
-use Rattle.alf_check.specs.CheckedPrograms.{NumberedStatement, Null, Store, BlockEnding, Fall, Jump, Switch, Call, Return, NumberedBlock, NumberedFunction, NumberedProgram, blocks_at, rank_of}
+use Rattle.alf_check.specs.CheckedPrograms.{NumberedStatement, Null, Store, BlockEnding, Fall, Jump, Switch, Call, Return, NumberedBlock, NumberedFunction, NumberedProgram, blocks_at}
 use Rattle.alf_check.specs.Numbered.{numbered}
-use Rattle.alf_check.specs.Checking.{Passes}
+use Rattle.alf_check.specs.Checking.{Passes, HasRanks}
 
 -- ---- sizes
 
@@ -189,11 +190,10 @@ Gives rows f (Some to) (Some value) = HasCellSize rows f value
 abbrev pub EachReturn : (Option NumberedExpression → Type 0) → List NumberedBlock → Type 0
 EachReturn Holds blocks = (b : ℕ) (block : NumberedBlock) (value : Option NumberedExpression) → slice_get blocks b ≡ Some block → block.ending ≡ Return value → Holds value
 
--- a call is of a function of a lower rank, with arguments for its frames, and takes what each of its returns gives
+-- a call is of a function that is there, with arguments for its frames, and takes what each of its returns gives
 pub record CallKeeps (program : NumberedProgram) (k b f : ℕ) (args : List NumberedExpression) (result : Option (ℕ × ℕ)) (next : ℕ) : Type 0 where
   pub function : NumberedFunction
   pub at : slice_get program.funcs f ≡ Some function
-  pub lower : rank_of program f < rank_of program k
   pub args_keep : AllZip (ArgumentKeeps program.frames k) function.args args
   pub gives : EachReturn (Gives program.frames f result) function.blocks
   pub result_keeps : KeepsResult program.frames k result
@@ -258,7 +258,23 @@ pub record IsChecked (program : NumberedProgram) : Type 0 where
   pub root : List ℕ
   pub writable : IsWritable whole
   pub passes : Passes whole root
-  pub numbers : program ≡ numbered whole root program.ranks
+  pub numbers : program ≡ numbered whole root
+
+-- the function that a block with this end calls
+abbrev pub called_at : BlockEnding → List ℕ
+called_at (Fall next) = []
+called_at (Jump to) = []
+called_at (Switch value targets others) = []
+called_at (Call f args result next) = f ∷ []
+called_at (Return value) = []
+
+-- the functions that these blocks call
+abbrev pub called_in : List NumberedBlock → List ℕ
+called_in blocks = flat_map (λ (block : NumberedBlock). called_at block.ending) blocks
+
+-- for each function those that its blocks call
+abbrev pub block_calls : NumberedProgram → List (List ℕ)
+block_calls program = map (λ (function : NumberedFunction). called_in function.blocks) program.funcs
 
 -- counts are such that 32 bits hold each, and one more
 pub record IsBounded (program : NumberedProgram) : Type 0 where
@@ -288,5 +304,4 @@ pub record IsKept (program : NumberedProgram) : Type 0 where
   pub inits : All (InitFits program.frames None) program.inits
   pub exports : All (KeepsExport program.frames) program.exports
   pub root : program.root < length program.funcs
-  pub ranked : length program.ranks ≡ length program.funcs
-  pub ranks_low : (k : ℕ) → k < length program.funcs → rank_of program k < length program.funcs
+  pub ranked : HasRanks (block_calls program)

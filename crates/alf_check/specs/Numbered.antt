@@ -5,7 +5,7 @@
 --   numbered_blocks numbers k blocks     blocks, of which the first has this number
 --   numbered_inits start frames inits    what frames hold at first, where the first of the frames has number start
 --   numbered_function whole first func   a function whose first frame has this number
---   numbered whole root ranks            the program, which starts with the function of this name, with these ranks
+--   numbered whole root                  the program, which starts with the function of this name
 use Rattle.std.specs.Prelude.{ℕ, suc, ◌+◌, ◌-◌, List, [], ◌∷◌, map, length, slice_get, unwrap_or}
 use Rattle.std.specs.Option.{option_map, option_map_or}
 use Rattle.std.specs.List.{flat_map, range_with_len}
@@ -82,13 +82,12 @@ functions_from whole first (func ∷ funcs) = numbered_function whole first func
 abbrev pub export_number : WholeProgram → List ℕ → ℕ
 export_number whole name = unwrap_or (placed 0 whole.decls name) 0
 
--- the program, which starts with the function of this name, with these ranks
-abbrev pub numbered : WholeProgram → List ℕ → List ℕ → NumberedProgram
-numbered whole root ranks = record {
+-- the program, which starts with the function of this name
+abbrev pub numbered : WholeProgram → List ℕ → NumberedProgram
+numbered whole root = record {
   frames = frame_rows whole;
   funcs = functions_from whole (length whole.decls) whole.funcs;
   inits = numbered_inits 0 whole.decls whole.inits;
   exports = map (export_number whole) whole.exports;
   root = func_number whole.funcs root;
-  ranks = ranks;
 }

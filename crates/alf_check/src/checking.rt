@@ -4,14 +4,14 @@ ghost use Rattle.std.specs.Prelude.{◌≡◌, ◌<◌, ℕ, List, [], Some, map
 ghost use Rattle.alf_program.specs.Tree.{function_of, program_of};
 ghost use Rattle.alf_program.specs.Writable.{IsWritable};
 ghost use Rattle.alf_faults.specs.Faults.{faults_in};
-ghost use Rattle.graph_walks.specs.Calls.{IsRanked, OnCycle};
+ghost use Rattle.graph_walks.specs.Calls.{OnCycle};
 ghost use Rattle.alf_check.specs.CheckedPrograms.{seen};
 ghost use Rattle.alf_check.specs.Numbered.{numbered};
 ghost use Rattle.alf_check.specs.Checking.{Passes, IsTold, calls_among, calls_in, name_at};
 
 use crate::calls::calls_among;
 use crate::fault::CheckFault;
-use crate::program::{Checked, numbered};
+use crate::program::{Checked, number};
 use alf_faults::{ItemFault, first_fault, function_named};
 use alf_program::{Func, Program};
 use flow_base::Name;
@@ -27,22 +27,20 @@ use std::alloc::{AllocError, Global};
 pub fn check(alloc: Global, program: Program, root: &str) -> Result<Checked, CheckFault>
     requires writable { IsWritable (program_of program) }
     ensures passes { IfOk result (λ checked. Passes (program_of program) root.now) }
-    ensures numbered { IfOk result (λ checked. seen checked ≡ numbered (program_of program) root.now (seen checked).ranks) }
+    ensures numbered { IfOk result (λ checked. seen checked ≡ numbered (program_of program) root.now) }
     ensures told { IfErr result (λ fault. IsTold (program_of program) root.now fault) }
 {
-    ranked_calls_have_no_cycle();
     let root = root.as_bytes();
     if let Err(fault) = check_items(alloc, &program) {
         return Err(fault);
     }
-    let ranks = match check_calls(alloc, &program) {
-        Ok(ranks) => ranks,
-        Err(fault) => return Err(fault),
-    };
+    if let Err(fault) = check_calls(alloc, &program) {
+        return Err(fault);
+    }
     if let Err(fault) = check_root(alloc, &program, root) {
         return Err(fault);
     }
-    match numbered(alloc, &program, root, ranks) {
+    match number(alloc, &program, root) {
         Ok(checked) => Ok(checked),
         Err(_) => Err(CheckFault::Memory),
     }
@@ -62,19 +60,20 @@ fn check_items(alloc: Global, program: &Program) -> Result<(), CheckFault>
     }
 }
 
-// Ranks of the functions, which show that no calls lead from a function back to it.
-fn check_calls(alloc: Global, program: &Program) -> Result<Vec<u32>, CheckFault>
+// That no calls lead from a function back to it, as ranks of the functions show.
+fn check_calls(alloc: Global, program: &Program) -> Result<(), CheckFault>
     requires { faults_in (program_of program.now) ≡ [] }
-    ensures ranked { IfOk result (λ ranks. IsRanked (calls_in (program_of program.now)) ranks.items) }
+    ensures acyclic { OnOk result ((f : ℕ) → OnCycle (calls_in (program_of program.now)) f → ⊥) }
     ensures told { IfErr result (λ fault. (root : List ℕ) → IsTold (program_of program.now) root fault) }
 {
+    ranked_calls_have_no_cycle();
     let funcs = program.funcs.as_slice();
     let Ok(calls) = calls_among(alloc, funcs) else {
         return Err(CheckFault::Memory);
     };
     let calls = calls.as_slice();
     match call_ranks(alloc, calls) {
-        Ok(ranks) => Ok(ranks),
+        Ok(_ranks) => Ok(()),
         Err(CallFault::Cycle(path)) => match names_along(alloc, funcs, &path) {
             Ok(names) => Err(CheckFault::Recursion(names)),
             Err(_) => Err(CheckFault::Memory),

@@ -32,5 +32,5 @@ mod fault;
 
 pub use checking::check;
 pub use fault::CheckFault;
-pub use program::Checked;
+pub use program::{Checked, number};
 pub use rows::{Act, Block, BlockEnd, FrameRow, FuncRow, InitRow, InputRow, Term};

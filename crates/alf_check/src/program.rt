@@ -4,12 +4,11 @@ ghost use Rattle.std.specs.Prelude.{◌≡◌, ◌<◌, [], length, All, IfOk, s
 ghost use Rattle.std.specs.Coded.{codes};
 ghost use Rattle.alf_program.specs.Tree.{program_of};
 ghost use Rattle.alf_program.specs.Writable.{IsWritable};
-ghost use Rattle.alf_check.specs.Checking.{calls_in, Passes};
-ghost use Rattle.graph_walks.specs.Calls.{IsRanked};
+ghost use Rattle.alf_check.specs.Checking.{Passes};
 ghost use Rattle.alf_check.specs.Kept.{KeepsBlock, KeepsExport, KeepsFrames, InitFits, IsKept};
 ghost use Rattle.alf_check.specs.Lookups.{AreParts, IsFunction};
 ghost use Rattle.alf_check.specs.Numbered.{numbered};
-ghost use Rattle.alf_check.specs.CheckedPrograms.{CheckedParts, blocks_at, rank_of, seen, block_of};
+ghost use Rattle.alf_check.specs.CheckedPrograms.{CheckedParts, blocks_at, seen, block_of};
 ghost use Rattle.alf_check.specs.contracts.rows.Term as e;
 
 use crate::count::few;
@@ -33,7 +32,6 @@ pub struct Checked {
     inits: Vec<InitRow>,
     exports: Vec<u32>,
     root: u32,
-    ranks: Vec<u32>,
 }
 
 impl Model for Checked {
@@ -47,7 +45,6 @@ impl Model for Checked {
       inits = checked.inits.items;
       exports = checked.exports.items;
       root = checked.root;
-      ranks = checked.ranks.items;
     } };
 
     ghost invariant = { λ checked. IsKept (seen (record {
@@ -56,7 +53,6 @@ impl Model for Checked {
       inits = checked.inits.items;
       exports = checked.exports.items;
       root = checked.root;
-      ranks = checked.ranks.items;
     })) };
 }
 
@@ -140,15 +136,6 @@ impl Checked {
     {
         self.root
     }
-
-    /// The rank of a function. Each call leads from a function to one of a lower rank.
-    pub fn rank(&self, func: u32) -> u32
-        requires { func < length (seen self.now).funcs }
-        ensures rank { result ≡ rank_of (seen self.now) func }
-        ensures low { result < length (seen self.now).funcs }
-    {
-        self.ranks[func as usize]
-    }
 }
 
 // The member of this number.
@@ -159,17 +146,14 @@ fn nth<T>(list: &[T], number: u32) -> &T
     &list[number as usize]
 }
 
-// The program with numbers in place of names, which starts with the function of this name.
-pub(crate) fn numbered(
-    alloc: Global,
-    program: &Program,
-    root: &[u8],
-    ranks: Vec<u32>,
-) -> Result<Checked, AllocError>
+/// The program with numbers in place of names, which starts with the function of this name.
+///
+/// The program is one that passes the checks, as `check` finds or as is known of a lowered one. So nothing is looked
+/// for, and want of memory is all that can stop it. Takes memory for the answer.
+pub fn number(alloc: Global, program: &Program, root: &[u8]) -> Result<Checked, AllocError>
     requires writable { IsWritable (program_of program.now) }
     requires passes { Passes (program_of program.now) root.now }
-    requires ranked { IsRanked (calls_in (program_of program.now)) ranks.items }
-    ensures { IfOk result (λ checked. seen checked ≡ numbered (program_of program.now) root.now (seen checked).ranks) }
+    ensures { IfOk result (λ checked. seen checked ≡ numbered (program_of program.now) root.now) }
 {
     no_fault_is_by_parts();
     few(&program.funcs)?;
@@ -183,6 +167,5 @@ pub(crate) fn numbered(
         inits,
         exports,
         root: func_number(&program.funcs, root),
-        ranks,
     })
 }

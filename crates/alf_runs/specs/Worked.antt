@@ -48,7 +48,7 @@ function args frames blocks = record { name = []; args = args; frames = frames; 
 
 -- the first function is the root
 abbrev program : List FrameRow → List InitRow → List ℕ → List NumberedFunction → NumberedProgram
-program frames inits exports funcs = record { frames = frames; funcs = funcs; inits = inits; exports = exports; root = 0; ranks = [] }
+program frames inits exports funcs = record { frames = frames; funcs = funcs; inits = inits; exports = exports; root = 0 }
 
 -- a block costs 1, an entry 10
 abbrev cost : Node → ℕ

@@ -122,12 +122,6 @@ fn frame_count(checked: &Checked, func: u32) -> usize {
     checked.func(func).frames.len()
 }
 
-// Whether function f has a greater rank than function g.
-fn ranks_fall(checked: &Checked, f: u32, g: u32) -> bool {
-    let count = checked.func_count();
-    f < count && g < count && checked.rank(g) < checked.rank(f)
-}
-
 #[test]
 fn a_program_has_its_frames_functions_and_blocks_in_order(rt: HostRuntime) -> Result<(), Fail> {
     let alloc = rt.alloc();
@@ -142,7 +136,6 @@ fn a_program_has_its_frames_functions_and_blocks_in_order(rt: HostRuntime) -> Re
     assert_eq!(rt; checked.frames()[0].owner, None);
     assert_eq!(rt; checked.frames()[2].owner, Some(1));
     assert_eq!(rt; frame_count(&checked, 1), 1);
-    assert!(rt; ranks_fall(&checked, 0, 1));
     assert_eq!(rt; first_stored(&checked, 0, 0), 1);
     assert_eq!(rt; first_stored(&checked, 1, 0), 0);
     assert_eq!(rt; leads(&checked, 0, 0), ("call", 1, 1));

@@ -5,7 +5,6 @@ ghost use Rattle.std.specs.List.{zip};
 ghost use Rattle.alf_ops.specs.TwosComplement.{signed};
 ghost use Rattle.alf_check.specs.CheckedPrograms.{seen};
 ghost use Rattle.alf_interp.specs.Counts.{outcome_of};
-ghost use Rattle.unranked_runs.specs.Ranking.{unranked};
 ghost use Rattle.answer_texts.specs.ScopeLines.{name_of};
 ghost use Rattle.answer_texts.specs.RunText.{frame_text, value_text, returned_line, global_line, global_lines, stopped_line, run_text};
 
@@ -25,7 +24,7 @@ pub fn run_text(
     tally: &Tally,
 ) -> Result<Vec<u8>, AllocError>
     requires { tally.now.last < length graph.now.nodes }
-    ensures { IfOk result (λ text. text.items ≡ run_text (record { program = unranked (seen checked.now); graph = graph.now }) (Some tally.now.last) (outcome_of tally.now.end) tally.now.turns tally.now.cost) }
+    ensures { IfOk result (λ text. text.items ≡ run_text (record { program = seen checked.now; graph = graph.now }) (Some tally.now.last) (outcome_of tally.now.end) tally.now.turns tally.now.cost) }
 {
     let mut text = Vec::new(alloc);
     match &tally.end {
@@ -46,8 +45,8 @@ fn push_outputs(
     checked: &Checked,
     outputs: &Outputs,
 ) -> Result<(), AllocError>
-    ensures { OnOk result (text.new.items ≡ text.old.items ++ (returned_line (unranked (seen checked.now)) outputs.now.returned
-        ++ global_lines (unranked (seen checked.now)) (zip (seen checked.now).exports outputs.now.globals.items))) }
+    ensures { OnOk result (text.new.items ≡ text.old.items ++ (returned_line (seen checked.now) outputs.now.returned
+        ++ global_lines (seen checked.now) (zip (seen checked.now).exports outputs.now.globals.items))) }
 {
     push_returned(text, alloc, checked, outputs.returned)?;
     push_globals(text, alloc, checked, checked.exports(), &outputs.globals)
@@ -61,7 +60,7 @@ fn push_globals(
     frames: &[u32],
     values: &[Option<Value>],
 ) -> Result<(), AllocError>
-    ensures { OnOk result (text.new.items ≡ text.old.items ++ global_lines (unranked (seen checked.now)) (zip frames.now values.now)) }
+    ensures { OnOk result (text.new.items ≡ text.old.items ++ global_lines (seen checked.now) (zip frames.now values.now)) }
 {
     let Some((frame, frames)) = frames.split_first() else {
         return Ok(());
@@ -80,7 +79,7 @@ fn push_returned(
     checked: &Checked,
     value: Option<Value>,
 ) -> Result<(), AllocError>
-    ensures { OnOk result (text.new.items ≡ text.old.items ++ returned_line (unranked (seen checked.now)) value) }
+    ensures { OnOk result (text.new.items ≡ text.old.items ++ returned_line (seen checked.now) value) }
 {
     let Some(value) = value else {
         text.extend_from_slice(b"returned\n")?;
@@ -100,7 +99,7 @@ fn push_global(
     frame: u32,
     value: Option<Value>,
 ) -> Result<(), AllocError>
-    ensures { OnOk result (text.new.items ≡ text.old.items ++ global_line (unranked (seen checked.now)) frame value) }
+    ensures { OnOk result (text.new.items ≡ text.old.items ++ global_line (seen checked.now) frame value) }
 {
     text.extend_from_slice(b"global ")?;
     push_quoted(text, frame_name(checked, frame))?;
@@ -140,7 +139,7 @@ fn push_value(
     checked: &Checked,
     value: Value,
 ) -> Result<(), AllocError>
-    ensures { OnOk result (text.new.items ≡ text.old.items ++ value_text (unranked (seen checked.now)) value) }
+    ensures { OnOk result (text.new.items ≡ text.old.items ++ value_text (seen checked.now) value) }
 {
     match value {
         Value::Int { size, bits } => {
@@ -159,7 +158,7 @@ fn push_value(
 
 // The name of a frame.
 fn frame_name(checked: &Checked, frame: u32) -> &[u8]
-    ensures { frame_text (unranked (seen checked.now)) frame ≡ 34 ∷ (result.now ++ 34 ∷ []) }
+    ensures { frame_text (seen checked.now) frame ≡ 34 ∷ (result.now ++ 34 ∷ []) }
 {
     match checked.frames().get(frame as usize) {
         Some(row) => row.name.bytes(),

@@ -1,5 +1,6 @@
 -- What passes the checks, and what is told otherwise.
---   ProgramParts            a unit, its root and the ranks of its functions
+--   ProgramParts            a unit and its root
+--   PassesChecks unit root  the unit passes the checks, and has a function of this name
 --   Keeps program           what every program keeps: the checks pass, and some text spells its unit
 --   IsTold unit root fault  what the fault says is what the checks refuse the unit by; a want of memory says nothing
 use Rattle.std.specs.Prelude.{ℕ, List, ⊤}
@@ -14,11 +15,15 @@ use Rattle.c_check.specs.declared.fault.CFault.TheVariants as faults
 pub record ProgramParts : Type 0 where
   pub unit : CUnit
   pub root : List ℕ
+
+-- the unit passes the checks and has a function of this name, as some ranks of its functions show
+pub record PassesChecks (unit : UnitTree) (root : List ℕ) : Type 0 where
   pub ranks : List ℕ
+  pub is_program : IsProgram unit root ranks
 
 -- the checks pass, and some text spells the unit
 pub record Keeps (program : ProgramParts) : Type 0 where
-  pub passes : IsProgram (unit_of program.unit) program.root program.ranks
+  pub passes : PassesChecks (unit_of program.unit) program.root
   pub spelled : IsSpelled (unit_of program.unit)
 
 abbrev pub IsTold : UnitTree → List ℕ → CFault → Type 0

@@ -4,10 +4,10 @@ ghost use Rattle.std.specs.Prelude.{◌≡◌, ℕ, List, [], true, IfOk, IfErr,
 ghost use Rattle.c_unit.specs.Units.{unit_of};
 ghost use Rattle.c_rules.specs.Units.{definitions, faults_in};
 ghost use Rattle.c_rules.specs.Recursion.{calls_of};
-ghost use Rattle.c_rules.specs.Programs.{HasNoCycle, has_root, IsProgram};
+ghost use Rattle.c_rules.specs.Programs.{HasNoCycle, has_root};
 ghost use Rattle.c_text.specs.Language.{IsSpelled};
 ghost use Rattle.graph_walks.specs.Calls.{IsRanked};
-ghost use Rattle.c_check.specs.Programs.{IsTold};
+ghost use Rattle.c_check.specs.Programs.{IsTold, PassesChecks};
 
 use crate::externals::check_unit;
 use crate::fault::CFault;
@@ -25,22 +25,22 @@ use std::alloc::Global;
 /// names, the scopes around each place, and the calls.
 pub fn check(alloc: Global, unit: CUnit, root: &str) -> Result<CProgram, CFault>
     requires { IsSpelled (unit_of unit) }
-    ensures passes { IfOk result (λ program. IsProgram (unit_of unit) root.now program.ranks) }
+    ensures passes { OnOk result (PassesChecks (unit_of unit) root.now) }
     ensures unchanged { IfOk result (λ program. (program.unit ≡ unit) × (program.root ≡ root.now)) }
     ensures told { IfErr result (λ fault. IsTold (unit_of unit) root.now fault) }
 {
-    match ranks_of(alloc, &unit, root.as_bytes()) {
-        Ok(ranks) => match Name::new(alloc, root.as_bytes()) {
-            Ok(name) => Ok(CProgram::new(unit, name, ranks)),
+    match check_parts(alloc, &unit, root.as_bytes()) {
+        Ok(()) => match Name::new(alloc, root.as_bytes()) {
+            Ok(name) => Ok(CProgram::new(unit, name)),
             Err(_) => Err(CFault::Memory),
         },
         Err(fault) => Err(fault),
     }
 }
 
-// The ranks of the functions, if nothing is wrong.
-fn ranks_of(alloc: Global, unit: &CUnit, root: &[u8]) -> Result<Vec<u32>, CFault>
-    ensures passes { IfOk result (λ ranks. IsProgram (unit_of unit.now) root.now ranks.items) }
+// That nothing is wrong.
+fn check_parts(alloc: Global, unit: &CUnit, root: &[u8]) -> Result<(), CFault>
+    ensures passes { OnOk result (PassesChecks (unit_of unit.now) root.now) }
     ensures told { IfErr result (λ fault. IsTold (unit_of unit.now) root.now fault) }
 {
     ranked_calls_have_no_cycle();
@@ -50,14 +50,10 @@ fn ranks_of(alloc: Global, unit: &CUnit, root: &[u8]) -> Result<Vec<u32>, CFault
     if let Err(fault) = check_text(alloc, &functions, unit) {
         return Err(fault);
     }
-    let ranks = match check_calls(alloc, &functions, unit) {
-        Ok(ranks) => ranks,
-        Err(fault) => return Err(fault),
-    };
-    match check_root(alloc, &functions, unit, root) {
-        Ok(()) => Ok(ranks),
-        Err(fault) => Err(fault),
+    if let Err(fault) = check_calls(alloc, &functions, unit) {
+        return Err(fault);
     }
+    check_root(alloc, &functions, unit, root)
 }
 
 // That nothing is wrong in the text.
@@ -74,16 +70,16 @@ fn check_text(alloc: Global, functions: &Definitions<'_>, unit: &CUnit) -> Resul
     }
 }
 
-// Ranks of the functions, which show that no calls lead from a function back to it.
-fn check_calls(alloc: Global, functions: &Definitions<'_>, unit: &CUnit) -> Result<Vec<u32>, CFault>
+// That no calls lead from a function back to it, as ranks of the functions show.
+fn check_calls(alloc: Global, functions: &Definitions<'_>, unit: &CUnit) -> Result<(), CFault>
     requires words { functions.now.words ≡ (unit_of unit.now).words }
     requires names { functions.now.names ≡ definitions (unit_of unit.now).externals }
     requires sound { faults_in (unit_of unit.now) ≡ [] }
-    ensures ranked { IfOk result (λ ranks. IsRanked (calls_of (unit_of unit.now)) ranks.items) }
+    ensures ranked { OnOk result ((ranks : List ℕ) × IsRanked (calls_of (unit_of unit.now)) ranks) }
     ensures told { IfErr result (λ fault. (root : List ℕ) → IsTold (unit_of unit.now) root fault) }
 {
     match function_ranks(alloc, functions, unit) {
-        Ok(ranks) => Ok(ranks),
+        Ok(_ranks) => Ok(()),
         Err(CallFault::Cycle(path)) => match names_along(alloc, functions, &path) {
             Ok(names) => Err(CFault::Recursion(names)),
             Err(_) => Err(CFault::Memory),

@@ -4,20 +4,18 @@ ghost use Rattle.std.specs.Prelude.{◌≡◌};
 ghost use Rattle.std.specs.Coded.{codes};
 ghost use Rattle.c_unit.specs.Units.{unit_of};
 ghost use Rattle.c_unit.specs.contracts.unit.CUnit as e;
-ghost use Rattle.c_rules.specs.Programs.{IsProgram};
 ghost use Rattle.c_text.specs.Language.{IsSpelled};
-ghost use Rattle.c_check.specs.Programs.{Keeps, ProgramParts};
+ghost use Rattle.c_check.specs.Programs.{Keeps, PassesChecks, ProgramParts};
 
 use c_unit::CUnit;
 use flow_base::Name;
 use std::marker::Model;
 
-/// A unit that passes the checks, with its root and a rank for each function, so that each call leads to a lower one.
+/// A unit that passes the checks, with its root.
 #[derive(Drop)]
 pub struct CProgram {
     unit: CUnit,
     root: Name,
-    ranks: Vec<u32>,
 }
 
 impl Model for CProgram {
@@ -25,28 +23,28 @@ impl Model for CProgram {
 
     ghost coded = { Prim.hlevel (codes, e.the_row.coded) };
 
-    ghost view = { λ program. record { unit = program.unit; root = program.root; ranks = program.ranks.items } };
+    ghost view = { λ program. record { unit = program.unit; root = program.root } };
 
-    ghost invariant = { λ program. Keeps (record { unit = program.unit; root = program.root; ranks = program.ranks.items }) };
+    ghost invariant = { λ program. Keeps (record { unit = program.unit; root = program.root }) };
 }
 
 impl CProgram {
     /// The program of these parts.
-    pub fn new(unit: CUnit, root: Name, ranks: Vec<u32>) -> Self
-        requires passes { IsProgram (unit_of unit) root ranks.items }
+    pub fn new(unit: CUnit, root: Name) -> Self
+        requires passes { PassesChecks (unit_of unit) root }
         requires spelled { IsSpelled (unit_of unit) }
-        ensures { result ≡ record { unit = unit; root = root; ranks = ranks.items } }
+        ensures { result ≡ record { unit = unit; root = root } }
     {
-        CProgram { unit, root, ranks }
+        CProgram { unit, root }
     }
 
-    /// What each program keeps: nothing is wrong in it, its functions are ranked, its root is defined, and some text
-    /// spells its unit, so that it keeps the limits of texts too.
+    /// What each program keeps: nothing is wrong in it, its functions have ranks so that each call leads to a lower one,
+    /// its root is defined, and some text spells its unit, so that it keeps the limits of texts too.
     pub fn keeps(&self)
-        ensures passes { IsProgram (unit_of self.now.unit) self.now.root self.now.ranks }
+        ensures passes { PassesChecks (unit_of self.now.unit) self.now.root }
         ensures spelled { IsSpelled (unit_of self.now.unit) }
     {
-        let _ranks = &self.ranks;
+        let _unit = &self.unit;
     }
 
     /// The unit.
@@ -61,12 +59,5 @@ impl CProgram {
         ensures { result.now ≡ self.now.root }
     {
         self.root.bytes()
-    }
-
-    /// The rank of each function, by the order of definitions.
-    pub fn ranks(&self) -> &[u32]
-        ensures { result.now ≡ self.now.ranks }
-    {
-        self.ranks.as_slice()
     }
 }

@@ -3,6 +3,4 @@ pub mod Walking
 pub mod KnownHeads
 mod Labels
 mod Plain
-pub mod Roots
-pub mod Faults
 pub mod Made

@@ -18,7 +18,7 @@ pub few_tokens : (unit : CUnit) → length unit.tokens.items ≤ 4294967296 → 
 few_tokens unit low = subst (λ (n : ℕ). n ≤ 4294967296) (sym (length-map unit.tokens.items (word_of_span unit.text.items))) low
 
 pub is_lowered : (unit : UnitTree) (root : List ℕ) (program : NumberedProgram) → IsKept program → IsWritable (lowered unit) → Passes (lowered unit) root
-    → program ≡ numbered (lowered unit) root program.ranks → IsLowered unit root program
+    → program ≡ numbered (lowered unit) root → IsLowered unit root program
 is_lowered unit root program kept writable passes numbers = record {
   kept = record {
     checked = record { whole = lowered unit; root = root; writable = writable; passes = passes; numbers = numbers };
@@ -31,7 +31,6 @@ is_lowered unit root program kept writable passes numbers = record {
     exports = kept.exports;
     root = kept.root;
     ranked = kept.ranked;
-    ranks_low = kept.ranks_low;
   };
   whole = refl;
   root = refl;

@@ -2,7 +2,7 @@
 --   IsAnalysis program graph rows shape costs policy turns answer   an exploration of the program with the rule of `miss_recording`, by the
 --       policy in so many turns, finds this answer
 --   HasOneAnalysis        so finds each other one
--- A checked program has ranks of its functions, which differ with the search for cycles: here any will do.
+-- The code has a program in parts, which lie in memory as they do: here any that are seen as the program will do.
 use Rattle.std.specs.Prelude.{◌≡◌, ℕ, List}
 use Rattle.alf_check.specs.declared.rows.InputRow.{InputRow}
 use Rattle.alf_check.specs.CheckedPrograms.{CheckedParts, NumberedProgram, seen}
@@ -16,7 +16,7 @@ use Rattle.worklist_rules.specs.declared.policy.Policy.{Policy}
 use Rattle.memory_model.specs.SeenOrders.{parts_order}
 use Rattle.abstract_step.specs.Steppers.{stepped_by}
 use Rattle.program_machines.specs.NodeCosts.{HasCosts}
-use Rattle.unranked_analyses.specs.UnrankedMachines.{IsProgramOf}
+use Rattle.program_analysis.specs.TwinMachines.{IsProgramOf}
 use Rattle.line_cache.specs.declared.shape.Shape.{Shape}
 use Rattle.cached_runs.specs.Answers.{CacheAnswer}
 use Rattle.cached_runs.specs.CachedRuns.{IsFound}

@@ -2,7 +2,6 @@
 pub mod CodeAccesses
 pub mod Sound
 pub mod SoundLaws
-pub mod Ranks
 pub mod Noted
 pub mod Analyses
 pub mod OneAnswer

@@ -2,7 +2,7 @@
 --   parts_fit      each part is one of which notes can be made
 --   first_no_size  node 0 is an entry, of no size
 --   code_is_noted  so an outline with the notes suits
-use Rattle.std.proofs.Common.{◌≡◌, ◌≤◌, ℕ, List, length, All, sym, ap, ◌∙◌, subst, arith}
+use Rattle.std.proofs.Common.{◌≡◌, ◌≤◌, ℕ, length, All, sym, ap, ◌∙◌, arith}
 use Rattle.std.proofs.lemmas.List.{length-map, get_or-map}
 use Rattle.std.proofs.lemmas.List.Elements.{All-weaker}
 use Rattle.alf_check.specs.CheckedPrograms.{NumberedProgram}
@@ -10,14 +10,12 @@ use Rattle.flow_graph.specs.Nodes.{first_node}
 use Rattle.flow_graph.specs.Numbering.{GraphParts}
 use Rattle.flow_graph.specs.Expansions.{IsExpansion}
 use Rattle.domain_core.specs.Outlines.{Outlined}
-use Rattle.unranked_runs.specs.Ranking.{with_ranks}
 use Rattle.line_cache.specs.declared.shape.Shape.{Shape}
 use Rattle.line_cache.specs.Lines.{IsShape, IsPart, HasNoSize, CostsFit, IsNoted}
 use Rattle.line_cache.specs.LineLaws.{notes_suit}
 use Rattle.code_layout.specs.Layouts.{all_statements, most_statements, node_part, parts_of}
 use Rattle.code_layout.specs.LayoutLaws.{IsLow, parts_low}
 use Rattle.cache_analysis.specs.CodeAccesses.{HasCodeNotes}
-use Rattle.cache_analysis.specs.Ranks.{parts_same}
 
 module _ (program : NumberedProgram) (graph : GraphParts) (expansion : IsExpansion program graph) (few : all_statements program ≤ most_statements) where
   -- each part is one of which notes can be made
@@ -31,9 +29,6 @@ module _ (program : NumberedProgram) (graph : GraphParts) (expansion : IsExpansi
       ap (λ (part : ℕ × ℕ). part.1) (get_or-map (node_part program) graph.nodes 0 first_node (0, 0) some ∙ ap (node_part program) expansion.first)
 
   -- so an outline with the notes suits
-  pub code_is_noted : (ranks : List ℕ) (shape : Shape) (o : Outlined) → IsShape shape → HasCodeNotes (with_ranks program ranks) graph shape o → length o.nodes ≡ length graph.nodes → CostsFit o → IsNoted o
-  code_is_noted ranks shape o shaped noted count costs =
-      let same : parts_of (with_ranks program ranks) graph ≡ parts_of program graph = parts_same program ranks program.ranks graph in
-      let fit : All IsPart (parts_of (with_ranks program ranks) graph) = subst (λ (parts : List (ℕ × ℕ)). All IsPart parts) (sym same) parts_fit in
-      let none : HasNoSize (parts_of (with_ranks program ranks) graph) 0 = subst (λ (parts : List (ℕ × ℕ)). HasNoSize parts 0) (sym same) first_no_size in
-      notes_suit shape (parts_of (with_ranks program ranks) graph) shaped fit o (count ∙ sym (length-map graph.nodes (node_part (with_ranks program ranks)))) costs none noted
+  pub code_is_noted : (shape : Shape) (o : Outlined) → IsShape shape → HasCodeNotes program graph shape o → length o.nodes ≡ length graph.nodes → CostsFit o → IsNoted o
+  code_is_noted shape o shaped noted count costs =
+      notes_suit shape (parts_of program graph) shaped parts_fit o (count ∙ sym (length-map graph.nodes (node_part program))) costs first_no_size noted

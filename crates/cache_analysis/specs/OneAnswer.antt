@@ -26,9 +26,9 @@ use Rattle.abstract_step.specs.Steppers.{StepperParts, stepped_by}
 use Rattle.report_soundness.specs.ReportTold.{costs_of}
 use Rattle.program_machines.specs.Rankings.{HasOneShape}
 use Rattle.program_analysis.specs.Twins.{AreTwins, along, opened_along, run_along, run_same}
-use Rattle.unranked_analyses.specs.Alongside.{zip_at}
-use Rattle.unranked_analyses.specs.TwinRuns.{IsBeside, RunsAlso, beside, none_beside, run_beside}
-use Rattle.unranked_analyses.specs.UnrankedMachines.{IsProgramOf, IsTwin, first_twin, machines_are_twins}
+use Rattle.program_analysis.specs.Alongside.{zip_at}
+use Rattle.program_analysis.specs.TwinRuns.{IsBeside, RunsAlso, beside, none_beside, run_beside}
+use Rattle.program_analysis.specs.TwinMachines.{IsProgramOf, IsTwin, first_twin, machines_are_twins}
 use Rattle.line_cache.specs.Sure.{rows_after, unsure}
 use Rattle.line_cache.specs.MissRules.{Counted, Collected, may_miss, miss_order, miss_recording}
 use Rattle.cached_runs.specs.Answers.{CacheLines, CacheAnswer, Told, Unbounded}
@@ -139,7 +139,7 @@ module _ (parts : StepperParts) (o other : Outlined) (policy : Policy) (turns : 
         is ∙ ap (λ (out : Outlined). slice_index (shape_of out).own spot.node) (outline_is left.events left.pool left.explored) ∙ ap (λ (shape : OutlineShape). slice_index shape.own spot.node) alike.shape,
       )
 
--- ---- ranks
+-- ---- other parts of the program
 
 module _ (program : NumberedProgram) (graph : GraphParts) (rows : List InputRow) (checked other : CheckedParts) (first : IsProgramOf program checked) (second : IsProgramOf program other) (o : Outlined) (policy : Policy) (turns : ℕ) where
   -- the two as steppers
@@ -162,7 +162,7 @@ module _ (program : NumberedProgram) (graph : GraphParts) (rows : List InputRow)
       run_beside stepped_by parts_order miss_order miss_recording Twin (parts_with other) policy turns events (first_pool (parts_with checked) o) pool (first_spots other)
       (machines_are_twins program checked other first second graph rows) first_beside run
 
-  -- what is found of a program is found of it with other ranks
+  -- what is found of the parts of a program is found of other parts of it
   found_of_other : (answer : CacheAnswer) → Finds (parts_with checked) o policy turns answer → Finds (parts_with other) o policy turns answer
   found_of_other (Told lines) h =
       let also = explored h.pool h.events h.explored in

@@ -13,7 +13,6 @@ ghost use Rattle.memory_model.specs.SeenOrders.{parts_order};
 ghost use Rattle.abstract_step.specs.Steppers.{stepped_by};
 ghost use Rattle.program_machines.specs.NodeCosts.{HasCosts};
 ghost use Rattle.program_analysis.specs.Bounds.{most_turns};
-ghost use Rattle.unranked_runs.specs.Ranking.{unranked};
 ghost use Rattle.line_cache.specs.Lines.{IsShape};
 ghost use Rattle.code_layout.specs.Layouts.{all_statements, most_statements};
 ghost use Rattle.cached_runs.specs.Answers.{answer_of, IfTold};
@@ -52,17 +51,17 @@ pub fn analyse(
     requires rows { KeepInputs (seen checked.now) rows.now }
     requires outline { IsOutlineOf (plan_of graph.now) (shape_of outline.now) }
     requires shape { IsShape shape }
-    requires noted { HasCodeNotes (unranked (seen checked.now)) graph.now shape outline.now }
+    requires noted { HasCodeNotes (seen checked.now) graph.now shape outline.now }
     requires turns { turns ≤ most_turns }
 
     // What the policy finds over the pools of the program's machine with the rule of the recorder.
-    ensures found { IfOk result (λ cached. (costs : CostTable) → HasCosts (unranked (seen checked.now)) graph.now costs outline.now
-        → IsAnalysis (unranked (seen checked.now)) graph.now rows.now shape costs policy turns (answer_of cached)) }
+    ensures found { IfOk result (λ cached. (costs : CostTable) → HasCosts (seen checked.now) graph.now costs outline.now
+        → IsAnalysis (seen checked.now) graph.now rows.now shape costs policy turns (answer_of cached)) }
 
     // Whatever the cache had at first, each run of the program ends, costs with the penalties of its misses no more than the
     // bound, and hits at each node that is told.
-    ensures sound { IfOk result (λ cached. IfTold (answer_of cached) (λ lines. (costs : CostTable) → HasCosts (unranked (seen checked.now)) graph.now costs outline.now
-        → IsSound (unranked (seen checked.now)) graph.now rows.now shape costs lines)) }
+    ensures sound { IfOk result (λ cached. IfTold (answer_of cached) (λ lines. (costs : CostTable) → HasCosts (seen checked.now) graph.now costs outline.now
+        → IsSound (seen checked.now) graph.now rows.now shape costs lines)) }
 {
     checked.keeps();
     sound_lines_are_sound_for_the_program();
@@ -84,7 +83,7 @@ fn explored(
     requires few { all_statements (seen stepper.now.checked) ≤ most_statements }
     requires outline { IsOutlineOf (plan_of stepper.now.graph) (shape_of outline.now) }
     requires shape { IsShape shape }
-    requires noted { HasCodeNotes (unranked (seen stepper.now.checked)) stepper.now.graph shape outline.now }
+    requires noted { HasCodeNotes (seen stepper.now.checked) stepper.now.graph shape outline.now }
     requires turns { turns ≤ most_turns }
     ensures found { IfOk result (λ cached. IsFound stepped_by parts_order stepper.now outline.now policy turns (answer_of cached)) }
     ensures sound { IfOk result (λ cached. IfTold (answer_of cached) (IsSoundSystem (stepped_by stepper.now).system outline.now)) }

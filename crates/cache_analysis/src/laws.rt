@@ -8,7 +8,7 @@ use flow_graph::graphs_are_expansions;
 use program_machines::a_graph_has_one_ranking;
 
 /// A program has one analysis with a cache: with the same shape, costs and policy in so many turns one answer is found,
-/// whatever ranks its functions have.
+/// whatever parts the code has it in.
 pub fn a_program_has_one_cache_analysis()
     ensures { HasOneAnalysis }
 {

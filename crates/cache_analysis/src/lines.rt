@@ -3,7 +3,6 @@
 ghost use Rattle.std.specs.Prelude.{◌≡◌, ◌≤◌, OnOk};
 ghost use Rattle.alf_check.specs.CheckedPrograms.{seen};
 ghost use Rattle.flow_graph.specs.Numbering.{IsGraph};
-ghost use Rattle.unranked_runs.specs.Ranking.{unranked};
 ghost use Rattle.line_cache.specs.Lines.{IsShape, notes_of};
 ghost use Rattle.code_layout.specs.Layouts.{all_statements, most_statements, parts_of};
 
@@ -28,7 +27,7 @@ pub fn set_lines(
     requires graph { IsGraph (seen checked.now) graph.now }
     requires few { all_statements (seen checked.now) ≤ most_statements }
     requires shape { IsShape shape }
-    ensures { OnOk result (outline.new ≡ record outline.old { notes = notes_of shape (parts_of (unranked (seen checked.now)) graph.now) }) }
+    ensures { OnOk result (outline.new ≡ record outline.old { notes = notes_of shape (parts_of (seen checked.now) graph.now) }) }
 {
     checked.keeps();
     graphs_are_expansions();

@@ -1,5 +1,4 @@
 -- The files of this folder.
-pub mod RanksTables
 pub mod JudgedTables
 pub mod JudgedTaskFiles
 pub mod JudgedValues

@@ -5,7 +5,6 @@ ghost use Rattle.alf_check.specs.CheckedPrograms.{seen};
 ghost use Rattle.flow_graph.specs.Numbering.{IsGraph};
 ghost use Rattle.code_layout.specs.Layouts.{all_statements, most_statements};
 ghost use Rattle.command_plans.specs.Works.{Works, Judges};
-ghost use Rattle.program_files.specs.Seen.{program_of_checked};
 ghost use Rattle.program_files.specs.Told.{IsToldProgram};
 ghost use Rattle.sweet_words.specs.Meant.{file_meant};
 ghost use Rattle.command_files.specs.Seen.{IsOutlined, scoped_of};
@@ -52,11 +51,11 @@ fn short_in<F: Shelf>(
     root: &str,
     shelf: &mut F,
 ) -> Result<Checked, Stop>
-    ensures work { Works (short_in (file_meant program.entry) root.now) program_of_checked
+    ensures work { Works (short_in (file_meant program.entry) root.now) seen
         (F.state shelf.old) result (F.state shelf.new) }
     ensures few { IfOk result (λ checked. all_statements (seen checked) ≤ most_statements) }
     ensures told { IfOk result (λ checked. IfSome (F.state shelf.old).files
-        (λ files. IsToldProgram (file_meant program.entry) root.now files (program_of_checked checked))) }
+        (λ files. IsToldProgram (file_meant program.entry) root.now files (seen checked))) }
 {
     let checked = checked_in(alloc, program, root, shelf)?;
     laid_out(alloc, checked)
@@ -64,7 +63,7 @@ fn short_in<F: Shelf>(
 
 // The program, where it has no more statements than are laid out.
 fn laid_out(alloc: Global, checked: Checked) -> Result<Checked, Stop>
-    ensures means { Judges (LaysOut (program_of_checked checked)) program_of_checked result }
+    ensures means { Judges (LaysOut (seen checked)) seen result }
     ensures few { IfOk result (λ same. all_statements (seen same) ≤ most_statements) }
     ensures same { IfOk result (λ same. same ≡ checked) }
 {

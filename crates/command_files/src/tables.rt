@@ -4,7 +4,6 @@ ghost use Rattle.std.specs.Prelude.{IfOk, option_map};
 ghost use Rattle.alf_check.specs.CheckedPrograms.{seen};
 ghost use Rattle.alf_check.specs.Inputs.{KeepInputs};
 ghost use Rattle.command_plans.specs.Works.{Works, Judges};
-ghost use Rattle.unranked_runs.specs.Ranking.{unranked};
 ghost use Rattle.command_files.specs.Tables.{InputsMean, inputs_told, inputs_in, CostsMean, costs_told, costs_in, tables_in};
 ghost use Rattle.command_files.specs.Seen.{tables_of};
 
@@ -32,7 +31,7 @@ pub fn tables_in<F: Shelf>(
     costs: Option<&str>,
     shelf: &mut F,
 ) -> Result<Tables, Stop>
-    ensures work { Works (tables_in (unranked (seen checked.now)) (option_map (λ name. name.now) inputs.entry) (option_map (λ name. name.now) costs.entry)) tables_of (F.state shelf.old) result (F.state shelf.new) }
+    ensures work { Works (tables_in (seen checked.now) (option_map (λ name. name.now) inputs.entry) (option_map (λ name. name.now) costs.entry)) tables_of (F.state shelf.old) result (F.state shelf.new) }
     ensures keep { IfOk result (λ tables. KeepInputs (seen checked.now) tables.rows.items) }
 {
     let rows = inputs_in(alloc, checked, inputs, shelf)?;
@@ -47,7 +46,7 @@ fn inputs_in<F: Shelf>(
     file: Option<&str>,
     shelf: &mut F,
 ) -> Result<Vec<InputRow>, Stop>
-    ensures work { Works (inputs_in (unranked (seen checked.now)) (option_map (λ name. name.now) file.entry)) (λ rows. rows.items) (F.state shelf.old) result (F.state shelf.new) }
+    ensures work { Works (inputs_in (seen checked.now) (option_map (λ name. name.now) file.entry)) (λ rows. rows.items) (F.state shelf.old) result (F.state shelf.new) }
     ensures keep { IfOk result (λ rows. KeepInputs (seen checked.now) rows.items) }
 {
     match file {
@@ -64,7 +63,7 @@ fn inputs_told<F: Shelf>(
     file: &str,
     shelf: &mut F,
 ) -> Result<Vec<InputRow>, Stop>
-    ensures work { Works (inputs_told (unranked (seen checked.now)) file.now) (λ rows. rows.items) (F.state shelf.old) result (F.state shelf.new) }
+    ensures work { Works (inputs_told (seen checked.now) file.now) (λ rows. rows.items) (F.state shelf.old) result (F.state shelf.new) }
     ensures keep { IfOk result (λ rows. KeepInputs (seen checked.now) rows.items) }
 {
     let bytes = read_file(alloc, shelf, Role::Inputs, file, MOST_BYTES, TOO_LONG)?;
@@ -73,7 +72,7 @@ fn inputs_told<F: Shelf>(
 
 // The rows that the bytes mean.
 fn inputs_meant(alloc: Global, checked: &Checked, bytes: &[u8]) -> Result<Vec<InputRow>, Stop>
-    ensures means { Judges (InputsMean bytes.now (unranked (seen checked.now))) (λ rows. rows.items) result }
+    ensures means { Judges (InputsMean bytes.now (seen checked.now)) (λ rows. rows.items) result }
     ensures keep { IfOk result (λ rows. KeepInputs (seen checked.now) rows.items) }
 {
     a_file_has_one_answer();
@@ -93,7 +92,7 @@ fn costs_in<F: Shelf>(
     file: Option<&str>,
     shelf: &mut F,
 ) -> Result<Costs, Stop>
-    ensures { Works (costs_in (unranked (seen checked.now)) (option_map (λ name. name.now) file.entry)) (λ costs. costs) (F.state shelf.old) result (F.state shelf.new) }
+    ensures { Works (costs_in (seen checked.now) (option_map (λ name. name.now) file.entry)) (λ costs. costs) (F.state shelf.old) result (F.state shelf.new) }
 {
     match file {
         None => Ok(Costs::ones(alloc)),
@@ -109,7 +108,7 @@ fn costs_told<F: Shelf>(
     file: &str,
     shelf: &mut F,
 ) -> Result<Costs, Stop>
-    ensures { Works (costs_told (unranked (seen checked.now)) file.now) (λ costs. costs) (F.state shelf.old) result (F.state shelf.new) }
+    ensures { Works (costs_told (seen checked.now) file.now) (λ costs. costs) (F.state shelf.old) result (F.state shelf.new) }
 {
     let bytes = read_file(alloc, shelf, Role::Costs, file, MOST_BYTES, TOO_LONG)?;
     costs_meant(alloc, checked, &bytes)
@@ -117,7 +116,7 @@ fn costs_told<F: Shelf>(
 
 // The costs that the bytes mean.
 fn costs_meant(alloc: Global, checked: &Checked, bytes: &[u8]) -> Result<Costs, Stop>
-    ensures { Judges (CostsMean bytes.now (unranked (seen checked.now))) (λ costs. costs) result }
+    ensures { Judges (CostsMean bytes.now (seen checked.now)) (λ costs. costs) result }
 {
     a_file_has_one_answer();
     match costs(alloc, bytes, checked) {

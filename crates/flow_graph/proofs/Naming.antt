@@ -183,7 +183,7 @@ module _ (program : NumberedProgram) (keeps : IsKept program) where
   function_named f low =
       let owner = function_there program keeps f low in
       let checked = keeps.checked in
-      let at : slice_get (numbered checked.whole checked.root program.ranks).funcs f ≡ Some owner.0 = subst (λ (p : NumberedProgram). slice_get p.funcs f ≡ Some owner.0) checked.numbers owner.1 in
+      let at : slice_get (numbered checked.whole checked.root).funcs f ≡ Some owner.0 = subst (λ (p : NumberedProgram). slice_get p.funcs f ≡ Some owner.0) checked.numbers owner.1 in
       let found = named_in checked.whole (length checked.whole.decls) checked.whole.funcs f owner.0 at in
       let writable = All-contains FunctionIsWritable checked.whole.funcs found.0 checked.writable.funcs found.1 in
       let is : name_at program f ≡ owner.0.name = ap (λ (o : Option NumberedFunction). option_map_or (λ (function : NumberedFunction). function.name) o []) owner.1 in

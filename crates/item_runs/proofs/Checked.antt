@@ -90,10 +90,10 @@ abbrev blocks_in : Option NumberedFunction → List NumberedBlock
 blocks_in o = option_map_or (λ (function : NumberedFunction). function.blocks) o []
 
 -- the blocks of function f do what its items do
-cut_at : BlocksAreCut → (frames : List FrameShape) (whole : WholeProgram) (root ranks : List ℕ) (f : ℕ) → IsCut frames (numbers_of whole f) (items_of whole f) (blocks_at (numbered whole root ranks) f)
-cut_at cuts frames whole root ranks f = go (slice_get whole.funcs f) refl where
+cut_at : BlocksAreCut → (frames : List FrameShape) (whole : WholeProgram) (root : List ℕ) (f : ℕ) → IsCut frames (numbers_of whole f) (items_of whole f) (blocks_at (numbered whole root) f)
+cut_at cuts frames whole root f = go (slice_get whole.funcs f) refl where
   go : (o : Option Function) → slice_get whole.funcs f ≡ o
-      → IsCut frames (option_map_or (numbers_in whole (first_frame whole f)) o no_numbers) (option_map_or (λ (func : Function). func.items) o []) (blocks_at (numbered whole root ranks) f)
+      → IsCut frames (option_map_or (numbers_in whole (first_frame whole f)) o no_numbers) (option_map_or (λ (func : Function). func.items) o []) (blocks_at (numbered whole root) f)
   go None e = subst (IsCut frames no_numbers []) (sym (ap blocks_in (functions_none whole (length whole.decls) whole.funcs f e))) (cuts frames no_numbers [] refl)
   go (Some func) e =
       subst (IsCut frames (numbers_in whole (first_frame whole f) func) func.items) (sym (ap blocks_in (functions_at whole (length whole.decls) whole.funcs f func e)))
@@ -115,6 +115,6 @@ each_is_cut cuts parts program kept =
     let sound = (parts checked.whole).0 checked.passes.sound in
     record {
       cut = λ f. subst (λ (p : NumberedProgram). IsCut (frames_of program) (numbers_of checked.whole f) (items_of checked.whole f) (blocks_at p f)) (sym checked.numbers)
-          (cut_at cuts (frames_of program) checked.whole checked.root program.ranks f);
+          (cut_at cuts (frames_of program) checked.whole checked.root f);
       stand = stand_at checked.whole sound;
     }

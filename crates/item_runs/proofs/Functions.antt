@@ -29,9 +29,9 @@ numbered_at whole first (func ∷ funcs) (suc k) function e =
     record { func = further.func; at = further.at; is = further.is ∙ ap (λ (n : ℕ). numbered_function whole n further.func) same }
 
 -- the blocks of each function do what its items do
-pub functions_are_cut : (frames : List FrameShape) (whole : WholeProgram) (root ranks : List ℕ) (k : ℕ) (function : NumberedFunction) → slice_get (numbered whole root ranks).funcs k ≡ Some function
+pub functions_are_cut : (frames : List FrameShape) (whole : WholeProgram) (root : List ℕ) (k : ℕ) (function : NumberedFunction) → slice_get (numbered whole root).funcs k ≡ Some function
     → FunctionIsCut frames whole k function
-functions_are_cut frames whole root ranks k function e =
+functions_are_cut frames whole root k function e =
     let found = numbered_at whole (length whole.decls) whole.funcs k function e in
     let numbers = numbers_in whole (first_frame whole k) found.func in
     let blocks = ap (λ (f : NumberedFunction). f.blocks) found.is in

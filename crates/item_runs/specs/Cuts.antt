@@ -94,6 +94,6 @@ pub record FunctionIsCut (frames : List FrameShape) (whole : WholeProgram) (k : 
 
 -- so it is of each function of a numbered program
 abbrev pub FunctionsAreCut : Type 0
-FunctionsAreCut = (frames : List FrameShape) (whole : WholeProgram) (root ranks : List ℕ) (k : ℕ) (function : NumberedFunction)
-    → slice_get (numbered whole root ranks).funcs k ≡ Some function
+FunctionsAreCut = (frames : List FrameShape) (whole : WholeProgram) (root : List ℕ) (k : ℕ) (function : NumberedFunction)
+    → slice_get (numbered whole root).funcs k ≡ Some function
     → FunctionIsCut frames whole k function

@@ -15,7 +15,7 @@ abbrev with : List BodyItem → List BodyItem → ItemProgram
 with root other =
     let row : FrameRow = record { owner = None; name = []; bits = 32 } in
     record {
-      program = record { frames = row ∷ []; funcs = []; inits = []; exports = 0 ∷ []; root = 0; ranks = [] };
+      program = record { frames = row ∷ []; funcs = []; inits = []; exports = 0 ∷ []; root = 0 };
       items = λ f. if f == 0 then root else other;
       numbers = λ f. record { frame = λ name. 0; func = λ name. 1; block = λ label. 0 };
     }

@@ -71,7 +71,7 @@ function_some whole first (f ∷ fs) (suc g) func at =
     ∙ ap (λ (n : ℕ). Some (numbered_function whole n func))
     (let e : (first + (length f.args + length f.decls)) + frames_before fs g ≡ first + ((length f.args + length f.decls) + frames_before fs g) = omega arith in e)
 
-module _ (unit : UnitTree) (names : HasNames (program_of unit)) (root : List ℕ) (ranks : List ℕ) where
+module _ (unit : UnitTree) (names : HasNames (program_of unit)) (root : List ℕ) where
   abbrev P : Program
   P = program_of unit
 
@@ -139,7 +139,7 @@ module _ (unit : UnitTree) (names : HasNames (program_of unit)) (root : List ℕ
       function_some (lowered unit) (length decls) (lowered unit).funcs g (lowered_function P g function)
       (lowered_at P 0 P.functions g function at ∙ ap (λ (n : ℕ). Some (lowered_function P n function)) (let e : 0 + g ≡ g = omega arith in e))
 
-  arguments : (g : ℕ) → args_at (numbered (lowered unit) root ranks) g ≡ map (parameter_frame unit) (function_at P g).parameters
+  arguments : (g : ℕ) → args_at (numbered (lowered unit) root) g ≡ map (parameter_frame unit) (function_at P g).parameters
   arguments g =
       by_function (slice_get P.functions g)
       (λ none.
@@ -150,7 +150,7 @@ module _ (unit : UnitTree) (names : HasNames (program_of unit)) (root : List ℕ
       ∙ range_is function.parameters (first_frame (lowered unit) g) (λ j p at_p. parameter_number g function at j p at_p)
       ∙ sym (ap (λ (x : Option Function). map (parameter_frame unit) (option_map_or (λ (function : Function). function) x meaning.no_function).parameters) at))
 
-  no_inits : (g : ℕ) → inits_at (numbered (lowered unit) root ranks) g ≡ []
+  no_inits : (g : ℕ) → inits_at (numbered (lowered unit) root) g ≡ []
   no_inits g =
       by_function (slice_get P.functions g)
       (λ none. ap of_inits (no_function_at g none))
@@ -268,7 +268,7 @@ module _ (unit : UnitTree) (names : HasNames (program_of unit)) (root : List ℕ
         (declarators_put ds m h (element_of o) parts.0 agree))
     externals_put (Definition first o name params body ∷ xs) m h all agree = externals_put xs m h all agree
 
-    pub laid_out : IsLaidOut unit (numbered (lowered unit) root ranks)
+    pub laid_out : IsLaidOut unit (numbered (lowered unit) root)
     laid_out = record {
       frames = frames_stand unit names;
       rows = refl;

@@ -37,7 +37,7 @@ GlobalFramesAreObjects = (unit : UnitTree) (n : ℕ) (row : FrameRow)
     → row.owner ≡ None
     → (o : ℕ) × (n ≡ frame_number unit o)
 
--- whatever the root and the ranks are
+-- whatever the root is
 abbrev pub ProgramsAreLaidOut : Type 0
-ProgramsAreLaidOut = (unit : UnitTree) (root ranks : List ℕ) → HasNames (program_of unit)
-    → IsLaidOut unit (numbered (lowered unit) root ranks)
+ProgramsAreLaidOut = (unit : UnitTree) (root : List ℕ) → HasNames (program_of unit)
+    → IsLaidOut unit (numbered (lowered unit) root)

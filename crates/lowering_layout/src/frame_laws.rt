@@ -22,7 +22,7 @@ pub fn names_stand_for_their_frames()
 {}
 
 /// The arguments of functions, what is exported, and what globals hold at first lie where the objects
-/// lie, whatever the root and the ranks are.
+/// lie, whatever the root is.
 pub fn programs_are_laid_out()
     ensures { ProgramsAreLaidOut }
 {

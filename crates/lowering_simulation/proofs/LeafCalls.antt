@@ -40,20 +40,20 @@ use Rattle.lowering_simulation.proofs.Callees.{named_text, function_there}
 use Rattle.lowering_simulation.proofs.Scopes.{EntryKnown, ScopesKnown}
 use Rattle.lowering_simulation.proofs.Leaves.{StillRunning, running_store, of, Rel, here, Ends}
 
-module _ (unit : UnitTree) (root ranks : List ℕ) (rank : ℕ → ℕ) where
+module _ (unit : UnitTree) (root : List ℕ) (rank : ℕ → ℕ) where
   abbrev pub number_of_call : ℕ → ℕ
   number_of_call token = number_named unit.words (program_of unit).functions (text_at unit.words token)
 
-  module _ (laws : ValueLaws) (frames : FramesStand unit) (f : ℕ) (naming : IsNaming unit f ((of unit root ranks rank).numbers f).frame) where
+  module _ (laws : ValueLaws) (frames : FramesStand unit) (f : ℕ) (naming : IsNaming unit f ((of unit root rank).numbers f).frame) where
     abbrev pub frame : List ℕ → ℕ
-    frame = ((of unit root ranks rank).numbers f).frame
+    frame = ((of unit root rank).numbers f).frame
 
     abbrev pub related : List ℕ → List RunEvent → List RunEvent → Type 0
-    related = Rel unit root ranks rank
+    related = Rel unit root rank
 
     -- the name has the number of a function that is there and has a lower rank
     pub record CallFine (token : ℕ) : Type 0 where
-      pub named : ((of unit root ranks rank).numbers f).func (text_at unit.words token) ≡ number_of_call token
+      pub named : ((of unit root rank).numbers f).func (text_at unit.words token) ≡ number_of_call token
       pub there : number_of_call token < length (program_of unit).functions
       pub lower : rank (number_of_call token) < rank f
 
@@ -67,12 +67,12 @@ module _ (unit : UnitTree) (root ranks : List ℕ) (rank : ℕ → ℕ) where
     -- an item that is made of a value
     abbrev pub MadeDoes : (NamedExpression → BodyItem) → (Valued → History → Ending) → Type 0
     MadeDoes made go = (fs : List ℕ) (m h : List RunEvent) (rest : List BodyItem) (e : NamedExpression) (v : Valued) → related (f ∷ fs) m h → Gives unit frame m e v → FitsValued 32 v
-        → Ends unit root ranks rank laws frames f naming fs rest (ahead (of unit root ranks rank) f (made e ∷ rest) m) (go v h)
+        → Ends unit root rank laws frames f naming fs rest (ahead (of unit root rank) f (made e ∷ rest) m) (go v h)
 
     -- ---- results
 
     integer_results : (i : Integer) (n : ℕ) (made : NamedExpression → BodyItem) (go : Valued → History → Ending) → IsFrame (record { name = call_name (program_of unit) f n; bits = bits_of_type i }) → MadeDoes made go
-        → ResultsDo (of unit root ranks rank) (program_of unit) (frame_number unit) related rank f (outcomes.Integer i) (call_name (program_of unit) f n)
+        → ResultsDo (of unit root rank) (program_of unit) (frame_number unit) related rank f (outcomes.Integer i) (call_name (program_of unit) f n)
         (λ rest. made (result_value (outcomes.Integer i) (call_name (program_of unit) f n)) ∷ rest) (λ v h. go (given (outcomes.Integer i) v) h)
     integer_results i n made go among does_made fs m h v rest rel fits =
         let name : List ℕ = call_name (program_of unit) f n in
@@ -86,16 +86,16 @@ module _ (unit : UnitTree) (root ranks : List ℕ) (rank : ℕ → ℕ) where
 
     valued_results : (o : Outcome) (i : Integer) (n : ℕ) (made : NamedExpression → BodyItem) (go : Valued → History → Ending) → o ≡ outcomes.Integer i
         → EachOf IsFrame (result_frames (call_name (program_of unit) f n) o) → MadeDoes made go
-        → ResultsDo (of unit root ranks rank) (program_of unit) (frame_number unit) related rank f o (call_name (program_of unit) f n)
+        → ResultsDo (of unit root rank) (program_of unit) (frame_number unit) related rank f o (call_name (program_of unit) f n)
         (λ rest. made (result_value o (call_name (program_of unit) f n)) ∷ rest) (λ v h. go (given o v) h)
     valued_results o i n made go is among does_made =
-        subst (λ (p : Outcome). ResultsDo (of unit root ranks rank) (program_of unit) (frame_number unit) related rank f p (call_name (program_of unit) f n)
+        subst (λ (p : Outcome). ResultsDo (of unit root rank) (program_of unit) (frame_number unit) related rank f p (call_name (program_of unit) f n)
         (λ rest. made (result_value p (call_name (program_of unit) f n)) ∷ rest) (λ v h. go (given p v) h)) (sym is)
         (integer_results i n made go (subst (λ (p : Outcome). EachOf IsFrame (result_frames (call_name (program_of unit) f n) p)) is among).0 does_made)
 
     -- a result that is not used
     pub dropped_results : (o : Outcome) (n : ℕ) → EachOf IsFrame (result_frames (call_name (program_of unit) f n) o)
-        → ResultsDo (of unit root ranks rank) (program_of unit) (frame_number unit) related rank f o (call_name (program_of unit) f n) (λ rest. rest) (λ v h. Normal h)
+        → ResultsDo (of unit root rank) (program_of unit) (frame_number unit) related rank f o (call_name (program_of unit) f n) (λ rest. rest) (λ v h. Normal h)
     dropped_results outcomes.Nothing n among = λ fs m h rest rel. record { later = m; rel = rel; same = refl }
     dropped_results (outcomes.Integer i) n among = λ fs m h v rest rel fits.
         let name : List ℕ = call_name (program_of unit) f n in
@@ -117,14 +117,14 @@ module _ (unit : UnitTree) (root ranks : List ℕ) (rank : ℕ → ℕ) where
 
     pub call_does : (scopes : List Scope) (call : CallTree) (n : ℕ) (after : List BodyItem → List BodyItem) (go : Option Value → History → Ending) (o : Outcome) → ScopesKnown unit f scopes
         → IsCall unit.words (definitions unit.externals) scopes call o → CallIsPlain call → CallFine call.name
-        → ResultsDo (of unit root ranks rank) (program_of unit) (frame_number unit) related rank f (function_at (program_of unit) (callee (program_of unit) call)).result (call_name (program_of unit) f n) after go
-        → CallDoes (of unit root ranks rank) (program_of unit) (frame_number unit) related rank f scopes call n after go
+        → ResultsDo (of unit root rank) (program_of unit) (frame_number unit) related rank f (function_at (program_of unit) (callee (program_of unit) call)).result (call_name (program_of unit) f n) after go
+        → CallDoes (of unit root rank) (program_of unit) (frame_number unit) related rank f scopes call n after go
     call_does scopes call n after go o known c plain fine results = record {
       named = fine.named;
       there = fine.there;
       lower = fine.lower;
       arguments_are = λ fs m h rel. record {
-        agree = laws.arguments unit f frame scopes m h call.arguments c.params (function_at (program_of unit) (callee (program_of unit) call)).parameters (here unit root ranks rank laws frames f naming fs scopes m h known rel) c.arguments plain;
+        agree = laws.arguments unit f frame scopes m h call.arguments c.params (function_at (program_of unit) (callee (program_of unit) call)).parameters (here unit root rank laws frames f naming fs scopes m h known rel) c.arguments plain;
         fit = λ vs are. laws.arguments_fit unit scopes h call.arguments (function_at (program_of unit) (callee (program_of unit) call)).parameters vs rel.agree.sound are;
       };
       results = results;
@@ -134,10 +134,10 @@ module _ (unit : UnitTree) (root ranks : List ℕ) (rank : ℕ → ℕ) where
 
     pub value_does : (scopes : List Scope) (wanted : Scalar) (value : ValueTree) (n : ℕ) (made : NamedExpression → BodyItem) (go : Valued → History → Ending) → ScopesKnown unit f scopes
         → ValueSuits unit.words (definitions unit.externals) scopes wanted value → ValueIsPlain value → EachOf FineIfDefined (calls_in_value value) → EachOf IsFrame (value_frames (program_of unit) f n value)
-        → MadeDoes made go → ValueDoes (of unit root ranks rank) (program_of unit) (frame_number unit) related rank f scopes value n made go
+        → MadeDoes made go → ValueDoes (of unit root rank) (program_of unit) (frame_number unit) related rank f scopes value n made go
     value_does scopes wanted (OfExpression e) n made go known suits plain fine among does_made =
         λ fs m h rest rel. does_made fs m h rest (value_of (program_of unit) scopes e) (meaning.value_of (program_of unit) scopes h e) rel
-        (laws.values unit f frame scopes m h e suits.type (here unit root ranks rank laws frames f naming fs scopes m h known rel) suits.has plain) (laws.values_fit unit scopes h e rel.agree.sound)
+        (laws.values unit f frame scopes m h e suits.type (here unit root rank laws frames f naming fs scopes m h known rel) suits.has plain) (laws.values_fit unit scopes h e rel.agree.sound)
     value_does scopes wanted (OfCall call) n made go known suits plain fine among does_made =
         let fine_call : CallFine call.name = fine.0 suits.call_of.made in
         let o : Outcome = (function_at (program_of unit) (callee (program_of unit) call)).result in

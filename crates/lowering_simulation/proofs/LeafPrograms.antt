@@ -82,16 +82,16 @@ running_leave g [] m apart running = tt
 running_leave g (f ∷ fs) m apart running =
     (ap (λ (b : Bool). if b then false else is_running m f) (ne_eqb g f (λ e. apart.0 (sym e))) ∙ running.0, running_leave g fs m apart.1 running.1)
 
-module _ (unit : UnitTree) (root ranks : List ℕ) (laws : ValueLaws) where
+module _ (unit : UnitTree) (root : List ℕ) (laws : ValueLaws) where
   abbrev target : NumberedProgram
-  target = numbered (lowered unit) root ranks
+  target = numbered (lowered unit) root
 
-  module _ (name c_ranks : List ℕ) (is : IsProgram unit name c_ranks) (names : HasNames (program_of unit)) (plain : UnitIsPlain unit) (placed : FramesArePlaced unit target) where
+  module _ (name ranks : List ℕ) (is : IsProgram unit name ranks) (names : HasNames (program_of unit)) (plain : UnitIsPlain unit) (placed : FramesArePlaced unit target) where
     abbrev rank : ℕ → ℕ
-    rank g = slice_index c_ranks g
+    rank g = slice_index ranks g
 
     abbrev related : List ℕ → List RunEvent → List RunEvent → Type 0
-    related = Rel unit root ranks rank
+    related = Rel unit root rank
 
     stands : UnitStands unit
     stands = unit_stands unit is.no_faults
@@ -102,34 +102,34 @@ module _ (unit : UnitTree) (root ranks : List ℕ) (laws : ValueLaws) where
         lowered_at (program_of unit) 0 (program_of unit).functions f (function_at (program_of unit) f) (function_there (program_of unit) f low)
         ∙ ap (λ (n : ℕ). Some (lowered_function (program_of unit) n (function_at (program_of unit) f))) (let e : 0 + f ≡ f = omega arith in e)
 
-    items_are : (f : ℕ) → f < length (program_of unit).functions → (of unit root ranks rank).items f ≡ function_items (program_of unit) f (function_at (program_of unit) f)
+    items_are : (f : ℕ) → f < length (program_of unit).functions → (of unit root rank).items f ≡ function_items (program_of unit) f (function_at (program_of unit) f)
     items_are f low = ap (λ (x : Option alf.Function). option_map_or (λ (func : alf.Function). func.items) x []) (lowered_there f low)
 
-    func_named : (f : ℕ) → f < length (program_of unit).functions → (text : List ℕ) → ((of unit root ranks rank).numbers f).func text ≡ func_number (lowered unit).funcs text
+    func_named : (f : ℕ) → f < length (program_of unit).functions → (text : List ℕ) → ((of unit root rank).numbers f).func text ≡ func_number (lowered unit).funcs text
     func_named f low text = ap (λ (x : Option alf.Function). (option_map_or (numbers_in (lowered unit) (first_frame (lowered unit) f)) x no_numbers).func text) (lowered_there f low)
 
     -- the calls of a function
     fine_token : (f : ℕ) (low : f < length (program_of unit).functions) (token : ℕ) → Contains (called_in (function_at (program_of unit) f).body) token
-        → FineIfDefined unit root ranks rank laws placed.frames f (placed.naming f low) token
+        → FineIfDefined unit root rank laws placed.frames f (placed.naming f low) token
     fine_token f low token among defined =
         let there = low_named unit.words (record { scope = []; made = [] }) unit.externals (text_at unit.words token) defined in
         record {
           named = func_named f low (text_at unit.words token) ∙ func_is (program_of unit) (text_at unit.words token) there;
           there = there;
-          lower = call_falls unit c_ranks is.ranked f (function_at (program_of unit) f) (function_there (program_of unit) f low) token among defined;
+          lower = call_falls unit ranks is.ranked f (function_at (program_of unit) f) (function_there (program_of unit) f low) token among defined;
         }
 
     leaves_do : (f : ℕ) → f < length (program_of unit).functions
-        → StatementsDo (of unit root ranks rank) (program_of unit) (frame_number unit) related rank f false false (function_at (program_of unit) f).scopes (function_at (program_of unit) f).body 0
+        → StatementsDo (of unit root rank) (program_of unit) (frame_number unit) related rank f false false (function_at (program_of unit) f).scopes (function_at (program_of unit) f).body 0
     leaves_do f low =
         let function : Function = function_at (program_of unit) f in
         let naming = placed.naming f low in
         let block : BlockKnown unit f function = each_block unit names stands f function (function_there (program_of unit) f low) in
-        statements_do unit root ranks rank laws placed.frames f naming false false _ function.scopes function.body 0 (record { breaks = refl; continues = refl; gives = refl }) block.known block.stands (plain.plain f low) block.own
-        (each_of_places (FineIfDefined unit root ranks rank laws placed.frames f naming) (called_in function.body) (λ j token at. fine_token f low token (contained (called_in function.body) j token at)))
-        (each_of_places (IsFrame unit root ranks rank laws placed.frames f naming) (all_frames_in (program_of unit) f 0 function.body) (λ j a at. contained (all_frames_in (program_of unit) f 0 function.body) j a at))
+        statements_do unit root rank laws placed.frames f naming false false _ function.scopes function.body 0 (record { breaks = refl; continues = refl; gives = refl }) block.known block.stands (plain.plain f low) block.own
+        (each_of_places (FineIfDefined unit root rank laws placed.frames f naming) (called_in function.body) (λ j token at. fine_token f low token (contained (called_in function.body) j token at)))
+        (each_of_places (IsFrame unit root rank laws placed.frames f naming) (all_frames_in (program_of unit) f 0 function.body) (λ j a at. contained (all_frames_in (program_of unit) f 0 function.body) j a at))
 
-    functions_do : FunctionsDo (of unit root ranks rank) (program_of unit) (frame_number unit) related rank
+    functions_do : FunctionsDo (of unit root rank) (program_of unit) (frame_number unit) related rank
     functions_do = record {
       items = items_are;
       room = plain.few_labels;
@@ -145,7 +145,7 @@ module _ (unit : UnitTree) (root ranks : List ℕ) (laws : ValueLaws) where
         ∙ func_is (program_of unit) name (low_named unit.words (record { scope = []; made = [] }) unit.externals name is.rooted)
 
     pub target_has_the_outcome : RunsHaveTheUnitsOutcome → root ≡ name → (rows : List InputRow) (words : List ℕ) (cells : List Cell) → AreCells unit rows words cells
-        → ((history : List RunEvent) (t : ℕ) (o : Outcome) → FollowEachOther (of unit root ranks rank) t history o)
+        → ((history : List RunEvent) (t : ℕ) (o : Outcome) → FollowEachOther (of unit root rank) t history o)
         → IsSameOutcome target (start target rows words) (frame_number unit) (λ n. outcome unit name n cells)
     target_has_the_outcome runs same rows words cells are follow =
         let there : target.root < length (program_of unit).functions =
@@ -156,7 +156,7 @@ module _ (unit : UnitTree) (root ranks : List ℕ) (laws : ValueLaws) where
           running = running_inputs (target.root ∷ []) rows words _ (running_entered target target.root [] [] (with_inits target.inits []) tt);
         } in
         subst (λ (r : ℕ). IsSameOutcome target (start target rows words) (frame_number unit) (λ n. meaning.outcome_of unit (meaning.ending unit r n cells))) (root_is same)
-        (runs unit (of unit root ranks rank) (frame_number unit) (is_object_frame unit) rank cells m functions_do
+        (runs unit (of unit root rank) (frame_number unit) (is_object_frame unit) rank cells m functions_do
         (λ u h rel. laws.outputs unit target u h placed.laid rel.agree) there begins (follow m))
 
 -- so has each checked program that the unit is lowered to
@@ -165,9 +165,9 @@ pub lowered_has_the_outcome : ValueLaws → RunsHaveTheUnitsOutcome → EachFoll
     → IsSameOutcome program (start program rows words) (frame_number unit) (λ n. outcome unit name n cells)
 lowered_has_the_outcome laws runs follows unit name ranks program rows words cells is names plain lower placed are =
     let root : List ℕ = lower.kept.checked.root in
-    let target : NumberedProgram = numbered (lowered unit) root program.ranks in
-    let same : program ≡ target = lower.kept.checked.numbers ∙ ap (λ (w : alf.WholeProgram). numbered w root program.ranks) lower.whole in
+    let target : NumberedProgram = numbered (lowered unit) root in
+    let same : program ≡ target = lower.kept.checked.numbers ∙ ap (λ (w : alf.WholeProgram). numbered w root) lower.whole in
     subst (λ (p : NumberedProgram). IsSameOutcome p (start p rows words) (frame_number unit) (λ n. outcome unit name n cells)) (sym same)
-    (target_has_the_outcome unit root program.ranks laws name ranks is names plain (subst (λ (p : NumberedProgram). FramesArePlaced unit p) same placed) runs lower.root rows words cells are
+    (target_has_the_outcome unit root laws name ranks is names plain (subst (λ (p : NumberedProgram). FramesArePlaced unit p) same placed) runs lower.root rows words cells are
     (λ history t o. subst (λ (p : NumberedProgram). FollowEachOther (with_items p (lowered unit)) t history o) same
     (subst (λ (w : alf.WholeProgram). FollowEachOther (with_items program w) t history o) lower.whole (follows program lower.kept t history o))))

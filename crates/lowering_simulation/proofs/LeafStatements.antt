@@ -22,18 +22,18 @@ use Rattle.lowering_simulation.proofs.Leaves.{of, Rel, here, condition_agrees}
 use Rattle.lowering_simulation.proofs.LeafCalls.{FineIfDefined, IsFrame}
 use Rattle.lowering_simulation.proofs.LeafEffects.{effect_does, last_does, locals_do, return_stands_does}
 
-module _ (unit : UnitTree) (root ranks : List ℕ) (rank : ℕ → ℕ) (laws : ValueLaws) (frames : FramesStand unit) (f : ℕ) (naming : IsNaming unit f ((of unit root ranks rank).numbers f).frame) where
+module _ (unit : UnitTree) (root : List ℕ) (rank : ℕ → ℕ) (laws : ValueLaws) (frames : FramesStand unit) (f : ℕ) (naming : IsNaming unit f ((of unit root rank).numbers f).frame) where
   abbrev frame : List ℕ → ℕ
-  frame = ((of unit root ranks rank).numbers f).frame
+  frame = ((of unit root rank).numbers f).frame
 
   abbrev related : List ℕ → List RunEvent → List RunEvent → Type 0
-  related = Rel unit root ranks rank
+  related = Rel unit root rank
 
   abbrev Fine : ℕ → Type 0
-  Fine = FineIfDefined unit root ranks rank laws frames f naming
+  Fine = FineIfDefined unit root rank laws frames f naming
 
   abbrev Framed : Allocation → Type 0
-  Framed = IsFrame unit root ranks rank laws frames f naming
+  Framed = IsFrame unit root rank laws frames f naming
 
   abbrev Own : Object → Type 0
   Own = IsOwn unit f
@@ -59,21 +59,21 @@ module _ (unit : UnitTree) (root ranks : List ℕ) (rank : ℕ → ℕ) (laws : 
   is_after around b c _ is = is
 
   condition_does : (scopes : List Scope) (e : Expression) → ScopesKnown unit f scopes → IsCondition unit.words scopes e → IfIsPlain (Some e)
-      → IfAgrees (of unit root ranks rank) (program_of unit) (frame_number unit) related rank f scopes (Some e)
-  condition_does scopes e known stands plain = condition_agrees unit root ranks rank laws frames f naming scopes e stands.type known stands.has plain
+      → IfAgrees (of unit root rank) (program_of unit) (frame_number unit) related rank f scopes (Some e)
+  condition_does scopes e known stands plain = condition_agrees unit root rank laws frames f naming scopes e stands.type known stands.has plain
 
   if_condition_does : (scopes : List Scope) (e : Option Expression) → ScopesKnown unit f scopes → IfCondition unit.words scopes e → IfIsPlain e
-      → IfAgrees (of unit root ranks rank) (program_of unit) (frame_number unit) related rank f scopes e
+      → IfAgrees (of unit root rank) (program_of unit) (frame_number unit) related rank f scopes e
   if_condition_does scopes None known stands plain = tt
   if_condition_does scopes (Some e) known stands plain = condition_does scopes e known stands plain
 
   mutual
     pub statement_does : (b c : Bool) (around : Around) (scopes : List Scope) (s : Statement) (n : ℕ) → AroundIs around b c → ScopesKnown unit f scopes
         → StatementStands unit.words (definitions unit.externals) around scopes s → StatementIsPlain s → EachOf Own (locals_in unit.words f s) → EachOf Fine (calls_in s) → EachOf Framed (frames_in (program_of unit) f n s)
-        → StatementDoes (of unit root ranks rank) (program_of unit) (frame_number unit) related rank f b c scopes s n
+        → StatementDoes (of unit root rank) (program_of unit) (frame_number unit) related rank f b c scopes s n
     statement_does b c around scopes (Empty token) n is known stands plain own fine among = tt
     statement_does b c around scopes (Declares first kind locals) n is known stands plain own fine among =
-        locals_do unit root ranks rank laws frames f naming kind scopes locals n known own stands plain fine among
+        locals_do unit root rank laws frames f naming kind scopes locals n known own stands plain fine among
     statement_does b c around scopes (Block body) n is known stands plain own fine among =
         statements_do b c (inside around) ([] ∷ scopes) body n (is_inside around b c is) (tt, known) stands plain own fine among
     statement_does b c around scopes (If condition body) n is known stands plain own fine among =
@@ -96,7 +96,7 @@ module _ (unit : UnitTree) (root ranks : List ℕ) (rank : ℕ → ℕ) (laws : 
         let calls = each_parts Fine (calls_if_done last) (calls_in body) fine in
         let parts = each_parts Framed (last_frames (program_of unit) f n last) (frames_in (program_of unit) f d body) among in (
           if_condition_does scopes condition known stands.0 plain.0,
-          last_does unit root ranks rank laws frames f naming scopes last n known stands.1 plain.1 calls.0 parts.0,
+          last_does unit root rank laws frames f naming scopes last n known stands.1 plain.1 calls.0 parts.0,
           statement_does true true (in_loop_of around) ([] ∷ scopes) body d (is_in_loop around b c is) (tt, known) stands.2 plain.2 own calls.1 parts.1,
         )
     statement_does b c around scopes (ForAfter first condition last body) n is known stands plain own fine among =
@@ -111,11 +111,11 @@ module _ (unit : UnitTree) (root ranks : List ℕ) (rank : ℕ → ℕ) (laws : 
         let there : ScopesKnown unit f inner = statement_known unit f ([] ∷ scopes) first (tt, known) owns.0 in (
           statement_does b c (inside around) ([] ∷ scopes) first n (is_inside around b c is) (tt, known) stands.0 plain.0 owns.0 calls.0 parts.0,
           if_condition_does inner condition there stands.1 plain.1,
-          last_does unit root ranks rank laws frames f naming inner last d there stands.2 plain.2 others.0 further.0,
+          last_does unit root rank laws frames f naming inner last d there stands.2 plain.2 others.0 further.0,
           statement_does true true (in_loop_of around) ([] ∷ inner) body e (is_in_loop around b c is) (tt, there) stands.3 plain.3 owns.1 others.1 further.1,
         )
     statement_does b c around scopes (Switch value body) n is known stands plain own fine among = (
-      (λ fs m h rel. laws.values unit f frame scopes m h value stands.0.type (here unit root ranks rank laws frames f naming fs scopes m h known rel) stands.0.has plain.0),
+      (λ fs m h rel. laws.values unit f frame scopes m h value stands.0.type (here unit root rank laws frames f naming fs scopes m h known rel) stands.0.has plain.0),
       statements_do true c (in_switch_of around) ([] ∷ scopes) body n (is_in_switch around b c is) (tt, known) stands.1 plain.1 own fine among,
     )
     statement_does b c around scopes (Case token constant) n is known stands plain own fine among = tt
@@ -123,12 +123,12 @@ module _ (unit : UnitTree) (root ranks : List ℕ) (rank : ℕ → ℕ) (laws : 
     statement_does b c around scopes (Break token) n is known stands plain own fine among = sym is.breaks ∙ stands
     statement_does b c around scopes (Continue token) n is known stands plain own fine among = sym is.continues ∙ stands
     statement_does b c around scopes (Returns token value) n is known stands plain own fine among =
-        return_stands_does unit root ranks rank laws frames f naming scopes around.result value n is.gives known stands plain fine among
-    statement_does b c around scopes (Does effect) n is known stands plain own fine among = effect_does unit root ranks rank laws frames f naming scopes effect n known stands plain fine among
+        return_stands_does unit root rank laws frames f naming scopes around.result value n is.gives known stands plain fine among
+    statement_does b c around scopes (Does effect) n is known stands plain own fine among = effect_does unit root rank laws frames f naming scopes effect n known stands plain fine among
 
     pub statements_do : (b c : Bool) (around : Around) (scopes : List Scope) (ss : Statements) (n : ℕ) → AroundIs around b c → ScopesKnown unit f scopes
         → StatementsStand unit.words (definitions unit.externals) around scopes ss → StatementsArePlain ss → EachOf Own (all_locals_in unit.words f ss) → EachOf Fine (called_in ss) → EachOf Framed (all_frames_in (program_of unit) f n ss)
-        → StatementsDo (of unit root ranks rank) (program_of unit) (frame_number unit) related rank f b c scopes ss n
+        → StatementsDo (of unit root rank) (program_of unit) (frame_number unit) related rank f b c scopes ss n
     statements_do b c around scopes Nothing n is known stands plain own fine among = tt
     statements_do b c around scopes (Then s ss) n is known stands plain own fine among =
         let d : ℕ = n + lowered.calls_in (program_of unit) s in

@@ -76,12 +76,12 @@ bit_same (Ok true) = refl
 bit_same (Ok false) = refl
 bit_same (Err fault) = refl
 
-module _ (unit : UnitTree) (root ranks : List ℕ) (rank : ℕ → ℕ) where
+module _ (unit : UnitTree) (root : List ℕ) (rank : ℕ → ℕ) where
   abbrev pub program : Program
   program = program_of unit
 
   abbrev pub of : ItemProgram
-  of = with_items (numbered (lowered unit) root ranks) (lowered unit)
+  of = with_items (numbered (lowered unit) root) (lowered unit)
 
   abbrev pub Rel : List ℕ → List RunEvent → List RunEvent → Type 0
   Rel = Related (frame_number unit) (is_object_frame unit)

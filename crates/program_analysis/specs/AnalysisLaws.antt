@@ -1,8 +1,8 @@
 -- A program has one analysis.
 --   AreAlike o other     the outlines have one shape, and each node has one name and one cost in both
---   HasOneAnalysis       along such outlines one policy finds one answer in so many turns
+--   PartsHaveOneAnalysis       along such outlines one policy finds one answer in so many turns
 --   StaysFound           a report is found in each number of turns that is not below the steps of its exploration
---   HasOneEventList      along such outlines explorations that leave no place have one list of events, whatever the turns
+--   PartsHaveOneEventList      along such outlines explorations that leave no place have one list of events, whatever the turns
 --   HasOneAlike          outlines of one graph with the same costs are alike
 --   one_analysis, longer_analysis, one_event_list, alike_outlines   why
 use Rattle.std.specs.Prelude.{slice_index, nat_lt, not, if◌then◌else◌}
@@ -52,8 +52,8 @@ pub record AreAlike (o other : Outlined) : Type 0 where
   pub costs : costs_of o ≡ costs_of other
 
 -- along such outlines one policy finds one answer in so many turns
-abbrev pub HasOneAnalysis : Type 0
-HasOneAnalysis = (parts : StepperParts) (o other : Outlined) (policy : Policy) (turns : ℕ) (a b : Answer) → AreAlike o other → IsFound parts o policy turns a → IsFound parts other policy turns b → a ≡ b
+abbrev pub PartsHaveOneAnalysis : Type 0
+PartsHaveOneAnalysis = (parts : StepperParts) (o other : Outlined) (policy : Policy) (turns : ℕ) (a b : Answer) → AreAlike o other → IsFound parts o policy turns a → IsFound parts other policy turns b → a ≡ b
 
 -- a report is found in no fewer turns than its exploration makes steps, and in each number of turns that is not below them
 abbrev pub StaysFound : Type 0
@@ -61,8 +61,8 @@ StaysFound = (parts : StepperParts) (o : Outlined) (policy : Policy) (turns : �
     → (closed.pool.steps ≤ turns) × ((more : ℕ) → closed.pool.steps ≤ more → IsClosed parts o policy more report)
 
 -- along such outlines explorations that leave no place have one list of events, whatever the turns
-abbrev pub HasOneEventList : Type 0
-HasOneEventList = (parts : StepperParts) (o other : Outlined) (policy : Policy) (turns more : ℕ) (a b : Reported) → AreAlike o other
+abbrev pub PartsHaveOneEventList : Type 0
+PartsHaveOneEventList = (parts : StepperParts) (o other : Outlined) (policy : Policy) (turns more : ℕ) (a b : Reported) → AreAlike o other
     → (first : IsClosed parts o policy turns a) (second : IsClosed parts other policy more b) → first.events ≡ second.events
 
 -- outlines of one graph with the same names and costs are alike
@@ -225,7 +225,7 @@ one_answer parts o policy turns (Unbounded scope) (Unbounded other) first second
     ap Unbounded (same_scope second.pool scope other (subst (λ (pool : PoolOf). IsLeftIn pool scope) pools first.left) second.left)
 
 -- a program has one analysis
-pub one_analysis : HasOneAnalysis
+pub one_analysis : PartsHaveOneAnalysis
 one_analysis parts o other policy turns a b alike first second = one_answer parts other policy turns a b (found_along parts o other policy turns alike a first) second
 
 -- and each number of turns that is not below the steps finds the same report
@@ -252,7 +252,7 @@ module _ (parts : StepperParts) (o : Outlined) (policy : Policy) where
       (run_unique stepped_by parts_order four_order four_recording policy more events others (first_pool parts o) pool pool' on second).0
 
 -- they have one list of events
-pub one_event_list : HasOneEventList
+pub one_event_list : PartsHaveOneEventList
 one_event_list parts o other policy turns more a b alike first second =
     let pool = along first.pool other in
     let moved : IsExploration parts other policy turns first.events pool = explored_along parts o other policy turns alike first.events first.pool first.explored in

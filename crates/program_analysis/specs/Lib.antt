@@ -12,3 +12,13 @@ pub mod LoneLaws
 pub mod Naming
 pub mod Exploring
 pub mod ExactLaws
+pub mod Alongside
+pub mod TwinRuns
+pub mod TwinMachines
+pub mod ProgramAnalyses
+pub mod Fitting
+pub mod LoneAnalyses
+pub mod BoundedAnalyses
+pub mod BoundedSound
+pub mod BoundedLaws
+pub mod AlikeBounds

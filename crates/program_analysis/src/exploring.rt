@@ -1,4 +1,4 @@
-//! The analysis.
+//! Explorations, and what they tell without a path bound.
 
 ghost use Rattle.std.specs.Prelude.{◌≡◌, ◌≤◌, ◌<◌, [], length, IfOk};
 ghost use Rattle.alf_check.specs.CheckedPrograms.{seen};
@@ -21,7 +21,7 @@ ghost use Rattle.program_analysis.specs.Exploring.{IsEnded, IsWritableOf};
 ghost use Rattle.program_analysis.specs.AnalysisLaws.{names_of};
 ghost use Rattle.program_analysis.specs.Bounds.{most_turns};
 
-use crate::Analysed;
+use crate::analysed::Analysed;
 use crate::laws::sound_reports_are_sound_for_the_program;
 use abstract_exec::{Explored, Pool};
 use abstract_step::AlfStepper;
@@ -34,11 +34,11 @@ use report_soundness::numbers_are_at_most_the_steps;
 use std::alloc::{AllocError, Global};
 use worklist_rules::Policy;
 
-/// Explores a program's graph along its outline, for runs with inputs inside the ranges of the rows, and tells what
-/// each run does, with the events of the exploration, or the scope in which the turns were used up.
-///
-/// Takes time by the turns and by what steps take, and memory for the places that are left and for the events.
-pub fn analyse(
+// Explores a program's graph along its outline, for runs with inputs inside the ranges of the rows, and tells what
+// each run does, with the events of the exploration, or the scope in which the turns were used up.
+//
+// Takes time by the turns and by what steps take, and memory for the places that are left and for the events.
+pub(crate) fn explore(
     alloc: Global,
     checked: &Checked,
     graph: &Graph,

@@ -1,5 +1,5 @@
 -- What an analysis finds is what is answered of an area.
---   report_of, left_of   what was found of the parts of a program is found of the program without ranks
+--   report_of, left_of   what was found of the parts of a program is found of the program
 --   answered      the path bound of a report that is found is what is answered
 use Rattle.std.proofs.Common.{◌≡◌, ℕ, List, Option, Some, IfSome, refl, sym, ap, subst}
 use Rattle.alf_check.specs.CheckedPrograms.{CheckedParts, NumberedProgram, seen}
@@ -20,9 +20,8 @@ use Rattle.program_machines.specs.NodeCosts.{HasCosts}
 use Rattle.program_analysis.specs.AnalysisLaws.{names_of}
 use Rattle.program_analysis.specs.Answers.{Answer, Told, Unbounded}
 use Rattle.program_analysis.specs.Analyses.{IsFound, IsLeft}
-use Rattle.unranked_runs.specs.Ranking.{unranked}
-use Rattle.unranked_analyses.specs.Analyses.{IsAnalysis}
-use Rattle.bounded_analyses.specs.Analyses.{IsCertifiedWith, IsBoundedReport, IsBoundedAnalysis}
+use Rattle.program_analysis.specs.ProgramAnalyses.{IsAnalysis}
+use Rattle.program_analysis.specs.BoundedAnalyses.{IsCertifiedWith, IsBoundedReport, IsBoundedAnalysis}
 use Rattle.worst_inputs.specs.declared.bounder.Bounded.{Bounded}
 use Rattle.worst_inputs.specs.declared.bounder.Bounded.TheVariants.{At}
 use Rattle.worst_inputs.specs.Areas.{Area}
@@ -31,9 +30,9 @@ use Rattle.program_bounder.specs.PathBounds.{path_answers}
 
 module _ (checked : CheckedParts) (graph : GraphParts) (rows : List InputRow) (keeps : IsKept (seen checked)) (graph_is : IsGraph (seen checked) graph) (inputs : KeepInputs (seen checked) rows)
     (costs : CostTable) (outline : Outlined) (policy : Policy) (turns pivots : ℕ)
-    (outline_kept : IsOutline (shape_of outline)) (outline_is : IsOutlineOf (plan_of graph) (shape_of outline)) (named : names_of outline ≡ graph.names) (priced : HasCosts (unranked (seen checked)) graph costs outline) where
+    (outline_kept : IsOutline (shape_of outline)) (outline_is : IsOutlineOf (plan_of graph) (shape_of outline)) (named : names_of outline ≡ graph.names) (priced : HasCosts (seen checked) graph costs outline) where
   -- what was found of the parts, but for the path bound
-  analysis_of : (answer : Answer) → IsFound (record { checked = checked; graph = graph; rows = rows }) outline policy turns answer → IsAnalysis (unranked (seen checked)) graph rows costs policy turns answer
+  analysis_of : (answer : Answer) → IsFound (record { checked = checked; graph = graph; rows = rows }) outline policy turns answer → IsAnalysis (seen checked) graph rows costs policy turns answer
   analysis_of answer found = record {
     checked = checked;
     keeps = keeps;
@@ -50,13 +49,13 @@ module _ (checked : CheckedParts) (graph : GraphParts) (rows : List InputRow) (k
 
   -- and with it
   pub report_of : (report : Reported) (cert : Certificate) → IsCertifiedWith (record { checked = checked; graph = graph; rows = rows }) outline policy turns pivots report cert
-      → IsBoundedReport (unranked (seen checked)) graph rows costs policy turns pivots report
+      → IsBoundedReport (seen checked) graph rows costs policy turns pivots report
   unfolding analysis_of
   report_of report cert found = record { given = found.given; analysis = analysis_of (Told found.given) found.closed; bounded = found.bound.bounded }
 
   -- or places are left
   pub left_of : (scope : ℕ) → IsLeft (record { checked = checked; graph = graph; rows = rows }) outline policy turns scope
-      → IsBoundedAnalysis (unranked (seen checked)) graph rows costs policy turns pivots (Unbounded scope)
+      → IsBoundedAnalysis (seen checked) graph rows costs policy turns pivots (Unbounded scope)
   left_of scope found = analysis_of (Unbounded scope) found
 
 -- the path bound of a report that is found is what is answered of the area

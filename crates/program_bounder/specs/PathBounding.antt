@@ -1,6 +1,6 @@
 -- Path bounds as a bounding: which areas suit, what is answered of them, and what inputs cost.
 --   Promises            what is promised of analyses and runs of programs
---   given_program b     the program of the bounder, without ranks
+--   given_program b     the program of the bounder
 --   Suits b area        the area has a range for each row, the rows with these ranges keep the rules of inputs, and what
 --       the bounder is given is what an analysis asks for
 --   path_bounding b     the bounding
@@ -17,10 +17,9 @@ use Rattle.scope_graph.specs.Placing.{plan_of}
 use Rattle.program_machines.specs.NodeCosts.{HasCosts}
 use Rattle.program_analysis.specs.AnalysisLaws.{names_of}
 use Rattle.program_analysis.specs.Bounds.{most_turns}
-use Rattle.unranked_runs.specs.Ranking.{unranked}
-use Rattle.unranked_analyses.specs.Lone.{LoneAnalysisIsExact}
-use Rattle.bounded_analyses.specs.Analyses.{HasOneBoundedAnalysis}
-use Rattle.bounded_analyses.specs.Sound.{FoundReportsAreRight, LoneBoundsAgree}
+use Rattle.program_analysis.specs.LoneAnalyses.{LoneAnalysisIsExact}
+use Rattle.program_analysis.specs.BoundedAnalyses.{HasOneBoundedAnalysis}
+use Rattle.program_analysis.specs.BoundedSound.{FoundReportsAreRight, LoneBoundsAgree}
 use Rattle.worst_inputs.specs.Areas.{Area}
 use Rattle.worst_inputs.specs.Bounders.{Bounding}
 use Rattle.program_bounder.specs.declared.bounder.PathBounder.{PathBounder}
@@ -41,9 +40,9 @@ pub record Promises : Type 0 where
   -- a run that ends has one end
   pub ends : HasOneEnd
 
--- the program of the bounder, without ranks
+-- the program of the bounder
 abbrev pub given_program : PathBounder → NumberedProgram
-given_program b = unranked (seen b.checked)
+given_program b = seen b.checked
 
 -- the bounder may be asked of the area
 pub record Suits (b : PathBounder) (area : Area) : Type 0 where

@@ -15,7 +15,7 @@ use Rattle.report_soundness.specs.Bounded.{IsOf, HasPathBound}
 use Rattle.program_machines.specs.NodeCosts.{node_cost}
 use Rattle.program_machines.specs.Starts.{AreLone, lone_start, alone}
 use Rattle.program_analysis.specs.Answers.{Answer, Told, Unbounded}
-use Rattle.bounded_analyses.specs.Analyses.{IsBoundedAnalysis}
+use Rattle.program_analysis.specs.BoundedAnalyses.{IsBoundedAnalysis}
 use Rattle.worst_inputs.specs.declared.bounder.Bounded.{Bounded}
 use Rattle.worst_inputs.specs.declared.bounder.Bounded.TheVariants.{At, Left}
 use Rattle.worst_inputs.specs.Areas.{Area, IsInside, IsPoint, IsPart}

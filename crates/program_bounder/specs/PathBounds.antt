@@ -12,7 +12,7 @@ use Rattle.flow_facts.specs.Reports.{Reported}
 use Rattle.worklist_rules.specs.declared.policy.Policy.{Policy}
 use Rattle.report_soundness.specs.Bounded.{HasPathBound}
 use Rattle.program_analysis.specs.Answers.{Unbounded}
-use Rattle.bounded_analyses.specs.Analyses.{IsBoundedReport, IsBoundedAnalysis}
+use Rattle.program_analysis.specs.BoundedAnalyses.{IsBoundedReport, IsBoundedAnalysis}
 use Rattle.worst_inputs.specs.declared.bounder.Bounded.TheVariants.{At, Left}
 use Rattle.worst_inputs.specs.Boxes.{Answers}
 use Rattle.program_bounder.specs.InputRows.{with_ranges}

@@ -6,11 +6,11 @@ ghost use Rattle.program_bounder.specs.PathBounding.{Suits, path_bounding};
 
 use crate::rows::with_ranges;
 use alf_check::{Checked, InputRow};
-use bounded_analyses::{BoundedAnalysis, analyse};
 use cost_table::Costs;
 use domain_core::Outline;
 use flow_facts::Report;
 use flow_graph::Graph;
+use program_analysis::{BoundedAnalysis, analyse};
 use std::alloc::{AllocError, Global};
 use worklist_rules::Policy;
 use worst_inputs::{Bounded, Bounder, Range};

@@ -20,11 +20,11 @@ ghost use Rattle.program_bounder.specs.PathBounding.{given_program, Suits, path_
 use crate::PathBounder;
 use crate::rows::ranges_of;
 use alf_runs::a_run_has_one_end;
-use bounded_analyses::{
-    a_program_has_one_bounded_analysis, bounds_of_an_input_alone_agree, found_reports_are_right,
+use program_analysis::{
+    a_program_has_one_bounded_analysis, an_input_alone_is_told_exactly,
+    bounds_of_an_input_alone_agree, found_reports_are_right,
 };
 use std::alloc::Global;
-use unranked_analyses::an_input_alone_is_told_exactly;
 use worst_inputs::{Found, SearchFault, a_search_has_one_answer, search};
 
 // The ranges of the rows suit the bounder.

@@ -1,4 +1,4 @@
--- What the check of a report of a program answers, whatever ranks its functions have.
+-- What the check of a report of a program answers, whatever parts the code has it in.
 --   IsCheckOf program graph rows costs report answer   so is the answer, by the checked parts of the program and the outline of its graph
 --   HasOneCheck     a report has one such answer
 --   one_check       why
@@ -18,7 +18,7 @@ use Rattle.memory_model.specs.SeenOrders.{parts_order}
 use Rattle.abstract_step.specs.Steppers.{StepperParts, stepped_by}
 use Rattle.program_machines.specs.NodeCosts.{HasCosts}
 use Rattle.program_analysis.specs.AnalysisLaws.{HasOneAlike}
-use Rattle.unranked_analyses.specs.UnrankedMachines.{IsProgramOf, IsTwin, first_twin, machines_are_twins}
+use Rattle.program_analysis.specs.TwinMachines.{IsProgramOf, IsTwin, first_twin, machines_are_twins}
 use Rattle.report_objections.specs.declared.objection.Objection.{Objection}
 use Rattle.report_objections.specs.Checks.{IsChecked}
 use Rattle.report_objections.specs.OneLaws.{one_answer}

@@ -18,7 +18,7 @@ use Rattle.report_objections.specs.declared.objection.Objection.{Objection}
 use Rattle.report_objections.specs.declared.objection.Objection.TheVariants as objections
 use Rattle.report_objections.specs.Objecting.{left_objection, found_objection, end_objection}
 use Rattle.report_objections.specs.Checks.{IsAllowed, IsChecked, uncertified, unshaped, refused, applied}
-use Rattle.unranked_analyses.specs.TwinRuns.{AreTwins, IsBeside, beside, positions_same, event_beside}
+use Rattle.program_analysis.specs.TwinRuns.{AreTwins, IsBeside, beside, positions_same, event_beside}
 
 module _ {S T C : Type 0} (machine : S → Machine T C) (states : Order T) (Twin : T → T → Type 0) (other : S) where
   -- what events make of the pool beside

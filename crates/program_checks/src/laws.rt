@@ -13,7 +13,7 @@ pub fn accepted_reports_are_sound_for_the_program()
     sound_reports_are_sound_for_the_program();
 }
 
-/// A report of a program has one answer, whatever ranks the program's functions have.
+/// A report of a program has one answer, whatever parts the code has the program in.
 pub fn a_report_has_one_check()
     ensures { HasOneCheck }
 {

@@ -6,6 +6,7 @@ use Rattle.alf_faults.specs.Places.{function_place}
 use Rattle.alf_faults.specs.Fault.{Fault, Unknown, Duplicate, Size, earliest}
 use Rattle.alf_faults.specs.Faults.{faults_in}
 use Rattle.alf_check.specs.CheckedPrograms.{NumberedProgram}
+use Rattle.alf_check.specs.Numbered.{numbered}
 use Rattle.alf_check.specs.Checking.{Passes, IsTold, calls_in}
 use Rattle.alf_check.specs.declared.fault.CheckFault.{CheckFault}
 use Rattle.alf_check.specs.declared.fault.CheckFault.TheVariants as told
@@ -14,7 +15,7 @@ use Rattle.command_plans.specs.Outcome.{Outcome, Cause, Source, Example, LinesAg
 use Rattle.command_plans.specs.Work.{IsOnly, alike}
 use Rattle.program_files.specs.FaultLines.{fault_line}
 use Rattle.program_files.specs.CheckLines.{name_line, size_line, check_line, check_cause}
-use Rattle.program_files.specs.Programs.{ProgramMeans, CheckMeans, meant}
+use Rattle.program_files.specs.Programs.{ProgramMeans, CheckMeans}
 
 -- ---- results that are the same
 
@@ -120,7 +121,7 @@ module _ (whole : WholeProgram) (root : List ℕ) where
   says_one x y (rootless none falls gone is) (rootless other without nothing at) = alike x y (is ∙ sym at)
 
   -- the program that passes is the only meaning
-  pub passes_only : (program : NumberedProgram) → Passes whole root → program ≡ meant whole root → IsOnly (CheckMeans whole root) (Ok program)
+  pub passes_only : (program : NumberedProgram) → Passes whole root → program ≡ numbered whole root → IsOnly (CheckMeans whole root) (Ok program)
   passes_only program passes is = record { means = (passes, is); only = only }
     where
       only : (y : Result NumberedProgram Outcome) → CheckMeans whole root y → AreAlikeResults (Ok program) y

@@ -11,8 +11,6 @@ use Rattle.command_plans.specs.Outcome.{Outcome, Source, AreAlikeResults, refuse
 use Rattle.command_plans.specs.Work.{IsOnly, alike}
 use Rattle.program_files.specs.FaultLines.{limit_line}
 use Rattle.program_files.specs.CheckLines.{graph_line}
-use Rattle.unranked_runs.specs.Ranking.{unranked}
-use Rattle.unranked_runs.specs.RankedGraphs as ranks
 use Rattle.program_files.specs.Expanding.{GraphMeans}
 use Rattle.program_files.proofs.Judged.{outcome_is}
 
@@ -73,21 +71,3 @@ module _ (program : NumberedProgram) where
         only : (y : Result GraphParts Outcome) → GraphMeans program y → AreAlikeResults (Err (refused text)) y
         only (Ok graph) k = graph_not graph text k (says fault text h line)
         only (Err o) k = alike (refused text) o (sym (outcome_is o Source text k.cause (sym (says_one text o.text (says fault text h line) (says k.fault o.text k.told k.line)))))
-
--- what a fault tells, it tells without ranks too
-pub tells_unranked : (program : NumberedProgram) (fault : GraphFault) → FaultTells fault (HasMoreNodes program most_nodes) (HasMoreEdges program most_edges)
-    → FaultTells fault (HasMoreNodes (unranked program) most_nodes) (HasMoreEdges (unranked program) most_edges)
-tells_unranked program (faults.Limit which.Nodes count) h = (h.0, ranks.more_nodes program program.ranks [] most_nodes h.1)
-tells_unranked program (faults.Limit which.Edges count) h = (h.0, ranks.more_edges program program.ranks [] most_edges h.1)
-tells_unranked program (faults.Limit which.Bytes count) h = absurd h
-tells_unranked program (faults.Limit which.Depth count) h = absurd h
-tells_unranked program (faults.Limit which.Functions count) h = absurd h
-tells_unranked program (faults.Limit which.Frames count) h = absurd h
-tells_unranked program (faults.Limit which.FrameBytes count) h = absurd h
-tells_unranked program (faults.Limit which.AllBytes count) h = absurd h
-tells_unranked program (faults.Limit which.Parens count) h = absurd h
-tells_unranked program (faults.Limit which.Nesting count) h = absurd h
-tells_unranked program (faults.Limit which.Elements count) h = absurd h
-tells_unranked program (faults.Limit which.Statements count) h = absurd h
-tells_unranked program (faults.Limit which.Tasks count) h = absurd h
-tells_unranked program faults.Memory h = tt

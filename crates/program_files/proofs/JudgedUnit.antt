@@ -7,14 +7,14 @@ use Rattle.c_rules.specs.Faults.{Fault, earliest}
 use Rattle.c_rules.specs.Units.{faults_in}
 use Rattle.c_rules.specs.Recursion.{calls_of}
 use Rattle.c_rules.specs.Programs.{Refusal, UnknownName, DuplicateName, MistypedAt, Recursion, NoRoot, told, first_refusal, has_root, Refuses, by_text, by_cycle, by_root}
-use Rattle.c_check.specs.Programs.{IsTold}
+use Rattle.c_check.specs.Programs.{IsTold, PassesChecks}
 use Rattle.c_check.specs.declared.fault.CFault.{CFault}
 use Rattle.c_check.specs.declared.fault.CFault.TheVariants as faults
 use Rattle.command_plans.specs.Outcome.{Cause, Outcome, AreAlike, AreAlikeResults, unread_of, refused}
 use Rattle.command_plans.specs.Work.{IsOnly, alike}
 use Rattle.program_files.specs.UnitLines.{unit_line}
 use Rattle.program_files.specs.RefusalLines.{refusal_line, refusal_cause, refusal_told, refusal_of}
-use Rattle.program_files.specs.Units.{UnitMeans, PassesChecks, UnitCheckMeans}
+use Rattle.program_files.specs.Units.{UnitMeans, UnitCheckMeans}
 
 module _ (bytes : List ℕ) (one : HasOneMeaning bytes) where
   means_one : (m n : Result UnitTree Departure) → Means bytes m → Means bytes n → m ≡ n

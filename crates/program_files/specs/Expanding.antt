@@ -6,6 +6,7 @@
 --   expanded_in given root     a file is read, and its program checked and expanded
 use Rattle.std.specs.Prelude.{◌≡◌, ℕ, List, Result, Ok, Err, Some}
 use Rattle.alf_check.specs.CheckedPrograms.{NumberedProgram}
+use Rattle.alf_check.specs.Numbered.{numbered}
 use Rattle.c_lowered.specs.Programs.{lowered}
 use Rattle.flow_graph.specs.Numbering.{GraphParts, IsGraph, HasMoreNodes, HasMoreEdges, most_nodes, most_edges}
 use Rattle.flow_graph.specs.Faults.{FaultTells}
@@ -14,7 +15,7 @@ use Rattle.sweet_words.specs.Files.{ProgramFile, Alf, C}
 use Rattle.command_plans.specs.Outcome.{Outcome, Source}
 use Rattle.command_plans.specs.Work.{Work, judged, done, ◌>>=◌}
 use Rattle.program_files.specs.CheckLines.{graph_line}
-use Rattle.program_files.specs.Programs.{meant, numbered_in}
+use Rattle.program_files.specs.Programs.{numbered_in}
 use Rattle.program_files.specs.Units.{checked_unit_in}
 
 -- ---- checked programs
@@ -23,7 +24,7 @@ use Rattle.program_files.specs.Units.{checked_unit_in}
 unfoldable pub lowered_in : List ℕ → List ℕ → Work NumberedProgram
 lowered_in file root = do
   unit ← checked_unit_in file root
-  done (meant (lowered unit) root)
+  done (numbered (lowered unit) root)
 
 -- a program that passes the checks, and starts with the function of this name
 abbrev pub checked_in : ProgramFile → List ℕ → Work NumberedProgram

@@ -2,8 +2,7 @@
 --   most_bytes, too_long         the most bytes of a file, and the line of one that has more
 --   ProgramMeans bytes meaning   the program that the bytes spell, or the line of their first departure
 --   program_in file              a file is read, and its program
---   meant whole root             the program that starts with the function of this name, with numbers in place of names
---   CheckMeans whole root meaning   that, where it passes the checks, or the line of its fault
+--   CheckMeans whole root meaning   the program with numbers in place of names, where it passes the checks, or the line of its fault
 --   numbered_in file root        a file is read, and its program checked
 use Rattle.std.specs.Prelude.{◌≡◌, ℕ, List, [], Result, Ok, Err, Some, codes}
 use Rattle.alf_program.specs.Tree.{WholeProgram}
@@ -44,10 +43,6 @@ program_in file = do
 
 -- ---- checks
 
--- the program with numbers in place of names, which starts with the function of this name; ranks, which have no part in runs, are left out
-abbrev pub meant : WholeProgram → List ℕ → NumberedProgram
-meant whole root = numbered whole root []
-
 -- the line tells what is wrong
 pub record IsCheckLine (whole : WholeProgram) (root : List ℕ) (outcome : Outcome) : Type 0 where
   pub fault : CheckFault
@@ -57,7 +52,7 @@ pub record IsCheckLine (whole : WholeProgram) (root : List ℕ) (outcome : Outco
 
 -- the program, where it passes the checks, or the line of its fault
 abbrev pub CheckMeans : WholeProgram → List ℕ → Result NumberedProgram Outcome → Type 0
-CheckMeans whole root (Ok program) = Passes whole root × (program ≡ meant whole root)
+CheckMeans whole root (Ok program) = Passes whole root × (program ≡ numbered whole root)
 CheckMeans whole root (Err outcome) = IsCheckLine whole root outcome
 
 -- a program that passes the checks, and starts with the function of this name

@@ -8,14 +8,14 @@ use Rattle.flow_base.specs.Outside.{Files}
 use Rattle.alf_program.specs.Tree.{WholeProgram}
 use Rattle.alf_text.specs.Language.{SpellsProgram}
 use Rattle.alf_check.specs.CheckedPrograms.{NumberedProgram}
+use Rattle.alf_check.specs.Numbered.{numbered}
 use Rattle.alf_check.specs.Checking.{Passes}
 use Rattle.c_unit.specs.Units.{UnitTree}
 use Rattle.c_text.specs.Language.{SpellsUnit}
+use Rattle.c_check.specs.Programs.{PassesChecks}
 use Rattle.c_lowered.specs.Programs.{lowered}
 use Rattle.c_lower.specs.Outcomes.{HasUnitsOutcomes}
 use Rattle.sweet_words.specs.Files.{ProgramFile, Alf, C}
-use Rattle.program_files.specs.Programs.{meant}
-use Rattle.program_files.specs.Units.{PassesChecks}
 
 -- the file spells a program of ALF that passes the checks with this root, and this is it
 pub record IsProgramOfText (file root : List ℕ) (files : Files) (program : NumberedProgram) : Type 0 where
@@ -24,7 +24,7 @@ pub record IsProgramOfText (file root : List ℕ) (files : Files) (program : Num
   pub told : files file ≡ Some bytes
   pub spelled : SpellsProgram bytes whole
   pub passes : Passes whole root
-  pub program_is : program ≡ meant whole root
+  pub program_is : program ≡ numbered whole root
 
 -- the file spells a unit of C that passes the checks with this root
 pub record IsToldUnit (file root : List ℕ) (files : Files) (unit : UnitTree) : Type 0 where
@@ -39,7 +39,7 @@ pub record IsToldUnit (file root : List ℕ) (files : Files) (unit : UnitTree) :
 pub record IsProgramOfUnit (file root : List ℕ) (files : Files) (program : NumberedProgram) : Type 0 where
   pub unit : UnitTree
   pub unit_told : IsToldUnit file root files unit
-  pub program_is : program ≡ meant (lowered unit) root
+  pub program_is : program ≡ numbered (lowered unit) root
   pub outcomes : HasUnitsOutcomes unit root program
 
 -- by the language of the file

@@ -2,13 +2,13 @@
 --   unit_too_long              the line of a file that has more bytes than a file may have
 --   UnitMeans bytes meaning    the unit that the bytes spell, or the line of their first departure
 --   unit_in file               a file is read, and its unit
---   PassesChecks unit root     the unit passes the checks, and has a function of this name
 --   UnitCheckMeans unit root meaning   the unit, where it passes them, or the line of what they refuse it by
 --   checked_unit_in file root  a file is read, and its unit checked
 use Rattle.std.specs.Prelude.{◌≡◌, ℕ, List, Result, Ok, Err, codes}
 use Rattle.c_unit.specs.Units.{UnitTree}
 use Rattle.c_text.specs.Language.{Departure, Means}
-use Rattle.c_rules.specs.Programs.{Refusal, Refuses, IsProgram}
+use Rattle.c_rules.specs.Programs.{Refusal, Refuses}
+use Rattle.c_check.specs.Programs.{PassesChecks}
 use Rattle.command_plans.specs.declared.reading.Role.TheVariants.{Program}
 use Rattle.command_plans.specs.Outcome.{Outcome, refused}
 use Rattle.command_plans.specs.Work.{Work, reads, judged, ◌>>=◌}
@@ -37,11 +37,6 @@ unit_in file = do
   judged (UnitMeans bytes)
 
 -- ---- checks
-
--- the unit passes the checks and has a function of this name, as some ranks of its functions show
-pub record PassesChecks (unit : UnitTree) (root : List ℕ) : Type 0 where
-  pub ranks : List ℕ
-  pub is_program : IsProgram unit root ranks
 
 -- the line tells what the checks refuse the unit by
 pub record IsRefusalLine (unit : UnitTree) (root : List ℕ) (outcome : Outcome) : Type 0 where

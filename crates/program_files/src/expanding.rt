@@ -6,7 +6,7 @@ ghost use Rattle.flow_graph.specs.Numbering.{IsGraph};
 ghost use Rattle.sweet_words.specs.Meant.{file_meant};
 ghost use Rattle.command_plans.specs.Works.{Works, Judges};
 ghost use Rattle.program_files.specs.Expanding.{lowered_in, checked_in, GraphMeans, expanded_in};
-ghost use Rattle.program_files.specs.Seen.{program_of_checked, expanded_of};
+ghost use Rattle.program_files.specs.Seen.{expanded_of};
 ghost use Rattle.program_files.specs.Told.{IsProgramOfUnit, IsToldProgram};
 
 use crate::lines::graph_line;
@@ -35,8 +35,8 @@ fn lowered_in<F: Shelf>(
     root: &str,
     shelf: &mut F,
 ) -> Result<Checked, Stop>
-    ensures work { Works (lowered_in file.now root.now) program_of_checked (F.state shelf.old) result (F.state shelf.new) }
-    ensures told { IfOk result (λ checked. IfSome (F.state shelf.old).files (λ files. IsProgramOfUnit file.now root.now files (program_of_checked checked))) }
+    ensures work { Works (lowered_in file.now root.now) seen (F.state shelf.old) result (F.state shelf.new) }
+    ensures told { IfOk result (λ checked. IfSome (F.state shelf.old).files (λ files. IsProgramOfUnit file.now root.now files (seen checked))) }
 {
     let program = checked_unit_in(alloc, file, root, shelf)?;
     let checked = lower(alloc, &program)?;
@@ -50,8 +50,8 @@ pub fn checked_in<F: Shelf>(
     root: &str,
     shelf: &mut F,
 ) -> Result<Checked, Stop>
-    ensures work { Works (checked_in (file_meant program.entry) root.now) program_of_checked (F.state shelf.old) result (F.state shelf.new) }
-    ensures told { IfOk result (λ checked. IfSome (F.state shelf.old).files (λ files. IsToldProgram (file_meant program.entry) root.now files (program_of_checked checked))) }
+    ensures work { Works (checked_in (file_meant program.entry) root.now) seen (F.state shelf.old) result (F.state shelf.new) }
+    ensures told { IfOk result (λ checked. IfSome (F.state shelf.old).files (λ files. IsToldProgram (file_meant program.entry) root.now files (seen checked))) }
 {
     match program {
         ProgramFile::Alf(file) => numbered_in(alloc, file, root, shelf),
@@ -61,7 +61,7 @@ pub fn checked_in<F: Shelf>(
 
 /// The graph of the program, or the line of the limit that it passes.
 pub fn graph_of(alloc: Global, checked: &Checked) -> Result<Graph, Stop>
-    ensures means { Judges (GraphMeans (program_of_checked checked.now)) (λ graph. graph) result }
+    ensures means { Judges (GraphMeans (seen checked.now)) (λ graph. graph) result }
     ensures graph { IfOk result (λ graph. IsGraph (seen checked.now) graph) }
 {
     a_program_has_one_graph();
@@ -85,7 +85,7 @@ pub fn expanded_in<F: Shelf>(
 ) -> Result<Expanded, Stop>
     ensures work { Works (expanded_in (file_meant program.entry) root.now) expanded_of (F.state shelf.old) result (F.state shelf.new) }
     ensures graph { IfOk result (λ expanded. IsGraph (seen expanded.checked) expanded.graph) }
-    ensures told { IfOk result (λ expanded. IfSome (F.state shelf.old).files (λ files. IsToldProgram (file_meant program.entry) root.now files (program_of_checked expanded.checked))) }
+    ensures told { IfOk result (λ expanded. IfSome (F.state shelf.old).files (λ files. IsToldProgram (file_meant program.entry) root.now files (seen expanded.checked))) }
 {
     let checked = checked_in(alloc, program, root, shelf)?;
     let graph = graph_of(alloc, &checked)?;

@@ -3,9 +3,9 @@
 ghost use Rattle.std.specs.Prelude.{IfOk, IfSome};
 ghost use Rattle.alf_program.specs.Tree.{program_of};
 ghost use Rattle.alf_program.specs.Writable.{IsWritable};
+ghost use Rattle.alf_check.specs.CheckedPrograms.{seen};
 ghost use Rattle.command_plans.specs.Works.{Works, Judges};
 ghost use Rattle.program_files.specs.Programs.{ProgramMeans, program_in, CheckMeans, numbered_in};
-ghost use Rattle.program_files.specs.Seen.{program_of_checked};
 ghost use Rattle.program_files.specs.Told.{IsProgramOfText};
 
 use crate::lines::{check_line, check_why, fault_line};
@@ -55,8 +55,8 @@ pub fn numbered_in<F: Shelf>(
     root: &str,
     shelf: &mut F,
 ) -> Result<Checked, Stop>
-    ensures work { Works (numbered_in file.now root.now) program_of_checked (F.state shelf.old) result (F.state shelf.new) }
-    ensures told { IfOk result (λ checked. IfSome (F.state shelf.old).files (λ files. IsProgramOfText file.now root.now files (program_of_checked checked))) }
+    ensures work { Works (numbered_in file.now root.now) seen (F.state shelf.old) result (F.state shelf.new) }
+    ensures told { IfOk result (λ checked. IfSome (F.state shelf.old).files (λ files. IsProgramOfText file.now root.now files (seen checked))) }
 {
     let program = program_in(alloc, file, shelf)?;
     checked(alloc, program, root)
@@ -65,7 +65,7 @@ pub fn numbered_in<F: Shelf>(
 // The program, where it passes the checks.
 fn checked(alloc: Global, program: Program, root: &str) -> Result<Checked, Stop>
     requires { IsWritable (program_of program) }
-    ensures { Judges (CheckMeans (program_of program) root.now) program_of_checked result }
+    ensures { Judges (CheckMeans (program_of program) root.now) seen result }
 {
     match check(alloc, program, root) {
         Ok(checked) => Ok(checked),

@@ -5,8 +5,8 @@ use Rattle.std.proofs.Common.{◌≡◌, ◌≤◌, ℕ, Bool, true, List, lengt
 use Rattle.flow_base.specs.Outside.{Files}
 use Rattle.fact_text.specs.Language.{SpellsReport}
 use Rattle.fact_text.specs.Laws.{ReportTextsSpell}
-use Rattle.bounded_analyses.specs.Analyses.{IsPrintedReport}
-use Rattle.bounded_analyses.specs.Sound.{ClosedExplorationsHaveTotals}
+use Rattle.program_analysis.specs.BoundedAnalyses.{IsPrintedReport}
+use Rattle.program_analysis.specs.BoundedSound.{ClosedExplorationsHaveTotals}
 use Rattle.program_checks.specs.Checking.{HasOneCheck}
 use Rattle.command_plans.specs.Log.{Log, log_with}
 use Rattle.command_plans.specs.Outcome.{Ending, Finished, Stopped, AreAlikeEndings}

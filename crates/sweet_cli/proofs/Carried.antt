@@ -7,6 +7,7 @@ use Rattle.std.proofs.Common.{◌≡◌, ℕ, List, [], Result, Option, None, So
 use Rattle.std.specs.Prelude.{IfSome}
 use Rattle.flow_base.specs.Outside.{Files}
 use Rattle.alf_check.specs.CheckedPrograms.{NumberedProgram}
+use Rattle.alf_check.specs.Numbered.{numbered}
 use Rattle.c_lowered.specs.Programs.{lowered}
 use Rattle.cost_table.specs.CostTables.{one_each}
 use Rattle.sweet_words.specs.Files.{file_name}
@@ -15,7 +16,7 @@ use Rattle.command_plans.specs.declared.reading.Role.TheVariants.{Inputs, Costs,
 use Rattle.command_plans.specs.Log.{Log, log_with}
 use Rattle.command_plans.specs.Outcome.{Outcome}
 use Rattle.command_plans.specs.Work.{Work, reads, judged, done, ◌>>=◌}
-use Rattle.program_files.specs.Programs.{most_bytes, too_long, ProgramMeans, program_in, meant, CheckMeans, numbered_in}
+use Rattle.program_files.specs.Programs.{most_bytes, too_long, ProgramMeans, program_in, CheckMeans, numbered_in}
 use Rattle.program_files.specs.Units.{unit_too_long, UnitMeans, unit_in, UnitCheckMeans, checked_unit_in}
 use Rattle.program_files.specs.Expanding.{lowered_in, checked_in, GraphMeans, expanded_in}
 use Rattle.command_files.specs.Scopes.{ScopesMean, scoped_in}
@@ -61,7 +62,7 @@ module _ (files later : Files) where
   of_c : (file root : List ℕ) → later file ≡ files file → Carries (lowered_in file root)
   unfolding lowered_in
   of_c file root same =
-      going_on (checked_unit_in file root) (λ unit. done (meant (lowered unit) root)) (of_unit file root same) (λ unit. ending (meant (lowered unit) root))
+      going_on (checked_unit_in file root) (λ unit. done (numbered (lowered unit) root)) (of_unit file root same) (λ unit. ending (numbered (lowered unit) root))
 
   of_either : (given : ProgramFile) (root : List ℕ) → later (file_name given) ≡ files (file_name given) → Carries (checked_in given root)
   of_either (Alf file) root same = of_alf file root same

@@ -1,5 +1,5 @@
--- What the crate below counts, in terms of the program without its ranks and of its nodes' costs.
-use Rattle.std.proofs.Common.{◌≡◌, ℕ, List, [], map, Result, Ok, Err, IfOk, ap, ◌∙◌, subst}
+-- What the crate below counts, in terms of the program and of its nodes' costs.
+use Rattle.std.proofs.Common.{◌≡◌, ℕ, List, map, Result, Ok, Err, IfOk, ap, ◌∙◌, subst}
 use Rattle.std.specs.declared.alloc.AllocError.{AllocError}
 use Rattle.alf_check.specs.CheckedPrograms.{NumberedProgram}
 use Rattle.alf_check.specs.declared.rows.InputRow.{InputRow}
@@ -11,36 +11,32 @@ use Rattle.alf_interp.specs.declared.tally.Counted.{Counted}
 use Rattle.alf_interp.specs.declared.tally.Counted.TheVariants as told
 use Rattle.cost_table.specs.CostTables.{CostTable}
 use Rattle.program_machines.specs.NodeCosts.{node_cost}
-use Rattle.unranked_runs.specs.Ranking.{unranked}
 use Rattle.sweet_cli.specs.Counting.{CountedAs}
 use Rattle.sweet_cli.proofs.Numbers.{last_low, costs_same}
-use Rattle.sweet_cli.proofs.RanksRuns.{runs, past}
 
 module _ (program : NumberedProgram) (graph : GraphParts) (rows : List InputRow) (words : List ℕ) (table : CostTable) (turns : ℕ) where
-  pub counted_for : (costs : List ℕ) → costs ≡ map (node_cost (unranked program) table) graph.nodes → (counted : Counted)
+  pub counted_for : (costs : List ℕ) → costs ≡ map (node_cost program table) graph.nodes → (counted : Counted)
       → Tells program graph.nodes costs (start program rows words) turns counted
-      → CountedAs (record { program = unranked program; graph = graph }) rows words table turns counted
+      → CountedAs (record { program = program; graph = graph }) rows words table turns counted
   counted_for costs same (told.Over tally) h =
       let nodes = graph.nodes in
       let ran : Runs program nodes (start program rows words) h.trace (outcome_of tally.end) =
       subst (Runs program nodes (start program rows words) h.trace) h.tallies.end h.runs in
-      let run = runs program program.ranks [] nodes (start program rows words) h.trace (outcome_of tally.end) ran in
       record {
         trace = h.trace;
-        runs = run;
+        runs = ran;
         within = h.within;
         counts = h.tallies.counts;
         turned = h.tallies.turns;
         last = h.tallies.last;
-        there = last_low nodes h.trace run.run tally.last run.numbers h.tallies.last;
-        cost = h.tallies.cost ∙ ap (λ (l : List ℕ). cost_of l h.trace) same ∙ costs_same nodes (node_cost (unranked program) table) h.trace run.run run.numbers;
+        there = last_low nodes h.trace ran.run tally.last ran.numbers h.tallies.last;
+        cost = h.tallies.cost ∙ ap (λ (l : List ℕ). cost_of l h.trace) same ∙ costs_same nodes (node_cost program table) h.trace ran.run ran.numbers;
       }
-  counted_for costs same (told.Left n) h =
-      past program program.ranks [] graph.nodes (start program rows words) turns n h
+  counted_for costs same (told.Left n) h = h
 
   -- and so it is of an answer
-  pub all_counted : (costs : List ℕ) → costs ≡ map (node_cost (unranked program) table) graph.nodes → (result : Result Counted AllocError)
+  pub all_counted : (costs : List ℕ) → costs ≡ map (node_cost program table) graph.nodes → (result : Result Counted AllocError)
       → IfOk result (λ counted. Tells program graph.nodes costs (start program rows words) turns counted)
-      → IfOk result (λ counted. CountedAs (record { program = unranked program; graph = graph }) rows words table turns counted)
+      → IfOk result (λ counted. CountedAs (record { program = program; graph = graph }) rows words table turns counted)
   all_counted costs same (Ok counted) h = counted_for costs same counted h
   all_counted costs same (Err error) h = tt

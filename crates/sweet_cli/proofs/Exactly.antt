@@ -22,33 +22,27 @@ use Rattle.program_machines.specs.Starts.{AreLone}
 use Rattle.program_analysis.specs.Answers.{Told, Unbounded as LeftIn}
 use Rattle.report_soundness.specs.Bounded.{with_path_bound, bounded}
 use Rattle.report_soundness.specs.Certified.{printed_as}
-use Rattle.unranked_analyses.specs.UnrankedMachines.{IsProgramOf}
-use Rattle.unranked_analyses.specs.Lone.{LoneAnalysisIsExact}
-use Rattle.bounded_analyses.specs.Analyses.{IsBoundedReport, IsPrintedReport}
-use Rattle.bounded_analyses.specs.AlikeBounds.{bounded_of}
-use Rattle.bounded_analyses.specs.Sound.{LoneBoundsAgree}
+use Rattle.program_analysis.specs.TwinMachines.{IsProgramOf}
+use Rattle.program_analysis.specs.LoneAnalyses.{LoneAnalysisIsExact}
+use Rattle.program_analysis.specs.BoundedAnalyses.{IsBoundedReport, IsPrintedReport}
+use Rattle.program_analysis.specs.AlikeBounds.{bounded_of}
+use Rattle.program_analysis.specs.BoundedSound.{LoneBoundsAgree}
 use Rattle.command_plans.specs.Outcome.{Outcome, Unbounded}
 use Rattle.answer_texts.specs.ScopeLines.{left_line}
 use Rattle.command_files.specs.Scopes.{ScopedProgram, IsScoped}
 use Rattle.sweet_cli.specs.Run.{IsLeft, low_start}
 use Rattle.sweet_cli.specs.Analyse.{IsLeftAt}
 use Rattle.sweet_cli.specs.Exact.{TellsOneRun, OneInputIsToldExactly}
-use Rattle.unranked_runs.specs.RankedRuns as ranked_runs
-use Rattle.sweet_cli.proofs.RanksRuns as ranks_runs
 use Rattle.sweet_cli.proofs.SoundReports.{costs_same}
 
--- ---- ranks have no part
+-- ---- in the words of the program
 
 module _ (program : NumberedProgram) (checked : CheckedParts) (is : IsProgramOf program checked) where
   ends_same : (rows : List InputRow) (run : List Node) (outcome : RunOutcome) → Ends (seen checked) (low_start (seen checked) rows) run outcome → Ends program (low_start program rows) run outcome
-  ends_same rows run outcome h =
-      subst (λ (p : NumberedProgram). Ends p (low_start p rows) run outcome) is
-      (ranked_runs.ends (seen checked) (seen checked).ranks program.ranks (low_start (seen checked) rows) run outcome h)
+  ends_same rows run outcome h = subst (λ (p : NumberedProgram). Ends p (low_start p rows) run outcome) is h
 
   past_same : (nodes : List Node) (rows : List InputRow) (turns n : ℕ) → IsPast (seen checked) nodes (low_start (seen checked) rows) turns n → IsPast program nodes (low_start program rows) turns n
-  past_same nodes rows turns n h =
-      subst (λ (p : NumberedProgram). IsPast p nodes (low_start p rows) turns n) is
-      (ranks_runs.past (seen checked) (seen checked).ranks program.ranks nodes (low_start (seen checked) rows) turns n h)
+  past_same nodes rows turns n h = subst (λ (p : NumberedProgram). IsPast p nodes (low_start p rows) turns n) is h
 
 -- ---- what is told
 

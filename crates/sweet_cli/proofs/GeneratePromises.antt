@@ -26,7 +26,7 @@ use Rattle.memory_model.specs.SeenOrders.{parts_order}
 use Rattle.abstract_step.specs.Steppers.{StepperParts, stepped_by}
 use Rattle.report_soundness.specs.ReportTold.{four_order, four_recording}
 use Rattle.program_analysis.specs.Analyses.{first_pool}
-use Rattle.bounded_analyses.specs.Analyses.{IsPrintedReport}
+use Rattle.program_analysis.specs.BoundedAnalyses.{IsPrintedReport}
 use Rattle.command_plans.specs.declared.stop.Stop.{Stop}
 use Rattle.command_plans.specs.declared.stop.Stop.TheVariants as stops
 use Rattle.command_plans.specs.Outcome.{Outcome, AreAlikeResults, cause_of, unread_of}

@@ -24,7 +24,6 @@ use Rattle.report_objections.specs.Checks.{IsChecked}
 use Rattle.program_checks.specs.Checking.{IsCheckOf, HasOneCheck}
 use Rattle.command_plans.specs.Outcome.{Outcome, No, AreAlikeResults}
 use Rattle.command_plans.specs.Work.{IsOnly, alike}
-use Rattle.unranked_runs.specs.Ranking.{unranked}
 use Rattle.answer_texts.specs.NoLines.{objection_line}
 use Rattle.command_files.specs.Scopes.{ScopedProgram}
 use Rattle.command_files.specs.Seen.{IsOutlined}
@@ -71,9 +70,9 @@ module _ (one : HasOneCheck) (program : ScopedProgram) (rows : List InputRow) (c
 
 -- what is answered by the checked parts of a program is answered for the program
 pub check_of : (checked : CheckedParts) (graph : GraphParts) (rows : List InputRow) → IsKept (seen checked) → IsGraph (seen checked) graph → KeepInputs (seen checked) rows
-    → (costs : CostTable) (outline : Outlined) (report : Reported) (answer : Option Objection) → IsOutline (shape_of outline) → IsOutlined graph outline → HasCosts (unranked (seen checked)) graph costs outline
+    → (costs : CostTable) (outline : Outlined) (report : Reported) (answer : Option Objection) → IsOutline (shape_of outline) → IsOutlined graph outline → HasCosts (seen checked) graph costs outline
     → IsChecked stepped_by parts_order (record { checked = checked; graph = graph; rows = rows }) outline report answer
-    → IsCheckOf (unranked (seen checked)) graph rows costs report answer
+    → IsCheckOf (seen checked) graph rows costs report answer
 check_of checked graph rows keeps graph_is inputs costs outline report answer outline_kept outlined priced answered = record {
   checked = checked;
   keeps = keeps;

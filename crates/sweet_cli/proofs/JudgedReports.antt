@@ -17,12 +17,11 @@ use Rattle.program_analysis.specs.Pricing.{IsPricedAs}
 use Rattle.program_analysis.specs.Answers.{Answer, Told, Unbounded as LeftIn}
 use Rattle.program_analysis.specs.Analyses.{IsFound, IsLeft}
 use Rattle.report_soundness.specs.Certified.{printed_as, certificate_writable}
-use Rattle.unranked_analyses.specs.Analyses.{IsAnalysis}
-use Rattle.bounded_analyses.specs.Analyses.{IsCertifiedWith, AreWritable, IsBoundedAnalysis, HasOneBoundedAnalysis, IsPrintedReport, HasOnePrintedReport}
-use Rattle.bounded_analyses.specs.AlikeBounds.{bounded_of}
+use Rattle.program_analysis.specs.ProgramAnalyses.{IsAnalysis}
+use Rattle.program_analysis.specs.BoundedAnalyses.{IsCertifiedWith, AreWritable, IsBoundedAnalysis, HasOneBoundedAnalysis, IsPrintedReport, HasOnePrintedReport}
+use Rattle.program_analysis.specs.AlikeBounds.{bounded_of}
 use Rattle.command_plans.specs.Outcome.{Outcome, Unbounded, AreAlikeResults}
 use Rattle.command_plans.specs.Work.{IsOnly, alike}
-use Rattle.unranked_runs.specs.Ranking.{unranked}
 use Rattle.answer_texts.specs.ScopeLines.{left_line}
 use Rattle.command_files.specs.Scopes.{ScopedProgram}
 use Rattle.command_files.specs.Seen.{IsOutlined}
@@ -93,9 +92,9 @@ printed_writable false report cert are = are.report_is
 module _ (checked : CheckedParts) (graph : GraphParts) (rows : List InputRow) (keeps : IsKept (seen checked)) (graph_is : IsGraph (seen checked) graph) (inputs : KeepInputs (seen checked) rows)
     (costs : CostTable) (outline : Outlined) (policy : Policy) (turns pivots : ℕ) where
   -- what was found of the parts of the program, but for the path bound
-  analysis_of : (answer : Answer) → IsOutline (shape_of outline) → IsOutlined graph outline → HasCosts (unranked (seen checked)) graph costs outline
+  analysis_of : (answer : Answer) → IsOutline (shape_of outline) → IsOutlined graph outline → HasCosts (seen checked) graph costs outline
       → IsFound (record { checked = checked; graph = graph; rows = rows }) outline policy turns answer
-      → IsAnalysis (unranked (seen checked)) graph rows costs policy turns answer
+      → IsAnalysis (seen checked) graph rows costs policy turns answer
   analysis_of answer outline_kept outlined priced found = record {
     checked = checked;
     keeps = keeps;
@@ -111,9 +110,9 @@ module _ (checked : CheckedParts) (graph : GraphParts) (rows : List InputRow) (k
   }
 
   -- and with it, and with the certificate where one is wanted
-  pub printed_of : (certify : Bool) (report : Reported) (cert : Certificate) → IsOutline (shape_of outline) → IsOutlined graph outline → HasCosts (unranked (seen checked)) graph costs outline
+  pub printed_of : (certify : Bool) (report : Reported) (cert : Certificate) → IsOutline (shape_of outline) → IsOutlined graph outline → HasCosts (seen checked) graph costs outline
       → IsCertifiedWith (record { checked = checked; graph = graph; rows = rows }) outline policy turns pivots report cert → AreWritable report cert
-      → IsPrintedReport certify (unranked (seen checked)) graph rows costs policy turns pivots (printed_as certify report cert)
+      → IsPrintedReport certify (seen checked) graph rows costs policy turns pivots (printed_as certify report cert)
   unfolding analysis_of
   printed_of certify report cert outline_kept outlined priced found writable = record {
     given = found.given;
@@ -126,7 +125,7 @@ module _ (checked : CheckedParts) (graph : GraphParts) (rows : List InputRow) (k
   }
 
   -- or that places are left
-  pub left_of : (scope : ℕ) → IsOutline (shape_of outline) → IsOutlined graph outline → HasCosts (unranked (seen checked)) graph costs outline
+  pub left_of : (scope : ℕ) → IsOutline (shape_of outline) → IsOutlined graph outline → HasCosts (seen checked) graph costs outline
       → IsLeft (record { checked = checked; graph = graph; rows = rows }) outline policy turns scope
-      → IsBoundedAnalysis (unranked (seen checked)) graph rows costs policy turns pivots (LeftIn scope)
+      → IsBoundedAnalysis (seen checked) graph rows costs policy turns pivots (LeftIn scope)
   left_of scope outline_kept outlined priced found = analysis_of (LeftIn scope) outline_kept outlined priced found

@@ -1,6 +1,5 @@
 -- Shared lemmas.
 pub mod Lows
-pub mod RanksRuns
 pub mod JudgedTasks
 pub mod JudgedReports
 pub mod SoundReports
@@ -17,7 +16,7 @@ pub mod SoundChecks
 pub mod CheckPromises
 pub mod MigratePromises
 pub mod JudgedReplays
-pub mod RankedReplays
+pub mod ToldReplays
 pub mod ReplayPromises
 pub mod JudgedCaches
 pub mod CachePromises

@@ -22,8 +22,8 @@ use Rattle.report_soundness.specs.BoundToldLaws.{told_fit}
 use Rattle.report_soundness.specs.Bounded.{bounded}
 use Rattle.report_soundness.specs.Certified.{told_certificate, printed_as}
 use Rattle.program_analysis.specs.Analyses.{first_pool}
-use Rattle.bounded_analyses.specs.Analyses.{IsPrintedReport}
-use Rattle.bounded_analyses.specs.Sound.{ClosedExplorationsHaveTotals}
+use Rattle.program_analysis.specs.BoundedAnalyses.{IsPrintedReport}
+use Rattle.program_analysis.specs.BoundedSound.{ClosedExplorationsHaveTotals}
 use Rattle.report_objections.specs.Checks.{IsChecked}
 use Rattle.report_objections.specs.OwnLaws as own
 use Rattle.program_checks.specs.Checking.{IsCheckOf}

@@ -1,63 +1,30 @@
 -- A report that is found is sound, and its path bound is what its word says.
---   costs_same     ranks have no part in what nodes cost
+--   costs_same     what nodes cost, by the parts of the program
 --   sound_of       why
 --   SoundPrint certify program graph rows costs report   the report is sound, and has a certificate where one is wanted
 --   printed_sound  so it is of each report that is printed
-use Rattle.std.proofs.Common.{◌≡◌, ◌≤◌, ℕ, Bool, true, false, List, None, map, refl, sym, ap, subst, ◌∙◌}
+use Rattle.std.proofs.Common.{◌≡◌, ℕ, Bool, true, false, List, None, map, refl, sym, ap, subst, ◌∙◌}
 use Rattle.alf_check.specs.declared.rows.InputRow.{InputRow}
 use Rattle.alf_check.specs.CheckedPrograms.{CheckedParts, NumberedProgram, seen}
 use Rattle.flow_graph.specs.Nodes.{Node}
 use Rattle.flow_graph.specs.Numbering.{GraphParts}
-use Rattle.alf_runs.specs.Steps.{Moment}
-use Rattle.alf_runs.specs.Runs.{cost_of}
 use Rattle.cost_table.specs.CostTables.{CostTable}
-use Rattle.domain_core.specs.Outlines.{Outlined, Shape, shape_of}
+use Rattle.domain_core.specs.Outlines.{Outlined, shape_of}
 use Rattle.flow_facts.specs.declared.fact.Fact.{Fact}
 use Rattle.flow_facts.specs.Reports.{Certificate, Reported}
 use Rattle.dual_check.specs.Openings.{system_of}
 use Rattle.path_lp.specs.Bounding.{AreHeld}
 use Rattle.worklist_rules.specs.declared.policy.Policy.{Policy}
-use Rattle.program_machines.specs.NodeCosts.{place_cost, node_cost}
-use Rattle.report_soundness.specs.Bounded.{HasPathBound}
+use Rattle.program_machines.specs.NodeCosts.{node_cost}
 use Rattle.report_soundness.specs.Certified.{with_certificate, printed_as}
-use Rattle.unranked_runs.specs.Ranking.{with_ranks, function_same}
-use Rattle.unranked_analyses.specs.UnrankedMachines.{IsProgramOf}
-use Rattle.bounded_analyses.specs.Analyses.{IsBoundedReport, IsPrintedReport}
-use Rattle.bounded_analyses.specs.Sound.{IsSoundFor, IsSound, FoundReportsAreRight}
+use Rattle.program_analysis.specs.TwinMachines.{IsProgramOf}
+use Rattle.program_analysis.specs.BoundedAnalyses.{IsBoundedReport, IsPrintedReport}
+use Rattle.program_analysis.specs.BoundedSound.{IsSound, FoundReportsAreRight}
 use Rattle.sweet_cli.specs.Analyse.{IsSoundOf, HasCertificate}
-use Rattle.unranked_runs.specs.RankedRuns as ranks_runs
 
--- ---- ranks have no part
-
-module _ (checked : CheckedParts) (ranks : List ℕ) where
-  pub ranked_costs : (costs : CostTable) → node_cost (seen checked) costs ≡ node_cost (with_ranks (seen checked) ranks) costs
-  ranked_costs costs = λ i node. place_cost costs (function_same (seen checked) ranks (seen checked).ranks node.path i) node.block
-
-  ranked_for : (graph : GraphParts) (o : Shape) (costs : CostTable) (report : Reported) (start : Moment)
-      → IsSoundFor (seen checked) graph o costs report start → IsSoundFor (with_ranks (seen checked) ranks) graph o costs report start
-  ranked_for graph o costs report start h = record {
-    trace = h.trace;
-    outcome = h.outcome;
-    runs = record {
-      run = h.runs.run;
-      ends = ranks_runs.ends (seen checked) (seen checked).ranks ranks start h.runs.run h.outcome h.runs.ends;
-      numbers = h.runs.numbers;
-    };
-    facts = h.facts;
-    alarm = h.alarm;
-    count = subst (λ (cost : Node → ℕ). cost_of cost h.runs.run ≤ report.count_bound) (ranked_costs costs) h.count;
-    path = subst (λ (cost : Node → ℕ). HasPathBound (λ b. cost_of cost h.runs.run ≤ b.0) report) (ranked_costs costs) h.path;
-  }
-
-  -- a report that is sound is sound for the program with other ranks
-  ranked_sound : (graph : GraphParts) (rows : List InputRow) (o : Shape) (costs : CostTable) (report : Reported)
-      → IsSound (seen checked) graph rows o costs report → IsSound (with_ranks (seen checked) ranks) graph rows o costs report
-  ranked_sound graph rows o costs report h start from =
-      ranked_for graph o costs report start (h start (record { numbers = from.numbers; within = from.within; starts = from.starts }))
-
-module _ (program : NumberedProgram) (checked : CheckedParts) (is : IsProgramOf program checked) where
-  pub costs_same : (costs : CostTable) → node_cost (seen checked) costs ≡ node_cost program costs
-  costs_same costs = ranked_costs checked program.ranks costs ∙ ap (λ (p : NumberedProgram). node_cost p costs) is
+-- what nodes cost, by the parts of the program
+pub costs_same : (program : NumberedProgram) (checked : CheckedParts) → IsProgramOf program checked → (costs : CostTable) → node_cost (seen checked) costs ≡ node_cost program costs
+costs_same program checked is costs = ap (λ (p : NumberedProgram). node_cost p costs) is
 
 -- a report that is found is sound, and its path bound is what its word says
 pub sound_of : FoundReportsAreRight → (program : NumberedProgram) (graph : GraphParts) (rows : List InputRow) (costs : CostTable) (policy : Policy) (turns pivots : ℕ) (report : Reported)
@@ -72,8 +39,7 @@ sound_of law program graph rows costs policy turns pivots report h =
       outline = a.outline;
       outline_is = a.outline_is;
       costs_are = a.costs_are;
-      sound = subst (λ (p : NumberedProgram). IsSound p graph rows (shape_of a.outline) costs report) a.program_is
-          (ranked_sound checked program.ranks graph rows (shape_of a.outline) costs report (right.sound costs priced));
+      sound = subst (λ (p : NumberedProgram). IsSound p graph rows (shape_of a.outline) costs report) a.program_is (right.sound costs priced);
       within = right.within;
       least = right.least;
     }

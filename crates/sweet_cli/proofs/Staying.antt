@@ -1,7 +1,7 @@
 -- A report is printed with each number of turns that is not below the steps of its exploration.
 use Rattle.std.proofs.Common.{Ok}
 use Rattle.command_plans.specs.Work.{IsOnly}
-use Rattle.bounded_analyses.specs.Analyses.{HasOneBoundedAnalysis, HasOnePrintedReport, StaysPrinted}
+use Rattle.program_analysis.specs.BoundedAnalyses.{HasOneBoundedAnalysis, HasOnePrintedReport, StaysPrinted}
 use Rattle.sweet_cli.specs.Analyse.{analysing, policy_of, ReportMeans}
 use Rattle.sweet_cli.specs.Laws.{IsReportOf, ReportsStay}
 use Rattle.sweet_cli.proofs.JudgedReports.{report_only}

@@ -28,9 +28,9 @@ use Rattle.worklist_rules.specs.declared.policy.Policy.TheVariants as policies
 use Rattle.program_machines.specs.NodeCosts.{HasCosts}
 use Rattle.program_analysis.specs.Answers.{Unbounded as LeftIn}
 use Rattle.report_soundness.specs.Bounded.{IsWithinCount, IsLeastOf}
-use Rattle.unranked_analyses.specs.Analyses.{IsAnalysis}
-use Rattle.bounded_analyses.specs.Analyses.{IsPrintedReport}
-use Rattle.bounded_analyses.specs.Sound.{IsSound}
+use Rattle.program_analysis.specs.ProgramAnalyses.{IsAnalysis}
+use Rattle.program_analysis.specs.BoundedAnalyses.{IsPrintedReport}
+use Rattle.program_analysis.specs.BoundedSound.{IsSound}
 use Rattle.command_plans.specs.Outcome.{Outcome, Unbounded}
 use Rattle.command_plans.specs.Work.{Work, judged, done, ◌>>=◌}
 use Rattle.program_files.specs.Told.{IsToldProgram}

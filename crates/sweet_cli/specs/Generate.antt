@@ -10,7 +10,7 @@ use Rattle.alf_check.specs.CheckedPrograms.{NumberedProgram}
 use Rattle.flow_graph.specs.Numbering.{GraphParts, IsGraph}
 use Rattle.cost_table.specs.CostTables.{one_each}
 use Rattle.flow_facts.specs.Reports.{Reported}
-use Rattle.bounded_analyses.specs.Analyses.{IsPrintedReport}
+use Rattle.program_analysis.specs.BoundedAnalyses.{IsPrintedReport}
 use Rattle.command_plans.specs.Outcome.{Outcome, IsOfFiles}
 use Rattle.command_plans.specs.Log.{Log}
 use Rattle.command_plans.specs.Work.{Work, judged, done, ◌>>=◌}

@@ -15,7 +15,7 @@ use Rattle.alf_check.specs.declared.rows.InputRow.{InputRow}
 use Rattle.alf_check.specs.CheckedPrograms.{NumberedProgram}
 use Rattle.alf_runs.specs.Starts.{AreWithin}
 use Rattle.c_lower.specs.Outcomes.{HasUnitsOutcomeFrom}
-use Rattle.bounded_analyses.specs.Analyses.{IsPrintedReport}
+use Rattle.program_analysis.specs.BoundedAnalyses.{IsPrintedReport}
 use Rattle.sweet_words.specs.Files.{file_name}
 use Rattle.command_plans.specs.Log.{Log}
 use Rattle.command_plans.specs.Outcome.{Ending, Finished, ending_unread}

@@ -7,7 +7,6 @@ use Rattle.worklist_rules.specs.declared.policy.Policy.{Policy}
 use Rattle.worst_inputs.specs.Searches.{Searched}
 use Rattle.program_bounder.specs.declared.bounder.PathBounder.{PathBounder}
 use Rattle.command_plans.specs.Outcome.{Outcome}
-use Rattle.unranked_runs.specs.Ranking.{unranked}
 use Rattle.alf_check.specs.CheckedPrograms.{seen}
 use Rattle.command_files.specs.declared.tables.Tables.{Tables}
 use Rattle.command_files.specs.declared.scopes.ScopedProgram.{ScopedProgram as ScopedValue}
@@ -31,7 +30,7 @@ bounder_seen program tables policy turns pivots = record {
 -- the program that it bounds, with its scopes
 abbrev pub scoped_in_bounder : PathBounder → ScopedProgram
 scoped_in_bounder b = record {
-  expanded = record { program = unranked (seen b.checked); graph = b.graph };
+  expanded = record { program = seen b.checked; graph = b.graph };
   scoped = scopes_seen b.outline;
 }
 

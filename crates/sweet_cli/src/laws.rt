@@ -3,16 +3,15 @@
 ghost use Rattle.sweet_cli.specs.Exact.{OneInputIsToldExactly};
 ghost use Rattle.sweet_cli.specs.Laws.{HaveOneAnswer, ReportsStay, OwnReportsAreAccepted, RunsOfCHaveTheirOwnOutcome};
 
-use bounded_analyses::{
-    a_program_has_one_bounded_analysis, bounds_of_an_input_alone_agree,
-    closed_explorations_have_totals,
-};
 use command_files::a_file_means_its_report;
 use cost_table::a_file_has_one_answer;
 use fact_text::writable_reports_are_spelled;
+use program_analysis::{
+    a_program_has_one_bounded_analysis, an_input_alone_is_told_exactly,
+    bounds_of_an_input_alone_agree, closed_explorations_have_totals,
+};
 use program_checks::a_report_has_one_check;
 use scope_graph::a_graph_has_one_outline;
-use unranked_analyses::an_input_alone_is_told_exactly;
 
 /// Told files have one answer to the words, but for a line that gives one example of several, and the
 /// same names are read, whatever was read before, where no read fails. Does nothing when it is called.

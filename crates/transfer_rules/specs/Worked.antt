@@ -35,7 +35,6 @@ one_block e targets others = record {
   inits = [];
   exports = [];
   root = 0;
-  ranks = 0 ∷ [];
 }
 
 -- what the frame holds
@@ -80,7 +79,6 @@ one_call = record {
   inits = [];
   exports = [];
   root = 0;
-  ranks = 1 ∷ 0 ∷ [];
 }
 
 -- the memory of the first goal

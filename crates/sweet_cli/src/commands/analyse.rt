@@ -15,16 +15,15 @@ ghost use Rattle.sweet_cli.specs.Analyse.{ReportMeans, IsSoundReport, analysing,
 
 use crate::words::{AnalyseWords, Merging};
 use answer_texts::left_line;
-use bounded_analyses::{
-    BoundedAnalysis, a_program_has_one_bounded_analysis, found_reports_are_right,
-};
 use command_files::{ScopedProgram, Tables, scoped_in, tables_in};
 use command_plans::{Stop, Why};
 use cost_table::{Costs, a_file_has_one_answer};
 use fact_text::print;
 use flow_base::Shelf;
 use flow_facts::{Cert, Report};
-use program_analysis::set_costs;
+use program_analysis::{
+    BoundedAnalysis, a_program_has_one_bounded_analysis, found_reports_are_right, set_costs,
+};
 use std::alloc::Global;
 use worklist_rules::Policy;
 
@@ -138,7 +137,7 @@ fn explored(
     outline.kept();
     a_program_has_one_bounded_analysis();
     let rows = tables.rows.as_slice();
-    match bounded_analyses::analyse(
+    match program_analysis::analyse(
         alloc,
         &expanded.checked,
         &expanded.graph,

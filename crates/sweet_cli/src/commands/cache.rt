@@ -5,7 +5,6 @@ ghost use Rattle.alf_check.specs.CheckedPrograms.{seen};
 ghost use Rattle.alf_check.specs.Inputs.{KeepInputs};
 ghost use Rattle.flow_graph.specs.Numbering.{IsGraph};
 ghost use Rattle.program_machines.specs.NodeCosts.{HasCosts};
-ghost use Rattle.unranked_runs.specs.Ranking.{unranked};
 ghost use Rattle.line_cache.specs.Lines.{IsShape, notes_of};
 ghost use Rattle.code_layout.specs.Layouts.{all_statements, most_statements, parts_of};
 ghost use Rattle.cached_runs.specs.Answers.{lines_of};
@@ -76,7 +75,7 @@ fn cached_in(
     requires turns { turns ≤ 1000000 }
     ensures means { Judges (CacheMeans (scoped_of program) tables.now.rows.items tables.now.costs shape (policy_of merging)
         turns) lines_of result }
-    ensures sound { IfOk result (λ lines. IsSound (unranked (seen program.expanded.checked)) program.expanded.graph
+    ensures sound { IfOk result (λ lines. IsSound (seen program.expanded.checked) program.expanded.graph
         tables.now.rows.items shape tables.now.costs (lines_of lines)) }
 {
     let program = priced(program, &tables.costs);
@@ -95,7 +94,7 @@ fn noted(
     requires shape { IsShape shape }
     ensures { IfOk result (λ noted. noted ≡ record program {
       outline = record program.outline {
-        notes = notes_of shape (parts_of (unranked (seen program.expanded.checked)) program.expanded.graph);
+        notes = notes_of shape (parts_of (seen program.expanded.checked) program.expanded.graph);
       };
     }) }
 {
@@ -123,14 +122,14 @@ fn explored(
     requires rows { KeepInputs (seen program.now.expanded.checked) tables.now.rows.items }
     requires outline { IsOutlined program.now.expanded.graph program.now.outline }
     requires shape { IsShape shape }
-    requires costs { HasCosts (unranked (seen program.now.expanded.checked)) program.now.expanded.graph tables.now.costs
+    requires costs { HasCosts (seen program.now.expanded.checked) program.now.expanded.graph tables.now.costs
         program.now.outline }
-    requires noted { HasCodeNotes (unranked (seen program.now.expanded.checked)) program.now.expanded.graph shape
+    requires noted { HasCodeNotes (seen program.now.expanded.checked) program.now.expanded.graph shape
         program.now.outline }
     requires turns { turns ≤ 1000000 }
     ensures means { Judges (CacheMeans (scoped_of program.now) tables.now.rows.items tables.now.costs shape policy turns)
         lines_of result }
-    ensures sound { IfOk result (λ lines. IsSound (unranked (seen program.now.expanded.checked)) program.now.expanded.graph
+    ensures sound { IfOk result (λ lines. IsSound (seen program.now.expanded.checked) program.now.expanded.graph
         tables.now.rows.items shape tables.now.costs (lines_of lines)) }
 {
     let expanded = &program.expanded;

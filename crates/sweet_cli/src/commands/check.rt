@@ -7,7 +7,6 @@ ghost use Rattle.flow_graph.specs.Numbering.{IsGraph};
 ghost use Rattle.flow_facts.specs.Reports.{reported};
 ghost use Rattle.program_machines.specs.NodeCosts.{HasCosts};
 ghost use Rattle.report_objections.specs.Accepted.{IsScaled};
-ghost use Rattle.unranked_runs.specs.Ranking.{unranked};
 ghost use Rattle.command_plans.specs.Works.{Works, Judges};
 ghost use Rattle.command_files.specs.Seen.{IsOutlined, scoped_of, tables_of};
 ghost use Rattle.sweet_cli.specs.Words.{check_meant};
@@ -60,7 +59,7 @@ fn report_judged<F: Shelf>(
     ensures work { Works (report_judged file.now (scoped_of program) (tables_of tables.now)) (λ text. text.items)
         (F.state shelf.old) result (F.state shelf.new) }
     ensures sound { IfOk result (λ text. IfSome (F.state shelf.old).files (λ files. IsSoundTold file.now files
-        (unranked (seen program.expanded.checked)) program.expanded.graph tables.now.rows.items tables.now.costs)) }
+        (seen program.expanded.checked) program.expanded.graph tables.now.rows.items tables.now.costs)) }
 {
     let report = report_in(alloc, file, shelf)?;
     let text = judged(alloc, program, tables, &report)?;
@@ -80,7 +79,7 @@ fn judged(
     requires scaled { IsScaled (reported report.now) }
     ensures means { Judges (CheckMeans (scoped_of program) tables.now.rows.items tables.now.costs
         (reported report.now)) (λ text. text.items) result }
-    ensures sound { IfOk result (λ text. IsSoundOf (unranked (seen program.expanded.checked)) program.expanded.graph
+    ensures sound { IfOk result (λ text. IsSoundOf (seen program.expanded.checked) program.expanded.graph
         tables.now.rows.items tables.now.costs (reported report.now)) }
 {
     let program = priced(program, &tables.costs);
@@ -102,7 +101,7 @@ fn answered(
     requires scaled { IsScaled (reported report.now) }
     ensures means { Judges (CheckMeans (scoped_of program.now) tables.now.rows.items tables.now.costs
         (reported report.now)) (λ text. text.items) result }
-    ensures sound { IfOk result (λ text. IsSoundOf (unranked (seen program.now.expanded.checked))
+    ensures sound { IfOk result (λ text. IsSoundOf (seen program.now.expanded.checked)
         program.now.expanded.graph tables.now.rows.items tables.now.costs (reported report.now)) }
 {
     let expanded = &program.expanded;

@@ -9,11 +9,11 @@ ghost use Rattle.sweet_cli.specs.Generate.{EndsOver, TellsSummary, summing};
 use crate::commands::analyse::report_of;
 use crate::words::{Merging, ProgramFile};
 use answer_texts::{made_text, summary_text};
-use bounded_analyses::found_reports_are_right;
 use command_files::{scoped_in, tables_in};
 use command_plans::Stop;
 use cost_table::a_file_has_one_answer;
 use flow_base::{Shelf, SureShelf};
+use program_analysis::found_reports_are_right;
 use std::alloc::{AllocError, Global};
 
 /// The numbers of the report of the program with so many pairs of loops.

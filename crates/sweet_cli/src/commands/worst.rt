@@ -9,7 +9,6 @@ ghost use Rattle.worst_inputs.specs.Searches.{found_of};
 ghost use Rattle.worst_inputs.specs.Promises.{Bounds};
 ghost use Rattle.program_bounder.specs.InputRows.{ranges_of};
 ghost use Rattle.program_bounder.specs.InputCosts.{RunsCost};
-ghost use Rattle.unranked_runs.specs.Ranking.{unranked};
 ghost use Rattle.command_plans.specs.Works.{Works, Judges};
 ghost use Rattle.command_files.specs.Seen.{IsOutlined, scoped_of};
 ghost use Rattle.sweet_cli.specs.Words.{worst_meant};
@@ -77,7 +76,7 @@ fn found_in(
     requires turns { turns ≤ 1000000 }
     ensures means { Judges (WorstMeans (scoped_of program) tables.rows.items tables.costs (policy_of merging)
         turns pivots splits) found_of result }
-    ensures bounds { IfOk result (λ found. Bounds (RunsCost (unranked (seen program.expanded.checked))
+    ensures bounds { IfOk result (λ found. Bounds (RunsCost (seen program.expanded.checked)
         program.expanded.graph tables.rows.items tables.costs) (ranges_of tables.rows.items) (found_of found)) }
 {
     let program = priced(program, &tables.costs);
@@ -115,11 +114,11 @@ fn searched(alloc: Global, bounder: &mut PathBounder, splits: u32) -> Result<Fou
     requires graph { IsGraph (seen bounder.old.checked) bounder.old.graph }
     requires rows { KeepInputs (seen bounder.old.checked) bounder.old.rows.items }
     requires outline { IsOutlined bounder.old.graph bounder.old.outline }
-    requires costs { HasCosts (unranked (seen bounder.old.checked)) bounder.old.graph bounder.old.costs
+    requires costs { HasCosts (seen bounder.old.checked) bounder.old.graph bounder.old.costs
         bounder.old.outline }
     requires turns { bounder.old.turns ≤ 1000000 }
     ensures means { Judges (BoxesMean bounder.old splits) found_of result }
-    ensures bounds { IfOk result (λ found. Bounds (RunsCost (unranked (seen bounder.old.checked)) bounder.old.graph
+    ensures bounds { IfOk result (λ found. Bounds (RunsCost (seen bounder.old.checked) bounder.old.graph
         bounder.old.rows.items bounder.old.costs) (ranges_of bounder.old.rows.items) (found_of found)) }
 {
     match worst_boxes(alloc, bounder, splits) {

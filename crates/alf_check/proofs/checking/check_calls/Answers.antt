@@ -10,7 +10,8 @@ call_ranks-requires-clause-within c =
     let are : calls_of c.as_slice-calls.result.now ≡ calls_in (program_of c.args.program.now) = search rules in
     subst (λ (calls : List (List ℕ)). CallsWithin calls) (sym are) (calls_within (program_of c.args.program.now).funcs)
 
-pub returns-in-Ok-call_ranks-clause-ranked : goal.returns-in-Ok-call_ranks-clause-ranked
-returns-in-Ok-call_ranks-clause-ranked c =
+pub returns-in-Ok-call_ranks-clause-acyclic : goal.returns-in-Ok-call_ranks-clause-acyclic
+returns-in-Ok-call_ranks-clause-acyclic c =
     let are : calls_of c.as_slice-calls.result.now ≡ calls_in (program_of c.args.program.now) = search rules in
-    subst (λ (calls : List (List ℕ)). IsRanked calls c.in-Ok-call_ranks.ranks.items) are c.in-Ok-call_ranks.ensures.ranked
+    c.ranked_calls_have_no_cycle.ensures (calls_in (program_of c.args.program.now)) c.in-Ok-call_ranks._ranks.items
+    (subst (λ (calls : List (List ℕ)). IsRanked calls c.in-Ok-call_ranks._ranks.items) are c.in-Ok-call_ranks.ensures.ranked)

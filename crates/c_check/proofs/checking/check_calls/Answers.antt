@@ -1,4 +1,4 @@
--- A cycle of calls is told by the names of its functions.
+-- Functions that are ranked have ranks, and a cycle of calls is told by the names of its functions.
 use Rattle.std.proofs.Common.{ℕ, List, map, slice_index_or, ap, sym, ◌∙◌, subst}
 use Rattle.c_unit.specs.Units.{Word, unit_of}
 use Rattle.c_rules.specs.Names.{text_at}
@@ -19,3 +19,6 @@ returns-in-Ok-names_along-clause-told c = λ root.
     ∙ ap (λ (names : List ℕ). map (λ n. text_at unit.words (slice_index_or names n 0)) c.in-Err-Cycle.path.items) c.requires.names in
     let cycle = subst (λ (fault : CallFault). IsFaultOf (calls_of unit) fault) c.in-Err-Cycle.field-0-is c.in-Err-Cycle.ensures.cycle in
     subst (λ (names : List (List ℕ)). Refuses unit root (checks.Recursion names)) (sym named) (checks.by_cycle {path = c.in-Err-Cycle.path.items} c.requires.sound cycle)
+
+pub returns-in-Ok-function_ranks-clause-ranked : goal.returns-in-Ok-function_ranks-clause-ranked
+returns-in-Ok-function_ranks-clause-ranked c = (c.in-Ok-function_ranks._ranks.items, c.in-Ok-function_ranks.ensures.ranked)

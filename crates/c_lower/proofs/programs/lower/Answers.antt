@@ -1,6 +1,5 @@
 -- What is left to show of `lower`.
 use Rattle.std.proofs.Common.{◌≡◌, List, ℕ, ap, sym, ◌∙◌, subst}
-use Rattle.std.specs.Str.{IsAscii}
 use Rattle.alf_program.specs.Tree.{WholeProgram, program_of}
 use Rattle.alf_program.specs.Writable.{IsWritable}
 use Rattle.alf_check.specs.CheckedPrograms.{seen}
@@ -8,20 +7,12 @@ use Rattle.alf_check.specs.Numbered.{numbered}
 use Rattle.alf_check.specs.Checking.{Passes}
 use Rattle.c_unit.specs.Units.{UnitTree, unit_of}
 use Rattle.c_lowered.specs.Programs.{lowered}
-use Rattle.c_lower.proofs.Roots.{ascii_root}
 use Rattle.c_lower.proofs.Made.{is_lowered}
 use Rattle.c_lower.proofs.programs.lower.Goals as goal
 
-pub ascii_text-root-requires : goal.ascii_text-root-requires
-ascii_text-root-requires c =
-    let unit : UnitTree = unit_of c.args.program.now.unit in
-    let writable : IsWritable (lowered unit) = subst IsWritable c.in_ok-text.ensures.lowered c.in_ok-text.ensures.writable in
-    subst IsAscii (sym c.root.ensures) (ascii_root (lowered unit) c.args.program.now.root writable c.in_ok-text.ensures.passes)
-
-pub checked-requires-clause-passes : goal.checked-requires-clause-passes
-checked-requires-clause-passes c =
-    let unit : UnitTree = unit_of c.args.program.now.unit in
-    let root : c.ascii_text-root.result.now ≡ c.args.program.now.root = c.ascii_text-root.ensures ∙ c.root.ensures in
+pub number-requires-clause-passes : goal.number-requires-clause-passes
+number-requires-clause-passes c =
+    let root : c.root.result.now ≡ c.args.program.now.root = c.root.ensures in
     subst (λ (name : List ℕ). Passes (program_of c.in_ok-text.text) name) (sym root)
     (subst (λ (whole : WholeProgram). Passes whole c.args.program.now.root) (sym c.in_ok-text.ensures.lowered) c.in_ok-text.ensures.passes)
 
@@ -30,12 +21,12 @@ returns c =
     let unit : UnitTree = unit_of c.args.program.now.unit in
     let root = c.args.program.now.root in
     let program = seen c.in_ok-checked.checked in
-    let named : c.ascii_text-root.result.now ≡ root = c.ascii_text-root.ensures ∙ c.root.ensures in
+    let named : c.root.result.now ≡ root = c.root.ensures in
     let writable : IsWritable (lowered unit) = subst IsWritable c.in_ok-text.ensures.lowered c.in_ok-text.ensures.writable in
     let passes : Passes (lowered unit) root = c.in_ok-text.ensures.passes in
-    let numbers : program ≡ numbered (lowered unit) root program.ranks =
-    c.in_ok-checked.ensures ∙ ap (λ (name : List ℕ). numbered (program_of c.in_ok-text.text) name program.ranks) named
-    ∙ ap (λ (whole : WholeProgram). numbered whole root program.ranks) c.in_ok-text.ensures.lowered in
+    let numbers : program ≡ numbered (lowered unit) root =
+    c.in_ok-checked.ensures ∙ ap (λ (name : List ℕ). numbered (program_of c.in_ok-text.text) name) named
+    ∙ ap (λ (whole : WholeProgram). numbered whole root) c.in_ok-text.ensures.lowered in
     record {
       passes = passes;
       numbered = numbers;

@@ -17,8 +17,8 @@ returns c =
     let few : TextHasFewTokens unit = subst (λ (u : CUnit). TextHasFewTokens (unit_of u)) same (few_tokens c.unit-unit.result.now low) in
     let whole : program_of c.in_ok-text.text ≡ lowered unit = c.in_ok-text.ensures.lowered ∙ ap (λ (u : CUnit). lowered (unit_of u)) same in
     let root = c.args.program.now.root in
-    let ranks = c.args.program.now.ranks in
-    let passes = c.keeps.ensures.passes in
+    let ranks = c.keeps.ensures.passes.ranks in
+    let passes = c.keeps.ensures.passes.is_program in
     let spelled = c.keeps.ensures.spelled in
     record {
       lowered = whole;

@@ -1,10 +1,9 @@
--- The parts are such that notes can be made of them, and ranks have no part in them.
-use Rattle.std.proofs.Common.{◌∙◌, [], ℕ, List, All, sym, ap, subst}
+-- The parts are such that notes can be made of them.
+use Rattle.std.proofs.Common.{◌∙◌, ℕ, List, All, sym, ap, subst}
 use Rattle.alf_check.specs.CheckedPrograms.{NumberedProgram, seen}
 use Rattle.domain_core.specs.Outlines.{Outlined}
 use Rattle.line_cache.specs.Lines.{IsPart, notes_of}
 use Rattle.cache_analysis.specs.Noted.{parts_fit}
-use Rattle.cache_analysis.specs.Ranks.{parts_same}
 use Rattle.cache_analysis.proofs.lines.set_lines.Goals as goal
 
 pub notes-requires-clause-parts : goal.notes-requires-clause-parts
@@ -16,9 +15,7 @@ notes-requires-clause-parts c =
 
 pub returns : goal.returns
 returns c =
-    let program : NumberedProgram = seen c.args.checked.now in
-    let graph = c.args.graph.now in
     let old : Outlined = c.args.outline.now in
     let made : List ℕ → Outlined = λ notes. record { edges = old.edges; nodes = old.nodes; scopes = old.scopes; notes = notes } in
     c.set_notes.ensures
-    ∙ ap made (c.in_ok-notes.ensures.notes ∙ ap (notes_of c.args.shape) (c.deref.ensures.value ∙ c.in_ok-parts.ensures ∙ parts_same program program.ranks [] graph))
+    ∙ ap made (c.in_ok-notes.ensures.notes ∙ ap (notes_of c.args.shape) (c.deref.ensures.value ∙ c.in_ok-parts.ensures))

@@ -1,5 +1,5 @@
-use Rattle.program_analysis.specs.ExactLaws.{told_exactly}
+use Rattle.program_analysis.specs.LoneAnalyses.{lone_exact}
 use Rattle.program_analysis.proofs.laws.an_input_alone_is_told_exactly.Goals as goal
 
 pub returns : goal.returns
-returns c = told_exactly c.a_run_has_one_end.ensures.one
+returns c = lone_exact c.parts_fit.ensures c.parts_alone_are_told_exactly.ensures

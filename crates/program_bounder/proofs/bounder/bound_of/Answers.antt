@@ -5,7 +5,7 @@ use Rattle.alf_check.specs.CheckedPrograms.{seen}
 use Rattle.alf_check.specs.Inputs.{KeepInputs}
 use Rattle.flow_facts.specs.Reports.{certificate_of, reported}
 use Rattle.program_analysis.specs.Answers.{Unbounded}
-use Rattle.bounded_analyses.specs.Analyses.{IsBoundedReport, IsBoundedAnalysis}
+use Rattle.program_analysis.specs.BoundedAnalyses.{IsBoundedReport, IsBoundedAnalysis}
 use Rattle.program_bounder.specs.InputRows.{with_ranges}
 use Rattle.program_bounder.specs.PathBounding.{given_program}
 use Rattle.program_bounder.proofs.Finding.{report_of, left_of, answered}

@@ -1,9 +1,7 @@
 -- The graph, or the line of a limit, is the only meaning.
-use Rattle.std.proofs.Common.{[], refl}
+use Rattle.std.proofs.Common.{refl}
 use Rattle.alf_check.specs.CheckedPrograms.{seen}
-use Rattle.unranked_runs.specs.Ranking.{unranked}
-use Rattle.unranked_runs.specs.RankedGraphs.{graph}
-use Rattle.program_files.proofs.JudgedGraph.{graph_only, limit_only, tells_unranked}
+use Rattle.program_files.proofs.JudgedGraph.{graph_only, limit_only}
 use Rattle.program_files.proofs.expanding.graph_of.Goals as goal
 
 pub returns-in-Ok-clause-means : goal.returns-in-Ok-clause-means
@@ -11,7 +9,7 @@ returns-in-Ok-clause-means c =
     let program = seen c.args.checked.now in
     let one = c.a_program_has_one_graph.ensures in
     let limits = c.limits_exclude_each_other.ensures in
-    graph_only (unranked program) (one.graph _) (limits.nodes _) (limits.edges _) (limits.either _) c.in-Ok.graph (graph program program.ranks [] c.in-Ok.graph c.in-Ok.ensures.graph)
+    graph_only program (one.graph _) (limits.nodes _) (limits.edges _) (limits.either _) c.in-Ok.graph c.in-Ok.ensures.graph
 
 pub returns-in-Ok-graph_line-clause-means : goal.returns-in-Ok-graph_line-clause-means
 returns-in-Ok-graph_line-clause-means c =
@@ -19,6 +17,6 @@ returns-in-Ok-graph_line-clause-means c =
     let one = c.a_program_has_one_graph.ensures in
     let limits = c.limits_exclude_each_other.ensures in (
       refl,
-      limit_only (unranked program) (one.graph _) (limits.nodes _) (limits.edges _) (limits.either _) c.in-Err.fault c.in-Ok-graph_line.line.items
-          (tells_unranked program c.in-Err.fault c.in-Err.ensures.fault) c.in-Ok-graph_line.ensures,
+      limit_only program (one.graph _) (limits.nodes _) (limits.edges _) (limits.either _) c.in-Err.fault c.in-Ok-graph_line.line.items
+          c.in-Err.ensures.fault c.in-Ok-graph_line.ensures,
     )

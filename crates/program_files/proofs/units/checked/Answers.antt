@@ -6,7 +6,7 @@ use Rattle.program_files.proofs.units.checked.Goals as goal
 
 pub returns-in-Ok-clause-means : goal.returns-in-Ok-clause-means
 returns-in-Ok-clause-means c = rw c.in-Ok.ensures.unchanged.0
-    (checked_only (unit_of c.args.unit) c.args.root.now c.ranked_calls_have_no_cycle.ensures (record { ranks = c.in-Ok.program.ranks; is_program = c.in-Ok.ensures.passes }))
+    (checked_only (unit_of c.args.unit) c.args.root.now c.ranked_calls_have_no_cycle.ensures c.in-Ok.ensures.passes)
 
 pub returns-in-Ok-refusal_line-clause-means : goal.returns-in-Ok-refusal_line-clause-means
 returns-in-Ok-refusal_line-clause-means c =

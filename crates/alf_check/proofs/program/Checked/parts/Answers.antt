@@ -9,7 +9,7 @@ use Rattle.alf_check.proofs.program.Checked.parts.Goals as goal
 
 pub returns : goal.returns
 returns c =
-    let checked : CheckedParts = record { frames = c.self.inside.frames.items; funcs = c.self.inside.funcs.items; inits = c.self.inside.inits.items; exports = c.self.inside.exports.items; root = c.self.inside.root; ranks = c.self.inside.ranks.items } in
+    let checked : CheckedParts = record { frames = c.self.inside.frames.items; funcs = c.self.inside.funcs.items; inits = c.self.inside.inits.items; exports = c.self.inside.exports.items; root = c.self.inside.root } in
     let kept = c.self.invariant in
     let x = c.nth.result.now in
     let at : slice_get checked.funcs c.args.func ≡ Some x = search rules in

@@ -1,16 +1,14 @@
 -- The report of the exploration, or that places are left, is the only meaning.
-use Rattle.std.proofs.Common.{List, [], Ok, Err, refl, sym, subst}
+use Rattle.std.proofs.Common.{List, Ok, Err, refl, sym, subst}
 use Rattle.alf_check.specs.declared.rows.InputRow.{InputRow}
 use Rattle.alf_check.specs.CheckedPrograms.{seen}
 use Rattle.alf_check.specs.Inputs.{KeepInputs}
 use Rattle.flow_facts.specs.Reports.{Reported, certificate_of, reported}
-use Rattle.bounded_analyses.specs.Analyses.{IsPrintedReport}
+use Rattle.program_analysis.specs.BoundedAnalyses.{IsPrintedReport}
 use Rattle.command_plans.specs.Outcome.{Outcome, Unbounded}
 use Rattle.command_plans.specs.Work.{IsOnly}
-use Rattle.unranked_runs.specs.Ranking.{unranked}
 use Rattle.command_files.specs.Seen.{scoped_of}
 use Rattle.sweet_cli.specs.Analyse.{ReportMeans}
-use Rattle.unranked_runs.specs.RankedGraphs as ranks
 use Rattle.sweet_cli.proofs.JudgedReports.{report_only, left_only, printed_of, left_of}
 use Rattle.sweet_cli.proofs.commands.analyse.explored.Goals as goal
 
@@ -24,11 +22,11 @@ returns-in-Told c =
     let report = reported c.in-Told.report in
     let told = rw c.in-Told.is at c.in_ok-report.ensures in
     let keep = subst (λ (l : List InputRow). KeepInputs (seen checked) l) (sym c.as_slice-rows.ensures.value) c.requires.rows in
-    let priced = c.requires.priced (unranked (seen checked)) (ranks.graph (seen checked) (seen checked).ranks [] graph c.requires.graph) in
+    let priced = c.requires.priced (seen checked) c.requires.graph in
     let cert = certificate_of c.in-Told.cert in
     let printed = reported c.shown.result in
     let one = c.a_program_has_one_bounded_analysis.ensures in
-    let found = subst (λ (r : Reported). IsPrintedReport c.args.certify (unranked (seen checked)) graph rows costs c.args.policy c.args.turns c.args.pivots r) (sym c.shown.ensures)
+    let found = subst (λ (r : Reported). IsPrintedReport c.args.certify (seen checked) graph rows costs c.args.policy c.args.turns c.args.pivots r) (sym c.shown.ensures)
     (printed_of checked graph rows c.keeps.ensures c.requires.graph keep costs program.outline c.args.policy c.args.turns c.args.pivots c.args.certify report cert c.kept.ensures c.requires.outline priced told.found told.writable) in
     let only = report_only one.one one.printed c.args.certify (scoped_of program) rows costs c.args.policy c.args.turns c.args.pivots printed found in
     record {
@@ -47,7 +45,7 @@ returns-in_ok-line-in-Unbounded-clause-means c =
     let text = c.in_ok-line-in-Unbounded.line.items in
     let told = rw c.in-Unbounded.is at c.in_ok-report.ensures in
     let keep = subst (λ (l : List InputRow). KeepInputs (seen checked) l) (sym c.as_slice-rows.ensures.value) c.requires.rows in
-    let priced = c.requires.priced (unranked (seen checked)) (ranks.graph (seen checked) (seen checked).ranks [] graph c.requires.graph) in
+    let priced = c.requires.priced (seen checked) c.requires.graph in
     let found = left_of checked graph rows c.keeps.ensures c.requires.graph keep costs program.outline c.args.policy c.args.turns c.args.pivots scope c.kept.ensures c.requires.outline priced told.found in
     let one = c.a_program_has_one_bounded_analysis.ensures in
     let only = left_only one.one one.printed c.args.certify (scoped_of program) rows costs c.args.policy c.args.turns c.args.pivots scope text found c.in_ok-line-in-Unbounded.ensures in

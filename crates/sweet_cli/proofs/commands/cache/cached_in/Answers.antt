@@ -1,5 +1,5 @@
 -- Notes and what nodes cost have no part in the scopes, and the analysis is made of the program with both.
-use Rattle.std.proofs.Common.{◌≤◌, IfOk, [], refl, sym, ap, subst}
+use Rattle.std.proofs.Common.{◌≤◌, IfOk, refl, sym, ap, subst}
 use Rattle.alf_check.specs.CheckedPrograms.{seen}
 use Rattle.alf_check.specs.Inputs.{KeepInputs}
 use Rattle.flow_graph.specs.Numbering.{IsGraph}
@@ -11,8 +11,6 @@ use Rattle.cached_runs.specs.Answers.{lines_of}
 use Rattle.cache_analysis.specs.CodeAccesses.{HasCodeNotes}
 use Rattle.cache_analysis.specs.Sound.{IsSound}
 use Rattle.command_plans.specs.Works.{Judges}
-use Rattle.unranked_runs.specs.Ranking.{unranked}
-use Rattle.unranked_runs.specs.RankedGraphs as ranks
 use Rattle.command_files.specs.declared.scopes.ScopedProgram.{ScopedProgram as ScopedValue}
 use Rattle.command_files.specs.Scopes.{ScopedProgram}
 use Rattle.command_files.specs.Seen.{IsOutlined, scoped_of}
@@ -50,12 +48,12 @@ pub explored-requires-clause-costs : goal.explored-requires-clause-costs
 explored-requires-clause-costs c =
     let e = c.priced-program.result.expanded in
     let graph = subst (λ (e : Expanded). IsGraph (seen e.checked) e.graph) (sym c.priced-program.ensures.expanded) c.requires.graph in
-    subst (λ (p : ScopedValue). HasCosts (unranked (seen p.expanded.checked)) p.expanded.graph c.args.tables.now.costs p.outline) (sym c.in_ok-noted.ensures)
-    (c.priced-program.ensures.priced (unranked (seen e.checked)) (ranks.graph (seen e.checked) (seen e.checked).ranks [] e.graph graph))
+    subst (λ (p : ScopedValue). HasCosts (seen p.expanded.checked) p.expanded.graph c.args.tables.now.costs p.outline) (sym c.in_ok-noted.ensures)
+    (c.priced-program.ensures.priced (seen e.checked) graph)
 
 pub explored-requires-clause-noted : goal.explored-requires-clause-noted
 explored-requires-clause-noted c =
-    subst (λ (p : ScopedValue). HasCodeNotes (unranked (seen p.expanded.checked)) p.expanded.graph c.args.shape p.outline) (sym c.in_ok-noted.ensures) refl
+    subst (λ (p : ScopedValue). HasCodeNotes (seen p.expanded.checked) p.expanded.graph c.args.shape p.outline) (sym c.in_ok-noted.ensures) refl
 
 pub returns-clause-means : goal.returns-clause-means
 returns-clause-means c =
@@ -70,5 +68,5 @@ pub returns-clause-sound : goal.returns-clause-sound
 returns-clause-sound c =
     let rows = c.args.tables.now.rows.items in
     let costs = c.args.tables.now.costs in
-    subst (λ (e : Expanded). IfOk c.explored.result (λ lines. IsSound (unranked (seen e.checked)) e.graph rows c.args.shape costs (lines_of lines))) c.priced-program.ensures.expanded
-    (subst (λ (p : ScopedValue). IfOk c.explored.result (λ lines. IsSound (unranked (seen p.expanded.checked)) p.expanded.graph rows c.args.shape costs (lines_of lines))) c.in_ok-noted.ensures c.explored.ensures.sound)
+    subst (λ (e : Expanded). IfOk c.explored.result (λ lines. IsSound (seen e.checked) e.graph rows c.args.shape costs (lines_of lines))) c.priced-program.ensures.expanded
+    (subst (λ (p : ScopedValue). IfOk c.explored.result (λ lines. IsSound (seen p.expanded.checked) p.expanded.graph rows c.args.shape costs (lines_of lines))) c.in_ok-noted.ensures c.explored.ensures.sound)

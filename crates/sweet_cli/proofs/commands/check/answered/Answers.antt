@@ -1,5 +1,5 @@
 -- That nothing speaks against the report, or the line of what does, is the only answer.
-use Rattle.std.proofs.Common.{List, [], Ok, Err, Option, None, Some, refl, sym, subst}
+use Rattle.std.proofs.Common.{List, Ok, Err, Option, None, Some, refl, sym, subst}
 use Rattle.alf_check.specs.declared.rows.InputRow.{InputRow}
 use Rattle.alf_check.specs.CheckedPrograms.{seen}
 use Rattle.alf_check.specs.Inputs.{KeepInputs}
@@ -10,8 +10,6 @@ use Rattle.report_objections.specs.declared.objection.Objection.{Objection}
 use Rattle.report_objections.specs.Checks.{IsChecked}
 use Rattle.command_plans.specs.Outcome.{No}
 use Rattle.command_plans.specs.Work.{IsOnly}
-use Rattle.unranked_runs.specs.Ranking.{unranked}
-use Rattle.unranked_runs.specs.RankedGraphs as ranks
 use Rattle.command_files.specs.Seen.{scoped_of}
 use Rattle.sweet_cli.specs.Check.{CheckMeans, IsSoundOf}
 use Rattle.sweet_cli.proofs.JudgedChecks.{accepted_only, refused_only, check_of}
@@ -28,7 +26,7 @@ returns-in_ok-text-in-None-clause-means c =
     let report = reported c.args.report.now in
     let text = c.in_ok-text-in-None.text.items in
     let keep = subst (λ (l : List InputRow). KeepInputs (seen checked) l) (sym c.as_slice-rows.ensures.value) c.requires.rows in
-    let priced = c.requires.priced (unranked (seen checked)) (ranks.graph (seen checked) (seen checked).ranks [] graph c.requires.graph) in
+    let priced = c.requires.priced (seen checked) c.requires.graph in
     let none = subst (λ (a : Option Objection). IsChecked stepped_by parts_order (record { checked = checked; graph = graph; rows = rows }) program.outline report a) c.in-None.is c.in_ok-found.ensures.answer in
     let found = check_of checked graph rows c.keeps.ensures c.requires.graph keep costs program.outline report None c.kept.ensures c.requires.outline priced none in
     let only = accepted_only c.a_report_has_one_check.ensures (scoped_of program) rows costs report text found c.in_ok-text-in-None.ensures in
@@ -41,9 +39,9 @@ returns-in_ok-text-in-None-clause-sound c =
     let graph = program.expanded.graph in
     let costs = c.args.tables.now.costs in
     let report = reported c.args.report.now in
-    let priced = c.requires.priced (unranked (seen checked)) (ranks.graph (seen checked) (seen checked).ranks [] graph c.requires.graph) in
+    let priced = c.requires.priced (seen checked) c.requires.graph in
     let sound = c.in_ok-found.ensures.sound c.in-None.is costs (c.requires.priced (seen checked) c.requires.graph) in
-    subst (λ (l : List InputRow). IsSoundOf (unranked (seen checked)) graph l costs report) c.as_slice-rows.ensures.value
+    subst (λ (l : List InputRow). IsSoundOf (seen checked) graph l costs report) c.as_slice-rows.ensures.value
     (sound_of checked graph c.as_slice-rows.result.now costs program.outline report c.requires.outline priced sound)
 
 pub returns-in_ok-line-in-Some-clause-means : goal.returns-in_ok-line-in-Some-clause-means
@@ -57,7 +55,7 @@ returns-in_ok-line-in-Some-clause-means c =
     let objection = c.in-Some.objection in
     let text = c.in_ok-line-in-Some.line.items in
     let keep = subst (λ (l : List InputRow). KeepInputs (seen checked) l) (sym c.as_slice-rows.ensures.value) c.requires.rows in
-    let priced = c.requires.priced (unranked (seen checked)) (ranks.graph (seen checked) (seen checked).ranks [] graph c.requires.graph) in
+    let priced = c.requires.priced (seen checked) c.requires.graph in
     let some = subst (λ (a : Option Objection). IsChecked stepped_by parts_order (record { checked = checked; graph = graph; rows = rows }) program.outline report a) c.in-Some.is c.in_ok-found.ensures.answer in
     let found = check_of checked graph rows c.keeps.ensures c.requires.graph keep costs program.outline report (Some objection) c.kept.ensures c.requires.outline priced some in
     let only = refused_only c.a_report_has_one_check.ensures (scoped_of program) rows costs report objection text found c.in_ok-line-in-Some.ensures in

@@ -1,5 +1,5 @@
 -- What nodes cost has no part in the scopes, and the bounder is asked of the program with these costs.
-use Rattle.std.proofs.Common.{IfOk, [], sym, subst}
+use Rattle.std.proofs.Common.{IfOk, sym, subst}
 use Rattle.alf_check.specs.CheckedPrograms.{seen}
 use Rattle.alf_check.specs.Inputs.{KeepInputs}
 use Rattle.flow_graph.specs.Numbering.{IsGraph}
@@ -12,8 +12,6 @@ use Rattle.program_bounder.specs.declared.bounder.PathBounder.{PathBounder}
 use Rattle.program_bounder.specs.InputRows.{ranges_of}
 use Rattle.program_bounder.specs.InputCosts.{RunsCost}
 use Rattle.command_plans.specs.Works.{Judges}
-use Rattle.unranked_runs.specs.Ranking.{unranked}
-use Rattle.unranked_runs.specs.RankedGraphs as ranks
 use Rattle.command_files.specs.Scopes.{ScopedProgram}
 use Rattle.command_files.specs.Seen.{IsOutlined, scoped_of}
 use Rattle.sweet_cli.specs.SeenBounders.{BoxesMean}
@@ -39,8 +37,8 @@ pub searched-requires-clause-costs : goal.searched-requires-clause-costs
 searched-requires-clause-costs c =
     let e = c.priced-program.result.expanded in
     let graph = subst (λ (e : Expanded). IsGraph (seen e.checked) e.graph) (sym c.priced-program.ensures.expanded) c.requires.graph in
-    subst (λ (b : PathBounder). HasCosts (unranked (seen b.checked)) b.graph b.costs b.outline) (sym c.bounder_of-bounder.ensures)
-    (c.priced-program.ensures.priced (unranked (seen e.checked)) (ranks.graph (seen e.checked) (seen e.checked).ranks [] e.graph graph))
+    subst (λ (b : PathBounder). HasCosts (seen b.checked) b.graph b.costs b.outline) (sym c.bounder_of-bounder.ensures)
+    (c.priced-program.ensures.priced (seen e.checked) graph)
 
 pub returns-clause-means : goal.returns-clause-means
 returns-clause-means c =
@@ -54,5 +52,5 @@ pub returns-clause-bounds : goal.returns-clause-bounds
 returns-clause-bounds c =
     let rows = c.args.tables.rows.items in
     let costs = c.args.tables.costs in
-    subst (λ (e : Expanded). IfOk c.searched.result (λ found. Bounds (RunsCost (unranked (seen e.checked)) e.graph rows costs) (ranges_of rows) (found_of found))) c.priced-program.ensures.expanded
-    (subst (λ (b : PathBounder). IfOk c.searched.result (λ found. Bounds (RunsCost (unranked (seen b.checked)) b.graph b.rows.items b.costs) (ranges_of b.rows.items) (found_of found))) c.bounder_of-bounder.ensures c.searched.ensures.bounds)
+    subst (λ (e : Expanded). IfOk c.searched.result (λ found. Bounds (RunsCost (seen e.checked) e.graph rows costs) (ranges_of rows) (found_of found))) c.priced-program.ensures.expanded
+    (subst (λ (b : PathBounder). IfOk c.searched.result (λ found. Bounds (RunsCost (seen b.checked) b.graph b.rows.items b.costs) (ranges_of b.rows.items) (found_of found))) c.bounder_of-bounder.ensures c.searched.ensures.bounds)

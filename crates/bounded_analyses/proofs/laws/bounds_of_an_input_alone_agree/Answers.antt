@@ -1,5 +1,0 @@
-use Rattle.bounded_analyses.specs.AlikeBounds.{lone_bounds}
-use Rattle.bounded_analyses.proofs.laws.bounds_of_an_input_alone_agree.Goals as goal
-
-pub returns : goal.returns
-returns c = lone_bounds c.told_bounds_are_right.ensures c.parts_fit.ensures

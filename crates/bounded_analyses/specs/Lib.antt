@@ -1,5 +1,0 @@
-pub mod Analyses
-pub mod Sound
-pub mod Fitting
-pub mod Bounds
-pub mod AlikeBounds

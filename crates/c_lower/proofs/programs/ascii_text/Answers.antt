@@ -1,6 +1,0 @@
--- Bytes that are ASCII are a text.
-use Rattle.std.proofs.lemmas.Str.{IsUtf8-from_ascii}
-use Rattle.c_lower.proofs.programs.ascii_text.Goals as goal
-
-pub unreachable-requires : goal.unreachable-requires
-unreachable-requires c = c.in-Err.ensures.cases.0 (IsUtf8-from_ascii c.args.bytes.now c.requires)

@@ -6,3 +6,7 @@ pub mod Expressions
 pub mod Types
 pub mod Statements
 pub mod Units
+-- One induction over them.
+pub mod WalkLaws
+pub mod TypeWalkLaws
+pub mod StatementWalkLaws

@@ -6,7 +6,8 @@ use Rattle.c_grammar.specs.declared.others.Casts.{Casts}
 use Rattle.c_grammar.specs.declared.others.Others.{Others}
 use Rattle.c_grammar.specs.declared.symbol.Lead.{Lead}
 use Rattle.c_text.proofs.Taking.{Good, Takes, after_any, chain_takes, either_takes, first_good, first_holds, fitting, judged_takes, made_takes, mark_takes, one_takes, refused_takes, row_takes, seen_or, seen_then, ◌>>>◌}
-use Rattle.c_text.proofs.TypesTake.{before_either_takes, close_bracket_prints, close_paren_prints, comma_prints, integer_type_takes, open_bracket_prints, open_paren_prints, pointer_stars_takes, sees_takes, some_frames_takes}
+use Rattle.c_grammar.specs.TypeWalkLaws.{close_bracket_prints, close_paren_prints, comma_prints, open_bracket_prints, open_paren_prints}
+use Rattle.c_text.proofs.TypesTake.{before_either_takes, integer_type_takes, pointer_stars_takes, sees_takes, some_frames_takes}
 use Rattle.c_unit.specs.Tree.{CallTree, Expression, OfConstant, OfName, ValueTree}
 use Rattle.c_unit.specs.declared.expression.Unary.{Unary}
 use Rattle.grammar.specs.Each.{Each}

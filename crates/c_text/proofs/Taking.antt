@@ -27,7 +27,7 @@ Good t = (kind : Kind) → kind_of t.text ≡ Some kind → t.symbol ≡ symbol_
 pub record Takes {A : Type 0} (p : Form Seen Room Fault A) : Type 0 where
   pub each : (at : Place) (x : A) (rest : Place) → p.Spells at x rest → Each Good rest.ahead → Each Good at.ahead
 
-same : (at rest : Place) → rest ≡ at → Each Good rest.ahead → Each Good at.ahead
+pub same : (at rest : Place) → rest ≡ at → Each Good rest.ahead → Each Good at.ahead
 same at rest e g = subst (λ (p : Place). Each Good p.ahead) e g
 
 -- ---- tokens

@@ -39,6 +39,11 @@ all_may assigning.Assign = tt
 all_may (assigning.Update op) = tt
 all_may (assigning.Step up) = tt
 
+-- at the place of a switch's body a block stands
+abbrev pub IsBlock : Standing → Statement → Type 0
+IsBlock standings.SwitchBlock s = (ss : Statements) × (s ≡ tree.Block ss)
+IsBlock _ s = ⊤
+
 pub record StatementWalk (walk : Walk) : Type 1 where
   -- ---- what is asked: of a token that is counted, of a declared name, of a size of an array, of an operator with =
   pub One : walk.Count → Type 0
@@ -311,11 +316,6 @@ module _ {walk : Walk} (w : StatementWalk walk) where
   while_word_quiet : Quiet walk while_word.form
   unfolding while_word
   while_word_quiet = w.tokens.marks (codes "while") others.Nothing while_prints
-
-  -- at the place of a switch's body a block stands
-  abbrev pub IsBlock : Standing → Statement → Type 0
-  IsBlock standings.SwitchBlock s = (ss : Statements) × (s ≡ tree.Block ss)
-  IsBlock _ s = ⊤
 
   abbrev pub IsStanding : Standing → Statement → walk.Count → Type 0
   IsStanding place s m = w.Stands s m × IsBlock place s

@@ -14,7 +14,7 @@ use Rattle.grammar.specs.Form.{Form, left}
 use Rattle.grammar.specs.Rule.{value, ◌>>=◌, ◌>>◌}
 use Rattle.c_lowered.specs.Conditions.{condition_labels}
 use Rattle.c_lowered.specs.Statements.{is_case, cases_in, labels_in, labels_in_all}
-use Rattle.std.proofs.Common.{Bool, List, [], ◌∷◌, Option, Some, None, refl, ℕ, ◌+◌, ◌*◌, ◌≡◌, ◌≤◌, arith}
+use Rattle.std.proofs.Common.{Bool, List, [], ◌∷◌, Option, Some, None, refl, true, ℕ, ◌+◌, ◌*◌, ◌≡◌, ◌≤◌, arith}
 use Rattle.std.specs.Prelude.{⊤}
 use Rattle.c_limits.proofs.Spending.{Spends, less, strict, total}
 use Rattle.c_limits.proofs.LabelExpressions.{condition_spends}

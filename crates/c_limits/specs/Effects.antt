@@ -186,146 +186,23 @@ module _ (words : List Word) where
   abbrev pub IsEffect : EffectTree → List ℕ → List ℕ → ℕ → Type 0
   IsEffect = Is (λ e. []) calls_in_effect (λ e. 0) (InEffect Shallow)
 
-  call_effect_fits : (p : ℕ) (last : Bool) → Fits words (call_effect p last).form IsEffect
-  unfolding call_effect
-  call_effect_fits p last =
-      fits_last words (call_fits p) (λ c ds calls el is.
-      q_then words (q_takes words (before_takes (effect_end last) (rest_after_postfix true))) (λ _ _. q_made words (Calls c) is))
-
-  prefix_step_fits : (p : ℕ) (last : Bool) → Fits words (prefix_step p last).form IsEffect
-  unfolding prefix_step step
-  prefix_step_fits p last =
-      fits_quiet words (q_then words (q_takes words (one_takes (λ t. fits_step_of t.symbol t)))
-      (λ s _. q_then words (target_deep words p casts.Refused others.Steps) (λ e low.
-      q_then words (q_takes words (before_takes (effect_end last) (rest_of true e))) (λ _ _. q_made words (Steps e s.0 s.1) (refl, refl, refl, low)))))
-
-  assign_fits : (p : ℕ) (last : Bool) (to : Expression) (n : ℕ) → Shallow to → Fits words (assign p last to n).form IsEffect
-  unfolding assign
-  assign_fits p last to n low =
-      fits_last words (assigned_fits p others.Steps)
-      (λ v ds calls el is. q_then words (q_takes words (before_takes (effect_end last) (rest_of_value true v)))
-      (λ _ _. q_made words (Assigns to n v) (is.0, is.1, is.2, (low, is.3))))
-
-  update_fits : (p : ℕ) (last : Bool) (to : Expression) (op : Binary) (n : ℕ) → Shallow to → Fits words (update p last to op n).form IsEffect
-  unfolding update
-  update_fits p last to op n low =
-      fits_quiet words (q_then words (whole_expr_deep words p others.Steps)
-      (λ e less. q_then words (q_takes words (before_takes (effect_end last) (rest_of true e)))
-      (λ _ _. q_made words (Updates to op n e) (refl, refl, refl, (low, less)))))
-
-  postfix_step_fits : (last : Bool) (to : Expression) (up : Bool) (n : ℕ) → Shallow to → Fits words (postfix_step last to up n).form IsEffect
-  unfolding postfix_step
-  postfix_step_fits last to up n low =
-      fits_quiet words (q_then words (q_takes words (before_takes (effect_end last) (rest_after_postfix true)))
-      (λ _ _. q_made words (Steps to up n) (refl, refl, refl, low)))
-
-  effect_after_fits : (p : ℕ) (last : Bool) (to : Expression) (a : Assigning) (n : ℕ) → Shallow to → Fits words (effect_after p last to a n).form IsEffect
-  unfolding effect_after
-  effect_after_fits p last to assigning.Assign n low = assign_fits p last to n low
-  effect_after_fits p last to (assigning.Update op) n low = update_fits p last to op n low
-  effect_after_fits p last to (assigning.Step up) n low = postfix_step_fits last to up n low
-
-  target_effect_fits : (p : ℕ) (o : Others) (last : Bool) → Fits words (target_effect p o last).form IsEffect
-  unfolding target_effect assigning_mark
-  target_effect_fits p o last =
-      fits_after words (target_deep words p casts.Outside o)
-      (λ to low. fits_after words (q_takes words (one_takes _))
-      (λ a _. fits_last words (effect_after_fits p last to a.0 a.1 low) (λ e ds calls el is. q_made words e is)))
-
-  other_effect_fits : (p : ℕ) (o : Others) (last : Bool) → Fits words (other_effect p o last).form IsEffect
-  unfolding other_effect
-  other_effect_fits p o last =
-      fits_after words (q_takes words judged_takes)
-      (λ s _. fits_last words (fits_either words s (prefix_step p last) (target_effect p o last) (prefix_step_fits p last)
-      (target_effect_fits p o last)) (λ e ds calls el is. q_made words e is))
-
-  pub effect_fits : (p : ℕ) (o : Others) (last : Bool) → Fits words (effect p o last).form IsEffect
-  unfolding effect
-  effect_fits p o last =
-      fits_after words (q_takes words sees_call_takes)
-      (λ c _. fits_last words (fits_either words c (call_effect (p - 1) last) (other_effect p o last) (call_effect_fits (p - 1) last)
-      (other_effect_fits p o last)) (λ e ds calls el is. q_made words e is))
-
   -- ---- locals
-
-  local_end_takes : (o : Others) → Takes (local_end o).form
-  unfolding local_end
-  local_end_takes o = before_either_takes (codes ",") (codes ";") o
-
-  initial_fits : Fits words initial.form IsValue
-  unfolding initial
-  initial_fits =
-      fits_after words (q_takes words assign_mark_takes)
-      (λ _ _. fits_last words (assigned_fits most_parens others.StepsAndBraces) (λ v ds calls el is. q_made words v is))
 
   abbrev pub IsFirst : Option ValueTree → List ℕ → List ℕ → ℕ → Type 0
   IsFirst = Is (λ v. []) calls_if_valued (λ v. 0) (IfValue Shallow)
-
-  first_fits : Fits words (maybe at_assign initial).form IsFirst
-  first_fits = fits_maybe words at_assign initial.form IsValue IsFirst initial_fits (refl, refl, refl, tt) (λ v ds calls el is. is)
 
   abbrev pub IsLocal : LocalTree → List ℕ → List ℕ → ℕ → Type 0
   IsLocal =
       Is (λ (l : LocalTree). l.name ∷ []) (λ (l : LocalTree). calls_in_shape l.shape) (λ (l : LocalTree). elements_of words l.shape)
       (λ (l : LocalTree). InShape Shallow l.shape)
 
-  -- the name stands before
-  abbrev AfterName : ℕ → LocalTree → List ℕ → List ℕ → ℕ → Type 0
-  AfterName n l ds calls el = IsLocal l (n ∷ ds) calls el
-
-  pointer_local_fits : Fits words pointer_local.form IsLocal
-  unfolding pointer_local
-  pointer_local_fits =
-      fits_after words (q_takes words star_takes) (λ _ _. fits_declared words others.Stars (λ t. fits_last words first_fits (λ v ds calls el is.
-      q_then words (q_takes words (local_end_takes (after_local others.BracketsAndParens v)))
-      (λ _ _. q_made words _ (ap (λ (xs : List ℕ). t.number ∷ xs) is.0, is.1, is.2, is.3)))))
-
-  array_local_fits : (n : ℕ) → Fits words (array_local n).form (AfterName n)
-  unfolding array_local
-  array_local_fits n = fits_last words (array_fits words) (λ a ds calls el is. q_made words _ (ap (λ (xs : List ℕ). n ∷ xs) is.0, is.1, is.2, tt))
-
-  integer_local_fits : (n : ℕ) → Fits words (integer_local n).form (AfterName n)
-  unfolding integer_local
-  integer_local_fits n =
-      fits_last words first_fits (λ v ds calls el is. q_then words (q_takes words (local_end_takes (after_local others.Parens v)))
-      (λ _ _. q_made words _ (ap (λ (xs : List ℕ). n ∷ xs) is.0, is.1, is.2, is.3)))
-
-  plain_local_fits : Fits words plain_local.form IsLocal
-  unfolding plain_local
-  plain_local_fits =
-      fits_declared words others.Nothing (λ t. fits_after words (q_takes words (sees_takes (codes "["))) (λ b _.
-      fits_last words (fits_either words b (weaken (array_local t.number)) (integer_local t.number) (array_local_fits t.number)
-      (integer_local_fits t.number)) (λ l ds calls el is. q_made words l is)))
-
-  local_fits : Fits words local.form IsLocal
-  unfolding local
-  local_fits =
-      fits_after words (q_takes words (sees_takes (codes "*")))
-      (λ p _. fits_last words (fits_either words p pointer_local plain_local pointer_local_fits plain_local_fits)
-      (λ l ds calls el is. q_made words l is))
-
-  further_local_fits : Fits words further_local.form IsLocal
-  unfolding further_local
-  further_local_fits = fits_after words (q_takes words comma_mark_takes) (λ _ _. fits_last words local_fits (λ l ds calls el is. q_made words l is))
-
   abbrev pub AreLocals : List LocalTree → List ℕ → List ℕ → ℕ → Type 0
   AreLocals = Is tokens_of calls_in_locals (elements_of_all words) (InLocals Shallow)
 
-  one_more : (l : LocalTree) (ls : List LocalTree) (ds calls : List ℕ) (el : ℕ) (es more : List ℕ) (fl : ℕ) → IsLocal l ds calls el
+  pub one_more : (l : LocalTree) (ls : List LocalTree) (ds calls : List ℕ) (el : ℕ) (es more : List ℕ) (fl : ℕ) → IsLocal l ds calls el
       → AreLocals ls es more fl → AreLocals (l ∷ ls) (ds ++ es) (calls ++ more) (el + fl)
   one_more l ls ds calls el es more fl is are =
       (ap₂ (λ (xs ys : List ℕ). xs ++ ys) is.0 are.0, ap₂ (λ (xs ys : List ℕ). xs ++ ys) is.1 are.1, ap₂ (λ (x y : ℕ). x + y) is.2 are.2, (is.3, are.3))
 
   abbrev pub IsStatement : Statement → List ℕ → List ℕ → ℕ → Type 0
   IsStatement = Is tokens_in calls_in (elements_in words) (InStatement Shallow Shallow)
-
-  pub declaration_fits : Fits words declaration.form IsStatement
-  unfolding declaration
-  declaration_fits =
-      fits_after words (q_takes words next_number_takes)
-      (λ n _. fits_after words (q_takes words (integer_type_takes settings.Block))
-      (λ i _. fits_then words local_fits (λ l ds calls el is.
-      fits_last words (fits_row words at_list_comma further_local.form IsLocal AreLocals further_local_fits (refl, refl, refl, tt)
-      one_more) (λ ls es more fl are.
-      q_then words (q_takes words (semicolon_takes others.Nothing))
-      (λ _ _. q_made words (Declares n i (l ∷ ls)) (one_more l ls ds calls el es more fl is are))))))

@@ -121,6 +121,14 @@ module _ {w : Walk} where
   pub judged_spelled : {A : Type 0} {fit : Place → Result A Fault} → Quiet w (judged fit)
   judged_spelled = record { each = λ at x rest s. goes_nowhere w at rest (λ m. m ≡ w.none) s.1 refl }
 
+  -- of whose value something is known
+  pub judged_so : {A : Type 0} {fit : Place → Result A Fault} {R : A → Type 0} → ((at : Place) (x : A) → fit at ≡ Ok x → R x) → Quietly w (judged fit) R
+  judged_so {R = R} h = record { each = λ at x rest s. goes_nowhere w at rest (λ m. (m ≡ w.none) × R x) s.1 (refl, h at x s.0) }
+
+  -- before it nothing is counted
+  pub from_none : {A : Type 0} {p : Form Seen Room Fault A} {P : A → w.Count → Type 0} → Spelled w p (λ x m. P x (w.join w.none m)) → Spelled w p P
+  from_none {P = P} h = spelled_as h (λ x m k. subst (P x) (w.none_before m) k)
+
   pub refused_spelled : {A : Type 0} {fault : Place → Fault} {P : A → w.Count → Type 0} → Spelled w (refused {A = A} fault) P
   refused_spelled = record { each = λ at x rest s. absurd s }
 

@@ -17,7 +17,7 @@ use Rattle.c_lowered.specs.Statements.{is_case, cases_in, labels_in, labels_in_a
 use Rattle.std.proofs.Common.{Bool, List, [], ◌∷◌, Option, Some, None, refl, true, ℕ, ◌+◌, ◌*◌, ◌≡◌, ◌≤◌, arith}
 use Rattle.std.specs.Prelude.{⊤}
 use Rattle.c_limits.proofs.Spending.{Spends, less, strict, total}
-use Rattle.c_limits.proofs.LabelExpressions.{condition_spends}
+use Rattle.c_limits.proofs.LabelExpressions.{One, free_so, label_condition_goes, label_tokens, label_walk, one_so, quiet_so}
 
 abbrev block_cases : Statement → ℕ
 block_cases (tree.Block ss) = cases_in ss
@@ -26,63 +26,8 @@ block_cases _ = 0
 abbrev pub weight : Statement → ℕ
 weight s = is_case s + labels_in s + block_cases s
 
--- ---- labels against tokens
-
-none_before : (m : ℕ) → 0 + m ≡ m
-none_before m = omega arith
-
-none_after : (m : ℕ) → m + 0 ≡ m
-none_after m = omega arith
-
-joined : (m n k : ℕ) → m + (n + k) ≡ m + n + k
-joined m n k = omega arith
-
-no_tokens : (m : ℕ) → 0 + 4 * m ≤ 4 * m
-no_tokens m = omega arith
-
-both : (m n at mid rest : ℕ) → m + 4 * mid ≤ 4 * at → n + 4 * rest ≤ 4 * mid → m + n + 4 * rest ≤ 4 * at
-both m n at mid rest first second = omega arith
-
--- so many labels are allocated, four for a token at most
-abbrev label_walk : Walk
-label_walk = record {
-  Count = ℕ;
-  none = 0;
-  join = λ m n. m + n;
-  none_before = none_before;
-  none_after = none_after;
-  joined = joined;
-  Goes = λ at P rest. (m : ℕ) × P m × (m + 4 * left rest ≤ 4 * left at);
-  stays = λ at P h. (0, h, no_tokens (left at));
-  goes_on = λ at mid rest P Q hp hq. let k = hq hp.0 hp.1 in (hp.0 + k.0, k.1, both hp.0 k.0 (left at) (left mid) (left rest) hp.2 k.2);
-}
-
-quiet_so : {some : Bool} {A : Type 0} (r : Rule some A) → Quiet label_walk r.form
-quiet_so r = record { each = λ at x rest s. (0, refl, let low = (less r).each at x rest s in omega (arith, low)) }
-
-free_so : {some : Bool} {A : Type 0} (r : Rule some A) → Spelled label_walk r.form (λ x m. ⊤)
-free_so r = record { each = λ at x rest s. (0, tt, let low = (less r).each at x rest s in omega (arith, low)) }
-
--- a token takes four
-abbrev One : ℕ → Type 0
-One m = 4 ≤ m
-
-one_so : {A : Type 0} (r : Rule true A) → Spelled label_walk r.form (λ x m. One m)
-one_so r = record { each = λ at x rest s. (4, omega arith, let low = (strict r).each at x rest s in omega (arith, low)) }
-
-spent_so : {A : Type 0} {p : Form Seen Room Fault A} {f : A → ℕ} → Spends 0 p f → Spelled label_walk p (λ x m. f x ≤ m)
-spent_so {f = f} h = record { each = λ at x rest s. (f x, omega arith, let low = h.each at x rest s in omega (arith, low)) }
-
 any_assigning : (to : Expression) (last : Bool) → Quietly label_walk (assigning_mark to last).form (λ a. MayAssign (λ op. ⊤) a.0)
 any_assigning to last = record { each = λ at x rest s. (0, (refl, all_may x.0), let low = (less (assigning_mark to last)).each at x rest s in omega (arith, low)) }
-
-label_tokens : TypeTokens label_walk
-label_tokens = record {
-  marks = λ word o _. quiet_so (mark word o);
-  names = λ o. quiet_so (name o);
-  constants = λ o. quiet_so (constant o);
-  specifiers = λ setting w. quiet_so (specifier setting w);
-}
 
 -- ---- statements
 
@@ -154,7 +99,7 @@ label_statements = record {
   sized = free_so array_size;
   values = λ p o. free_so (whole_expr p o);
   targets = λ p c o. free_so (target p c o);
-  conditions = λ p. spent_so (condition_spends p);
+  conditions = label_condition_goes;
   calls = λ p. seen_anywhere _ (free_so (call p));
   assigned_values = λ p o. free_so (assigned p o);
   call_effects = λ c m _. tt;

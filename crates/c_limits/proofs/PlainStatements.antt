@@ -23,7 +23,7 @@ use Rattle.lowering_values.specs.Agreement.{IsPlain}
 use Rattle.lowering_simulation.specs.Plain.{CallIsPlain, IsPlainCondition, IfIsPlain, ValueIsPlain, FirstIsPlain, EffectIsPlain, LastIsPlain, ShapeIsPlain, LocalsArePlain, StatementIsPlain, StatementsArePlain}
 use Rattle.c_limits.proofs.Keeping.{Keeps, Makes, is_plain_update, made_keeps, mark_keeps, one_keeps, one_makes, ◌>>>◌}
 use Rattle.c_limits.proofs.TypesKeep.{array_size_keeps, fine_tokens, fine_walk, free_so, made_so, name_keeps, quiet_so, some_frames_keeps}
-use Rattle.c_limits.proofs.PlainExpressions.{assigned_makes, call_makes, condition_makes, some_token_keeps, target_makes, whole_expr_makes}
+use Rattle.c_limits.proofs.PlainExpressions.{call_goes, plain_assigned_goes, plain_condition_goes, plain_target_goes, some_token_keeps, value_goes}
 
 -- ---- tokens
 
@@ -108,11 +108,11 @@ plain_walk = record {
   words = seen_anywhere _ (quiet_so some_token_keeps);
   named = λ o. free_so (name_keeps o >>> λ t. some_frames_keeps 1 >>> λ _. made_keeps);
   sized = free_so array_size_keeps;
-  values = λ p o. made_so (whole_expr_makes p o);
-  targets = λ p c o. made_so (target_makes p c o);
-  conditions = λ p. made_so (condition_makes p);
-  calls = λ p. seen_anywhere _ (made_so (call_makes p));
-  assigned_values = λ p o. made_so (assigned_makes p o);
+  values = value_goes;
+  targets = plain_target_goes;
+  conditions = plain_condition_goes;
+  calls = call_goes;
+  assigned_values = plain_assigned_goes;
   call_effects = λ c m plain. plain;
   step_effects = λ e up n m plain. plain;
   assign_effects = λ to n v a m plain made. (plain, made);

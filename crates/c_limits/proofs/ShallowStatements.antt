@@ -15,7 +15,7 @@ use Rattle.c_limits.proofs.TypesKeep.{array_size_keeps, fine_tokens, fine_walk, 
 use Rattle.c_rules.specs.SpelledExpressions.{IfValue, InCall, InValue, InEffect, IfEffect, IfCondition, InShape, InLocals, InStatement, InStatements}
 use Rattle.c_limits.proofs.PlainExpressions.{some_token_keeps}
 use Rattle.c_limits.proofs.PlainStatements.{step_keeps}
-use Rattle.c_limits.proofs.Depths.{Shallow, assigned_makes, call_makes, condition_makes, target_makes, whole_expr_makes}
+use Rattle.c_limits.proofs.Depths.{Shallow, call_goes, shallow_assigned_goes, shallow_condition_goes, shallow_target_goes, value_goes}
 
 abbrev pub StatementIsShallow : Statement → Type 0
 StatementIsShallow s = InStatement Shallow Shallow s
@@ -75,11 +75,11 @@ shallow_walk = record {
   words = seen_anywhere _ (quiet_so some_token_keeps);
   named = λ o. free_so (name_keeps o >>> λ t. some_frames_keeps 1 >>> λ _. made_keeps);
   sized = free_so array_size_keeps;
-  values = λ p o. made_so (whole_expr_makes p o);
-  targets = λ p c o. made_so (target_makes p c o);
-  conditions = λ p. made_so (condition_makes p);
-  calls = λ p. seen_anywhere _ (made_so (call_makes p));
-  assigned_values = λ p o. made_so (assigned_makes p o);
+  values = value_goes;
+  targets = shallow_target_goes;
+  conditions = shallow_condition_goes;
+  calls = call_goes;
+  assigned_values = shallow_assigned_goes;
   call_effects = λ c m low. low;
   step_effects = λ e up n m low. low;
   assign_effects = λ to n v a m low made. (low, made);

@@ -1,5 +1,6 @@
 -- The rules of statements take tokens that can be printed.
 use Rattle.c_grammar.specs.Expressions.{at_call, call, is_postfix, some_token}
+use Rattle.c_grammar.specs.ExpressionWalkLaws.{condition_goes, target_goes, whole_expr_goes}
 use Rattle.c_grammar.specs.StatementWalkLaws.{MayAssign, StatementWalk, all_may, standing_goes}
 use Rattle.c_grammar.specs.Statements.{assigning_mark, fits_assigning_of, fits_step_of, is_statement, semicolon, standing, step}
 use Rattle.c_grammar.specs.Tokens.{Place, Seen, at_symbol, misfit}
@@ -7,7 +8,7 @@ use Rattle.c_grammar.specs.TypeWalkLaws.{semicolon_prints}
 use Rattle.c_grammar.specs.WalkLaws.{Quiet, Quietly, Spelled, seen}
 use Rattle.c_grammar.specs.declared.others.Others.{Others}
 use Rattle.c_grammar.specs.declared.standing.Standing.{Standing}
-use Rattle.c_text.proofs.ExpressionsTake.{assigned_takes, call_from, condition_takes, target_takes, whole_expr_takes}
+use Rattle.c_text.proofs.ExpressionsTake.{call_goes, good_assigned_goes, good_expressions}
 use Rattle.c_text.proofs.Taking.{Good, Takes, first_good, fitting, made_takes, mark_takes, one_takes, same, ◌>>>◌}
 use Rattle.c_text.proofs.TypesTake.{array_size_takes, free_so, good_tokens, good_walk, name_takes, quiet_so, some_frames_takes}
 use Rattle.c_unit.specs.Tree.{Expression}
@@ -35,9 +36,6 @@ assigning_goes to last = record { each = λ at x rest s. ((refl, all_may x.0), (
 word_goes : Quiet good_walk (seen (λ at. at_symbol is_statement at) some_token.form)
 unfolding some_token
 word_goes = record { each = λ at t rest s. (refl, λ g. first_good is_statement at.ahead refl s.0 (same (after at) rest s.1.1 g)) }
-
-call_goes : (p : ℕ) → Spelled good_walk (seen at_call (call p).form) (λ c m. ⊤)
-call_goes p = record { each = λ at c rest s. (tt, λ g. call_from p at c rest s.0 s.1 g) }
 
 pub semicolon_takes : (o : Others) → Takes (semicolon o).form
 unfolding semicolon
@@ -69,11 +67,11 @@ good_statements = record {
   words = word_goes;
   named = λ o. free_so (name_takes o >>> λ t. some_frames_takes 1 >>> λ _. made_takes);
   sized = free_so array_size_takes;
-  values = λ p o. free_so (whole_expr_takes p o);
-  targets = λ p c o. free_so (target_takes p c o);
-  conditions = λ p. free_so (condition_takes p);
+  values = whole_expr_goes good_expressions;
+  targets = target_goes good_expressions;
+  conditions = condition_goes good_expressions;
   calls = call_goes;
-  assigned_values = λ p o. free_so (assigned_takes p o);
+  assigned_values = good_assigned_goes;
   call_effects = λ c m _. tt;
   step_effects = λ e up n m _. tt;
   assign_effects = λ to n v a m _ _. tt;

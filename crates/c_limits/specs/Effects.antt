@@ -27,12 +27,9 @@ use Rattle.c_grammar.specs.Statements.{declaration}
 use Rattle.c_rules.specs.SpelledExpressions.{Every, InCall, InValue, IfValue, InEffect, InShape, InLocals, InStatement}
 use Rattle.c_rules.specs.Counts.{tokens_of, elements_of, elements_of_all, tokens_in, elements_in}
 use Rattle.c_limits.specs.Taking.{Good, Later, later_on, same_place, Takes, judged_takes, made_takes, mark_takes, one_takes, ◌>>>◌}
-use Rattle.c_limits.specs.TypesTake.{assign_mark_takes, before_either_takes, before_takes, comma_mark_takes, integer_type_takes}
-use Rattle.c_limits.specs.TypesTake.{next_number_takes, sees_takes, star_takes}
-use Rattle.c_limits.specs.ExpressionsTake.{open_paren_takes, close_paren_takes, comma_takes, sees_call_takes}
 use Rattle.c_limits.specs.Measuring.{one_if, Quietly, Fits, q_takes, q_made, q_then, q_either, fits_quiet, fits_after, fits_last}
 use Rattle.c_limits.specs.Measuring.{fits_then, fits_either, fits_maybe, fits_row}
-use Rattle.c_limits.specs.Depths.{whole_expr_deep, target_deep}
+use Rattle.c_limits.specs.Depths.{arguments_deep, open_paren_takes, sees_call_takes, whole_expr_deep}
 use Rattle.c_limits.specs.Spending.{Shallow, Spends, frames_spend, token_seen, fits_declared, array_fits}
 
 module _ (words : List Word) where
@@ -42,47 +39,6 @@ module _ (words : List Word) where
   pub semicolon_takes : (o : Others) → Takes (semicolon o).form
   unfolding semicolon
   semicolon_takes o = mark_takes (codes ";") o >>> λ _. made_takes
-
-  -- ---- arguments
-
-  pub q_row : {A : Type 0} {R : A → Type 0} (goes_on : Place → Bool) (p : Form Seen Room Fault A) (S : List A → Type 0)
-      → Quietly words p R → S [] → ((x : A) (xs : List A) → R x → S xs → S (x ∷ xs)) → Quietly words (row goes_on p) S
-  q_row {A = A} {R = R} goes_on p S h none some = record { each = λ at xs rest s. rows at xs rest s.0 }
-    where
-      rows : (at : Place) (xs : List A) (rest : Place) → InARow goes_on p at xs rest → Later at rest × S xs
-      rows at [] rest s = (same_place at rest s, none)
-      rows at (x ∷ xs) rest s =
-          let a = h.each at x s.1.0 s.1.1 in
-          let b = rows s.1.0 xs rest s.1.2 in
-          (later_on at s.1.0 rest a.0 b.0, some x xs a.1 b.1)
-
-  argument_deep : (p : ℕ) → Quietly words (argument p).form Shallow
-  unfolding argument
-  argument_deep p =
-      q_then words (whole_expr_deep words p others.Steps)
-      (λ e low. q_then words (q_takes words (before_either_takes (codes ",") (codes ")") (rest_of false e)))
-      (λ _ _. q_made words e low))
-
-  further_argument_deep : (p : ℕ) → Quietly words (further_argument p).form Shallow
-  unfolding further_argument
-  further_argument_deep p = q_then words (q_takes words comma_takes) (λ _ _. q_then words (argument_deep p) (λ e low. q_made words e low))
-
-  some_arguments_deep : (p : ℕ) → Quietly words (some_arguments p).form (Every Shallow)
-  unfolding some_arguments
-  some_arguments_deep p =
-      q_then words (argument_deep p) (λ e low. q_then words
-      (q_row at_comma (further_argument p).form (Every Shallow) (further_argument_deep p) tt (λ x xs h i. (h, i))) (λ es lows.
-      q_then words (q_takes words (close_paren_takes others.Nothing)) (λ _ _. q_made words (e ∷ es) (low, lows))))
-
-  no_arguments_deep : Quietly words no_arguments.form (Every Shallow)
-  unfolding no_arguments
-  no_arguments_deep = q_then words (q_takes words (close_paren_takes others.Nothing)) (λ _ _. q_made words [] tt)
-
-  arguments_deep : (p : ℕ) → Quietly words (arguments p).form (Every Shallow)
-  unfolding arguments
-  arguments_deep p =
-      q_then words (q_takes words (sees_takes (codes ")")))
-      (λ none _. q_either words none no_arguments (some_arguments p) no_arguments_deep (some_arguments_deep p))
 
   -- ---- calls
 
@@ -125,7 +81,7 @@ module _ (words : List Word) where
         let same = ok_is {F = Fault} seen.t t seen.fits in
         let paren = open_paren_takes.each named mark opened mark_spelled in
         let spent = call_frame_spends t.text opened framed frame frame_taken in
-        let args = (arguments_deep p).each framed list listed list_spelled in
+        let args = (arguments_deep words p).each framed list listed list_spelled in
         let last = same_place listed rest end.1 in
         let room1 : opened.room ≡ at.room = paren.room ∙ seen.room in
         let room2 : rest.room ≡ framed.room = last.room ∙ args.0.room in

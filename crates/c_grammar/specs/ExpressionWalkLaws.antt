@@ -1,10 +1,10 @@
 -- The walk over expressions and calls.
 --   ExpressionWalk walk   what is asked of tokens and of each production; `expr_goes` is what follows
 --   Below w d             what is asked of an operand where operators are nested d times at most
-use Rattle.c_grammar.specs.Expressions.{Inner, Operand, after_cast_type, argument, arguments, assigned, at_call, at_comma, at_index, at_operation, bracketed, bracketed_indexed, call, call_frame, called_value, cast, cast_others, cast_type, close_bracket, close_paren, comma, condition, expr, expr_of, expr_within, fits_operator_of, further_argument, index, indexed, is_logical, is_not, is_operation_of, is_shallow, joins_conditions, lead, may_stand, no_arguments, no_inner, no_operand, one_paren, open_bracket, open_paren, operand, operand_after, operation, operator, parenthesised, plain_value, prefixed, rank_of, rest_of, sees_call, shallow, some_arguments, some_depth, some_token, takes_cast, target, whole_expr}
-use Rattle.c_grammar.specs.Tokens.{Fault, Limit, Place, Room, Seen, Syntax, at_text, is_first, most_depth}
+use Rattle.c_grammar.specs.Expressions.{Inner, Operand, after_cast_type, argument, arguments, assigned, at_call, at_comma, at_index, at_operation, bracketed, bracketed_indexed, call, called_value, cast, cast_others, cast_type, close_bracket, close_paren, comma, condition, expr, expr_of, expr_within, fits_operator_of, further_argument, index, indexed, is_logical, is_not, is_operation_of, is_shallow, joins_conditions, lead, may_stand, no_arguments, no_inner, no_operand, one_paren, open_bracket, open_paren, operand, operand_after, operation, operator, parenthesised, plain_value, prefixed, rank_of, rest_of, sees_call, shallow, some_arguments, some_depth, takes_cast, target, whole_expr}
+use Rattle.c_grammar.specs.Tokens.{Fault, Limit, Place, Seen, Syntax, at_text, is_first, most_depth}
 use Rattle.c_grammar.specs.TypeWalkLaws.{TypeTokens, before_either_quiet, close_bracket_prints, close_paren_prints, comma_prints, integer_type_quiet, open_bracket_prints, open_paren_prints, pointer_stars_quiet, sees_quiet}
-use Rattle.c_grammar.specs.WalkLaws.{Quiet, Quietly, Spelled, Walk, chain_spelled, done, either_spelled, first_seen, from_none, judged_so, judged_spelled, refused_spelled, row_spelled, seen, seen_either, spelled_as, ◌>>+◌, ◌>>-◌, ◌>>!◌, ◌>>=◌}
+use Rattle.c_grammar.specs.WalkLaws.{Quiet, Quietly, Spelled, Walk, chain_spelled, done, either_spelled, first_seen, from_none, judged_so, judged_spelled, refused_spelled, row_spelled, seen, seen_either, ◌>>+◌, ◌>>-◌, ◌>>!◌, ◌>>=◌}
 use Rattle.c_grammar.specs.declared.others.Casts.{Casts}
 use Rattle.c_grammar.specs.declared.others.Others.{Others}
 use Rattle.c_grammar.specs.declared.symbol.Lead.{Lead}
@@ -16,7 +16,7 @@ use Rattle.c_unit.specs.declared.expression.Unary.{Unary}
 use Rattle.c_unit.specs.declared.types.Scalar.{Scalar}
 use Rattle.grammar.specs.Exact.{ok_is, ok_no_err}
 use Rattle.grammar.specs.Form.{bound, fit_first, first_of, made}
-use Rattle.std.proofs.Common.{Bool, Err, List, [], ◌∷◌, None, Ok, Result, cond, false, if◌then◌else◌, nat_le, nat_lt, leb-true, not, refl, subst, suc, true, zero, ℕ, ◌&&◌, ◌+◌, ◌-◌, ◌<◌, ◌≤◌, ◌≡◌, arith}
+use Rattle.std.proofs.Common.{Bool, Err, List, [], ◌∷◌, None, Ok, Result, false, if◌then◌else◌, nat_le, nat_lt, leb-true, not, refl, subst, suc, true, zero, ℕ, ◌&&◌, ◌+◌, ◌-◌, ◌<◌, ◌≤◌, ◌≡◌, arith}
 use Rattle.std.proofs.lemmas.Bool.{false≢true}
 use Rattle.std.specs.Prelude.{codes}
 use Rattle.c_grammar.specs.declared.others.Casts.TheVariants as casts

@@ -1,8 +1,8 @@
 -- The walk over statements: what holds of the parts of each production holds of what stands at each place.
 --   StatementWalk walk    what is asked of tokens, of values, and of each production; `standing_goes` is what follows
 use Rattle.c_grammar.specs.Expressions.{assigned, at_call, call, close_paren, condition, open_paren, rest_after_postfix, rest_of, rest_of_value, sees_call, some_token, target, whole_expr}
-use Rattle.c_grammar.specs.Statements.{Inside, after_local, after_word, array_local, assign, assigning_mark, at_else, block, break_after, call_effect, case_label, colon, continue_after, controlling, declaration, declared_first, default_label, do_after, effect, effect_after, effect_end, effect_first, effect_statement, else_part, empty_condition, empty_first, empty_last, empty_statement, fits_too_nested, for_after, for_condition, for_first, for_last, further_local, if_after, in_block, initial, innermost, innermost_item, integer_local, is_statement, item, items_of, label, label_end, leaving_after, local, local_end, may_begin, other_effect, others_at, placed_statement, plain_local, pointer_local, postfix_step, prefix_step, return_after, return_nothing, return_value, semicolon, some_condition, some_first, some_last, standing, statement, step, switch_after, switch_item, switch_value, target_effect, unworded, unworded_long, update, while_after, while_word, worded, worded_after}
-use Rattle.c_grammar.specs.Tokens.{Fault, Limit, Place, Room, Rule, Seen, before, at_symbol, either, mark, misfit, most_parens, name, one, some_frames}
+use Rattle.c_grammar.specs.Statements.{Inside, after_local, array_local, assign, assigning_mark, at_else, block, break_after, call_effect, case_label, colon, continue_after, controlling, declaration, declared_first, default_label, do_after, effect, effect_after, effect_end, effect_first, effect_statement, else_part, empty_condition, empty_first, empty_last, empty_statement, fits_too_nested, for_after, for_condition, for_first, for_last, further_local, if_after, in_block, initial, innermost, innermost_item, integer_local, is_statement, item, items_of, label, label_end, leaving_after, local, local_end, may_begin, other_effect, others_at, placed_statement, plain_local, pointer_local, postfix_step, prefix_step, return_after, return_nothing, return_value, semicolon, some_condition, some_first, some_last, standing, statement, step, switch_after, switch_item, switch_value, target_effect, unworded, unworded_long, update, while_after, while_word, worded, worded_after}
+use Rattle.c_grammar.specs.Tokens.{Fault, Limit, Room, Rule, Seen, before, at_symbol, mark, misfit, most_parens, name, one, some_frames}
 use Rattle.c_grammar.specs.Types.{after_array, array, array_size, at_assign, at_list_comma}
 use Rattle.c_grammar.specs.TypeWalkLaws.{TypeTokens, assign_mark_quiet, before_either_quiet, before_quiet, case_prints, close_brace_quiet, close_paren_prints, colon_prints, comma_mark_quiet, default_prints, element_list_quiet, else_prints, integer_type_quiet, next_number_quiet, open_brace_prints, open_paren_prints, sees_quiet, semicolon_prints, signed_constant_quiet, star_quiet, while_prints}
 use Rattle.c_grammar.specs.WalkLaws.{IfThere, at_end, Quiet, Quietly, Spelled, Walk, done, either_spelled, first_seen, judged_spelled, maybe_quiet, maybe_spelled, never_spelled, row_spelled, seen, seen_value, spelled_as, ◌>>+◌, ◌>>-◌, ◌>>!◌, ◌>>=◌}

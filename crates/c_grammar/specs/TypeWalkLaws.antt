@@ -1,6 +1,6 @@
 -- The walk over types and declarators, in which nothing is counted.
 --   TypeTokens walk    what is asked of single tokens: nothing is counted for a mark, a name, a constant or a word of a type
-use Rattle.c_grammar.specs.Tokens.{Place, Rule, before, before_either, constant, mark, name, next_number, sees}
+use Rattle.c_grammar.specs.Tokens.{before, before_either, constant, mark, name, next_number, sees}
 use Rattle.c_grammar.specs.Types.{after_constant, after_plain, after_pointer, assign_mark, at_const, at_further, at_list_comma, at_name, at_specifier, bracketed_type, close_brace, comma_mark, const_word, element, element_list, elements, empty_brackets, further_element, further_parameter, integer_told, integer_type, left_bracket, minus_constant, minus_sign, no_parameters, no_words, parameter_end, parameter_tail, parameters, parameters_after, parameters_from, plain_constant, plain_parameter, pointer_parameter, pointer_stars, pointer_to, right_bracket, right_paren, signed_constant, some_parameters, specifier, star, type_of, type_told, void_parameters}
 use Rattle.c_grammar.specs.WalkLaws.{Walk, Quiet, chain_quiet, done, either_spelled, judged_spelled, maybe_quiet, row_quiet, ◌>>-◌}
 use Rattle.c_grammar.specs.declared.others.Others.{Others}

@@ -2,15 +2,14 @@
 use Rattle.c_grammar.specs.ExpressionWalkLaws.{ExpressionWalk, arguments_goes, assigned_goes, open_paren_quiet}
 use Rattle.c_grammar.specs.Expressions.{arguments, assigned, at_call, call, call_frame, fits_lead_of, fits_operator_of, lead, open_paren, operator, some_token}
 use Rattle.c_grammar.specs.Symbols.{is_name, lead_of}
-use Rattle.c_grammar.specs.Tokens.{Fault, Place, Room, Seen, at_symbol, at_text, misfit, some_frames}
+use Rattle.c_grammar.specs.Tokens.{at_symbol, at_text, misfit, some_frames}
 use Rattle.c_grammar.specs.WalkLaws.{Quiet, Spelled, done, first_seen, seen, ◌>>-◌, ◌>>!◌}
 use Rattle.c_grammar.specs.declared.others.Others.{Others}
-use Rattle.c_text.proofs.Taking.{Good, Takes, either_takes, first_good, first_holds, fitting, judged_takes, made_takes, one_takes, same, ◌>>>◌}
+use Rattle.c_text.proofs.Taking.{Takes, either_takes, first_good, first_holds, fitting, judged_takes, made_takes, one_takes, same, ◌>>>◌}
 use Rattle.c_text.proofs.TypesTake.{free_so, good_tokens, good_walk, quiet_so, some_frames_takes, takes_so}
-use Rattle.grammar.specs.Each.{Each}
 use Rattle.grammar.specs.Form.{after, bound, made}
 use Rattle.grammar.specs.Rule.{value}
-use Rattle.std.proofs.Common.{Bool, List, refl, ℕ, ◌≡◌}
+use Rattle.std.proofs.Common.{List, refl, ℕ}
 use Rattle.std.specs.Prelude.{codes, ⊤}
 use Rattle.c_grammar.specs.declared.others.Others.TheVariants as others
 

@@ -1,13 +1,12 @@
 -- Rules that take tokens which can be printed.
 --   Good t     a token that is what its bytes are to the grammar can be printed
 --   Takes p    where what p leaves is good, all that stands ahead of it is
-use Rattle.std.proofs.Common.{◌≡◌, ℕ, zero, suc, Bool, true, false, ◌&&◌, cond, List, [], ◌∷◌, Result, Ok, Err, Option, Some, None, refl, sym, subst, ◌∙◌}
+use Rattle.std.proofs.Common.{◌≡◌, ℕ, Bool, true, false, ◌&&◌, cond, List, [], ◌∷◌, Result, Ok, Err, Option, Some, None, refl, sym, subst, ◌∙◌}
 use Rattle.std.specs.Str.{bytes_eq}
 use Rattle.std.proofs.lemmas.Slice.Eq.{bytes_eq-Decides}
-use Rattle.grammar.specs.Form.{first_of, others_of, after, Form, fit_first, bound, made, refused, judged, InARow, row, AtMostOne, at_most_one}
-use Rattle.grammar.specs.Exact.{ok_is, ok_no_err}
+use Rattle.grammar.specs.Form.{first_of, others_of, after, Form, fit_first, bound, made, judged, InARow, row, AtMostOne, at_most_one}
+use Rattle.grammar.specs.Exact.{ok_no_err}
 use Rattle.grammar.specs.Each.{Each}
-use Rattle.grammar.specs.Chain.{InTurn, chain}
 use Rattle.c_tokens.specs.declared.token.Kind.{Kind}
 use Rattle.c_tokens.specs.declared.token.Kind.TheVariants as kinds
 use Rattle.c_tokens.specs.Kinds.{kind_of}
@@ -17,7 +16,6 @@ use Rattle.c_grammar.specs.declared.symbol.Symbol.TheVariants as symbols
 use Rattle.c_grammar.specs.declared.others.Others.{Others}
 use Rattle.c_grammar.specs.Symbols.{symbol_of}
 use Rattle.c_grammar.specs.Tokens.{Fault, Syntax, Seen, Room, Place, Rule, misfit, one, mark, fits_text, either, is_first}
-use Rattle.c_grammar.specs.Expressions.{some_token}
 
 -- a token that is what its bytes are to the grammar can be printed
 abbrev pub Good : Seen → Type 0

@@ -1,27 +1,75 @@
 -- How many labels conditions allocate, against their tokens.
-use Rattle.c_grammar.specs.Expressions.{Inner, Operand, at_index, at_operation, bracketed, bracketed_indexed, cast, cast_others, cast_type, close_bracket, close_paren, condition, expr, expr_of, expr_within, index, indexed, is_not, joins_conditions, lead, no_inner, no_operand, one_paren, open_bracket, operand, operand_after, operation, operator, parenthesised, prefixed, rank_of, rest_of, shallow, some_depth, takes_cast}
-use Rattle.c_grammar.specs.Symbols.{starts_type}
-use Rattle.c_grammar.specs.Tokens.{most_depth, sees_symbol}
-use Rattle.c_grammar.specs.declared.others.Casts.{Casts}
-use Rattle.c_grammar.specs.declared.others.Others.{Others}
-use Rattle.c_grammar.specs.declared.symbol.Lead.{Lead}
-use Rattle.c_grammar.specs.declared.symbol.Lead.TheVariants as leads
-use Rattle.c_grammar.specs.declared.others.Casts.TheVariants as casts
-use Rattle.c_grammar.specs.declared.others.Others.TheVariants as others
-use Rattle.c_unit.specs.Tree.{Expression, OfConstant, OfName, WithUnary, WithBinary}
+--   label_walk    so many labels are allocated, four for a token at most
+use Rattle.c_grammar.specs.ExpressionWalkLaws.{ExpressionWalk, condition_goes}
+use Rattle.c_grammar.specs.Expressions.{condition, lead, operator}
+use Rattle.c_grammar.specs.Tokens.{Fault, Room, Rule, Seen, constant, mark, name}
+use Rattle.c_grammar.specs.TypeWalkLaws.{TypeTokens}
+use Rattle.c_grammar.specs.Types.{specifier}
+use Rattle.c_grammar.specs.WalkLaws.{Quiet, Spelled, Walk}
+use Rattle.c_unit.specs.Tree.{Expression, AtIndex, WithUnary, WithBinary}
 use Rattle.c_unit.specs.declared.expression.Unary.{Unary}
 use Rattle.c_unit.specs.declared.expression.Unary.TheVariants as unary
 use Rattle.c_unit.specs.declared.expression.Binary.{Binary}
 use Rattle.c_unit.specs.declared.expression.Binary.TheVariants as binary
 use Rattle.c_lowered.specs.Conditions.{condition_labels}
-use Rattle.std.proofs.Common.{Bool, false, true, suc, zero, ℕ, ◌&&◌, ◌+◌, ◌≤◌, arith}
-use Rattle.c_limits.proofs.Spending.{Spends, alone, chain_spends, done, either_spends, less, nothing, strict, ◌>>-◌, ◌>>!◌, ◌>>+◌}
+use Rattle.grammar.specs.Form.{left}
+use Rattle.std.proofs.Common.{Bool, List, refl, true, ℕ, ◌+◌, ◌*◌, ◌≡◌, ◌≤◌, arith}
+use Rattle.std.specs.Prelude.{⊤}
+use Rattle.c_limits.proofs.Spending.{less, strict}
 
-abbrev DeeperSpends : Operand → Type 0
-DeeperSpends deeper = (min : ℕ) (logical : Bool) → Spends 0 (deeper min logical).form condition_labels
+-- ---- labels against tokens
 
-abbrev InnerSpends : Inner → Type 0
-InnerSpends inner = (logical : Bool) (o : Others) → Spends 0 (inner logical o).form condition_labels
+pub none_before : (m : ℕ) → 0 + m ≡ m
+none_before m = omega arith
+
+pub none_after : (m : ℕ) → m + 0 ≡ m
+none_after m = omega arith
+
+pub joined : (m n k : ℕ) → m + (n + k) ≡ m + n + k
+joined m n k = omega arith
+
+pub no_tokens : (m : ℕ) → 0 + 4 * m ≤ 4 * m
+no_tokens m = omega arith
+
+pub both : (m n at mid rest : ℕ) → m + 4 * mid ≤ 4 * at → n + 4 * rest ≤ 4 * mid → m + n + 4 * rest ≤ 4 * at
+both m n at mid rest first second = omega arith
+
+-- so many labels are allocated, four for a token at most
+abbrev pub label_walk : Walk
+label_walk = record {
+  Count = ℕ;
+  none = 0;
+  join = λ m n. m + n;
+  none_before = none_before;
+  none_after = none_after;
+  joined = joined;
+  Goes = λ at P rest. (m : ℕ) × P m × (m + 4 * left rest ≤ 4 * left at);
+  stays = λ at P h. (0, h, no_tokens (left at));
+  goes_on = λ at mid rest P Q hp hq. let k = hq hp.0 hp.1 in (hp.0 + k.0, k.1, both hp.0 k.0 (left at) (left mid) (left rest) hp.2 k.2);
+}
+
+pub quiet_so : {some : Bool} {A : Type 0} (r : Rule some A) → Quiet label_walk r.form
+quiet_so r = record { each = λ at x rest s. (0, refl, let low = (less r).each at x rest s in omega (arith, low)) }
+
+pub free_so : {some : Bool} {A : Type 0} (r : Rule some A) → Spelled label_walk r.form (λ x m. ⊤)
+free_so r = record { each = λ at x rest s. (0, tt, let low = (less r).each at x rest s in omega (arith, low)) }
+
+-- a token takes four
+abbrev pub One : ℕ → Type 0
+One m = 4 ≤ m
+
+pub one_so : {A : Type 0} (r : Rule true A) → Spelled label_walk r.form (λ x m. One m)
+one_so r = record { each = λ at x rest s. (4, omega arith, let low = (strict r).each at x rest s in omega (arith, low)) }
+
+pub label_tokens : TypeTokens label_walk
+label_tokens = record {
+  marks = λ word o _. quiet_so (mark word o);
+  names = λ o. quiet_so (name o);
+  constants = λ o. quiet_so (constant o);
+  specifiers = λ setting w. quiet_so (specifier setting w);
+}
+
+-- ---- expressions
 
 binary_low : (op : Binary) (n : ℕ) (l r : Expression) → condition_labels (WithBinary op n l r) ≤ condition_labels l + 4 + condition_labels r
 binary_low binary.Both n l r = omega arith
@@ -32,65 +80,30 @@ unary_low : (op : Unary) (n : ℕ) (e : Expression) → condition_labels (WithUn
 unary_low unary.Not n e = omega arith
 unary_low _ n e = omega arith
 
-operation_spends : (d : ℕ) (deeper : Operand) → DeeperSpends deeper → (logical : Bool) (l : Expression) → Spends (condition_labels l) (operation d deeper logical l).form condition_labels
-unfolding operation
-operation_spends d deeper deeper_spends logical l = strict operator >>! λ op. less (shallow d l) >>- λ _. deeper_spends (rank_of op.0 + 1) (logical && joins_conditions op.0) >>+ λ r. done (binary_low op.0 op.1 l r)
+binary_heavy : (op : Binary) (n : ℕ) (l r : Expression) (a b m : ℕ) → One b → condition_labels l ≤ a → condition_labels r ≤ m → condition_labels (WithBinary op n l r) ≤ a + (b + m)
+binary_heavy op n l r a b m one low low' = let most = binary_low op n l r in omega (arith, most, one, low, low')
 
-index_spends : (d : ℕ) (deeper : Operand) → DeeperSpends deeper → (base : Expression) → Spends (condition_labels base) (index d deeper base).form condition_labels
-unfolding index
-index_spends d deeper deeper_spends base = less open_bracket >>- λ n. less (shallow d base) >>- λ _. deeper_spends 1 false >>+ λ i. less (close_bracket (rest_of true i)) >>- λ _. done (omega arith)
+unary_heavy : (op : Unary) (n : ℕ) (e : Expression) (m : ℕ) → condition_labels e ≤ m → condition_labels (WithUnary op n e) ≤ m
+unary_heavy op n e m low = let most = unary_low op n e in omega (arith, most, low)
 
-indexed_spends : (k d : ℕ) (deeper : Operand) → DeeperSpends deeper → (base : Expression) → condition_labels base ≤ k → Spends k (indexed d deeper base).form condition_labels
-indexed_spends k d deeper deeper_spends base low = chain_spends at_index (λ base. (index d deeper base).form) k (index_spends d deeper deeper_spends) base low
+index_heavy : (base : Expression) (n : ℕ) (i : Expression) (a m : ℕ) → condition_labels (AtIndex base n i) ≤ a + m
+index_heavy base n i a m = omega arith
 
-parenthesised_spends : (inner : Inner) → InnerSpends inner → (logical : Bool) (o : Others) (n : ℕ) → Spends 0 (parenthesised inner logical o n).form condition_labels
-unfolding parenthesised
-parenthesised_spends inner inner_spends logical o n = inner_spends logical o >>+ λ e. less (close_paren (rest_of true e)) >>- λ _. done (omega arith)
+abbrev label_expressions : ExpressionWalk label_walk
+label_expressions = record {
+  Joining = One;
+  Good = λ d logical e m. condition_labels e ≤ m;
+  tokens = label_tokens;
+  leads = λ o. quiet_so (lead o);
+  operators = one_so operator;
+  names = λ d logical n. omega arith;
+  constants = λ d logical n. omega arith;
+  parens = λ d logical n e m low. low;
+  casts = λ d logical n t e m low. omega arith;
+  unaries = λ d logical op n e m low. unary_heavy op n e m low;
+  indexes = λ d logical base n i a m _ _ _ _. index_heavy base n i a m;
+  binaries = λ d min logical op n left right a b m _ _ one low low'. binary_heavy op n left right a b m one low low';
+}
 
-cast_spends : (d : ℕ) (deeper : Operand) → DeeperSpends deeper → (n : ℕ) → Spends 0 (cast d deeper n).form condition_labels
-unfolding cast
-cast_spends d deeper deeper_spends n = less (some_depth d) >>- λ _. less cast_type >>- λ t. deeper_spends 11 false >>+ λ e. done (omega arith)
-
-bracketed_spends : (p d : ℕ) (inner : Inner) → InnerSpends inner → (deeper : Operand) → DeeperSpends deeper → (logical : Bool) (c : Casts) (n : ℕ) → Spends 0 (bracketed p d inner deeper logical c n).form condition_labels
-unfolding bracketed
-bracketed_spends p d inner inner_spends deeper deeper_spends logical c n = less (one_paren p) >>- λ _. less (sees_symbol starts_type) >>- λ type. either_spends (takes_cast c && type) (cast d deeper n) (parenthesised inner logical (cast_others c) n) (cast_spends d deeper deeper_spends n) (parenthesised_spends inner inner_spends logical (cast_others c) n)
-
-prefixed_spends : (d : ℕ) (deeper : Operand) → DeeperSpends deeper → (logical : Bool) (op : Unary) (n : ℕ) → Spends 0 (prefixed d deeper logical op n).form condition_labels
-unfolding prefixed
-prefixed_spends d deeper deeper_spends logical op n = less (some_depth d) >>- λ _. deeper_spends 11 (logical && is_not op) >>+ λ e. done (unary_low op n e)
-
-bracketed_indexed_spends : (p d : ℕ) (inner : Inner) → InnerSpends inner → (deeper : Operand) → DeeperSpends deeper → (logical : Bool) (c : Casts) (n : ℕ) → Spends 0 (bracketed_indexed p d inner deeper logical c n).form condition_labels
-unfolding bracketed_indexed
-bracketed_indexed_spends p d inner inner_spends deeper deeper_spends logical c n = bracketed_spends p d inner inner_spends deeper deeper_spends logical c n >>+ λ e. alone (indexed_spends (0 + condition_labels e) d deeper deeper_spends e (omega arith))
-
-operand_after_spends : (p d : ℕ) (inner : Inner) → InnerSpends inner → (deeper : Operand) → DeeperSpends deeper → (logical : Bool) (c : Casts) (l : Lead) (n : ℕ) → Spends 0 (operand_after p d inner deeper logical c l n).form condition_labels
-unfolding operand_after
-operand_after_spends p d inner inner_spends deeper deeper_spends logical c leads.Name n = indexed_spends 0 d deeper deeper_spends (OfName n) (omega arith)
-operand_after_spends p d inner inner_spends deeper deeper_spends logical c leads.Constant n = indexed_spends 0 d deeper deeper_spends (OfConstant n) (omega arith)
-operand_after_spends p d inner inner_spends deeper deeper_spends logical c leads.Paren n = bracketed_indexed_spends p d inner inner_spends deeper deeper_spends logical c n
-operand_after_spends p d inner inner_spends deeper deeper_spends logical c (leads.Prefix op) n = prefixed_spends d deeper deeper_spends logical op n
-
-operand_spends : (p d : ℕ) (inner : Inner) → InnerSpends inner → (deeper : Operand) → DeeperSpends deeper → (logical : Bool) (c : Casts) (o : Others) → Spends 0 (operand p d inner deeper logical c o).form condition_labels
-unfolding operand
-operand_spends p d inner inner_spends deeper deeper_spends logical c o = less (lead o) >>- λ l. operand_after_spends p d inner inner_spends deeper deeper_spends logical c l.0 l.1 >>+ λ e. done (omega arith)
-
-expr_of_spends : (p d : ℕ) (inner : Inner) → InnerSpends inner → (deeper : Operand) → DeeperSpends deeper → (min : ℕ) (logical : Bool) (c : Casts) (o : Others) → Spends 0 (expr_of p d inner deeper min logical c o).form condition_labels
-unfolding expr_of
-expr_of_spends p d inner inner_spends deeper deeper_spends min logical c o = operand_spends p d inner inner_spends deeper deeper_spends logical c o >>+ λ l.
-    alone (chain_spends (at_operation min logical) (λ l. (operation d deeper logical l).form) (0 + condition_labels l) (operation_spends d deeper deeper_spends logical) l (omega arith))
-
-within_spends : (p : ℕ) (inner : ℕ → Inner) → ((d : ℕ) → InnerSpends (inner d)) → (d min : ℕ) (logical : Bool) (c : Casts) (o : Others) → Spends 0 (expr_within p inner d min logical c o).form condition_labels
-unfolding expr_within
-within_spends p inner h zero min logical c o = expr_of_spends p zero (inner zero) (h zero) no_operand (λ min logical. nothing) min logical c o
-within_spends p inner h (suc d) min logical c o =
-    expr_of_spends p (suc d) (inner (suc d)) (h (suc d)) (λ min logical. expr_within p inner d min logical casts.Taken others.Steps)
-    (λ min logical. within_spends p inner h d min logical casts.Taken others.Steps) min logical c o
-
-expr_spends : (p d min : ℕ) (logical : Bool) (c : Casts) (o : Others) → Spends 0 (expr p d min logical c o).form condition_labels
-unfolding expr
-expr_spends zero d min logical c o = within_spends zero no_inner (λ d logical o. nothing) d min logical c o
-expr_spends (suc p) d min logical c o = within_spends (suc p) (λ d logical o. expr p d 1 logical casts.Taken o) (λ d logical o. expr_spends p d 1 logical casts.Taken o) d min logical c o
-
-pub condition_spends : (p : ℕ) → Spends 0 (condition p).form condition_labels
-unfolding condition
-condition_spends p = expr_spends p most_depth 1 true casts.Taken others.Steps
+pub label_condition_goes : (p : ℕ) → Spelled label_walk (condition p).form (λ e m. condition_labels e ≤ m)
+label_condition_goes p = condition_goes label_expressions p

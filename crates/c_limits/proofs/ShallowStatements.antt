@@ -1,48 +1,21 @@
 -- In what rules of statements spell each value and each condition is shallow.
-use Rattle.c_grammar.specs.Expressions.{rest_after_postfix, rest_of, rest_of_value}
-use Rattle.c_grammar.specs.Statements.{Inside, after_local, after_word, array_local, assign, assigning_mark, at_else, block, break_after, call_effect, case_label, colon, continue_after, controlling, declaration, declared_first, default_label, do_after, effect, effect_after, effect_end, effect_first, effect_statement, else_part, empty_condition, empty_first, empty_last, empty_statement, fits_too_nested, for_after, for_condition, for_first, for_last, further_local, if_after, in_block, initial, innermost, innermost_item, integer_local, item, items_of, label, label_end, leaving_after, local, local_end, may_begin, other_effect, others_at, placed_statement, plain_local, pointer_local, postfix_step, prefix_step, return_after, return_nothing, return_value, semicolon, some_condition, some_first, some_last, standing, statement, step, switch_after, switch_item, switch_value, target_effect, unworded, unworded_long, update, while_after, while_word, worded, worded_after}
-use Rattle.c_grammar.specs.Tokens.{Fault, Limit, Rule, Seen, misfit, most_parens, one}
-use Rattle.c_grammar.specs.Types.{at_assign, at_list_comma}
-use Rattle.c_grammar.specs.declared.others.Others.{Others}
+use Rattle.c_grammar.specs.Expressions.{assigned, call, condition, some_token, target, whole_expr}
+use Rattle.c_grammar.specs.StatementWalkLaws.{MayAssign, StatementWalk, all_may, standing_goes}
+use Rattle.c_grammar.specs.Statements.{assigning_mark, standing}
+use Rattle.c_grammar.specs.WalkLaws.{IfThere, Quietly, seen_anywhere}
 use Rattle.c_grammar.specs.declared.standing.Assigning.{Assigning}
 use Rattle.c_grammar.specs.declared.standing.Standing.{Standing}
-use Rattle.c_grammar.specs.declared.standing.Assigning.TheVariants as assigning
-use Rattle.c_grammar.specs.declared.others.Casts.TheVariants as casts
-use Rattle.c_grammar.specs.declared.others.Others.TheVariants as others
-use Rattle.c_grammar.specs.declared.specifiers.Setting.TheVariants as settings
-use Rattle.c_grammar.specs.declared.standing.Standing.TheVariants as standings
-use Rattle.c_unit.specs.Tree.{EffectTree, Expression, LocalTree, Statement, Statements, Block, ValueTree, statements_of, if_of, for_of}
+use Rattle.c_unit.specs.Tree.{EffectTree, Expression, Statement, Statements, ValueTree, statements_of, if_of, for_of}
 use Rattle.c_unit.specs.declared.expression.Binary.{Binary}
-use Rattle.flow_base.specs.declared.place.Which.TheVariants as which
-use Rattle.grammar.specs.Exact.{ok_no_err}
-use Rattle.grammar.specs.Rule.{weaken}
-use Rattle.std.proofs.Common.{Bool, List, [], ◌∷◌, Option, Some, None, Err, Ok, cond, false, true, suc, zero, ℕ, ◌-◌, ◌≡◌}
-use Rattle.std.specs.Prelude.{codes}
-use Rattle.std.specs.Str.{bytes_eq}
+use Rattle.std.proofs.Common.{Bool, List, [], ◌∷◌, Option, Some, None, refl, ℕ, ◌≡◌}
+use Rattle.std.specs.Prelude.{⊤}
 use Rattle.lowering_layout.specs.Lists.{EachOf}
-use Rattle.c_limits.proofs.Keeping.{IfMade, Keeps, Makes, done, either_makes, judged_keeps, made_keeps, mark_keeps, maybe_makes, one_keeps, one_makes, row_makes, ◌>>>◌, ◌>>-◌, ◌>>+◌}
-use Rattle.c_limits.proofs.TypesKeep.{array_keeps, assign_mark_keeps, before_either_keeps, before_keeps, close_brace_keeps, comma_mark_keeps, integer_type_keeps, name_keeps, next_number_keeps, sees_keeps, signed_constant_keeps, some_frames_keeps, star_keeps}
-use Rattle.c_rules.specs.SpelledExpressions.{IfValue, InValue, InEffect, IfEffect, IfCondition, InShape, InLocals, InStatement, InStatements}
-use Rattle.c_limits.proofs.PlainExpressions.{close_paren_keeps, open_paren_keeps, sees_call_keeps, some_token_keeps}
-use Rattle.c_limits.proofs.Depths.{Shallow, assigned_makes, call_makes, condition_makes, target_makes, whole_expr_makes}
-
-abbrev ValueIsShallow : ValueTree → Type 0
-ValueIsShallow v = InValue Shallow v
-
-abbrev FirstIsShallow : Option ValueTree → Type 0
-FirstIsShallow v = IfValue Shallow v
-
-abbrev EffectIsShallow : EffectTree → Type 0
-EffectIsShallow e = InEffect Shallow e
-
-abbrev LastIsShallow : Option EffectTree → Type 0
-LastIsShallow e = IfEffect Shallow e
-
-abbrev IfIsShallow : Option Expression → Type 0
-IfIsShallow e = IfCondition Shallow e
-
-abbrev LocalsAreShallow : List LocalTree → Type 0
-LocalsAreShallow locals = InLocals Shallow locals
+use Rattle.c_limits.proofs.Keeping.{Makes, made_keeps, mark_keeps, one_keeps, ◌>>>◌}
+use Rattle.c_limits.proofs.TypesKeep.{array_size_keeps, fine_tokens, fine_walk, free_so, made_so, name_keeps, quiet_so, some_frames_keeps}
+use Rattle.c_rules.specs.SpelledExpressions.{IfValue, InCall, InValue, InEffect, IfEffect, IfCondition, InShape, InLocals, InStatement, InStatements}
+use Rattle.c_limits.proofs.PlainExpressions.{some_token_keeps}
+use Rattle.c_limits.proofs.PlainStatements.{step_keeps}
+use Rattle.c_limits.proofs.Depths.{Shallow, call_goes, shallow_assigned_goes, shallow_condition_goes, shallow_target_goes, value_goes}
 
 abbrev pub StatementIsShallow : Statement → Type 0
 StatementIsShallow s = InStatement Shallow Shallow s
@@ -50,328 +23,96 @@ StatementIsShallow s = InStatement Shallow Shallow s
 abbrev pub StatementsAreShallow : Statements → Type 0
 StatementsAreShallow ss = InStatements Shallow Shallow ss
 
--- ---- effects
-
-call_effect_makes : (p : ℕ) (last : Bool) → Makes (call_effect p last).form EffectIsShallow
-unfolding call_effect
-call_effect_makes p last = call_makes p >>+ λ c made. before_keeps (effect_end last) (rest_after_postfix true) >>- λ _. done made
-
-step_keeps : Keeps step.form
-unfolding step
-step_keeps = one_keeps
-
-prefix_step_makes : (p : ℕ) (last : Bool) → Makes (prefix_step p last).form EffectIsShallow
-unfolding prefix_step
-prefix_step_makes p last = step_keeps >>- λ s. target_makes p casts.Refused others.Steps >>+ λ e made. before_keeps (effect_end last) (rest_of true e) >>- λ _. done made
-
-assigning_mark_keeps : (to : Expression) (last : Bool) → Keeps (assigning_mark to last).form
+any_assigning : (to : Expression) (last : Bool) → Quietly fine_walk (assigning_mark to last).form (λ a. MayAssign (λ op. ⊤) a.0)
 unfolding assigning_mark
-assigning_mark_keeps to last = one_keeps
+any_assigning to last = record { each = λ at x rest s g. ((refl, all_may x.0), one_keeps.each at x rest s g) }
 
-assign_makes : (p : ℕ) (last : Bool) (to : Expression) (n : ℕ) → Shallow to → Makes (assign p last to n).form EffectIsShallow
-unfolding assign
-assign_makes p last to n plain = assigned_makes p others.Steps >>+ λ v made. before_keeps (effect_end last) (rest_of_value true v) >>- λ _. done (plain, made)
+-- ---- what may be missing
 
-update_makes : (p : ℕ) (last : Bool) (to : Expression) (op : Binary) (n : ℕ) → Shallow to → Makes (update p last to op n).form EffectIsShallow
-unfolding update
-update_makes p last to op n plain = whole_expr_makes p others.Steps >>+ λ e made. before_keeps (effect_end last) (rest_of true e) >>- λ _. done (plain, made)
+first_made : (v : Option ValueTree) (m : Unit {0}) → IfThere fine_walk (λ v m. InValue Shallow v) v m → IfValue Shallow v
+first_made None m made = tt
+first_made (Some v) m made = made
 
-postfix_step_makes : (last : Bool) (to : Expression) (up : Bool) (n : ℕ) → Shallow to → Makes (postfix_step last to up n).form EffectIsShallow
-unfolding postfix_step
-postfix_step_makes last to up n plain = before_keeps (effect_end last) (rest_after_postfix true) >>- λ _. done plain
+if_made : (c : Expression) (s : Statement) (e : Option Statement) (m : Unit {0}) → Shallow c → StatementIsShallow s → IfThere fine_walk (λ s m. StatementIsShallow s) e m → StatementIsShallow (if_of c s e)
+if_made c s None m low made other = (low, made)
+if_made c s (Some e) m low made other = (low, made, other)
 
-effect_after_makes : (p : ℕ) (last : Bool) (to : Expression) (a : Assigning) (n : ℕ) → Shallow to → Makes (effect_after p last to a n).form EffectIsShallow
-unfolding effect_after
-effect_after_makes p last to assigning.Assign n plain = assign_makes p last to n plain
-effect_after_makes p last to (assigning.Update op) n plain = update_makes p last to op n plain
-effect_after_makes p last to (assigning.Step up) n plain = postfix_step_makes last to up n plain
+condition_made : (c : Option Expression) (m : Unit {0}) → IfThere fine_walk (λ c m. Shallow c) c m → IfCondition Shallow c
+condition_made None m made = tt
+condition_made (Some c) m made = made
 
-target_effect_makes : (p : ℕ) (o : Others) (last : Bool) → Makes (target_effect p o last).form EffectIsShallow
-unfolding target_effect
-target_effect_makes p o last = target_makes p casts.Outside o >>+ λ to plain. assigning_mark_keeps to last >>- λ a. effect_after_makes p last to a.0 a.1 plain >>+ λ e made. done made
+last_made : (e : Option EffectTree) (m : Unit {0}) → IfThere fine_walk (λ e m. InEffect Shallow e) e m → IfEffect Shallow e
+last_made None m made = tt
+last_made (Some e) m made = made
 
-other_effect_makes : (p : ℕ) (o : Others) (last : Bool) → Makes (other_effect p o last).form EffectIsShallow
-unfolding other_effect
-other_effect_makes p o last = judged_keeps >>- λ s. either_makes s (prefix_step p last) (target_effect p o last) (prefix_step_makes p last) (target_effect_makes p o last) >>+ λ e made. done made
-
-effect_makes : (p : ℕ) (o : Others) (last : Bool) → Makes (effect p o last).form EffectIsShallow
-unfolding effect
-effect_makes p o last = sees_call_keeps >>- λ c. either_makes c (call_effect (p - 1) last) (other_effect p o last) (call_effect_makes (p - 1) last) (other_effect_makes p o last) >>+ λ e made. done made
-
--- ---- locals
-
-abbrev LocalIsShallow : LocalTree → Type 0
-LocalIsShallow local = InShape Shallow local.shape
-
-first_made : (v : Option ValueTree) → IfMade ValueIsShallow v → FirstIsShallow v
-first_made None made = tt
-first_made (Some v) made = made
-
-initial_makes : Makes initial.form ValueIsShallow
-unfolding initial
-initial_makes = assign_mark_keeps >>- λ _. assigned_makes most_parens others.StepsAndBraces >>+ λ v made. done made
-
-local_end_keeps : (o : Others) → Keeps (local_end o).form
-unfolding local_end
-local_end_keeps o = before_either_keeps (codes ",") (codes ";") o
-
-pointer_local_makes : Makes pointer_local.form LocalIsShallow
-unfolding pointer_local
-pointer_local_makes = star_keeps >>- λ _. name_keeps others.Stars >>- λ t. some_frames_keeps 1 >>- λ _. maybe_makes at_assign _ initial_makes >>+ λ v made. local_end_keeps (after_local others.BracketsAndParens v) >>- λ _. done (first_made v made)
-
-array_local_makes : (n : ℕ) → Makes (array_local n).form LocalIsShallow
-unfolding array_local
-array_local_makes n = array_keeps >>- λ a. done tt
-
-integer_local_makes : (n : ℕ) → Makes (integer_local n).form LocalIsShallow
-unfolding integer_local
-integer_local_makes n = maybe_makes at_assign _ initial_makes >>+ λ v made. local_end_keeps (after_local others.Parens v) >>- λ _. done (first_made v made)
-
-plain_local_makes : Makes plain_local.form LocalIsShallow
-unfolding plain_local
-plain_local_makes = name_keeps others.Nothing >>- λ t. some_frames_keeps 1 >>- λ _. sees_keeps (codes "[") >>- λ b. either_makes b (weaken (array_local t.number)) (integer_local t.number) (array_local_makes t.number) (integer_local_makes t.number) >>+ λ l made. done made
-
-local_makes : Makes local.form LocalIsShallow
-unfolding local
-local_makes = sees_keeps (codes "*") >>- λ p. either_makes p pointer_local plain_local pointer_local_makes plain_local_makes >>+ λ l made. done made
-
-further_local_makes : Makes further_local.form LocalIsShallow
-unfolding further_local
-further_local_makes = comma_mark_keeps >>- λ _. local_makes >>+ λ l made. done made
-
-pub semicolon_keeps : (o : Others) → Keeps (semicolon o).form
-unfolding semicolon
-semicolon_keeps o = mark_keeps (codes ";") o >>> λ _. made_keeps
-
-locals_made : (ls : List LocalTree) → EachOf LocalIsShallow ls → LocalsAreShallow ls
-locals_made [] made = tt
-locals_made (l ∷ ls) made = (made.0, locals_made ls made.1)
-
-declaration_makes : Makes declaration.form StatementIsShallow
-unfolding declaration
-declaration_makes = next_number_keeps >>- λ n. integer_type_keeps settings.Block >>- λ i. local_makes >>+ λ l made. row_makes at_list_comma _ further_local_makes >>+ λ ls others_made. semicolon_keeps others.Nothing >>- λ _. done (made, locals_made ls others_made)
-
--- ---- labels
-
-label_end_keeps : Keeps label_end.form
-unfolding label_end
-label_end_keeps = judged_keeps
-
-colon_keeps : (o : Others) → Keeps (colon o).form
-unfolding colon
-colon_keeps o = mark_keeps (codes ":") o >>> λ _. label_end_keeps >>> λ _. made_keeps
-
-case_label_makes : Makes case_label.form StatementIsShallow
-unfolding case_label
-case_label_makes = mark_keeps (codes "case") others.Nothing >>- λ n. signed_constant_keeps others.Expressions >>- λ c. colon_keeps (others.Rest false false) >>- λ _. done tt
-
-default_label_makes : Makes default_label.form StatementIsShallow
-unfolding default_label
-default_label_makes = mark_keeps (codes "default") others.Nothing >>- λ n. colon_keeps others.Nothing >>- λ _. done tt
-
-label_makes : Makes label.form StatementIsShallow
-unfolding label
-label_makes = sees_keeps (codes "case") >>- λ c. either_makes c case_label default_label case_label_makes default_label_makes >>+ λ l made. done made
+for_made : (f : Option Statement) (c : Option Expression) (e : Option EffectTree) (s : Statement) (m : Unit {0}) → IfThere fine_walk (λ s m. StatementIsShallow s) f m → IfCondition Shallow c → IfEffect Shallow e → StatementIsShallow s → StatementIsShallow (for_of f c e s)
+for_made None c e s m first low last made = (low, last, made)
+for_made (Some f) c e s m first low last made = (first, low, last, made)
 
 -- ---- statements
 
-abbrev InsideMakes : Inside → Type 0
-InsideMakes inner = (s : Standing) → Makes (inner s).form StatementIsShallow
+abbrev shallow_walk : StatementWalk fine_walk
+shallow_walk = record {
+  One = λ m. ⊤;
+  Named = λ n m. ⊤;
+  Sized = λ n m. ⊤;
+  MayUpdate = λ op. ⊤;
+  Value = λ e m. Shallow e;
+  Condition = λ e m. Shallow e;
+  Call = λ c m. InCall Shallow c;
+  Assigned = λ v m. InValue Shallow v;
+  Controls = λ e m. Shallow e;
+  Selects = λ e m. Shallow e;
+  Effect = λ e m. InEffect Shallow e;
+  Local = λ l m. InShape Shallow l.shape;
+  Locals = λ ls m. InLocals Shallow ls;
+  Stands = λ s m. StatementIsShallow s;
+  Stand = λ ss m. StatementsAreShallow (statements_of ss);
+  tokens = fine_tokens;
+  counted = λ word o _. free_so (mark_keeps word o);
+  steps = quiet_so step_keeps;
+  assigns = any_assigning;
+  words = seen_anywhere _ (quiet_so some_token_keeps);
+  named = λ o. free_so (name_keeps o >>> λ t. some_frames_keeps 1 >>> λ _. made_keeps);
+  sized = free_so array_size_keeps;
+  values = value_goes;
+  targets = shallow_target_goes;
+  conditions = shallow_condition_goes;
+  calls = call_goes;
+  assigned_values = shallow_assigned_goes;
+  call_effects = λ c m low. low;
+  step_effects = λ e up n m low. low;
+  assign_effects = λ to n v a m low made. (low, made);
+  update_effects = λ to op n e a m may low made. (low, made);
+  pointers = λ n v a m _ made. first_made v m made;
+  integers = λ n v a m _ made. first_made v m made;
+  arrays = λ n s cs a m _ _. tt;
+  no_locals = tt;
+  more_locals = λ l ls a m made others_made. (made, others_made);
+  declares = λ n i ls m made. made;
+  cases = λ n c m _. tt;
+  defaults = λ n m _. tt;
+  controls = λ e a m b _ low _. low;
+  selects = λ e a m b _ low _. low;
+  ifs = λ c s e a m n low made other. if_made c s e n low made other;
+  whiles = λ c s a m low made. (low, made);
+  dos = λ s c m a made low. (made, low);
+  fors = λ f c e s p a b d m _ first low last made. for_made f c e s a first (condition_made c b low) (last_made e d last) made;
+  switches = λ e ss a m low made. (low, made);
+  breaks = λ n. tt;
+  continues = λ n. tt;
+  returns = λ n. tt;
+  value_returns = λ n v m made. made;
+  empties = λ n. tt;
+  blocks = λ ss m made. made;
+  no_statements = tt;
+  more_statements = λ s ss a m made others_made. (made, others_made);
+  effects = λ e m made. made;
+}
 
-controlling_makes : Makes controlling.form Shallow
-unfolding controlling
-controlling_makes = open_paren_keeps >>- λ _. condition_makes (most_parens - 1) >>+ λ c made. close_paren_keeps (rest_of true c) >>- λ _. done made
-
-else_part_makes : (inner : Inside) → InsideMakes inner → Makes (else_part inner).form StatementIsShallow
-unfolding else_part
-else_part_makes inner inner_makes = mark_keeps (codes "else") others.Nothing >>- λ _. inner_makes standings.Part >>+ λ s made. done made
-
-if_made : (c : Expression) (s : Statement) (e : Option Statement) → Shallow c → StatementIsShallow s → IfMade StatementIsShallow e → StatementIsShallow (if_of c s e)
-if_made c s None plain made other = (plain, made)
-if_made c s (Some e) plain made other = (plain, made, other)
-
-if_after_makes : (inner : Inside) → InsideMakes inner → Makes (if_after inner).form StatementIsShallow
-unfolding if_after
-if_after_makes inner inner_makes = controlling_makes >>+ λ c plain. inner_makes standings.Part >>+ λ s made. maybe_makes at_else _ (else_part_makes inner inner_makes) >>+ λ e other. done (if_made c s e plain made other)
-
-while_after_makes : (inner : Inside) → InsideMakes inner → Makes (while_after inner).form StatementIsShallow
-unfolding while_after
-while_after_makes inner inner_makes = controlling_makes >>+ λ c plain. inner_makes standings.Part >>+ λ s made. done (plain, made)
-
-while_word_keeps : Keeps while_word.form
-unfolding while_word
-while_word_keeps = mark_keeps (codes "while") others.Nothing
-
-do_after_makes : (inner : Inside) → InsideMakes inner → Makes (do_after inner).form StatementIsShallow
-unfolding do_after
-do_after_makes inner inner_makes = inner_makes standings.Part >>+ λ s made. while_word_keeps >>- λ _. controlling_makes >>+ λ c plain. semicolon_keeps others.Nothing >>- λ _. done (made, plain)
-
-empty_first_makes : Makes empty_first.form (IfMade StatementIsShallow)
-unfolding empty_first
-empty_first_makes = semicolon_keeps others.Nothing >>- λ _. done tt
-
-declared_first_makes : Makes declared_first.form (IfMade StatementIsShallow)
-unfolding declared_first
-declared_first_makes = declaration_makes >>+ λ d made. done made
-
-effect_first_makes : Makes effect_first.form (IfMade StatementIsShallow)
-unfolding effect_first
-effect_first_makes = effect_makes (most_parens - 1) others.Nothing false >>+ λ e made. semicolon_keeps others.Nothing >>- λ _. done made
-
-some_first_makes : Makes some_first.form (IfMade StatementIsShallow)
-unfolding some_first
-some_first_makes = judged_keeps >>- λ d. either_makes d declared_first effect_first declared_first_makes effect_first_makes >>+ λ f made. done made
-
-for_first_makes : Makes for_first.form (IfMade StatementIsShallow)
-unfolding for_first
-for_first_makes = sees_keeps (codes ";") >>- λ none. either_makes none empty_first some_first empty_first_makes some_first_makes >>+ λ f made. done made
-
-empty_condition_makes : Makes empty_condition.form (IfMade Shallow)
-unfolding empty_condition
-empty_condition_makes = semicolon_keeps others.Nothing >>- λ _. done tt
-
-some_condition_makes : Makes some_condition.form (IfMade Shallow)
-unfolding some_condition
-some_condition_makes = condition_makes (most_parens - 1) >>+ λ c made. semicolon_keeps (rest_of true c) >>- λ _. done made
-
-for_condition_makes : Makes for_condition.form (IfMade Shallow)
-unfolding for_condition
-for_condition_makes = sees_keeps (codes ";") >>- λ none. either_makes none empty_condition some_condition empty_condition_makes some_condition_makes >>+ λ c made. done made
-
-empty_last_makes : Makes empty_last.form (IfMade EffectIsShallow)
-unfolding empty_last
-empty_last_makes = close_paren_keeps others.Nothing >>- λ _. done tt
-
-some_last_makes : Makes some_last.form (IfMade EffectIsShallow)
-unfolding some_last
-some_last_makes = effect_makes (most_parens - 1) others.Nothing true >>+ λ e made. close_paren_keeps others.Nothing >>- λ _. done made
-
-for_last_makes : Makes for_last.form (IfMade EffectIsShallow)
-unfolding for_last
-for_last_makes = sees_keeps (codes ")") >>- λ none. either_makes none empty_last some_last empty_last_makes some_last_makes >>+ λ e made. done made
-
-condition_made : (c : Option Expression) → IfMade Shallow c → IfIsShallow c
-condition_made None made = tt
-condition_made (Some c) made = made
-
-last_made : (e : Option EffectTree) → IfMade EffectIsShallow e → LastIsShallow e
-last_made None made = tt
-last_made (Some e) made = made
-
-for_made : (f : Option Statement) (c : Option Expression) (e : Option EffectTree) (s : Statement) → IfMade StatementIsShallow f → IfMade Shallow c → IfMade EffectIsShallow e → StatementIsShallow s → StatementIsShallow (for_of f c e s)
-for_made None c e s first plain last made = (condition_made c plain, last_made e last, made)
-for_made (Some f) c e s first plain last made = (first, condition_made c plain, last_made e last, made)
-
-for_after_makes : (inner : Inside) → InsideMakes inner → Makes (for_after inner).form StatementIsShallow
-unfolding for_after
-for_after_makes inner inner_makes = open_paren_keeps >>- λ _. for_first_makes >>+ λ f first. for_condition_makes >>+ λ c plain. for_last_makes >>+ λ e last. inner_makes standings.Part >>+ λ s made. done (for_made f c e s first plain last made)
-
-switch_value_makes : Makes switch_value.form Shallow
-unfolding switch_value
-switch_value_makes = open_paren_keeps >>- λ _. whole_expr_makes (most_parens - 1) others.Steps >>+ λ e made. close_paren_keeps (rest_of true e) >>- λ _. done made
-
-items_made : (b : Statement) → StatementIsShallow b → StatementsAreShallow (items_of b)
-items_made (Block ss) made = made
-items_made _ made = tt
-
-switch_after_makes : (inner : Inside) → InsideMakes inner → Makes (switch_after inner).form StatementIsShallow
-unfolding switch_after
-switch_after_makes inner inner_makes = switch_value_makes >>+ λ e plain. inner_makes standings.SwitchBlock >>+ λ b made. done (plain, items_made b made)
-
-break_after_makes : (n : ℕ) → Makes (break_after n).form StatementIsShallow
-unfolding break_after
-break_after_makes n = semicolon_keeps others.Nothing >>- λ _. done tt
-
-continue_after_makes : (n : ℕ) → Makes (continue_after n).form StatementIsShallow
-unfolding continue_after
-continue_after_makes n = semicolon_keeps others.Nothing >>- λ _. done tt
-
-return_nothing_makes : (n : ℕ) → Makes (return_nothing n).form StatementIsShallow
-unfolding return_nothing
-return_nothing_makes n = semicolon_keeps others.Nothing >>- λ _. done tt
-
-return_value_makes : (n : ℕ) → Makes (return_value n).form StatementIsShallow
-unfolding return_value
-return_value_makes n = assigned_makes most_parens others.Steps >>+ λ v made. semicolon_keeps (rest_of_value true v) >>- λ _. done made
-
-return_after_makes : (n : ℕ) → Makes (return_after n).form StatementIsShallow
-unfolding return_after
-return_after_makes n = sees_keeps (codes ";") >>- λ none. either_makes none (return_nothing n) (return_value n) (return_nothing_makes n) (return_value_makes n) >>+ λ s made. done made
-
-leaving_after_makes : (t : Seen) → Makes (leaving_after t).form StatementIsShallow
-unfolding leaving_after
-leaving_after_makes t = either_makes (bytes_eq t.text (codes "break")) (break_after t.number) (after_word (codes "continue") t (continue_after t.number) (return_after t.number)) (break_after_makes t.number) (either_makes (bytes_eq t.text (codes "continue")) (continue_after t.number) (return_after t.number) (continue_after_makes t.number) (return_after_makes t.number))
-
-worded_after_makes : (inner : Inside) → InsideMakes inner → (t : Seen) → Makes (worded_after inner t).form StatementIsShallow
-unfolding worded_after
-worded_after_makes inner inner_makes t = either_makes (bytes_eq t.text (codes "if")) (if_after inner) (after_word (codes "while") t (while_after inner) (after_word (codes "do") t (do_after inner) (after_word (codes "for") t (for_after inner) (after_word (codes "switch") t (switch_after inner) (leaving_after t))))) (if_after_makes inner inner_makes) (either_makes (bytes_eq t.text (codes "while")) (while_after inner) (after_word (codes "do") t (do_after inner) (after_word (codes "for") t (for_after inner) (after_word (codes "switch") t (switch_after inner) (leaving_after t)))) (while_after_makes inner inner_makes) (either_makes (bytes_eq t.text (codes "do")) (do_after inner) (after_word (codes "for") t (for_after inner) (after_word (codes "switch") t (switch_after inner) (leaving_after t))) (do_after_makes inner inner_makes) (either_makes (bytes_eq t.text (codes "for")) (for_after inner) (after_word (codes "switch") t (switch_after inner) (leaving_after t)) (for_after_makes inner inner_makes) (either_makes (bytes_eq t.text (codes "switch")) (switch_after inner) (leaving_after t) (switch_after_makes inner inner_makes) (leaving_after_makes t)))))
-
-worded_makes : (inner : Inside) → InsideMakes inner → Makes (worded inner).form StatementIsShallow
-unfolding worded
-worded_makes inner inner_makes = some_token_keeps >>- λ t. worded_after_makes inner inner_makes t >>+ λ s made. done made
-
-empty_statement_makes : Makes empty_statement.form StatementIsShallow
-unfolding empty_statement
-empty_statement_makes = mark_keeps (codes ";") others.Nothing >>- λ n. done tt
+pub standing_makes : (n : ℕ) (s : Standing) → Makes (standing n s).form StatementIsShallow
+standing_makes n s = record { each = λ at x rest spells g. let k = (standing_goes shallow_walk n s).each at x rest spells g in (k.0.0, k.1) }
 
 pub statements_made : (ss : List Statement) → EachOf StatementIsShallow ss → StatementsAreShallow (statements_of ss)
 statements_made [] made = tt
 statements_made (s ∷ ss) made = (made.0, statements_made ss made.1)
-
-block_makes : (o : Others) (item : Rule true Statement) → Makes item.form StatementIsShallow → Makes (block o item).form StatementIsShallow
-unfolding block
-block_makes o item item_makes = mark_keeps (codes "{") o >>- λ _. row_makes in_block _ item_makes >>+ λ ss made. close_brace_keeps >>- λ _. done (statements_made ss made)
-
-effect_statement_makes : (o : Others) → Makes (effect_statement o).form StatementIsShallow
-unfolding effect_statement
-effect_statement_makes o = effect_makes most_parens o false >>+ λ e made. semicolon_keeps others.Nothing >>- λ _. done made
-
-unworded_long_makes : (inner : Inside) → InsideMakes inner → (o : Others) → Makes (unworded_long inner o).form StatementIsShallow
-unfolding unworded_long
-unworded_long_makes inner inner_makes o = sees_keeps (codes "{") >>- λ b. either_makes b (block others.Nothing (inner standings.Item)) (effect_statement o) (block_makes others.Nothing (inner standings.Item) (inner_makes standings.Item)) (effect_statement_makes o) >>+ λ s made. done made
-
-unworded_makes : (inner : Inside) → InsideMakes inner → (o : Others) → Makes (unworded inner o).form StatementIsShallow
-unfolding unworded
-unworded_makes inner inner_makes o = sees_keeps (codes ";") >>- λ e. either_makes e empty_statement (unworded_long inner o) empty_statement_makes (unworded_long_makes inner inner_makes o) >>+ λ s made. done made
-
-statement_makes : (inner : Inside) → InsideMakes inner → (o : Others) → Makes (statement inner o).form StatementIsShallow
-unfolding statement
-statement_makes inner inner_makes o = judged_keeps >>- λ w. either_makes w (worded inner) (unworded inner o) (worded_makes inner inner_makes) (unworded_makes inner inner_makes o) >>+ λ s made. done made
-
-item_makes : (inner : Inside) → InsideMakes inner → (o : Others) → Makes (item inner o).form StatementIsShallow
-unfolding item
-item_makes inner inner_makes o = judged_keeps >>- λ d. either_makes d declaration (statement inner o) declaration_makes (statement_makes inner inner_makes o) >>+ λ s made. done made
-
-switch_item_makes : (inner : Inside) → InsideMakes inner → Makes (switch_item inner).form StatementIsShallow
-unfolding switch_item
-switch_item_makes inner inner_makes = judged_keeps >>- λ l. either_makes l label (item inner others.Nothing) label_makes (item_makes inner inner_makes others.Nothing) >>+ λ s made. done made
-
-placed_makes : (inner : Inside) → InsideMakes inner → (s : Standing) → Makes (placed_statement inner s).form StatementIsShallow
-unfolding placed_statement
-placed_makes inner inner_makes standings.Part = statement_makes inner inner_makes others.Labels
-placed_makes inner inner_makes standings.Item = item_makes inner inner_makes others.Labels
-placed_makes inner inner_makes standings.SwitchItem = switch_item_makes inner inner_makes
-placed_makes inner inner_makes standings.SwitchBlock = block_makes others.Statements (inner standings.SwitchItem) (inner_makes standings.SwitchItem)
-
-none_fits : (f g : Fault) (x : Statement) (b : Bool) → cond b (Err f) (Err g) ≡ Ok x → StatementIsShallow x
-none_fits f g x true e = ok_no_err x f e
-none_fits f g x false e = ok_no_err x g e
-
-too_nested_makes : (s : Standing) → Makes (one (fits_too_nested s)).form StatementIsShallow
-too_nested_makes s = one_makes (fits_too_nested s) (λ t x fine e. none_fits (Limit which.Nesting 33) (misfit (others_at s) t) x (may_begin s t.symbol) e)
-
-innermost_item_makes : (s : Standing) → Makes (innermost_item s).form StatementIsShallow
-unfolding innermost_item
-innermost_item_makes s = judged_keeps >>- λ d. either_makes d declaration (one (fits_too_nested s)) declaration_makes (too_nested_makes s) >>+ λ x made. done made
-
-innermost_makes : (s : Standing) → Makes (innermost s).form StatementIsShallow
-unfolding innermost
-innermost_makes standings.Part = too_nested_makes standings.Part
-innermost_makes standings.Item = innermost_item_makes standings.Item
-innermost_makes standings.SwitchItem = innermost_item_makes standings.SwitchItem
-innermost_makes standings.SwitchBlock = too_nested_makes standings.SwitchBlock
-
-pub standing_makes : (n : ℕ) (s : Standing) → Makes (standing n s).form StatementIsShallow
-unfolding standing
-standing_makes zero s = innermost_makes s
-standing_makes (suc n) s = placed_makes (standing n) (standing_makes n) s

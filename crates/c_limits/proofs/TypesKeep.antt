@@ -1,20 +1,47 @@
 -- The rules of single tokens, of types and of declarators keep tokens fine.
-use Rattle.c_grammar.specs.Tokens.{Place, before, before_either, constant, declares, name, next_number, one_function, sees, some_elements, some_frames}
-use Rattle.c_grammar.specs.Types.{after_array, after_constant, after_plain, after_pointer, array, array_size, assign_mark, at_assign, at_const, at_further, at_list_comma, at_name, at_specifier, bracketed_type, close_brace, comma_mark, const_word, element, element_list, elements, empty_brackets, further_element, further_parameter, integer_told, integer_type, left_bracket, minus_constant, minus_sign, no_parameters, no_words, parameter_end, parameter_tail, parameters, parameters_after, parameters_from, plain_constant, plain_parameter, pointer_parameter, pointer_stars, pointer_to, right_bracket, right_paren, signed_constant, some_parameters, specifier, star, type_of, type_told, void_parameters}
-use Rattle.c_grammar.specs.Units.{gives}
+--   fine_walk     where the tokens ahead are fine, those that are left are, and nothing is counted
+--   fine_tokens   so it is over single tokens
+use Rattle.c_grammar.specs.Tokens.{Fault, Place, Room, Seen, before_either, constant, declares, name, next_number, one_function, sees, some_elements, some_frames}
+use Rattle.c_grammar.specs.TypeWalkLaws.{TypeTokens, assign_mark_quiet, close_brace_quiet, comma_mark_quiet, element_list_quiet, integer_told_quiet, integer_type_quiet, left_bracket_quiet, parameters_quiet, pointer_stars_quiet, right_bracket_quiet, signed_constant_quiet, type_of_quiet}
+use Rattle.c_grammar.specs.Types.{after_array, after_constant, array, array_size, assign_mark, at_assign, close_brace, comma_mark, element_list, integer_told, integer_type, left_bracket, parameters, pointer_stars, right_bracket, signed_constant, specifier, type_of}
+use Rattle.c_grammar.specs.WalkLaws.{Walk, Spelled, Quiet}
 use Rattle.c_grammar.specs.declared.others.Others.{Others}
 use Rattle.c_grammar.specs.declared.specifiers.Setting.{Setting}
 use Rattle.c_grammar.specs.declared.specifiers.Specifiers.{Specifiers}
-use Rattle.c_limits.proofs.Keeping.{Keeps, chain_keeps, either_keeps, judged_keeps, made_keeps, mark_keeps, maybe_keeps, one_keeps, row_keeps, same_ahead, ◌>>>◌}
+use Rattle.c_limits.proofs.Keeping.{Fine, Keeps, Makes, judged_keeps, made_keeps, mark_keeps, maybe_keeps, one_keeps, same_ahead, ◌>>>◌}
 use Rattle.c_unit.specs.declared.types.Integer.{Integer}
 use Rattle.c_unit.specs.declared.types.Outcome.{Outcome}
-use Rattle.grammar.specs.Rule.{value, weaken}
-use Rattle.std.proofs.Common.{Bool, List, ap, ℕ}
-use Rattle.std.specs.Prelude.{codes}
+use Rattle.grammar.specs.Each.{Each}
+use Rattle.grammar.specs.Form.{Form}
+use Rattle.std.proofs.Common.{Bool, List, ap, refl, ℕ, ◌≡◌}
+use Rattle.std.specs.Prelude.{codes, ⊤}
 use Rattle.c_grammar.specs.declared.others.Others.TheVariants as others
-use Rattle.c_unit.specs.declared.types.Outcome.TheVariants as outcomes
-use Rattle.c_unit.specs.declared.types.Scalar.TheVariants as scalars
-use Rattle.c_grammar.specs.declared.specifiers.Setting.TheVariants as settings
+
+abbrev pub fine_walk : Walk
+fine_walk = record {
+  Count = Unit {0};
+  none = tt;
+  join = λ m n. tt;
+  none_before = λ m. refl;
+  none_after = λ m. refl;
+  joined = λ m n k. refl;
+  Goes = λ at P rest. Each Fine at.ahead → P tt × Each Fine rest.ahead;
+  stays = λ at P h g. (h, g);
+  goes_on = λ at mid rest P Q hp hq g. let k = hp g in hq tt k.0 k.1;
+}
+
+pub quiet_so : {A : Type 0} {p : Form Seen Room Fault A} → Keeps p → Quiet fine_walk p
+quiet_so h = record { each = λ at x rest s g. (refl, h.each at x rest s g) }
+
+pub keeps_so : {A : Type 0} {p : Form Seen Room Fault A} → Quiet fine_walk p → Keeps p
+keeps_so h = record { each = λ at x rest s g. (h.each at x rest s g).1 }
+
+pub made_so : {A : Type 0} {p : Form Seen Room Fault A} {P : A → Type 0} → Makes p P → Spelled fine_walk p (λ x m. P x)
+made_so h = record { each = λ at x rest s g. h.each at x rest s g }
+
+-- of which nothing is asked
+pub free_so : {A : Type 0} {p : Form Seen Room Fault A} → Keeps p → Spelled fine_walk p (λ x m. ⊤)
+free_so h = record { each = λ at x rest s g. (tt, h.each at x rest s g) }
 
 pub name_keeps : (o : Others) → Keeps (name o).form
 unfolding name
@@ -31,10 +58,6 @@ next_number_keeps = judged_keeps
 pub sees_keeps : (w : List ℕ) → Keeps (sees w).form
 unfolding sees
 sees_keeps w = judged_keeps
-
-pub before_keeps : (w : List ℕ) (o : Others) → Keeps (before w o).form
-unfolding before
-before_keeps w o = judged_keeps
 
 pub before_either_keeps : (w : List ℕ) (v : List ℕ) (o : Others) → Keeps (before_either w v o).form
 unfolding before_either
@@ -60,89 +83,49 @@ pub specifier_keeps : (setting : Setting) (w : Specifiers) → Keeps (specifier 
 unfolding specifier
 specifier_keeps setting w = one_keeps
 
-pub type_told_keeps : (w : Specifiers) → Keeps (type_told w).form
-unfolding type_told
-type_told_keeps w = judged_keeps
+abbrev pub fine_tokens : TypeTokens fine_walk
+fine_tokens = record {
+  marks = λ word o _. quiet_so (mark_keeps word o);
+  names = λ o. quiet_so (name_keeps o);
+  constants = λ o. quiet_so (constant_keeps o);
+  specifiers = λ setting w. quiet_so (specifier_keeps setting w);
+}
 
 pub type_of_keeps : (setting : Setting) → Keeps (type_of setting).form
-unfolding type_of
-type_of_keeps setting = specifier_keeps setting no_words >>> λ w. chain_keeps at_specifier _ (specifier_keeps setting) w >>> λ ws. type_told_keeps ws >>> λ o. made_keeps
+type_of_keeps setting = keeps_so (type_of_quiet fine_tokens setting)
 
 pub integer_told_keeps : (o : Others) (t : Outcome) → Keeps (integer_told o t).form
-unfolding integer_told
-integer_told_keeps o t = judged_keeps
+integer_told_keeps o t = keeps_so (integer_told_quiet fine_tokens o t)
 
 pub integer_type_keeps : (setting : Setting) → Keeps (integer_type setting).form
-unfolding integer_type
-integer_type_keeps setting = type_of_keeps setting >>> λ o. integer_told_keeps others.Nothing o >>> λ i. made_keeps
-
-pub const_word_keeps : Keeps const_word.form
-unfolding const_word
-const_word_keeps = mark_keeps (codes "const") others.Nothing >>> λ _. made_keeps
-
-pub star_keeps : Keeps star.form
-unfolding star
-star_keeps = mark_keeps (codes "*") others.Nothing >>> λ _. row_keeps at_const _ const_word_keeps >>> λ consts. made_keeps
-
-pub pointer_to_keeps : (i : Integer) → Keeps (pointer_to i).form
-unfolding pointer_to
-pointer_to_keeps i = star_keeps >>> λ _. made_keeps
+integer_type_keeps setting = keeps_so (integer_type_quiet fine_tokens setting)
 
 pub pointer_stars_keeps : (p : Bool) (i : Integer) → Keeps (pointer_stars p i).form
-unfolding pointer_stars
-pointer_stars_keeps p i = either_keeps p (weaken (pointer_to i)) (value (scalars.Integer i)) (pointer_to_keeps i) made_keeps
-
-pub minus_sign_keeps : Keeps minus_sign.form
-unfolding minus_sign
-minus_sign_keeps = mark_keeps (codes "-") others.Nothing >>> λ _. made_keeps
-
-pub minus_constant_keeps : Keeps minus_constant.form
-unfolding minus_constant
-minus_constant_keeps = minus_sign_keeps >>> λ _. constant_keeps others.Expressions >>> λ c. made_keeps
-
-pub plain_constant_keeps : (o : Others) → Keeps (plain_constant o).form
-unfolding plain_constant
-plain_constant_keeps o = constant_keeps o >>> λ c. made_keeps
+pointer_stars_keeps p i = keeps_so (pointer_stars_quiet fine_tokens p i)
 
 pub signed_constant_keeps : (o : Others) → Keeps (signed_constant o).form
-unfolding signed_constant
-signed_constant_keeps o = sees_keeps (codes "-") >>> λ m. either_keeps m minus_constant (plain_constant o) minus_constant_keeps (plain_constant_keeps o) >>> λ c. made_keeps
+signed_constant_keeps o = keeps_so (signed_constant_quiet fine_tokens o)
 
 pub assign_mark_keeps : Keeps assign_mark.form
-unfolding assign_mark
-assign_mark_keeps = mark_keeps (codes "=") others.Nothing
+assign_mark_keeps = keeps_so (assign_mark_quiet fine_tokens)
 
 pub comma_mark_keeps : Keeps comma_mark.form
-unfolding comma_mark
-comma_mark_keeps = mark_keeps (codes ",") others.Nothing >>> λ _. made_keeps
-
-pub element_keeps : Keeps element.form
-unfolding element
-element_keeps = signed_constant_keeps others.ExpressionsAndBraces >>> λ c. before_either_keeps (codes ",") (codes "}") after_constant >>> λ _. made_keeps
-
-pub further_element_keeps : Keeps further_element.form
-unfolding further_element
-further_element_keeps = comma_mark_keeps >>> λ _. element_keeps >>> λ c. made_keeps
+comma_mark_keeps = keeps_so (comma_mark_quiet fine_tokens)
 
 pub close_brace_keeps : Keeps close_brace.form
-unfolding close_brace
-close_brace_keeps = mark_keeps (codes "}") others.Nothing >>> λ _. made_keeps
-
-pub elements_keeps : Keeps elements.form
-unfolding elements
-elements_keeps = element_keeps >>> λ c. row_keeps at_further _ further_element_keeps >>> λ cs. maybe_keeps at_list_comma _ comma_mark_keeps >>> λ last. close_brace_keeps >>> λ _. made_keeps
+close_brace_keeps = keeps_so (close_brace_quiet fine_tokens)
 
 pub element_list_keeps : Keeps element_list.form
-unfolding element_list
-element_list_keeps = assign_mark_keeps >>> λ _. mark_keeps (codes "{") others.Expressions >>> λ _. elements_keeps >>> λ cs. made_keeps
+element_list_keeps = keeps_so (element_list_quiet fine_tokens)
 
 pub left_bracket_keeps : Keeps left_bracket.form
-unfolding left_bracket
-left_bracket_keeps = mark_keeps (codes "[") others.Nothing >>> λ _. made_keeps
+left_bracket_keeps = keeps_so (left_bracket_quiet fine_tokens)
 
 pub right_bracket_keeps : (o : Others) → Keeps (right_bracket o).form
-unfolding right_bracket
-right_bracket_keeps o = mark_keeps (codes "]") o >>> λ _. made_keeps
+right_bracket_keeps o = keeps_so (right_bracket_quiet fine_tokens o)
+
+pub parameters_keeps : Keeps parameters.form
+parameters_keeps = keeps_so (parameters_quiet fine_tokens)
 
 pub array_size_keeps : Keeps array_size.form
 unfolding array_size
@@ -151,59 +134,3 @@ array_size_keeps = left_bracket_keeps >>> λ _. constant_keeps others.Sizes >>> 
 pub array_keeps : Keeps array.form
 unfolding array
 array_keeps = array_size_keeps >>> λ s. maybe_keeps at_assign _ element_list_keeps >>> λ cs. before_either_keeps (codes ",") (codes ";") (after_array cs) >>> λ _. made_keeps
-
-pub parameter_end_keeps : (o : Others) → Keeps (parameter_end o).form
-unfolding parameter_end
-parameter_end_keeps o = before_either_keeps (codes ",") (codes ")") o
-
-pub pointer_parameter_keeps : (n : ℕ) (i : Integer) → Keeps (pointer_parameter n i).form
-unfolding pointer_parameter
-pointer_parameter_keeps n i = star_keeps >>> λ _. maybe_keeps at_name _ (name_keeps others.Nothing) >>> λ t. parameter_end_keeps (after_pointer t) >>> λ _. made_keeps
-
-pub empty_brackets_keeps : (i : Integer) → Keeps (empty_brackets i).form
-unfolding empty_brackets
-empty_brackets_keeps i = left_bracket_keeps >>> λ _. right_bracket_keeps others.Expressions >>> λ _. made_keeps
-
-pub bracketed_type_keeps : (b : Bool) (i : Integer) → Keeps (bracketed_type b i).form
-unfolding bracketed_type
-bracketed_type_keeps b i = either_keeps b (weaken (empty_brackets i)) (value (scalars.Integer i)) (empty_brackets_keeps i) made_keeps
-
-pub plain_parameter_keeps : (n : ℕ) (i : Integer) → Keeps (plain_parameter n i).form
-unfolding plain_parameter
-plain_parameter_keeps n i = maybe_keeps at_name _ (name_keeps others.Nothing) >>> λ t. sees_keeps (codes "[") >>> λ b. bracketed_type_keeps b i >>> λ k. parameter_end_keeps (after_plain b t) >>> λ _. made_keeps
-
-pub parameter_tail_keeps : (n : ℕ) (i : Integer) → Keeps (parameter_tail n i).form
-unfolding parameter_tail
-parameter_tail_keeps n i = sees_keeps (codes "*") >>> λ p. either_keeps p (weaken (pointer_parameter n i)) (plain_parameter n i) (pointer_parameter_keeps n i) (plain_parameter_keeps n i) >>> λ r. made_keeps
-
-pub further_parameter_keeps : Keeps further_parameter.form
-unfolding further_parameter
-further_parameter_keeps = comma_mark_keeps >>> λ _. next_number_keeps >>> λ n. integer_type_keeps settings.Parameter >>> λ i. parameter_tail_keeps n i >>> λ p. made_keeps
-
-pub right_paren_keeps : (o : Others) → Keeps (right_paren o).form
-unfolding right_paren
-right_paren_keeps o = mark_keeps (codes ")") o >>> λ _. made_keeps
-
-pub parameters_from_keeps : (n : ℕ) (i : Integer) → Keeps (parameters_from n i).form
-unfolding parameters_from
-parameters_from_keeps n i = parameter_tail_keeps n i >>> λ p. row_keeps at_list_comma _ further_parameter_keeps >>> λ ps. right_paren_keeps others.Nothing >>> λ _. made_keeps
-
-pub void_parameters_keeps : Keeps void_parameters.form
-unfolding void_parameters
-void_parameters_keeps = right_paren_keeps others.Parameter >>> λ _. made_keeps
-
-pub parameters_after_keeps : (n : ℕ) (x1 : Outcome) → Keeps (parameters_after n x1).form
-parameters_after_keeps n outcomes.Nothing = void_parameters_keeps
-parameters_after_keeps n (outcomes.Integer i) = parameters_from_keeps n i
-
-pub some_parameters_keeps : Keeps some_parameters.form
-unfolding some_parameters
-some_parameters_keeps = next_number_keeps >>> λ n. type_of_keeps settings.FirstParameter >>> λ o. parameters_after_keeps n o >>> λ ps. made_keeps
-
-pub no_parameters_keeps : Keeps no_parameters.form
-unfolding no_parameters
-no_parameters_keeps = right_paren_keeps others.Nothing >>> λ _. made_keeps
-
-pub parameters_keeps : Keeps parameters.form
-unfolding parameters
-parameters_keeps = sees_keeps (codes ")") >>> λ none. either_keeps none no_parameters some_parameters no_parameters_keeps some_parameters_keeps >>> λ ps. made_keeps

@@ -27,12 +27,9 @@ use Rattle.c_grammar.specs.Statements.{declaration}
 use Rattle.c_rules.specs.SpelledExpressions.{Every, InCall, InValue, IfValue, InEffect, InShape, InLocals, InStatement}
 use Rattle.c_rules.specs.Counts.{tokens_of, elements_of, elements_of_all, tokens_in, elements_in}
 use Rattle.c_limits.specs.Taking.{Good, Later, later_on, same_place, Takes, judged_takes, made_takes, mark_takes, one_takes, ◌>>>◌}
-use Rattle.c_limits.specs.TypesTake.{assign_mark_takes, before_either_takes, before_takes, comma_mark_takes, integer_type_takes}
-use Rattle.c_limits.specs.TypesTake.{next_number_takes, sees_takes, star_takes}
-use Rattle.c_limits.specs.ExpressionsTake.{open_paren_takes, close_paren_takes, comma_takes, sees_call_takes}
 use Rattle.c_limits.specs.Measuring.{one_if, Quietly, Fits, q_takes, q_made, q_then, q_either, fits_quiet, fits_after, fits_last}
 use Rattle.c_limits.specs.Measuring.{fits_then, fits_either, fits_maybe, fits_row}
-use Rattle.c_limits.specs.Depths.{whole_expr_deep, target_deep}
+use Rattle.c_limits.specs.Depths.{arguments_deep, open_paren_takes, sees_call_takes, whole_expr_deep}
 use Rattle.c_limits.specs.Spending.{Shallow, Spends, frames_spend, token_seen, fits_declared, array_fits}
 
 module _ (words : List Word) where
@@ -42,47 +39,6 @@ module _ (words : List Word) where
   pub semicolon_takes : (o : Others) → Takes (semicolon o).form
   unfolding semicolon
   semicolon_takes o = mark_takes (codes ";") o >>> λ _. made_takes
-
-  -- ---- arguments
-
-  pub q_row : {A : Type 0} {R : A → Type 0} (goes_on : Place → Bool) (p : Form Seen Room Fault A) (S : List A → Type 0)
-      → Quietly words p R → S [] → ((x : A) (xs : List A) → R x → S xs → S (x ∷ xs)) → Quietly words (row goes_on p) S
-  q_row {A = A} {R = R} goes_on p S h none some = record { each = λ at xs rest s. rows at xs rest s.0 }
-    where
-      rows : (at : Place) (xs : List A) (rest : Place) → InARow goes_on p at xs rest → Later at rest × S xs
-      rows at [] rest s = (same_place at rest s, none)
-      rows at (x ∷ xs) rest s =
-          let a = h.each at x s.1.0 s.1.1 in
-          let b = rows s.1.0 xs rest s.1.2 in
-          (later_on at s.1.0 rest a.0 b.0, some x xs a.1 b.1)
-
-  argument_deep : (p : ℕ) → Quietly words (argument p).form Shallow
-  unfolding argument
-  argument_deep p =
-      q_then words (whole_expr_deep words p others.Steps)
-      (λ e low. q_then words (q_takes words (before_either_takes (codes ",") (codes ")") (rest_of false e)))
-      (λ _ _. q_made words e low))
-
-  further_argument_deep : (p : ℕ) → Quietly words (further_argument p).form Shallow
-  unfolding further_argument
-  further_argument_deep p = q_then words (q_takes words comma_takes) (λ _ _. q_then words (argument_deep p) (λ e low. q_made words e low))
-
-  some_arguments_deep : (p : ℕ) → Quietly words (some_arguments p).form (Every Shallow)
-  unfolding some_arguments
-  some_arguments_deep p =
-      q_then words (argument_deep p) (λ e low. q_then words
-      (q_row at_comma (further_argument p).form (Every Shallow) (further_argument_deep p) tt (λ x xs h i. (h, i))) (λ es lows.
-      q_then words (q_takes words (close_paren_takes others.Nothing)) (λ _ _. q_made words (e ∷ es) (low, lows))))
-
-  no_arguments_deep : Quietly words no_arguments.form (Every Shallow)
-  unfolding no_arguments
-  no_arguments_deep = q_then words (q_takes words (close_paren_takes others.Nothing)) (λ _ _. q_made words [] tt)
-
-  arguments_deep : (p : ℕ) → Quietly words (arguments p).form (Every Shallow)
-  unfolding arguments
-  arguments_deep p =
-      q_then words (q_takes words (sees_takes (codes ")")))
-      (λ none _. q_either words none no_arguments (some_arguments p) no_arguments_deep (some_arguments_deep p))
 
   -- ---- calls
 
@@ -125,7 +81,7 @@ module _ (words : List Word) where
         let same = ok_is {F = Fault} seen.t t seen.fits in
         let paren = open_paren_takes.each named mark opened mark_spelled in
         let spent = call_frame_spends t.text opened framed frame frame_taken in
-        let args = (arguments_deep p).each framed list listed list_spelled in
+        let args = (arguments_deep words p).each framed list listed list_spelled in
         let last = same_place listed rest end.1 in
         let room1 : opened.room ≡ at.room = paren.room ∙ seen.room in
         let room2 : rest.room ≡ framed.room = last.room ∙ args.0.room in
@@ -186,146 +142,23 @@ module _ (words : List Word) where
   abbrev pub IsEffect : EffectTree → List ℕ → List ℕ → ℕ → Type 0
   IsEffect = Is (λ e. []) calls_in_effect (λ e. 0) (InEffect Shallow)
 
-  call_effect_fits : (p : ℕ) (last : Bool) → Fits words (call_effect p last).form IsEffect
-  unfolding call_effect
-  call_effect_fits p last =
-      fits_last words (call_fits p) (λ c ds calls el is.
-      q_then words (q_takes words (before_takes (effect_end last) (rest_after_postfix true))) (λ _ _. q_made words (Calls c) is))
-
-  prefix_step_fits : (p : ℕ) (last : Bool) → Fits words (prefix_step p last).form IsEffect
-  unfolding prefix_step step
-  prefix_step_fits p last =
-      fits_quiet words (q_then words (q_takes words (one_takes (λ t. fits_step_of t.symbol t)))
-      (λ s _. q_then words (target_deep words p casts.Refused others.Steps) (λ e low.
-      q_then words (q_takes words (before_takes (effect_end last) (rest_of true e))) (λ _ _. q_made words (Steps e s.0 s.1) (refl, refl, refl, low)))))
-
-  assign_fits : (p : ℕ) (last : Bool) (to : Expression) (n : ℕ) → Shallow to → Fits words (assign p last to n).form IsEffect
-  unfolding assign
-  assign_fits p last to n low =
-      fits_last words (assigned_fits p others.Steps)
-      (λ v ds calls el is. q_then words (q_takes words (before_takes (effect_end last) (rest_of_value true v)))
-      (λ _ _. q_made words (Assigns to n v) (is.0, is.1, is.2, (low, is.3))))
-
-  update_fits : (p : ℕ) (last : Bool) (to : Expression) (op : Binary) (n : ℕ) → Shallow to → Fits words (update p last to op n).form IsEffect
-  unfolding update
-  update_fits p last to op n low =
-      fits_quiet words (q_then words (whole_expr_deep words p others.Steps)
-      (λ e less. q_then words (q_takes words (before_takes (effect_end last) (rest_of true e)))
-      (λ _ _. q_made words (Updates to op n e) (refl, refl, refl, (low, less)))))
-
-  postfix_step_fits : (last : Bool) (to : Expression) (up : Bool) (n : ℕ) → Shallow to → Fits words (postfix_step last to up n).form IsEffect
-  unfolding postfix_step
-  postfix_step_fits last to up n low =
-      fits_quiet words (q_then words (q_takes words (before_takes (effect_end last) (rest_after_postfix true)))
-      (λ _ _. q_made words (Steps to up n) (refl, refl, refl, low)))
-
-  effect_after_fits : (p : ℕ) (last : Bool) (to : Expression) (a : Assigning) (n : ℕ) → Shallow to → Fits words (effect_after p last to a n).form IsEffect
-  unfolding effect_after
-  effect_after_fits p last to assigning.Assign n low = assign_fits p last to n low
-  effect_after_fits p last to (assigning.Update op) n low = update_fits p last to op n low
-  effect_after_fits p last to (assigning.Step up) n low = postfix_step_fits last to up n low
-
-  target_effect_fits : (p : ℕ) (o : Others) (last : Bool) → Fits words (target_effect p o last).form IsEffect
-  unfolding target_effect assigning_mark
-  target_effect_fits p o last =
-      fits_after words (target_deep words p casts.Outside o)
-      (λ to low. fits_after words (q_takes words (one_takes _))
-      (λ a _. fits_last words (effect_after_fits p last to a.0 a.1 low) (λ e ds calls el is. q_made words e is)))
-
-  other_effect_fits : (p : ℕ) (o : Others) (last : Bool) → Fits words (other_effect p o last).form IsEffect
-  unfolding other_effect
-  other_effect_fits p o last =
-      fits_after words (q_takes words judged_takes)
-      (λ s _. fits_last words (fits_either words s (prefix_step p last) (target_effect p o last) (prefix_step_fits p last)
-      (target_effect_fits p o last)) (λ e ds calls el is. q_made words e is))
-
-  pub effect_fits : (p : ℕ) (o : Others) (last : Bool) → Fits words (effect p o last).form IsEffect
-  unfolding effect
-  effect_fits p o last =
-      fits_after words (q_takes words sees_call_takes)
-      (λ c _. fits_last words (fits_either words c (call_effect (p - 1) last) (other_effect p o last) (call_effect_fits (p - 1) last)
-      (other_effect_fits p o last)) (λ e ds calls el is. q_made words e is))
-
   -- ---- locals
-
-  local_end_takes : (o : Others) → Takes (local_end o).form
-  unfolding local_end
-  local_end_takes o = before_either_takes (codes ",") (codes ";") o
-
-  initial_fits : Fits words initial.form IsValue
-  unfolding initial
-  initial_fits =
-      fits_after words (q_takes words assign_mark_takes)
-      (λ _ _. fits_last words (assigned_fits most_parens others.StepsAndBraces) (λ v ds calls el is. q_made words v is))
 
   abbrev pub IsFirst : Option ValueTree → List ℕ → List ℕ → ℕ → Type 0
   IsFirst = Is (λ v. []) calls_if_valued (λ v. 0) (IfValue Shallow)
-
-  first_fits : Fits words (maybe at_assign initial).form IsFirst
-  first_fits = fits_maybe words at_assign initial.form IsValue IsFirst initial_fits (refl, refl, refl, tt) (λ v ds calls el is. is)
 
   abbrev pub IsLocal : LocalTree → List ℕ → List ℕ → ℕ → Type 0
   IsLocal =
       Is (λ (l : LocalTree). l.name ∷ []) (λ (l : LocalTree). calls_in_shape l.shape) (λ (l : LocalTree). elements_of words l.shape)
       (λ (l : LocalTree). InShape Shallow l.shape)
 
-  -- the name stands before
-  abbrev AfterName : ℕ → LocalTree → List ℕ → List ℕ → ℕ → Type 0
-  AfterName n l ds calls el = IsLocal l (n ∷ ds) calls el
-
-  pointer_local_fits : Fits words pointer_local.form IsLocal
-  unfolding pointer_local
-  pointer_local_fits =
-      fits_after words (q_takes words star_takes) (λ _ _. fits_declared words others.Stars (λ t. fits_last words first_fits (λ v ds calls el is.
-      q_then words (q_takes words (local_end_takes (after_local others.BracketsAndParens v)))
-      (λ _ _. q_made words _ (ap (λ (xs : List ℕ). t.number ∷ xs) is.0, is.1, is.2, is.3)))))
-
-  array_local_fits : (n : ℕ) → Fits words (array_local n).form (AfterName n)
-  unfolding array_local
-  array_local_fits n = fits_last words (array_fits words) (λ a ds calls el is. q_made words _ (ap (λ (xs : List ℕ). n ∷ xs) is.0, is.1, is.2, tt))
-
-  integer_local_fits : (n : ℕ) → Fits words (integer_local n).form (AfterName n)
-  unfolding integer_local
-  integer_local_fits n =
-      fits_last words first_fits (λ v ds calls el is. q_then words (q_takes words (local_end_takes (after_local others.Parens v)))
-      (λ _ _. q_made words _ (ap (λ (xs : List ℕ). n ∷ xs) is.0, is.1, is.2, is.3)))
-
-  plain_local_fits : Fits words plain_local.form IsLocal
-  unfolding plain_local
-  plain_local_fits =
-      fits_declared words others.Nothing (λ t. fits_after words (q_takes words (sees_takes (codes "["))) (λ b _.
-      fits_last words (fits_either words b (weaken (array_local t.number)) (integer_local t.number) (array_local_fits t.number)
-      (integer_local_fits t.number)) (λ l ds calls el is. q_made words l is)))
-
-  local_fits : Fits words local.form IsLocal
-  unfolding local
-  local_fits =
-      fits_after words (q_takes words (sees_takes (codes "*")))
-      (λ p _. fits_last words (fits_either words p pointer_local plain_local pointer_local_fits plain_local_fits)
-      (λ l ds calls el is. q_made words l is))
-
-  further_local_fits : Fits words further_local.form IsLocal
-  unfolding further_local
-  further_local_fits = fits_after words (q_takes words comma_mark_takes) (λ _ _. fits_last words local_fits (λ l ds calls el is. q_made words l is))
-
   abbrev pub AreLocals : List LocalTree → List ℕ → List ℕ → ℕ → Type 0
   AreLocals = Is tokens_of calls_in_locals (elements_of_all words) (InLocals Shallow)
 
-  one_more : (l : LocalTree) (ls : List LocalTree) (ds calls : List ℕ) (el : ℕ) (es more : List ℕ) (fl : ℕ) → IsLocal l ds calls el
+  pub one_more : (l : LocalTree) (ls : List LocalTree) (ds calls : List ℕ) (el : ℕ) (es more : List ℕ) (fl : ℕ) → IsLocal l ds calls el
       → AreLocals ls es more fl → AreLocals (l ∷ ls) (ds ++ es) (calls ++ more) (el + fl)
   one_more l ls ds calls el es more fl is are =
       (ap₂ (λ (xs ys : List ℕ). xs ++ ys) is.0 are.0, ap₂ (λ (xs ys : List ℕ). xs ++ ys) is.1 are.1, ap₂ (λ (x y : ℕ). x + y) is.2 are.2, (is.3, are.3))
 
   abbrev pub IsStatement : Statement → List ℕ → List ℕ → ℕ → Type 0
   IsStatement = Is tokens_in calls_in (elements_in words) (InStatement Shallow Shallow)
-
-  pub declaration_fits : Fits words declaration.form IsStatement
-  unfolding declaration
-  declaration_fits =
-      fits_after words (q_takes words next_number_takes)
-      (λ n _. fits_after words (q_takes words (integer_type_takes settings.Block))
-      (λ i _. fits_then words local_fits (λ l ds calls el is.
-      fits_last words (fits_row words at_list_comma further_local.form IsLocal AreLocals further_local_fits (refl, refl, refl, tt)
-      one_more) (λ ls es more fl are.
-      q_then words (q_takes words (semicolon_takes others.Nothing))
-      (λ _ _. q_made words (Declares n i (l ∷ ls)) (one_more l ls ds calls el es more fl is are))))))

@@ -35,7 +35,7 @@ use Rattle.c_rules.specs.SpelledUnits as units
 use Rattle.c_limits.specs.Taking.{Good, Later, later_on, same_place, Takes, mark_takes, maybe_takes, made_takes, ◌>>>◌}
 use Rattle.c_limits.specs.TypesTake.{assign_mark_takes, signed_constant_takes, before_either_takes, integer_told_takes}
 use Rattle.c_limits.specs.TypesTake.{sees_takes, next_number_takes, type_of_takes, comma_mark_takes, close_brace_takes}
-use Rattle.c_limits.specs.ExpressionsTake.{open_paren_takes}
+use Rattle.c_limits.specs.Depths.{open_paren_takes}
 use Rattle.c_limits.specs.Measuring.{Tokens, tokens_joined, given, Taken, Fits, q_takes, q_made, q_then, fits_quiet, fits_last}
 use Rattle.c_limits.specs.Measuring.{fits_either, fits_as, fits_row}
 use Rattle.c_limits.specs.Spending.{Spends, frames_spend, function_spends, name_seen, array_fits}

@@ -7,7 +7,6 @@ pub mod LabelSpelled
 -- What the rules of C count.
 pub mod Taking
 pub mod TypesTake
-pub mod ExpressionsTake
 pub mod Measuring
 pub mod Depths
 pub mod Spending

@@ -59,7 +59,7 @@ module _ (words : List Word) where
 
   -- ---- what is quiet
 
-  quiet_taken : (n : ℕ) (at rest : Place) (P : List ℕ → List ℕ → ℕ → Type 0) → Later at rest → Good words n at.ahead → P [] [] 0 → Taken n at rest P
+  pub quiet_taken : (n : ℕ) (at rest : Place) (P : List ℕ → List ℕ → ℕ → Type 0) → Later at rest → Good words n at.ahead → P [] [] 0 → Taken n at rest P
   quiet_taken n at rest P later good holds = record {
     ds = [];
     calls = [];
@@ -110,7 +110,7 @@ module _ (words : List Word) where
         holds = holds;
       }
 
-  two_taken : (n : ℕ) (at mid rest : Place) (P Q R : List ℕ → List ℕ → ℕ → Type 0) (t : Taken n at mid P) (u : Taken t.m mid rest Q)
+  pub two_taken : (n : ℕ) (at mid rest : Place) (P Q R : List ℕ → List ℕ → ℕ → Type 0) (t : Taken n at mid P) (u : Taken t.m mid rest Q)
       → R (t.ds ++ u.ds) (t.calls ++ u.calls) (t.el + u.el) → Taken n at rest R
   two_taken n at mid rest P Q R t u holds =
       let f = t.frames in

@@ -244,7 +244,7 @@ module _ (words : List Word) where
         };
   }
 
-  size_fits : Fits words array_size.form (λ s. Counted [] [] (number_of (worth_at words s)))
+  pub size_fits : Fits words array_size.form (λ s. Counted [] [] (number_of (worth_at words s)))
   unfolding array_size
   size_fits =
       fits_after words (q_takes words left_bracket_takes)

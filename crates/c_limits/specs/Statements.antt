@@ -1,39 +1,194 @@
 -- What statements count.
-use Rattle.std.proofs.Common.{◌≡◌, ◌+◌, ◌-◌, ℕ, zero, suc, Bool, true, false, cond, List, [], ◌∷◌, ◌++◌, Ok, Err, Option, Some, None}
-use Rattle.std.proofs.Common.{refl, sym, ap, ap₂, subst, ◌∙◌, arith, append-nil, bytes_eq}
-use Rattle.std.specs.Prelude.{⊤, codes}
-use Rattle.grammar.specs.Form.{bound, made, first_of, fit_first}
-use Rattle.grammar.specs.Exact.{ok_no_err}
-use Rattle.c_unit.specs.Tree.{Expression, EffectTree, Statement, Empty, Block, While, Do, Switch, Case, Default, Break, Continue}
-use Rattle.c_unit.specs.Tree.{Returns, Does, Statements, statements_of, if_of, for_of}
+--   count_walk words    declared tokens, calls and elements, as `Taken` says
+use Rattle.std.proofs.Common.{◌≡◌, ◌+◌, ℕ, Bool, List, [], ◌∷◌, ◌++◌, Option, Some, None}
+use Rattle.std.proofs.Common.{refl, sym, ap, ap₂, subst, ◌∙◌, arith, append-nil}
+use Rattle.std.specs.Prelude.{⊤}
+use Rattle.grammar.specs.Form.{Form}
+use Rattle.c_unit.specs.Tree.{Expression, ValueTree, EffectTree, LocalTree, Statement, Block, Case, Default, While, Do, Switch, Steps, Updates, Assigns}
+use Rattle.c_unit.specs.Tree.{Statements, statements_of, if_of, for_of, LocalPointer, LocalInteger, LocalArray}
+use Rattle.c_unit.specs.declared.expression.Binary.{Binary}
+use Rattle.c_unit.specs.declared.types.Constant.{Constant}
 use Rattle.c_unit.specs.Units.{Word}
 use Rattle.c_rules.specs.Recursion.{calls_if_done, calls_in, called_in}
+use Rattle.c_rules.specs.Names.{worth_at, number_of}
 use Rattle.c_grammar.specs.declared.standing.Standing.{Standing}
 use Rattle.c_grammar.specs.declared.standing.Standing.TheVariants as standings
-use Rattle.c_grammar.specs.declared.others.Others.{Others}
-use Rattle.c_grammar.specs.declared.others.Others.TheVariants as others
-use Rattle.c_grammar.specs.Tokens.{Fault, Syntax, Limit, Seen, Place, Rule, misfit, one, most_parens}
-use Rattle.c_grammar.specs.Expressions.{some_token, fits_any, rest_of, rest_of_value}
-use Rattle.c_grammar.specs.Statements.{Inside, declaration, semicolon, label_end, colon, case_label, default_label, label, controlling}
-use Rattle.c_grammar.specs.Statements.{at_else, else_part, if_after, while_after, while_word, do_after, empty_first, declared_first}
-use Rattle.c_grammar.specs.Statements.{effect_first, some_first, for_first, empty_condition, some_condition, for_condition, empty_last}
-use Rattle.c_grammar.specs.Statements.{some_last, for_last, for_after, items_of, switch_value, switch_after, break_after}
-use Rattle.c_grammar.specs.Statements.{continue_after, return_nothing, return_value, return_after, leaving_after, worded_after, worded}
-use Rattle.c_grammar.specs.Statements.{empty_statement, in_block, block, effect_statement, unworded_long, unworded, statement, item}
-use Rattle.c_grammar.specs.Statements.{switch_item, placed_statement, may_begin, others_at, fits_too_nested}
-use Rattle.c_grammar.specs.Statements.{innermost_item, innermost, standing}
-use Rattle.c_rules.specs.SpelledExpressions.{IfEffect, IfCondition, InStatement, InStatements}
+use Rattle.c_grammar.specs.Tokens.{Fault, Seen, Room, Place, name, constant}
+use Rattle.c_grammar.specs.Types.{specifier}
+use Rattle.c_grammar.specs.Statements.{step, assigning_mark, fits_step_of, standing}
+use Rattle.c_grammar.specs.Expressions.{some_token, fits_any}
+use Rattle.c_grammar.specs.WalkLaws.{Walk, Spelled, Quiet, IfThere, seen_anywhere}
+use Rattle.c_grammar.specs.WalkLaws as walks
+use Rattle.c_grammar.specs.TypeWalkLaws.{TypeTokens}
+use Rattle.c_grammar.specs.StatementWalkLaws as statement_walks
+use Rattle.c_grammar.specs.StatementWalkLaws.{MayAssign, StatementWalk, all_may, standing_goes}
+use Rattle.c_rules.specs.SpelledExpressions.{IfValue, IfEffect, IfCondition, InStatement, InStatements}
 use Rattle.c_rules.specs.Counts.{tokens_in, all_tokens_in, elements_in, all_elements_in}
-use Rattle.c_limits.specs.Taking.{Later, Takes, judged_takes, made_takes, mark_takes, one_takes, ◌>>>◌}
-use Rattle.c_limits.specs.TypesTake.{close_brace_takes, sees_takes, signed_constant_takes}
-use Rattle.c_limits.specs.ExpressionsTake.{open_paren_takes, close_paren_takes}
-use Rattle.c_limits.specs.Measuring.{Quietly, Fits, q_takes, q_made, q_then, q_either, fits_quiet, fits_after, fits_last}
-use Rattle.c_limits.specs.Measuring.{fits_then, fits_either, fits_as, fits_maybe, fits_row}
-use Rattle.c_limits.specs.Depths.{whole_expr_deep, condition_deep}
-use Rattle.c_limits.specs.Spending.{Shallow}
-use Rattle.c_limits.specs.Effects.{Is, semicolon_takes, assigned_fits, effect_fits, IsStatement, declaration_fits}
+use Rattle.c_limits.specs.Taking.{Good, Takes, mark_takes, one_takes, same_place}
+use Rattle.c_limits.specs.Measuring.{Taken, Quietly, Fits, quiet_taken, two_taken, q_made, fits_quiet, fits_as}
+use Rattle.c_limits.specs.Depths.{whole_expr_deep, condition_deep, target_deep}
+use Rattle.c_limits.specs.Spending.{Shallow, Counted, fits_declared, size_fits}
+use Rattle.c_limits.specs.TypesTake.{name_takes, constant_takes, specifier_takes}
+use Rattle.c_limits.specs.Effects.{Is, IsCall, IsValue, IsEffect, IsFirst, IsLocal, AreLocals, one_more, call_fits, assigned_fits, IsStatement}
 
 module _ (words : List Word) where
+  -- ---- what is counted on a way
+
+  abbrev pub Counts : Type 0
+  Counts = List ℕ × List ℕ × ℕ
+
+  abbrev pub nothing : Counts
+  nothing = ([], [], 0)
+
+  abbrev pub joins : Counts → Counts → Counts
+  joins m n = (m.0 ++ n.0, m.1 ++ n.1, m.2 + n.2)
+
+  no_more : (n : ℕ) → n + 0 ≡ n
+  no_more n = omega arith
+
+  none_yet : (n : ℕ) → 0 + n ≡ n
+  none_yet n = omega arith
+
+  added : (m n k : ℕ) → m + (n + k) ≡ m + n + k
+  added m n k = omega arith
+
+  appended : (xs ys zs : List ℕ) → xs ++ (ys ++ zs) ≡ (xs ++ ys) ++ zs
+  appended [] ys zs = refl
+  appended (x ∷ xs) ys zs = ap (λ (l : List ℕ). x ∷ l) (appended xs ys zs)
+
+  nothing_before : (m : Counts) → joins nothing m ≡ m
+  nothing_before m = ap (λ (k : ℕ). (m.0, m.1, k)) (none_yet m.2)
+
+  nothing_after : (m : Counts) → joins m nothing ≡ m
+  nothing_after m = ap₂ (λ (xs ys : List ℕ). (xs, ys, m.2 + 0)) (append-nil m.0) (append-nil m.1) ∙ ap (λ (k : ℕ). (m.0, m.1, k)) (no_more m.2)
+
+  all_joined : (m n k : Counts) → joins m (joins n k) ≡ joins (joins m n) k
+  all_joined m n k = ap₂ (λ (xs ys : List ℕ). (xs, ys, m.2 + (n.2 + k.2))) (appended m.0 n.0 k.0) (appended m.1 n.1 k.1) ∙ ap (λ (l : ℕ). ((m.0 ++ n.0) ++ k.0, (m.1 ++ n.1) ++ k.1, l)) (added m.2 n.2 k.2)
+
+  abbrev pub OfCounts : (Counts → Type 0) → List ℕ → List ℕ → ℕ → Type 0
+  OfCounts P ds calls el = P (ds, calls, el)
+
+  abbrev pub Counting : Place → (Counts → Type 0) → Place → Type 0
+  Counting at P rest = (n : ℕ) → Good words n at.ahead → Taken words n at rest (OfCounts P)
+
+  stays : (at : Place) (P : Counts → Type 0) → P nothing → Counting at P at
+  stays at P h n good = quiet_taken words n at at (OfCounts P) (same_place at at refl) good h
+
+  goes_on : (at mid rest : Place) (P Q : Counts → Type 0) → Counting at P mid → ((m : Counts) → P m → Counting mid (λ n. Q (joins m n)) rest) → Counting at Q rest
+  goes_on at mid rest P Q hp hq n good =
+      let t = hp n good in
+      let u = hq (t.ds, t.calls, t.el) t.holds t.m t.good in
+      two_taken words n at mid rest (OfCounts P) (OfCounts (λ m. Q (joins (t.ds, t.calls, t.el) m))) (OfCounts Q) t u u.holds
+
+  abbrev count_walk : Walk
+  count_walk = record {
+    Count = Counts;
+    none = nothing;
+    join = joins;
+    none_before = nothing_before;
+    none_after = nothing_after;
+    joined = all_joined;
+    Goes = Counting;
+    stays = stays;
+    goes_on = goes_on;
+  }
+
+  quiet_so : {A : Type 0} {p : Form Seen Room Fault A} → Takes p → Quiet count_walk p
+  quiet_so h = record { each = λ at x rest s n good. quiet_taken words n at rest (OfCounts (λ m. m ≡ nothing)) (h.each at x rest s) good refl }
+
+  quietly_so : {A : Type 0} {p : Form Seen Room Fault A} {R : A → Type 0} → Quietly words p R → walks.Quietly count_walk p R
+  quietly_so {R = R} h = record {
+    each = λ at x rest s n good.
+        let k = h.each at x rest s in
+        quiet_taken words n at rest (OfCounts (λ m. (m ≡ nothing) × R x)) k.0 good (refl, k.1);
+  }
+
+  fits_so : {A : Type 0} {p : Form Seen Room Fault A} {post : A → List ℕ → List ℕ → ℕ → Type 0} → Fits words p post → Spelled count_walk p (λ x m. post x m.0 m.1 m.2)
+  fits_so h = record { each = λ at x rest s n good. h.each at x rest s n good }
+
+  -- nothing is counted first, or last
+  after_nothing : (P : Counts → Type 0) (a m : Counts) → a ≡ nothing → P m → P (joins a m)
+  after_nothing P a m e h = subst (λ (z : Counts). P (joins z m)) (sym e) (subst P (sym (nothing_before m)) h)
+
+  before_nothing : (P : Counts → Type 0) (m b : Counts) → b ≡ nothing → P m → P (joins m b)
+  before_nothing P m b e h = subst (λ (z : Counts). P (joins m z)) (sym e) (subst P (sym (nothing_after m)) h)
+
+  all_nothing : (a m b : Counts) → a ≡ nothing → m ≡ nothing → b ≡ nothing → joins a (joins m b) ≡ nothing
+  all_nothing a m b ea em eb = ap₂ joins ea (ap₂ joins em eb)
+
+  -- ---- tokens
+
+  step_takes : Takes step.form
+  unfolding step
+  step_takes = one_takes (λ t. fits_step_of t.symbol t)
+
+  some_takes : Takes some_token.form
+  unfolding some_token
+  some_takes = one_takes fits_any
+
+  any_assigning : (to : Expression) (last : Bool) → walks.Quietly count_walk (assigning_mark to last).form (λ a. MayAssign (λ op. ⊤) a.0)
+  unfolding assigning_mark
+  any_assigning to last = record {
+    each = λ at x rest s n good. quiet_taken words n at rest (OfCounts (λ m. (m ≡ nothing) × MayAssign (λ op. ⊤) x.0)) ((one_takes _).each at x rest s) good (refl, all_may x.0);
+  }
+
+  count_tokens : TypeTokens count_walk
+  count_tokens = record {
+    marks = λ word o _. quiet_so (mark_takes word o);
+    names = λ o. quiet_so (name_takes o);
+    constants = λ o. quiet_so (constant_takes o);
+    specifiers = λ setting w. quiet_so (specifier_takes setting w);
+  }
+
+  -- ---- locals
+
+  abbrev Named : ℕ → Counts → Type 0
+  Named n m = m ≡ (n ∷ [], [], 0)
+
+  abbrev Sized : ℕ → Counts → Type 0
+  Sized s m = Counted words [] [] (number_of (worth_at words s)) m.0 m.1 m.2
+
+  abbrev Assigned : ValueTree → Counts → Type 0
+  Assigned v m = IsValue words v m.0 m.1 m.2
+
+  first_is : (v : Option ValueTree) (m : Counts) → IfThere count_walk Assigned v m → IsFirst words v m.0 m.1 m.2
+  first_is None m h = subst (λ (z : Counts). IsFirst words None z.0 z.1 z.2) (sym h) (refl, refl, refl, tt)
+  first_is (Some v) m h = h
+
+  abbrev OneLocal : LocalTree → Counts → Type 0
+  OneLocal l m = IsLocal words l m.0 m.1 m.2
+
+  pointer_is : (n : ℕ) (v : Option ValueTree) (a m : Counts) → Named n a → IfThere count_walk Assigned v m → OneLocal (record { name = n; shape = LocalPointer v }) (joins a m)
+  pointer_is n v a m named h =
+      let is = first_is v m h in
+      subst (λ (z : Counts). OneLocal (record { name = n; shape = LocalPointer v }) (joins z m)) (sym named)
+      (ap (λ (xs : List ℕ). n ∷ xs) is.0, is.1, none_yet m.2 ∙ is.2, is.3)
+
+  integer_is : (n : ℕ) (v : Option ValueTree) (a m : Counts) → Named n a → IfThere count_walk Assigned v m → OneLocal (record { name = n; shape = LocalInteger v }) (joins a m)
+  integer_is n v a m named h =
+      let is = first_is v m h in
+      subst (λ (z : Counts). OneLocal (record { name = n; shape = LocalInteger v }) (joins z m)) (sym named)
+      (ap (λ (xs : List ℕ). n ∷ xs) is.0, is.1, none_yet m.2 ∙ is.2, is.3)
+
+  array_is : (n s : ℕ) (cs : Option (List Constant)) (a m : Counts) → Named n a → Sized s m → OneLocal (record { name = n; shape = LocalArray s cs }) (joins a m)
+  array_is n s cs a m named is =
+      subst (λ (z : Counts). OneLocal (record { name = n; shape = LocalArray s cs }) (joins z m)) (sym named)
+      (ap (λ (xs : List ℕ). n ∷ xs) is.0, is.1, none_yet m.2 ∙ is.2, tt)
+
+  -- ---- effects and statements
+
+  abbrev Quiets : Expression → Counts → Type 0
+  Quiets e m = (m ≡ nothing) × Shallow e
+
+  abbrev Effect : EffectTree → Counts → Type 0
+  Effect e m = IsEffect words e m.0 m.1 m.2
+
+  abbrev Stands : Statement → Counts → Type 0
+  Stands s m = IsStatement words s m.0 m.1 m.2
+
+  quiet_effect : (e : EffectTree) (m : Counts) → m ≡ nothing → Effect e nothing → Effect e m
+  quiet_effect e m none is = subst (Effect e) (sym none) is
+
   -- ---- options
 
   abbrev pub tokens_if : Option Statement → List ℕ
@@ -57,140 +212,6 @@ module _ (words : List Word) where
 
   abbrev pub IsLast : Option EffectTree → List ℕ → List ℕ → ℕ → Type 0
   IsLast = Is words (λ e. []) calls_if_done (λ e. 0) (IfEffect Shallow)
-
-  -- ---- labels
-
-  colon_takes : (o : Others) → Takes (colon o).form
-  unfolding colon label_end
-  colon_takes o = mark_takes (codes ":") o >>> λ _. judged_takes >>> λ _. made_takes
-
-  case_fits : Fits words case_label.form (IsStatement words)
-  unfolding case_label
-  case_fits =
-      fits_quiet words (q_then words (q_takes words (mark_takes (codes "case") others.Nothing))
-      (λ n _. q_then words (q_takes words (signed_constant_takes others.Expressions)) (λ c _.
-      q_then words (q_takes words (colon_takes (others.Rest false false))) (λ _ _. q_made words (Case n c) (refl, refl, refl, tt)))))
-
-  default_fits : Fits words default_label.form (IsStatement words)
-  unfolding default_label
-  default_fits =
-      fits_quiet words (q_then words (q_takes words (mark_takes (codes "default") others.Nothing))
-      (λ n _. q_then words (q_takes words (colon_takes others.Nothing)) (λ _ _. q_made words (Default n) (refl, refl, refl, tt))))
-
-  label_fits : Fits words label.form (IsStatement words)
-  unfolding label
-  label_fits =
-      fits_after words (q_takes words (sees_takes (codes "case")))
-      (λ c _. fits_last words (fits_either words c case_label default_label case_fits default_fits)
-      (λ l ds calls el is. q_made words l is))
-
-  -- ---- what is quiet
-
-  controlling_deep : Quietly words controlling.form Shallow
-  unfolding controlling
-  controlling_deep =
-      q_then words (q_takes words open_paren_takes)
-      (λ _ _. q_then words (condition_deep words (most_parens - 1))
-      (λ c low. q_then words (q_takes words (close_paren_takes (rest_of true c))) (λ _ _. q_made words c low)))
-
-  switch_value_deep : Quietly words switch_value.form Shallow
-  unfolding switch_value
-  switch_value_deep =
-      q_then words (q_takes words open_paren_takes)
-      (λ _ _. q_then words (whole_expr_deep words (most_parens - 1) others.Steps)
-      (λ e low. q_then words (q_takes words (close_paren_takes (rest_of true e))) (λ _ _. q_made words e low)))
-
-  while_word_takes : Takes while_word.form
-  unfolding while_word
-  while_word_takes = mark_takes (codes "while") others.Nothing
-
-  empty_condition_deep : Quietly words empty_condition.form (IfCondition Shallow)
-  unfolding empty_condition
-  empty_condition_deep = q_then words (q_takes words (semicolon_takes words others.Nothing)) (λ _ _. q_made words None tt)
-
-  some_condition_deep : Quietly words some_condition.form (IfCondition Shallow)
-  unfolding some_condition
-  some_condition_deep =
-      q_then words (condition_deep words (most_parens - 1))
-      (λ c low. q_then words (q_takes words (semicolon_takes words (rest_of true c))) (λ _ _. q_made words (Some c) low))
-
-  for_condition_deep : Quietly words for_condition.form (IfCondition Shallow)
-  unfolding for_condition
-  for_condition_deep =
-      q_then words (q_takes words (sees_takes (codes ";")))
-      (λ none _. q_then words (q_either words none empty_condition some_condition empty_condition_deep some_condition_deep)
-      (λ c low. q_made words c low))
-
-  -- ---- parts of a `for`
-
-  empty_first_fits : Fits words empty_first.form IsOption
-  unfolding empty_first
-  empty_first_fits = fits_quiet words (q_then words (q_takes words (semicolon_takes words others.Nothing)) (λ _ _. q_made words None (refl, refl, refl, tt)))
-
-  declared_first_fits : Fits words declared_first.form IsOption
-  unfolding declared_first
-  declared_first_fits = fits_last words (declaration_fits words) (λ d ds calls el is. q_made words (Some d) is)
-
-  effect_first_fits : Fits words effect_first.form IsOption
-  unfolding effect_first
-  effect_first_fits =
-      fits_last words (effect_fits words (most_parens - 1) others.Nothing false)
-      (λ e ds calls el is. q_then words (q_takes words (semicolon_takes words others.Nothing)) (λ _ _. q_made words (Some (Does e)) is))
-
-  some_first_fits : Fits words some_first.form IsOption
-  unfolding some_first
-  some_first_fits =
-      fits_after words (q_takes words judged_takes)
-      (λ d _. fits_last words (fits_either words d declared_first effect_first declared_first_fits effect_first_fits)
-      (λ f ds calls el is. q_made words f is))
-
-  for_first_fits : Fits words for_first.form IsOption
-  unfolding for_first
-  for_first_fits =
-      fits_after words (q_takes words (sees_takes (codes ";")))
-      (λ none _. fits_last words (fits_either words none empty_first some_first empty_first_fits some_first_fits)
-      (λ f ds calls el is. q_made words f is))
-
-  empty_last_fits : Fits words empty_last.form IsLast
-  unfolding empty_last
-  empty_last_fits = fits_quiet words (q_then words (q_takes words (close_paren_takes others.Nothing)) (λ _ _. q_made words None (refl, refl, refl, tt)))
-
-  some_last_fits : Fits words some_last.form IsLast
-  unfolding some_last
-  some_last_fits =
-      fits_last words (effect_fits words (most_parens - 1) others.Nothing true)
-      (λ e ds calls el is. q_then words (q_takes words (close_paren_takes others.Nothing)) (λ _ _. q_made words (Some e) is))
-
-  for_last_fits : Fits words for_last.form IsLast
-  unfolding for_last
-  for_last_fits =
-      fits_after words (q_takes words (sees_takes (codes ")")))
-      (λ none _. fits_last words (fits_either words none empty_last some_last empty_last_fits some_last_fits)
-      (λ e ds calls el is. q_made words e is))
-
-  -- ---- statements that leave
-
-  return_value_fits : (n : ℕ) → Fits words (return_value n).form (IsStatement words)
-  unfolding return_value
-  return_value_fits n =
-      fits_last words (assigned_fits words most_parens others.Steps)
-      (λ v ds calls el is. q_then words (q_takes words (semicolon_takes words (rest_of_value true v)))
-      (λ _ _. q_made words (Returns n (Some v)) is))
-
-  quiet_statement : (s : Statement) → tokens_in s ≡ [] → calls_in s ≡ [] → elements_in words s ≡ 0 → InStatement Shallow Shallow s
-      → Quietly words (bound (semicolon others.Nothing).form (λ _. made s)) (λ x. IsStatement words x [] [] 0)
-  quiet_statement s d c e q = q_then words (q_takes words (semicolon_takes words others.Nothing)) (λ _ _. q_made words s (sym d, sym c, sym e, q))
-
-  leaving_fits : (t : Seen) → Fits words (leaving_after t).form (IsStatement words)
-  unfolding leaving_after break_after continue_after return_after return_nothing
-  leaving_fits t =
-      fits_either words (bytes_eq t.text (codes "break")) (break_after t.number) _ (fits_quiet words (quiet_statement (Break t.number) refl refl refl tt))
-      (fits_either words (bytes_eq t.text (codes "continue")) (continue_after t.number) _
-      (fits_quiet words (quiet_statement (Continue t.number) refl refl refl tt))
-      (fits_after words (q_takes words (sees_takes (codes ";"))) (λ none _. fits_last words
-      (fits_either words none (return_nothing t.number) (return_value t.number)
-      (fits_quiet words (quiet_statement (Returns t.number None) refl refl refl tt)) (return_value_fits t.number))
-      (λ s ds calls el is. q_made words s is))))
 
   -- ---- sums
 
@@ -237,8 +258,6 @@ module _ (words : List Word) where
   one_statement_more s ss ds calls el es more fl is are =
       (ap₂ (λ (xs ys : List ℕ). xs ++ ys) is.0 are.0, ap₂ (λ (xs ys : List ℕ). xs ++ ys) is.1 are.1, ap₂ (λ (x y : ℕ). x + y) is.2 are.2, (is.3, are.3))
 
-  -- ---- what stands inside
-
   -- at the place of a switch's body a block stands
   abbrev pub IsBlock : Standing → Statement → Type 0
   IsBlock standings.SwitchBlock s = (ss : Statements) × (s ≡ Block ss)
@@ -249,168 +268,94 @@ module _ (words : List Word) where
   abbrev pub IsStanding : Standing → Statement → List ℕ → List ℕ → ℕ → Type 0
   IsStanding place s ds calls el = IsStatement words s ds calls el × IsBlock place s
 
-  switch_counts : (e : Expression) (b : Statement) (ds calls : List ℕ) (el : ℕ) → Shallow e
-      → IsStanding standings.SwitchBlock b ds calls el → IsStatement words (Switch e (items_of b)) ds calls el
-  switch_counts e b ds calls el low is =
-      let block : IsStatement words (Block is.1.0) ds calls el = subst (λ (s : Statement). IsStatement words s ds calls el) is.1.1 is.0 in
-      subst (λ (s : Statement). IsStatement words (Switch e (items_of s)) ds calls el) (sym is.1.1) (block.0, block.1, block.2, (low, block.3))
+  option_is : (e : Option Statement) (m : Counts) → IfThere count_walk Stands e m → IsOption e m.0 m.1 m.2
+  option_is None m h = subst (λ (z : Counts). IsOption None z.0 z.1 z.2) (sym h) (refl, refl, refl, tt)
+  option_is (Some s) m h = h
 
-  module _ (inner : Inside) (i : (place : Standing) → Fits words (inner place).form (IsStanding place)) where
-    part_fits : Fits words (inner standings.Part).form (IsStatement words)
-    part_fits = fits_as words (λ s ds calls el is. is.0) (i standings.Part)
+  last_is : (e : Option EffectTree) (m : Counts) → IfThere count_walk Effect e m → IsLast e m.0 m.1 m.2
+  last_is None m h = subst (λ (z : Counts). IsLast None z.0 z.1 z.2) (sym h) (refl, refl, refl, tt)
+  last_is (Some e) m h = h
 
-    else_fits : Fits words (else_part inner).form (IsStatement words)
-    unfolding else_part
-    else_fits =
-        fits_after words (q_takes words (mark_takes (codes "else") others.Nothing))
-        (λ _ _. fits_last words part_fits (λ s ds calls el is. q_made words s is))
+  quiet_condition : (c : Option Expression) (m : Counts) → IfThere count_walk Quiets c m → (m ≡ nothing) × IfCondition Shallow c
+  quiet_condition None m h = (h, tt)
+  quiet_condition (Some c) m h = h
 
-    if_fits : Fits words (if_after inner).form (IsStatement words)
-    unfolding if_after
-    if_fits =
-        fits_after words controlling_deep (λ c low. fits_then words part_fits (λ s ds calls el is.
-        fits_last words (fits_maybe words at_else (else_part inner).form (IsStatement words) IsOption else_fits (refl, refl, refl, tt)
-        (λ x es more fl are. are)) (λ e es more fl are.
-        q_made words (if_of c s e) (if_counts c s e ds calls el es more fl low is are))))
+  for_is : (f : Option Statement) (c : Option Expression) (e : Option EffectTree) (s : Statement) (p a b d m : Counts)
+      → p ≡ nothing → IfThere count_walk Stands f a → IfThere count_walk Quiets c b → IfThere count_walk Effect e d → Stands s m
+      → Stands (for_of f c e s) (joins p (joins a (joins b (joins d m))))
+  for_is f c e s p a b d m one first low last is =
+      let quiet = quiet_condition c b low in
+      after_nothing (Stands (for_of f c e s)) p (joins a (joins b (joins d m))) one
+      (after_nothing (λ z. Stands (for_of f c e s) (joins a z)) b (joins d m) quiet.0
+      (for_counts f c e s a.0 d.0 m.0 a.1 d.1 m.1 a.2 d.2 m.2 (option_is f a first) quiet.1 (last_is e d last) is))
 
-    while_fits : Fits words (while_after inner).form (IsStatement words)
-    unfolding while_after
-    while_fits =
-        fits_after words controlling_deep (λ c low. fits_last words part_fits
-        (λ s ds calls el is. q_made words (While c s) (is.0, is.1, is.2, (low, is.3))))
+  quiet_statement : (s : Statement) (m : Counts) → m ≡ nothing → Stands s nothing → Stands s m
+  quiet_statement s m none is = subst (Stands s) (sym none) is
 
-    do_fits : Fits words (do_after inner).form (IsStatement words)
-    unfolding do_after
-    do_fits =
-        fits_last words part_fits (λ s ds calls el is. q_then words (q_takes words while_word_takes)
-        (λ _ _. q_then words controlling_deep (λ c low. q_then words (q_takes words (semicolon_takes words others.Nothing)) (λ _ _.
-        q_made words (Do s c) (is.0, is.1, is.2, (is.3, low))))))
+  abbrev count_statements : StatementWalk count_walk
+  count_statements = record {
+    One = λ m. m ≡ nothing;
+    Named = Named;
+    Sized = Sized;
+    MayUpdate = λ op. ⊤;
+    Value = Quiets;
+    Condition = Quiets;
+    Call = λ c m. IsCall words c m.0 m.1 m.2;
+    Assigned = Assigned;
+    Controls = Quiets;
+    Selects = Quiets;
+    Effect = Effect;
+    Local = OneLocal;
+    Locals = λ ls m. AreLocals words ls m.0 m.1 m.2;
+    Stands = Stands;
+    Stand = λ ss m. AreStatements ss m.0 m.1 m.2;
+    tokens = count_tokens;
+    counted = λ word o _. quiet_so (mark_takes word o);
+    steps = quiet_so step_takes;
+    assigns = any_assigning;
+    words = seen_anywhere _ (quiet_so some_takes);
+    named = λ o. fits_so (fits_declared words {post = λ t ds calls el. (ds, calls, el) ≡ (t.number ∷ [], [], 0)} o (λ t. fits_quiet words (q_made words t refl)));
+    sized = fits_so (size_fits words);
+    values = λ p o. quietly_so (whole_expr_deep words p o);
+    targets = λ p c o. quietly_so (target_deep words p c o);
+    conditions = λ p. quietly_so (condition_deep words p);
+    calls = λ p. seen_anywhere _ (fits_so (call_fits words p));
+    assigned_values = λ p o. fits_so (assigned_fits words p o);
+    call_effects = λ c m is. is;
+    step_effects = λ e up n m quiet. quiet_effect (Steps e up n) m quiet.0 (refl, refl, refl, quiet.1);
+    assign_effects = λ to n v a m quiet is. after_nothing (Effect (Assigns to n v)) a m quiet.0 (is.0, is.1, is.2, (quiet.1, is.3));
+    update_effects = λ to op n e a m _ quiet other. after_nothing (Effect (Updates to op n e)) a m quiet.0 (quiet_effect (Updates to op n e) m other.0 (refl, refl, refl, (quiet.1, other.1)));
+    pointers = pointer_is;
+    integers = integer_is;
+    arrays = array_is;
+    no_locals = (refl, refl, refl, tt);
+    more_locals = λ l ls a m is are. one_more words l ls a.0 a.1 a.2 m.0 m.1 m.2 is are;
+    declares = λ n i ls m are. are;
+    cases = λ n c m one. quiet_statement (Case n c) m one (refl, refl, refl, tt);
+    defaults = λ n m one. quiet_statement (Default n) m one (refl, refl, refl, tt);
+    controls = λ e a m b one quiet other. (all_nothing a m b one quiet.0 other, quiet.1);
+    selects = λ e a m b one quiet other. (all_nothing a m b one quiet.0 other, quiet.1);
+    ifs = λ c s e a m n quiet is others. after_nothing (Stands (if_of c s e)) a (joins m n) quiet.0 (if_counts c s e m.0 m.1 m.2 n.0 n.1 n.2 quiet.1 is (option_is e n others));
+    whiles = λ c s a m quiet is. after_nothing (Stands (While c s)) a m quiet.0 (is.0, is.1, is.2, (quiet.1, is.3));
+    dos = λ s c m a is quiet. before_nothing (Stands (Do s c)) m a quiet.0 (is.0, is.1, is.2, (is.3, quiet.1));
+    fors = for_is;
+    switches = λ e ss a m quiet is. after_nothing (Stands (Switch e ss)) a m quiet.0 (is.0, is.1, is.2, (quiet.1, is.3));
+    breaks = λ n. (refl, refl, refl, tt);
+    continues = λ n. (refl, refl, refl, tt);
+    returns = λ n. (refl, refl, refl, tt);
+    value_returns = λ n v m is. is;
+    empties = λ n. (refl, refl, refl, tt);
+    blocks = λ ss m are. are;
+    no_statements = (refl, refl, refl, tt);
+    more_statements = λ s ss a m is are. one_statement_more s ss a.0 a.1 a.2 m.0 m.1 m.2 is are;
+    effects = λ e m is. is;
+  }
 
-    for_fits : Fits words (for_after inner).form (IsStatement words)
-    unfolding for_after
-    for_fits =
-        fits_after words (q_takes words open_paren_takes)
-        (λ _ _. fits_then words for_first_fits (λ f d0 c0 e0 first. fits_after words for_condition_deep (λ c low.
-        fits_then words for_last_fits (λ e d1 c1 e1 last.
-        fits_last words part_fits (λ s d2 c2 e2 is. q_made words (for_of f c e s)
-        (for_counts f c e s d0 d1 d2 c0 c1 c2 e0 e1 e2 first low last is))))))
-
-    switch_fits : Fits words (switch_after inner).form (IsStatement words)
-    unfolding switch_after
-    switch_fits =
-        fits_after words switch_value_deep (λ e low. fits_last words (i standings.SwitchBlock)
-        (λ b ds calls el is. q_made words (Switch e (items_of b)) (switch_counts e b ds calls el low is)))
-
-    worded_after_fits : (t : Seen) → Fits words (worded_after inner t).form (IsStatement words)
-    unfolding worded_after
-    worded_after_fits t =
-        fits_either words (bytes_eq t.text (codes "if")) (if_after inner) _ if_fits
-        (fits_either words (bytes_eq t.text (codes "while")) (while_after inner) _ while_fits
-        (fits_either words (bytes_eq t.text (codes "do")) (do_after inner) _ do_fits
-        (fits_either words (bytes_eq t.text (codes "for")) (for_after inner) _ for_fits
-        (fits_either words (bytes_eq t.text (codes "switch")) (switch_after inner) _ switch_fits (leaving_fits t)))))
-
-    worded_fits : Fits words (worded inner).form (IsStatement words)
-    unfolding worded some_token
-    worded_fits = fits_after words (q_takes words (one_takes fits_any)) (λ t _. fits_last words (worded_after_fits t) (λ s ds calls el is. q_made words s is))
-
-    empty_fits : Fits words empty_statement.form (IsStatement words)
-    unfolding empty_statement
-    empty_fits = fits_quiet words (q_then words (q_takes words (mark_takes (codes ";") others.Nothing)) (λ n _. q_made words (Empty n) (refl, refl, refl, tt)))
-
-    block_fits : (o : Others) (item : Rule true Statement) → Fits words item.form (IsStatement words)
-        → Fits words (block o item).form (IsStanding standings.SwitchBlock)
-    unfolding block
-    block_fits o item h =
-        fits_after words (q_takes words (mark_takes (codes "{") o))
-        (λ _ _. fits_last words (fits_row words in_block item.form (IsStatement words) AreStatements h (refl, refl, refl, tt)
-        one_statement_more) (λ ss ds calls el are.
-        q_then words (q_takes words close_brace_takes) (λ _ _. q_made words (Block (statements_of ss)) (are, (statements_of ss, refl)))))
-
-    effect_statement_fits : (o : Others) → Fits words (effect_statement o).form (IsStatement words)
-    unfolding effect_statement
-    effect_statement_fits o =
-        fits_last words (effect_fits words most_parens o false)
-        (λ e ds calls el is. q_then words (q_takes words (semicolon_takes words others.Nothing)) (λ _ _. q_made words (Does e) is))
-
-    unworded_long_fits : (o : Others) → Fits words (unworded_long inner o).form (IsStatement words)
-    unfolding unworded_long
-    unworded_long_fits o =
-        fits_after words (q_takes words (sees_takes (codes "{"))) (λ b _. fits_last words
-        (fits_either words b (block others.Nothing (inner standings.Item)) (effect_statement o)
-        (fits_as words (λ s ds calls el is. is.0) (block_fits others.Nothing (inner standings.Item)
-        (fits_as words (λ s ds calls el is. is.0) (i standings.Item)))) (effect_statement_fits o))
-        (λ s ds calls el is. q_made words s is))
-
-    unworded_fits : (o : Others) → Fits words (unworded inner o).form (IsStatement words)
-    unfolding unworded
-    unworded_fits o =
-        fits_after words (q_takes words (sees_takes (codes ";")))
-        (λ e _. fits_last words (fits_either words e empty_statement (unworded_long inner o) empty_fits (unworded_long_fits o))
-        (λ s ds calls el is. q_made words s is))
-
-    statement_fits : (o : Others) → Fits words (statement inner o).form (IsStatement words)
-    unfolding statement
-    statement_fits o =
-        fits_after words (q_takes words judged_takes)
-        (λ b _. fits_last words (fits_either words b (worded inner) (unworded inner o) worded_fits (unworded_fits o))
-        (λ s ds calls el is. q_made words s is))
-
-    item_fits : (o : Others) → Fits words (item inner o).form (IsStatement words)
-    unfolding item
-    item_fits o =
-        fits_after words (q_takes words judged_takes)
-        (λ d _. fits_last words (fits_either words d declaration (statement inner o) (declaration_fits words) (statement_fits o))
-        (λ s ds calls el is. q_made words s is))
-
-    switch_item_fits : Fits words (switch_item inner).form (IsStatement words)
-    unfolding switch_item
-    switch_item_fits =
-        fits_after words (q_takes words judged_takes)
-        (λ l _. fits_last words (fits_either words l label (item inner others.Nothing) label_fits (item_fits others.Nothing))
-        (λ s ds calls el is. q_made words s is))
-
-    placed_fits : (place : Standing) → Fits words (placed_statement inner place).form (IsStanding place)
-    unfolding placed_statement
-    placed_fits standings.Part = fits_as words (λ s ds calls el is. (is, tt)) (statement_fits others.Labels)
-    placed_fits standings.Item = fits_as words (λ s ds calls el is. (is, tt)) (item_fits others.Labels)
-    placed_fits standings.SwitchItem = fits_as words (λ s ds calls el is. (is, tt)) switch_item_fits
-    placed_fits standings.SwitchBlock =
-        block_fits others.Statements (inner standings.SwitchItem) (fits_as words (λ s ds calls el is. is.0) (i standings.SwitchItem))
-
-  -- ---- nesting
-
-  never : {A : Type 0} (b : Bool) (f g : Fault) (x : Statement) → (cond b (Err f) (Err g)) ≡ Ok x → A
-  never true f g x e = ok_no_err x f e
-  never false f g x e = ok_no_err x g e
-
-  nothing_fits : (R : Statement → Type 0) (place : Standing) → Quietly words (one (fits_too_nested place)).form R
-  nothing_fits R place = record { each = λ at x rest s. none at x rest at.ahead s.0 }
-    where
-      none : (at : Place) (x : Statement) (rest : Place) (ts : List Seen)
-          → fit_first (λ (at : Place). Syntax None) (λ (t : Seen) (at : Place). fits_too_nested place t) (first_of ts) at ≡ Ok x
-          → Later at rest × R x
-      none at x rest [] e = ok_no_err x (Syntax None) e
-      none at x rest (t ∷ ts) e = never (may_begin place t.symbol) (Limit _ 33) (misfit (others_at place) t) x e
-
-  innermost_item_fits : (place : Standing) → Fits words (innermost_item place).form (IsStatement words)
-  unfolding innermost_item
-  innermost_item_fits place =
-      fits_after words (q_takes words judged_takes)
-      (λ d _. fits_last words (fits_either words d declaration (one (fits_too_nested place)) (declaration_fits words)
-      (fits_quiet words (nothing_fits (λ s. IsStatement words s [] [] 0) place)))
-      (λ s ds calls el is. q_made words s is))
-
-  innermost_fits : (place : Standing) → Fits words (innermost place).form (IsStanding place)
-  unfolding innermost
-  innermost_fits standings.Part = fits_quiet words (nothing_fits (λ s. IsStanding standings.Part s [] [] 0) standings.Part)
-  innermost_fits standings.Item = fits_as words (λ s ds calls el is. (is, tt)) (innermost_item_fits standings.Item)
-  innermost_fits standings.SwitchItem =
-      fits_as words (λ s ds calls el is. (is, tt)) (innermost_item_fits standings.SwitchItem)
-  innermost_fits standings.SwitchBlock =
-      fits_quiet words (nothing_fits (λ s. IsStanding standings.SwitchBlock s [] [] 0) standings.SwitchBlock)
+  block_so : (place : Standing) (s : Statement) → statement_walks.IsBlock place s → IsBlock place s
+  block_so standings.SwitchBlock s is = is
+  block_so standings.Part s is = tt
+  block_so standings.Item s is = tt
+  block_so standings.SwitchItem s is = tt
 
   pub standing_fits : (n : ℕ) (place : Standing) → Fits words (standing n place).form (IsStanding place)
-  unfolding standing
-  standing_fits zero place = innermost_fits place
-  standing_fits (suc n) place = placed_fits (standing n) (λ p. standing_fits n p) place
+  standing_fits n place = fits_as words (λ s ds calls el is. (is.0, block_so place s is.1)) (record { each = λ at x rest s k good. (standing_goes count_statements n place).each at x rest s k good })

@@ -2,7 +2,7 @@
 --   Good words n ts    the tokens ahead have ascending numbers from n on, and each is what the words have there
 --   Later at rest      nothing is counted, and what is left stands later
 --   Takes p            so it is of all that p spells
-use Rattle.std.proofs.Common.{◌≡◌, ◌≤◌, ℕ, zero, suc, Bool, true, false, List, [], ◌∷◌, Result, Option, Some, None, sym, ap, subst, ◌∙◌, arith}
+use Rattle.std.proofs.Common.{◌≡◌, ◌≤◌, ℕ, zero, suc, Bool, true, false, List, [], ◌∷◌, Result, Option, Some, None, refl, sym, ap, subst, ◌∙◌, arith}
 use Rattle.std.specs.Prelude.{⊤}
 use Rattle.grammar.specs.Form.{others_of, after, Form, bound, made, refused, judged, InARow, row, AtMostOne, at_most_one}
 use Rattle.grammar.specs.Chain.{InTurn, chain}
@@ -11,6 +11,7 @@ use Rattle.c_rules.specs.Names.{text_at, worth_at, number_of}
 use Rattle.c_grammar.specs.declared.symbol.Symbol.TheVariants as symbols
 use Rattle.c_grammar.specs.declared.others.Others.{Others}
 use Rattle.c_grammar.specs.Tokens.{Fault, Seen, Room, Place, Rule, one, mark, fits_text, either}
+use Rattle.c_grammar.specs.WalkLaws.{Walk, Quiet, Spelled}
 use Rattle.lowering_layout.specs.Texts.{IsIdentifier}
 
 module _ (words : List Word) where
@@ -67,13 +68,6 @@ made_takes = record { each = λ at x rest s. same_place at rest s.1 }
 pub judged_takes : {A : Type 0} {fit : Place → Result A Fault} → Takes (judged fit)
 judged_takes = record { each = λ at x rest s. same_place at rest s.1 }
 
-pub refused_takes : {A : Type 0} {fault : Place → Fault} → Takes (refused {A = A} fault)
-refused_takes = record { each = λ at x rest s. absurd s }
-
-pub either_takes : {some : Bool} {A : Type 0} (b : Bool) (p q : Rule some A) → Takes p.form → Takes q.form → Takes (either b p q).form
-either_takes true p q h i = h
-either_takes false p q h i = i
-
 module _ {A : Type 0} (goes_on : Place → Bool) (p : Form Seen Room Fault A) where
   pub row_each : Takes p → (at : Place) (xs : List A) (rest : Place) → InARow goes_on p at xs rest → Later at rest
   row_each h at [] rest s = same_place at rest s
@@ -89,10 +83,30 @@ module _ {A : Type 0} (goes_on : Place → Bool) (p : Form Seen Room Fault A) wh
   pub maybe_takes : Takes p → Takes (at_most_one goes_on p)
   maybe_takes h = record { each = maybe_each h }
 
-module _ {A : Type 0} (goes_on : A → Place → Bool) (p : A → Form Seen Room Fault A) where
-  turns_each : ((x : A) → Takes (p x)) → (n : ℕ) (x : A) (at : Place) (y : A) (rest : Place) → InTurn goes_on p n x at y rest → Later at rest
-  turns_each h zero x at y rest s = same_place at rest s.1
-  turns_each h (suc n) x at y rest s = later_on at s.1.1 rest ((h x).each at s.1.0 s.1.1 s.1.2) (turns_each h n s.1.0 s.1.1 y rest s.1.3)
+-- ---- as a walk
 
-  pub chain_takes : ((x : A) → Takes (p x)) → (x : A) → Takes (chain goes_on p x)
-  chain_takes h x = record { each = λ at y rest s. turns_each h s.0.0 x at y rest s.0.1 }
+pub later_on_to : (at mid rest : Place) (P Q : Unit {0} → Type 0) → Later at mid × P tt → ((m : Unit {0}) → P m → Later mid rest × Q tt) → Later at rest × Q tt
+later_on_to at mid rest P Q hp hq = let k = hq tt hp.1 in (later_on at mid rest hp.0 k.0, k.1)
+
+abbrev pub later_walk : Walk
+later_walk = record {
+  Count = Unit {0};
+  none = tt;
+  join = λ m n. tt;
+  none_before = λ m. refl;
+  none_after = λ m. refl;
+  joined = λ m n k. refl;
+  Goes = λ at P rest. Later at rest × P tt;
+  stays = λ at P h. (same_place at at refl, h);
+  goes_on = later_on_to;
+}
+
+pub quiet_so : {A : Type 0} {p : Form Seen Room Fault A} → Takes p → Quiet later_walk p
+quiet_so h = record { each = λ at x rest s. (h.each at x rest s, refl) }
+
+pub takes_so : {A : Type 0} {p : Form Seen Room Fault A} → Quiet later_walk p → Takes p
+takes_so h = record { each = λ at x rest s. (h.each at x rest s).0 }
+
+-- of which nothing is asked
+pub free_so : {A : Type 0} {p : Form Seen Room Fault A} → Takes p → Spelled later_walk p (λ x m. ⊤)
+free_so h = record { each = λ at x rest s. (h.each at x rest s, tt) }

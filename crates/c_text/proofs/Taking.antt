@@ -1,13 +1,12 @@
 -- Rules that take tokens which can be printed.
 --   Good t     a token that is what its bytes are to the grammar can be printed
 --   Takes p    where what p leaves is good, all that stands ahead of it is
-use Rattle.std.proofs.Common.{◌≡◌, ℕ, zero, suc, Bool, true, false, ◌&&◌, cond, List, [], ◌∷◌, Result, Ok, Err, Option, Some, None, refl, sym, subst, ◌∙◌}
+use Rattle.std.proofs.Common.{◌≡◌, ℕ, Bool, true, false, ◌&&◌, cond, List, [], ◌∷◌, Result, Ok, Err, Option, Some, None, refl, sym, subst, ◌∙◌}
 use Rattle.std.specs.Str.{bytes_eq}
 use Rattle.std.proofs.lemmas.Slice.Eq.{bytes_eq-Decides}
-use Rattle.grammar.specs.Form.{first_of, others_of, after, Form, fit_first, bound, made, refused, judged, InARow, row, AtMostOne, at_most_one}
-use Rattle.grammar.specs.Exact.{ok_is, ok_no_err}
+use Rattle.grammar.specs.Form.{first_of, others_of, after, Form, fit_first, bound, made, judged, InARow, row, AtMostOne, at_most_one}
+use Rattle.grammar.specs.Exact.{ok_no_err}
 use Rattle.grammar.specs.Each.{Each}
-use Rattle.grammar.specs.Chain.{InTurn, chain}
 use Rattle.c_tokens.specs.declared.token.Kind.{Kind}
 use Rattle.c_tokens.specs.declared.token.Kind.TheVariants as kinds
 use Rattle.c_tokens.specs.Kinds.{kind_of}
@@ -17,7 +16,6 @@ use Rattle.c_grammar.specs.declared.symbol.Symbol.TheVariants as symbols
 use Rattle.c_grammar.specs.declared.others.Others.{Others}
 use Rattle.c_grammar.specs.Symbols.{symbol_of}
 use Rattle.c_grammar.specs.Tokens.{Fault, Syntax, Seen, Room, Place, Rule, misfit, one, mark, fits_text, either, is_first}
-use Rattle.c_grammar.specs.Expressions.{some_token}
 
 -- a token that is what its bytes are to the grammar can be printed
 abbrev pub Good : Seen → Type 0
@@ -27,7 +25,7 @@ Good t = (kind : Kind) → kind_of t.text ≡ Some kind → t.symbol ≡ symbol_
 pub record Takes {A : Type 0} (p : Form Seen Room Fault A) : Type 0 where
   pub each : (at : Place) (x : A) (rest : Place) → p.Spells at x rest → Each Good rest.ahead → Each Good at.ahead
 
-same : (at rest : Place) → rest ≡ at → Each Good rest.ahead → Each Good at.ahead
+pub same : (at rest : Place) → rest ≡ at → Each Good rest.ahead → Each Good at.ahead
 same at rest e g = subst (λ (p : Place). Each Good p.ahead) e g
 
 -- ---- tokens
@@ -86,9 +84,6 @@ made_takes = record { each = λ at x rest s g. same at rest s.1 g }
 pub judged_takes : {A : Type 0} {fit : Place → Result A Fault} → Takes (judged fit)
 judged_takes = record { each = λ at x rest s g. same at rest s.1 g }
 
-pub refused_takes : {A : Type 0} {fault : Place → Fault} → Takes (refused {A = A} fault)
-refused_takes = record { each = λ at x rest s g. absurd s }
-
 -- no token is taken
 pub same_ahead : {A : Type 0} {p : Form Seen Room Fault A} → ((at : Place) (x : A) (rest : Place) → p.Spells at x rest → rest.ahead ≡ at.ahead) → Takes p
 same_ahead h = record { each = λ at x rest s g. subst (λ (ts : List Seen). Each Good ts) (h at x rest s) g }
@@ -113,37 +108,6 @@ module _ {A : Type 0} (goes_on : Place → Bool) (p : Form Seen Room Fault A) wh
 
   pub maybe_takes : Takes p → Takes (at_most_one goes_on p)
   maybe_takes h = record { each = maybe_each h }
-
-module _ {A : Type 0} (goes_on : A → Place → Bool) (p : A → Form Seen Room Fault A) where
-  turns_each : ((x : A) → Takes (p x)) → (n : ℕ) (x : A) (at : Place) (y : A) (rest : Place) → InTurn goes_on p n x at y rest → Each Good rest.ahead → Each Good at.ahead
-  turns_each h zero x at y rest s g = same at rest s.1 g
-  turns_each h (suc n) x at y rest s g = (h x).each at s.1.0 s.1.1 s.1.2 (turns_each h n s.1.0 s.1.1 y rest s.1.3 g)
-
-  pub chain_takes : ((x : A) → Takes (p x)) → (x : A) → Takes (chain goes_on p x)
-  chain_takes h x = record { each = λ at y rest s g. turns_each h s.0.0 x at y rest s.0.1 g }
-
--- ---- what was seen of the next token
-
--- any token, after which all is good
-pub after_any : {B : Type 0} {q : Seen → Form Seen Room Fault B} → ((t : Seen) → Takes (q t)) → (at : Place) (y : B) (rest : Place) → (bound some_token.form q).Spells at y rest
-    → Each Good rest.ahead → Each Good (others_of at.ahead)
-unfolding some_token
-after_any hq at y rest s g = same (after at) s.1 s.2.1 ((hq s.0).each s.1 y rest s.3 g)
-
--- what was seen holds of the position where the next part is read
-pub seen_then : {B : Type 0} {is : Place → Bool} (q : Bool → Form Seen Room Fault B)
-    → ((b : Bool) (at : Place) → is at ≡ b → (y : B) (rest : Place) → (q b).Spells at y rest → Each Good rest.ahead → Each Good at.ahead)
-    → Takes (bound (judged (λ at. Ok (is at))) q)
-seen_then {B = B} {is = is} q h = record {
-  each = λ at y rest s g. h s.0 at (ok_is {F = Fault} (is at) s.0 s.2.0) y rest (subst (λ (p : Place). (q s.0).Spells p y rest) s.2.1 s.3) g;
-}
-
--- the one rule takes what is good where the test holds, and the other anywhere
-pub seen_or : {some : Bool} {A : Type 0} (is : Place → Bool) (p q : Rule some A)
-    → ((at : Place) (x : A) (rest : Place) → is at ≡ true → p.form.Spells at x rest → Each Good rest.ahead → Each Good at.ahead) → Takes q.form
-    → (b : Bool) (at : Place) → is at ≡ b → (x : A) (rest : Place) → (either b p q).form.Spells at x rest → Each Good rest.ahead → Each Good at.ahead
-seen_or is p q h i true at e x rest s g = h at x rest e s g
-seen_or is p q h i false at e x rest s g = i.each at x rest s g
 
 pub first_holds : (a b : Bool) → (a && b) ≡ true → a ≡ true
 first_holds true b e = refl

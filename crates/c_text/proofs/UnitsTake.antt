@@ -3,10 +3,11 @@ use Rattle.c_grammar.specs.Statements.{in_block}
 use Rattle.c_grammar.specs.Tokens.{Place, Seen, most_nesting}
 use Rattle.c_grammar.specs.Types.{at_assign, at_list_comma}
 use Rattle.c_grammar.specs.Units.{after_global, after_sole, body, declaration_after, declarator, definition_after, external, external_after, further_declarator, gives, global_array, global_initial, global_integer, is_left, object, open_body, parameters_of, prototype, sees_body, unit}
+use Rattle.c_grammar.specs.TypeWalkLaws.{open_brace_prints}
 use Rattle.c_text.proofs.ExpressionsTake.{open_paren_takes}
 use Rattle.c_text.proofs.StatementsTake.{semicolon_takes, standing_takes}
 use Rattle.c_text.proofs.Taking.{Good, Takes, either_takes, judged_takes, made_takes, mark_takes, maybe_takes, row_each, row_takes, ◌>>>◌}
-use Rattle.c_text.proofs.TypesTake.{array_takes, assign_mark_takes, before_either_takes, close_brace_takes, comma_mark_takes, declares_takes, integer_told_takes, name_takes, next_number_takes, one_function_takes, open_brace_prints, parameters_takes, sees_takes, signed_constant_takes, some_frames_takes, type_of_takes}
+use Rattle.c_text.proofs.TypesTake.{array_takes, assign_mark_takes, before_either_takes, close_brace_takes, comma_mark_takes, declares_takes, integer_told_takes, name_takes, next_number_takes, one_function_takes, parameters_takes, sees_takes, signed_constant_takes, some_frames_takes, type_of_takes}
 use Rattle.c_unit.specs.Tree.{DeclaratorTree, ExternalTree}
 use Rattle.c_unit.specs.declared.types.Outcome.{Outcome}
 use Rattle.grammar.specs.Each.{Each}

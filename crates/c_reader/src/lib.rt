@@ -21,5 +21,5 @@ mod types;
 pub use fault::{Departure, misfit};
 pub use names::Names;
 pub use reader::{Reader, begins_with};
-pub use tokens::{CutToken, Token, cut};
+pub use tokens::{CutToken, Token, cut, spans};
 pub use types::after_constant;

@@ -1,8 +1,9 @@
 //! The tokens of a text, as the grammar sees them.
 
-ghost use Rattle.std.specs.Prelude.{◌≡◌, ◌+◌, ◌^◌, ◌↔◌, IsTrue, map, IfOk};
+ghost use Rattle.std.specs.Prelude.{◌≡◌, ◌+◌, ◌^◌, ◌↔◌, ℕ, List, IsTrue, map, IfOk};
 ghost use Rattle.c_tokens.specs.Tokens.{tokens_of};
-ghost use Rattle.c_reader.specs.Reading.{seen_in, numbered};
+ghost use Rattle.c_unit.specs.Units.{word_of, word_of_span};
+ghost use Rattle.c_reader.specs.Reading.{seen_in, word_in, numbered};
 
 use c_grammar::{Symbol, symbol_of};
 use c_tokens::{Cursor, tokens_stand_in_their_texts};
@@ -32,9 +33,11 @@ fn is_last(number: u32) -> bool
     number == u32::MAX
 }
 
-/// The tokens of a text in order. A text of more tokens than 32 bits number wants memory.
+/// The tokens of a text in order, as the grammar sees them, and as words of the text. A text of more tokens than
+/// 32 bits number wants memory.
 pub fn cut(alloc: Global, text: &[u8]) -> Result<Vec<CutToken>, AllocError>
-    ensures { IfOk result (λ tokens. map (seen_in text.now) tokens.items ≡ numbered 0 (tokens_of text.now)) }
+    ensures tokens { IfOk result (λ tokens. map (seen_in text.now) tokens.items ≡ numbered 0 (tokens_of text.now)) }
+    ensures words { IfOk result (λ tokens. map (word_in text.now) tokens.items ≡ map (word_of text.now) (tokens_of text.now)) }
 {
     tokens_stand_in_their_texts();
     let mut cursor = Cursor::new(text);
@@ -56,4 +59,15 @@ pub fn cut(alloc: Global, text: &[u8]) -> Result<Vec<CutToken>, AllocError>
         number += 1;
     }
     Ok(tokens)
+}
+
+/// The ranges of tokens that were cut, in order.
+pub fn spans(alloc: Global, tokens: &[CutToken]) -> Result<Vec<Span>, AllocError>
+    ensures { IfOk result (λ spans. (text : List ℕ) → map (word_of_span text) spans.items ≡ map (word_in text) tokens.now) }
+{
+    let mut spans = Vec::with_capacity(alloc, tokens.len())?;
+    for token in tokens {
+        spans.push(token.span)?;
+    }
+    Ok(spans)
 }

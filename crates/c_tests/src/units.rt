@@ -1,6 +1,7 @@
 //! Ranges of tokens, and what is asked of expressions.
 
-use c_unit::{Binary, CUnit, Expr, Span, Unary, print, range, spans};
+use c_reader::{cut, spans};
+use c_unit::{Binary, CUnit, Expr, Span, Unary, print, range};
 use std::test::Fail;
 
 /// A text, and where its tokens begin and end.
@@ -20,7 +21,8 @@ static ENDS: [(usize, usize); 9] = [
 
 #[test]
 fn a_token_is_a_range_of_its_text(rt: HostRuntime) -> Result<(), Fail> {
-    let found = spans(rt.alloc(), TEXT.as_bytes())?;
+    let tokens = cut(rt.alloc(), TEXT.as_bytes())?;
+    let found = spans(rt.alloc(), tokens.as_slice())?;
     assert_eq!(rt; found.len(), 9);
     for (span, (start, end)) in found.iter().zip(ENDS.iter()) {
         assert_eq!(rt; span.start, *start);
@@ -82,9 +84,10 @@ static PRINTED: [(&str, &str); 4] = [
 fn tokens_are_printed_with_a_space_between(rt: HostRuntime) -> Result<(), Fail> {
     let alloc = rt.alloc();
     for (text, canonical) in &PRINTED {
+        let tokens = cut(alloc, text.as_bytes())?;
         let unit = CUnit {
             text: text.as_bytes().to_vec(alloc)?,
-            tokens: spans(alloc, text.as_bytes())?,
+            tokens: spans(alloc, tokens.as_slice())?,
             externals: Vec::new(alloc),
         };
         let out = print(alloc, &unit)?;

@@ -4,12 +4,12 @@ use Rattle.std.specs.Prelude.{IfSome, IsSomeAnd}
 use Rattle.grammar.specs.Form.{Fails}
 use Rattle.grammar.specs.Exact.{Says}
 use Rattle.c_tokens.specs.Tokens.{tokens_of}
-use Rattle.c_unit.specs.declared.tokens.Span.{Span}
 use Rattle.c_unit.specs.Tree.{ExternalTree}
-use Rattle.c_unit.specs.Units.{Word, word_of_span, UnitTree}
+use Rattle.c_unit.specs.Units.{Word, UnitTree}
 use Rattle.c_grammar.specs.Tokens.{Fault, Seen, Place}
 use Rattle.c_grammar.specs.Units.{unit}
-use Rattle.c_reader.specs.Reading.{numbered}
+use Rattle.c_reader.specs.declared.tokens.CutToken.{CutToken}
+use Rattle.c_reader.specs.Reading.{word_in, numbered}
 use Rattle.c_text.specs.Language.{start, words_of, SpellsTrees, SpellsUnit, Departure, placed, Means, HasOneMeaning}
 
 -- what reading gives, as it is told
@@ -48,8 +48,8 @@ module _ (bytes : List ℕ) where
       (rest, subst (Says unit.form (start bytes)) here (unit.exact.holds (start bytes)))
 
   -- a unit of the tokens and of trees that are spelled
-  pub unit_spelled : (tokens : List Span) (externals : List ExternalTree) (whole : UnitTree) → map (word_of_span bytes) tokens ≡ words_of bytes → SpellsTrees bytes externals
-      → whole ≡ record { words = map (word_of_span bytes) tokens; externals = externals } → SpellsUnit bytes whole
+  pub unit_spelled : (tokens : List CutToken) (externals : List ExternalTree) (whole : UnitTree) → map (word_in bytes) tokens ≡ words_of bytes → SpellsTrees bytes externals
+      → whole ≡ record { words = map (word_in bytes) tokens; externals = externals } → SpellsUnit bytes whole
   unit_spelled tokens externals whole m s e = rw e (record { words = m; trees = s })
 
   -- a departure that is told is meant

@@ -1,13 +1,14 @@
 //! Texts and what they mean.
 
-ghost use Rattle.std.specs.Prelude.{◌≡◌, ℕ, List, map, true, Ok, Err, IfOk, IfErr, IfSome, None};
+ghost use Rattle.std.specs.Prelude.{◌≡◌, ℕ, List, map, true, Ok, Err, IfOk, IfErr, IfSome};
 ghost use Rattle.std.specs.List.{list_all};
 ghost use Rattle.c_tokens.specs.Printed.{can_print};
 ghost use Rattle.c_unit.specs.Tree.{external_of};
-ghost use Rattle.c_unit.specs.Units.{word_of_span, unit_of};
+ghost use Rattle.c_tokens.specs.Tokens.{tokens_of};
+ghost use Rattle.c_unit.specs.Units.{unit_of};
 ghost use Rattle.c_unit.specs.Texts.{texts_of};
 ghost use Rattle.c_grammar.specs.Units.{unit};
-ghost use Rattle.c_reader.specs.Reading.{fault_of};
+ghost use Rattle.c_reader.specs.Reading.{seen_in, word_in, numbered, fault_of};
 ghost use Rattle.grammar.specs.Form.{Fails};
 ghost use Rattle.c_text.specs.Language.{start, SpellsTrees, Means, HasOneMeaning, departure_of};
 
@@ -15,9 +16,9 @@ use crate::departures::told;
 use crate::externals::read_unit;
 use crate::fault::CTextFault;
 use crate::laws::spelled_units_are_read_back;
-use c_reader::{Departure, Names, Reader, cut};
-use c_unit::{CUnit, External, Span, spans};
-use std::alloc::Global;
+use c_reader::{CutToken, Departure, Names, Reader, cut, spans};
+use c_unit::{CUnit, External};
+use std::alloc::{AllocError, Global};
 
 // A text may have as much as the limits allow.
 const MOST_FUNCTIONS: u64 = 256;
@@ -28,7 +29,7 @@ const MOST_ELEMENTS: u64 = 8_192;
 
 /// The unit that a text spells, or the text's first departure from the grammar.
 ///
-/// The text is cut into tokens twice and read in one pass, in time in proportion to it. Each token
+/// The text is cut into tokens once and read in one pass, in time in proportion to it. Each token
 /// takes 48 bytes of memory at most while it is read, and 16 in the unit, beside the trees and the names
 /// of functions. Reading goes as deep as parentheses, operators and statements may be nested, and no
 /// deeper.
@@ -40,13 +41,13 @@ pub fn read(alloc: Global, bytes: &[u8]) -> Result<CUnit, CTextFault>
     ensures printed { IfOk result (λ unit. list_all can_print (texts_of (unit_of unit)) ≡ true) }
 {
     spelled_units_are_read_back();
-    let Ok(tokens) = spans(alloc, bytes) else {
+    let Ok(tokens) = cut(alloc, bytes) else {
         return Err(CTextFault::Memory);
     };
-    match read_externals(alloc, bytes) {
-        Ok(externals) => match whole_unit(alloc, bytes, tokens, externals) {
+    match read_externals(alloc, bytes, tokens.as_slice()) {
+        Ok(externals) => match whole_unit(alloc, bytes, tokens.as_slice(), externals) {
             Ok(unit) => Ok(unit),
-            Err(fault) => Err(fault),
+            Err(_) => Err(CTextFault::Memory),
         },
         Err(departure) => Err(told(alloc, bytes, tokens.as_slice(), departure)),
     }
@@ -57,18 +58,20 @@ pub fn one_meaning()
     ensures { (bytes : List ℕ) → HasOneMeaning bytes }
 {}
 
-// What stands at file level of a text.
-fn read_externals(alloc: Global, bytes: &[u8]) -> Result<Vec<External>, Departure>
+// What stands at file level of a text, which was cut into these tokens.
+fn read_externals(
+    alloc: Global,
+    bytes: &[u8],
+    tokens: &[CutToken],
+) -> Result<Vec<External>, Departure>
+    requires { map (seen_in bytes.now) tokens.now ≡ numbered 0 (tokens_of bytes.now) }
     ensures trees { IfOk result (λ externals. SpellsTrees bytes.now (map external_of externals.items)) }
     ensures fails { IfErr result (λ departure. Fails (fault_of departure) (unit.form.reading (start bytes.now))) }
 {
-    let Ok(tokens) = cut(alloc, bytes) else {
-        return Err(Departure::Memory);
-    };
     let mut reader = Reader {
         alloc,
         text: bytes,
-        rest: tokens.as_slice(),
+        rest: tokens,
         functions: MOST_FUNCTIONS,
         frames: MOST_FRAMES,
         elements: MOST_ELEMENTS,
@@ -84,18 +87,16 @@ fn read_externals(alloc: Global, bytes: &[u8]) -> Result<Vec<External>, Departur
 fn whole_unit(
     alloc: Global,
     bytes: &[u8],
-    tokens: Vec<Span>,
+    tokens: &[CutToken],
     externals: Vec<External>,
-) -> Result<CUnit, CTextFault>
-    ensures unit { IfOk result (λ unit. unit_of unit ≡ record { words = map (word_of_span bytes.now) tokens.items; externals = map external_of externals.items }) }
-    ensures memory { IfErr result (λ fault. departure_of fault ≡ None) }
+) -> Result<CUnit, AllocError>
+    ensures { IfOk result (λ unit. unit_of unit ≡ record { words = map (word_in bytes.now) tokens.now; externals = map external_of externals.items }) }
 {
-    match bytes.to_vec(alloc) {
-        Ok(text) => Ok(CUnit {
-            text,
-            tokens,
-            externals,
-        }),
-        Err(_) => Err(CTextFault::Memory),
-    }
+    let text = bytes.to_vec(alloc)?;
+    let tokens = spans(alloc, tokens)?;
+    Ok(CUnit {
+        text,
+        tokens,
+        externals,
+    })
 }

@@ -1,5 +1,3 @@
 -- The files of this folder.
--- Ranges.
-pub mod Ranges
 -- Texts of ranges.
 pub mod Texts

@@ -25,6 +25,6 @@ pub use expression::{Binary, Expr, Unary};
 pub use external::{Declarator, External, Parameter, Shape};
 pub use printing::print;
 pub use statement::{Call, Effect, Local, LocalShape, Stmt, Value};
-pub use tokens::{Span, range, spans};
+pub use tokens::{Span, range};
 pub use types::{Constant, Integer, Outcome, Scalar};
 pub use unit::CUnit;

@@ -5,3 +5,4 @@ pub mod BothLaws
 pub mod Chained
 pub mod Walked
 pub mod Ledgers
+pub mod TallyKeys

@@ -1,2 +1,3 @@
 mod PageLists
 mod SlotCells
+mod SameSlots

@@ -1,15 +1,19 @@
 -- The slots of a frame, page by page.
+--   held slots           shared slots, as slots
 --   slots_on page        the slots of a page
 --   pages_of pages       those of each page
 --   all_pages whole last those of these pages, and of the last
 --   page_at lists n      the page of this number, or none
 --   joined lists         the lists in their order, as one
 --   ArePages lists       each has 64 members, but the last, which has at most 64
---   IsUntouched b slots  if there is a byte b, each slot has it, and no cell begins there
-use Rattle.std.specs.Prelude.{◌≡◌, ◌≤◌, ℕ, List, [], ◌∷◌, ◌++◌, length, map, replicate, Option, Some, None, slice_get}
+--   IsUntouched b slots  if the flag b is set, all slots are the same
+use Rattle.std.specs.Prelude.{◌≡◌, ◌≤◌, ℕ, Bool, true, false, List, [], ◌∷◌, ◌++◌, length, map, replicate, Option, Some, None, slice_get}
 use Rattle.std.specs.declared.rc.Rc.{Rc}
-use Rattle.memory_pages.specs.declared.byte.Byte.{Byte}
-use Rattle.memory_pages.specs.Slots.{HeldSlot, bare}
+use Rattle.memory_pages.specs.Slots.{HeldSlot}
+
+-- shared slots, as slots
+abbrev pub held : {Z : Type 0} → List (Rc HeldSlot Z) → List HeldSlot
+held slots = map (λ slot. slot.value) slots
 
 -- the slots of a page
 abbrev pub slots_on : {Z : Type 0} → Rc (List HeldSlot) Z → List HeldSlot
@@ -42,7 +46,7 @@ ArePages [] = Unit {0}
 ArePages (xs ∷ []) = length xs ≤ 64
 ArePages (xs ∷ ys ∷ lists) = (length xs ≡ 64) × ArePages (ys ∷ lists)
 
--- if there is a byte, each slot has it, and no cell begins there
-abbrev pub IsUntouched : Option Byte → List HeldSlot → Type 0
-IsUntouched None slots = Unit {0}
-IsUntouched (Some byte) slots = slots ≡ replicate (length slots) (bare byte)
+-- if the flag is set, all slots are the same
+abbrev pub IsUntouched : Bool → List HeldSlot → Type 0
+IsUntouched false slots = Unit {0}
+IsUntouched true slots = (slot : HeldSlot) × (slots ≡ replicate (length slots) slot)

@@ -6,7 +6,7 @@ ghost use Rattle.memory_pages.specs.Slots.{bare};
 ghost use Rattle.memory_pages.specs.Pages.{all_pages, list_or, page_at, slots_on};
 
 use crate::byte::Byte;
-use crate::page::{Page, bare_page, put_in, put_on, share_page, shared_pages};
+use crate::page::{Page, bare_page, put_in, put_on, share_page, shared, shared_pages};
 use crate::slot::Slot;
 use std::alloc::{AllocError, Global};
 use std::marker::Model;
@@ -74,11 +74,11 @@ fn put_among(
     whole: &mut [Rc<Page>],
     last: &mut Rc<Page>,
     at: usize,
-    slot: Slot,
+    slot: Rc<Slot>,
 ) -> Result<(), AllocError>
     requires page { at / 64 < length (all_pages whole.old last.old) }
     requires slot { at % 64 < length (page_at (all_pages whole.old last.old) (at / 64)) }
-    ensures put { OnOk result (all_pages whole.new last.new ≡ slice_set (all_pages whole.old last.old) (at / 64) (slice_set (page_at (all_pages whole.old last.old) (at / 64)) (at % 64) slot)) }
+    ensures put { OnOk result (all_pages whole.new last.new ≡ slice_set (all_pages whole.old last.old) (at / 64) (slice_set (page_at (all_pages whole.old last.old) (at / 64)) (at % 64) slot.value)) }
     ensures refused { OnErr result (all_pages whole.new last.new ≡ all_pages whole.old last.old) }
 {
     if at / 64 < whole.len() {
@@ -112,6 +112,7 @@ impl FrameSlots {
         requires { at < length self.old }
         ensures { OnOk result (self.new ≡ slice_set self.old at slot) }
     {
+        let slot = shared(*self.whole.allocator(), slot)?;
         put_among(&mut self.whole, &mut self.last, at, slot)
     }
 

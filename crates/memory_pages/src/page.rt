@@ -1,11 +1,11 @@
 //! Slots that copies share.
 
-ghost use Rattle.std.specs.Prelude.{◌≡◌, ◌<◌, ◌%◌, ◌/◌, ◌++◌, IsTrue, IfOk, OnOk, OnErr, length, replicate, slice_get, slice_set};
+ghost use Rattle.std.specs.Prelude.{◌≡◌, ◌<◌, ◌%◌, ◌/◌, ◌++◌, IsTrue, IfOk, OnOk, OnErr, true, length, replicate, slice_get, slice_set};
 ghost use Rattle.std.specs.Option.{option_map};
 ghost use Rattle.memory_pages.specs.Slots.{bare};
-ghost use Rattle.memory_pages.specs.Pages.{pages_of, page_at, slots_on};
+ghost use Rattle.memory_pages.specs.Pages.{held, pages_of, page_at, slots_on, IsUntouched};
 
-use crate::byte::{Byte, same_byte};
+use crate::byte::Byte;
 use crate::slot::Slot;
 use std::alloc::{AllocError, Global};
 use std::marker::Model;
@@ -13,12 +13,12 @@ use std::rc::Rc;
 
 /// Slots that follow one another.
 ///
-/// A page on which no slot was put knows the byte of all its slots, so two of them are compared without a look
-/// at their slots.
+/// Copies of a page share each slot until another one is put in its place. A page on which no slot was put knows
+/// that its slots are all the same, so two of them are compared by one slot.
 #[derive(Drop)]
 pub(crate) struct Page {
-    slots: Vec<Slot>,
-    untouched: Option<Byte>,
+    slots: Vec<Rc<Slot>>,
+    untouched: bool,
 }
 
 impl Model for Page {
@@ -27,11 +27,11 @@ impl Model for Page {
 
     ghost Value = { List HeldSlot };
 
-    ghost view = { λ page. page.slots.items };
+    ghost use Rattle.memory_pages.specs.Pages.{held, IsUntouched};
 
-    ghost use Rattle.memory_pages.specs.Pages.{IsUntouched};
+    ghost view = { λ page. held page.slots.items };
 
-    ghost invariant = { λ page. IsUntouched page.untouched page.slots.items };
+    ghost invariant = { λ page. IsUntouched page.untouched (held page.slots.items) };
 }
 
 impl Clone for Page {
@@ -39,7 +39,7 @@ impl Clone for Page {
 
     fn clone(&self) -> Result<Self, AllocError> {
         Ok(Page {
-            slots: copied_slots(*self.slots.allocator(), &self.slots)?,
+            slots: shared_slots(*self.slots.allocator(), &self.slots)?,
             untouched: self.untouched,
         })
     }
@@ -50,48 +50,62 @@ impl Page {
     pub fn slot(&self, at: usize) -> Option<&Slot>
         ensures { option_map (λ slot. slot.now) result ≡ slice_get self.now at }
     {
-        self.slots.get(at)
+        match self.slots.get(at) {
+            None => None,
+            Some(slot) => Some(slot.as_ref()),
+        }
     }
 
     /// True only where both have the same slots.
     pub fn is_same(&self, other: &Page) -> bool
         ensures { IsTrue result → self.now ≡ other.now }
     {
-        match (&self.untouched, &other.untouched) {
-            (Some(byte), Some(same)) => same_byte(*byte, *same)
-                && self.slots.len() == other.slots.len(),
-            _ => same_slots(&self.slots, &other.slots),
+        if self.untouched && other.untouched {
+            same_untouched(&self.slots, &other.slots)
+        } else {
+            same_slots(&self.slots, &other.slots)
         }
     }
 
     /// Puts a slot.
-    fn put(&mut self, at: usize, slot: Slot)
+    fn put(&mut self, at: usize, slot: Rc<Slot>)
         requires { at < length self.old }
-        ensures { self.new ≡ slice_set self.old at slot }
+        ensures { self.new ≡ slice_set self.old at slot.value }
     {
-        self.untouched = None;
+        self.untouched = false;
         self.slots[at] = slot;
     }
 }
 
-/// Copies of slots.
-fn copied_slots(alloc: Global, slots: &[Slot]) -> Result<Vec<Slot>, AllocError>
-    ensures { IfOk result (λ copy. copy.items ≡ slots.now) }
+/// A slot that copies can share.
+pub(crate) fn shared(alloc: Global, slot: Slot) -> Result<Rc<Slot>, AllocError>
+    ensures { IfOk result (λ shared. shared.value ≡ slot) }
 {
-    let mut copy = Vec::with_capacity(alloc, slots.len())?;
-    for slot in slots {
-        copy.push(slot.copy(alloc)?)?;
+    match Rc::new(alloc, slot) {
+        Ok(slot) => Ok(slot),
+        Err(_) => Err(AllocError),
     }
-    Ok(copy)
 }
 
-/// So many slots with this byte, at which no cell begins.
-fn bare_slots(alloc: Global, byte: &Byte, count: usize) -> Result<Vec<Slot>, AllocError>
-    ensures { IfOk result (λ slots. slots.items ≡ replicate count (bare byte.now)) }
+/// The same slots, shared.
+fn shared_slots(alloc: Global, slots: &[Rc<Slot>]) -> Result<Vec<Rc<Slot>>, AllocError>
+    ensures { IfOk result (λ shared. held shared.items ≡ held slots.now) }
 {
+    let mut shared = Vec::with_capacity(alloc, slots.len())?;
+    for slot in slots {
+        shared.push(slot.clone()?)?;
+    }
+    Ok(shared)
+}
+
+/// So many times one slot with this byte, at which no cell begins.
+fn bare_slots(alloc: Global, byte: &Byte, count: usize) -> Result<Vec<Rc<Slot>>, AllocError>
+    ensures { IfOk result (λ slots. held slots.items ≡ replicate count (bare byte.now)) }
+{
+    let slot = shared(alloc, Slot::bare(alloc, byte))?;
     let mut slots = Vec::with_capacity(alloc, count)?;
     for _number in 0..count {
-        slots.push(Slot::bare(alloc, byte))?;
+        slots.push(slot.clone()?)?;
     }
     Ok(slots)
 }
@@ -103,7 +117,7 @@ pub(crate) fn bare_page(alloc: Global, byte: &Byte, count: usize) -> Result<Rc<P
     let slots = bare_slots(alloc, byte, count)?;
     let page = Page {
         slots,
-        untouched: Some(*byte),
+        untouched: true,
     };
     match Rc::new(alloc, page) {
         Ok(page) => Ok(page),
@@ -136,9 +150,24 @@ pub(crate) fn shared_pages(alloc: Global, pages: &[Rc<Page>]) -> Result<Vec<Rc<P
     Ok(shared)
 }
 
+/// True only where both are the same slots, if those of each are all the same.
+fn same_untouched(a: &[Rc<Slot>], b: &[Rc<Slot>]) -> bool
+    requires first { IsUntouched true (held a.now) }
+    requires second { IsUntouched true (held b.now) }
+    ensures { IsTrue result → held a.now ≡ held b.now }
+{
+    let Some((first, others)) = a.split_first() else {
+        return b.is_empty();
+    };
+    let Some((slot, slots)) = b.split_first() else {
+        return false;
+    };
+    others.len() == slots.len() && first.is_same(slot)
+}
+
 /// True only where both are the same slots.
-fn same_slots(a: &[Slot], b: &[Slot]) -> bool
-    ensures { IsTrue result → a.now ≡ b.now }
+fn same_slots(a: &[Rc<Slot>], b: &[Rc<Slot>]) -> bool
+    ensures { IsTrue result → held a.now ≡ held b.now }
 {
     let Some((first, others)) = a.split_first() else {
         return b.is_empty();
@@ -150,9 +179,9 @@ fn same_slots(a: &[Slot], b: &[Slot]) -> bool
 }
 
 /// Puts a slot on a page, which is made its own first.
-pub(crate) fn put_on(page: &mut Rc<Page>, at: usize, slot: Slot) -> Result<(), AllocError>
+pub(crate) fn put_on(page: &mut Rc<Page>, at: usize, slot: Rc<Slot>) -> Result<(), AllocError>
     requires { at < length (slots_on page.old) }
-    ensures put { OnOk result (slots_on page.new ≡ slice_set (slots_on page.old) at slot) }
+    ensures put { OnOk result (slots_on page.new ≡ slice_set (slots_on page.old) at slot.value) }
     ensures refused { OnErr result (slots_on page.new ≡ slots_on page.old) }
 {
     let own = Rc::make_mut(page)?;
@@ -161,10 +190,10 @@ pub(crate) fn put_on(page: &mut Rc<Page>, at: usize, slot: Slot) -> Result<(), A
 }
 
 /// Puts a slot on the page of its place.
-pub(crate) fn put_in(pages: &mut [Rc<Page>], at: usize, slot: Slot) -> Result<(), AllocError>
+pub(crate) fn put_in(pages: &mut [Rc<Page>], at: usize, slot: Rc<Slot>) -> Result<(), AllocError>
     requires page { at / 64 < length pages.old }
     requires slot { at % 64 < length (page_at (pages_of pages.old) (at / 64)) }
-    ensures put { OnOk result (pages_of pages.new ≡ slice_set (pages_of pages.old) (at / 64) (slice_set (page_at (pages_of pages.old) (at / 64)) (at % 64) slot)) }
+    ensures put { OnOk result (pages_of pages.new ≡ slice_set (pages_of pages.old) (at / 64) (slice_set (page_at (pages_of pages.old) (at / 64)) (at % 64) slot.value)) }
     ensures refused { OnErr result (pages_of pages.new ≡ pages_of pages.old) }
 {
     put_on(&mut pages[at / 64], at % 64, slot)

@@ -110,10 +110,11 @@ fn marked_copies(alloc: Global, cells: &[Kept], than: u32) -> Result<Vec<Kept>, 
     Ok(copy)
 }
 
-/// Adds a cell with its size.
+/// Adds a cell with its size. Takes room for no more cells, since most slots keep one.
 fn push_kept(cells: &mut Vec<Kept>, kept: Kept) -> Result<(), AllocError>
     ensures { OnOk result (cells.new.items ≡ cells.old.items ++ kept ∷ []) }
 {
+    cells.reserve_exact(1)?;
     match cells.push(kept) {
         Ok(()) => Ok(()),
         Err(_) => Err(AllocError),

@@ -10,7 +10,7 @@ pub returns-clause-put : goal.returns-clause-put
 returns-clause-put c = on_ok_weaker c.put_on.result (λ put.
     map_set slots_on c.args.pages.now (c.args.at / 64) c.put_on.new.page
     ∙ ap (λ page. slice_set (pages_of c.args.pages.now) (c.args.at / 64) page)
-    (put ∙ ap (λ page. slice_set page (c.args.at % 64) c.args.slot) (sym (page_is slots_on c.args.pages.now (c.args.at / 64) c.index-pages-at.result c.requires.page))))
+    (put ∙ ap (λ page. slice_set page (c.args.at % 64) c.args.slot.value) (sym (page_is slots_on c.args.pages.now (c.args.at / 64) c.index-pages-at.result c.requires.page))))
     c.put_on.ensures.put
 
 pub returns-clause-refused : goal.returns-clause-refused

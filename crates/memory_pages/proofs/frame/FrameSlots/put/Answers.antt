@@ -27,7 +27,7 @@ invariant_of-self c =
     with_items_is c.self.inside.whole c.put_among.new.whole (c.put_among.auto.whole ∙ c.deref_mut.ensures.len) in
     subst (λ (pages : List (List HeldSlot)). ArePages pages) (sym (ap (λ pages. all_pages pages c.put_among.new.last) items))
     (either_pages c.put_among.result (all_pages c.self.inside.whole.items c.self.inside.last) (all_pages c.put_among.new.whole c.put_among.new.last) (c.args.at / 64) (c.args.at % 64) c.args.slot
-    (rw c.deref_mut.ensures.value at c.put_among.ensures.put) (rw c.deref_mut.ensures.value at c.put_among.ensures.refused) c.self.invariant)
+    (rw (c.deref_mut.ensures.value, c.in_ok-slot.ensures) at c.put_among.ensures.put) (rw c.deref_mut.ensures.value at c.put_among.ensures.refused) c.self.invariant)
 
 pub returns : goal.returns
 returns c =
@@ -36,4 +36,4 @@ returns c =
     on_ok_weaker c.put_among.result (λ put.
     ap joined (ap (λ pages. all_pages pages c.put_among.new.last) items ∙ put)
     ∙ (joined_set (all_pages c.self.inside.whole.items c.self.inside.last) c.args.at c.args.slot c.self.invariant ∙ ap (λ slots. slice_set slots c.args.at c.args.slot) c.self.view_is))
-    (rw c.deref_mut.ensures.value at c.put_among.ensures.put)
+    (rw (c.deref_mut.ensures.value, c.in_ok-slot.ensures) at c.put_among.ensures.put)

@@ -1,19 +1,21 @@
 -- What the program that is made keeps.
-use Rattle.std.proofs.Common.{◌≡◌, ◌==◌, ◌<◌, ◌≤◌, ◌^◌, ◌-◌, ℕ, zero, suc, ℤ, List, [], ◌∷◌, map, length, refl, ap, sym, ◌∙◌, subst, arith, Option, Some, None}
+use Rattle.std.proofs.Common.{◌≡◌, ◌==◌, ◌<◌, ◌≤◌, ◌^◌, ◌-◌, ℕ, zero, suc, ℤ, List, [], ◌∷◌, map, length, All, refl, ap, sym, ◌∙◌, subst, arith, Option, Some, None}
 use Rattle.std.specs.List.{flat_map, range_with_len}
 use Rattle.std.proofs.lemmas.List.{length-map, length-append}
 use Rattle.std.proofs.lemmas.List.FromFn.{length-range_with_len}
 use Rattle.domain_core.specs.Outlines.{Shape, Outlined, shape_of}
 use Rattle.ipet_rows.specs.Sums.{IsAscending}
-use Rattle.ipet_rows.specs.Programs.{Row, IsWithin, row_at}
+use Rattle.ipet_rows.specs.Programs.{Row, IsWithin, row_at, cost_at}
 use Rattle.ipet_rows.specs.Columns.{Column}
 use Rattle.ipet_rows.specs.Weights.{Weighing}
 use Rattle.ipet_rows.specs.Rows.{row_of, cost_of}
 use Rattle.ipet_rows.specs.PathSparseLaws.{terms_within, terms_ascend, terms_count}
 use Rattle.dual_check.specs.declared.constraint.Constraint.{Constraint}
+use Rattle.dual_check.specs.Small.{ConstraintFits}
 use Rattle.dual_check.specs.Systems.{System, IsSystem, AreColumns, AreOf}
 use Rattle.dual_check.specs.Constraints.{weighing_of, is_limit_of}
 use Rattle.dual_check.specs.Openings.{place_of, both_of, opening_of, openings_of, costs_of, system_from}
+use Rattle.dual_check.proofs.Small.{rows_small}
 
 -- ---- rows
 
@@ -46,8 +48,9 @@ few_openings : (columns : List Column) (ks : List Constraint) (n : ℕ) → leng
 few_openings columns ks n = omega (arith, few_flat columns ks (range_with_len 0 n), length-range_with_len 0 n)
 
 -- what the program keeps
-pub system_is : (o : Outlined) (columns : List Column) (ks : List Constraint) → length columns < 2 ^ 32 - 1 → length ks < 2 ^ 32 - 1 → length o.nodes < 2 ^ 32 - 1 → IsSystem (system_from o columns ks)
-system_is o columns ks few_columns few_rows few_nodes =
+pub system_is : (o : Outlined) (columns : List Column) (ks : List Constraint) → length columns < 2 ^ 32 - 1 → length ks < 2 ^ 32 - 1 → length o.nodes < 2 ^ 32 - 1
+    → ((e : ℕ) → cost_at (map (λ c. cost_of (costs_of o) c) columns) e < 2 ^ 32) → All ConstraintFits ks → IsSystem (system_from o columns ks)
+system_is o columns ks few_columns few_rows few_nodes costs fit =
     let long : length (map (λ c. cost_of (costs_of o) c) columns) ≡ length columns = length-map columns (λ c. cost_of (costs_of o) c) in
     let tall : length (map (λ k. row_of columns (weighing_of (shape_of o) k)) ks) ≡ length ks = length-map ks (λ k. row_of columns (weighing_of (shape_of o) k)) in
     let opened = few_openings columns ks (length o.nodes) in
@@ -57,6 +60,7 @@ system_is o columns ks few_columns few_rows few_nodes =
       few_openings = omega (arith, opened, few_nodes);
       within = λ k. subst (λ (n : ℕ). IsWithin n (row_at (map (λ c. row_of columns (weighing_of (shape_of o) c)) ks) k).terms) (sym long) (rows_within columns (weighing_of (shape_of o)) ks k);
       ascending = λ k. rows_ascend columns (weighing_of (shape_of o)) ks k;
+      small = rows_small o columns ks costs fit few_rows;
     }
 
 -- ---- rows by their terms
@@ -81,8 +85,9 @@ system_parts o columns ks costs rows openings a b d = rw (a, b, d) refl
 pub system_kept : (o : Outlined) (columns : List Column) (ks : List Constraint) (costs : List ℕ) (rows : List Row) (openings : List (ℕ × ℕ)) (lists : List (List (ℕ × ℤ)))
     → costs ≡ map (λ c. cost_of (costs_of o) c) columns → rows ≡ map (λ k. row_of columns (weighing_of (shape_of o) k)) ks → openings ≡ openings_of columns ks (length o.nodes)
     → AreColumns (length columns) rows lists → length columns < 2 ^ 32 - 1 → length ks < 2 ^ 32 - 1 → length o.nodes < 2 ^ 32 - 1
+    → ((e : ℕ) → cost_at costs e < 2 ^ 32) → All ConstraintFits ks
     → IsSystem (record { program = record { costs = costs; rows = rows }; openings = openings }) × AreColumns (length costs) rows lists
-system_kept o columns ks costs rows openings lists a b d e few_columns few_rows few_nodes = (
-  subst IsSystem (sym (system_parts o columns ks costs rows openings a b d)) (system_is o columns ks few_columns few_rows few_nodes),
+system_kept o columns ks costs rows openings lists a b d e few_columns few_rows few_nodes prices fit = (
+  subst IsSystem (sym (system_parts o columns ks costs rows openings a b d)) (system_is o columns ks few_columns few_rows few_nodes (subst (λ (cs : List ℕ). (e : ℕ) → cost_at cs e < 2 ^ 32) a prices) fit),
   subst (λ (n : ℕ). AreColumns n rows lists) (let long : length columns ≡ length costs = sym (length-map columns (λ c. cost_of (costs_of o) c)) ∙ ap length (sym a) in long) e,
 )

@@ -1,6 +1,7 @@
 mod ByColumns
 mod Fitting
 mod Made
+mod Small
 mod Kept
 mod Sought
 mod Touched

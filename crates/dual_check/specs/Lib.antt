@@ -1,3 +1,4 @@
+pub mod Small
 pub mod Systems
 pub mod Fitting
 pub mod Constraints

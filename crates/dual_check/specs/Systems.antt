@@ -1,6 +1,6 @@
 -- A linear program with its openings, as contracts see it, and what every one keeps.
 --   System              the program, and for each opening a row and a column
---   IsSystem s          fewer than 4294967295 rows, columns and openings; terms are of the columns and ascend
+--   IsSystem s          fewer than 4294967295 rows, columns and openings; terms are of the columns and ascend; numbers are small
 --   AreOf n rows        each row's terms are of the first n columns, ascend, and none is 0
 --   columns_from n e rows     the terms of columns e to e + n - 1, by column
 --   AreColumns n rows columns   the lists are the terms of columns 0 to n - 1
@@ -9,6 +9,7 @@ use Rattle.ipet_rows.specs.Sums.{IsAscending}
 use Rattle.ipet_rows.specs.Programs.{Row, Program, IsProgram, IsWithin, row_at}
 use Rattle.ipet_rows.specs.PathSparseLaws.{AreSome}
 use Rattle.ipet_rows.specs.Sparse.{column_terms}
+use Rattle.dual_check.specs.Small.{IsSmall}
 
 -- the program, and for each opening a row and a column
 pub record System : Type 0 where
@@ -26,6 +27,7 @@ pub record IsSystem (s : System) : Type 0 where
   pub few_openings : length s.openings < 2 ^ 32 - 1
   pub within : IsProgram s.program
   pub ascending : AreAscending s.program.rows
+  pub small : IsSmall s.program
 
 -- each row's terms are of the first n columns, ascend, and none is 0
 abbrev pub AreOf : ℕ → List Row → Type 0

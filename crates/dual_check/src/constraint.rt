@@ -4,6 +4,7 @@ ghost use Rattle.std.specs.Prelude.{◌≡◌, ◌<◌, ◌==◌, ◌^◌, ◌*�
 ghost use Rattle.domain_core.specs.Outlines.{shape_of};
 ghost use Rattle.ipet_rows.specs.Weights.{one_if, leaves as leaves_of, enters as enters_of};
 ghost use Rattle.dual_check.specs.Constraints.{weighing_of, begins_at, is_limit_of, node_of, second_node_of, third_node_of};
+ghost use Rattle.dual_check.specs.Small.{ConstraintFits};
 
 use crate::column::Column;
 use crate::inside::is_inside;
@@ -98,6 +99,20 @@ impl Constraint {
             Constraint::Apart(header, first, second) => {
                 leaves(first, column) + leaves(second, column) - leaves(header, column)
             }
+        }
+    }
+
+    /// The count that it tells fits 32 bits.
+    pub(crate) fn fits(self)
+        ensures { ConstraintFits self }
+    {
+        match self {
+            Constraint::Flow(_) => {}
+            Constraint::Most(..) => {}
+            Constraint::Least(..) => {}
+            Constraint::Limit(..) => {}
+            Constraint::Demand(..) => {}
+            Constraint::Apart(..) => {}
         }
     }
 

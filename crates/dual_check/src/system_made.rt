@@ -1,10 +1,12 @@
 //! The program that an outline and a report's facts make.
 
-ghost use Rattle.std.specs.Prelude.{◌≡◌, ◌==◌, ◌<◌, ◌++◌, ◌^◌, ◌-◌, ◌↔◌, IsTrue, map, All, OnOk, IfOk, length};
+ghost use Rattle.std.specs.Prelude.{◌≡◌, ◌==◌, ◌<◌, ◌++◌, ◌^◌, ◌-◌, ◌↔◌, ℕ, IsTrue, map, All, OnOk, IfOk, length};
 ghost use Rattle.domain_core.specs.Outlines.{shape_of};
 ghost use Rattle.flow_facts.specs.Facts.{IsAbout};
+ghost use Rattle.ipet_rows.specs.Programs.{cost_at};
 ghost use Rattle.ipet_rows.specs.Rows.{row_of, cost_of};
 ghost use Rattle.dual_check.specs.Constraints.{weighing_of, is_limit_of};
+ghost use Rattle.dual_check.specs.Small.{ConstraintFits};
 ghost use Rattle.dual_check.specs.Places.{AreTouching};
 ghost use Rattle.dual_check.specs.Terms.{AreFrom};
 ghost use Rattle.dual_check.specs.Openings.{place_of, opening_of, openings_of, costs_of, system_from, system_of};
@@ -34,8 +36,10 @@ fn row(
     requires few { length columns.now < 2 ^ 32 }
     requires nodes { AreFrom (length outline.now.nodes) columns.now }
     requires touching { AreTouching columns.now touching.now }
-    ensures { IfOk result (λ row. row ≡ row_of columns.now (weighing_of (shape_of outline.now) constraint)) }
+    ensures row { IfOk result (λ row. row ≡ row_of columns.now (weighing_of (shape_of outline.now) constraint)) }
+    ensures fits { ConstraintFits constraint }
 {
+    constraint.fits();
     let terms = row_terms(alloc, outline, constraint, columns, touching)?;
     Ok(RowTerms {
         equation: constraint.is_equation(outline),
@@ -53,7 +57,8 @@ fn row_list(
 ) -> Result<Vec<RowTerms>, AllocError>
     requires few { length columns.now < 2 ^ 32 }
     requires nodes { AreFrom (length outline.now.nodes) columns.now }
-    ensures { IfOk result (λ rows. rows.items ≡ map (λ k. row_of columns.now (weighing_of (shape_of outline.now) k)) constraints.now) }
+    ensures rows { IfOk result (λ rows. rows.items ≡ map (λ k. row_of columns.now (weighing_of (shape_of outline.now) k)) constraints.now) }
+    ensures fits { IfOk result (λ rows. All ConstraintFits constraints.now) }
 {
     let touching = touching(alloc, outline.node_count(), columns)?;
     let mut rows = Vec::new(alloc);
@@ -84,6 +89,13 @@ fn cost_list(alloc: Global, outline: &Outline, columns: &[Column]) -> Result<Vec
         rest = others;
     }
     Ok(costs)
+}
+
+/// Each cost fits 32 bits.
+fn costs_fit(costs: &[u32])
+    ensures { (e : ℕ) → cost_at costs.now e < 2 ^ 32 }
+{
+    let _ = costs;
 }
 
 /// The first row that says how often a run leaves the node at most.
@@ -172,6 +184,7 @@ fn system(
 {
     outline.kept();
     let costs = cost_list(alloc, outline, columns)?;
+    costs_fit(&costs);
     let rows = row_list(alloc, outline, constraints, columns)?;
     let lists = by_columns(alloc, columns.len() as u32, &rows)?;
     let openings = opening_list(alloc, outline.node_count(), columns, constraints)?;

@@ -1,6 +1,5 @@
 -- From what the solver tells to the path bound.
 --   handed_count     a multiplier for each row
---   system_small     the rows are small
 --   openings_above   the sum over the openings is not negative
 --   value_most       the bound is at most that sum
 --   value_fits       and so fits 64 bits
@@ -8,7 +7,7 @@
 --   system_duals     the multipliers are those that are told
 --   system_held      and they hold
 --   greatest_at      with `Least` the bound is the greatest worth, rounded down
-use Rattle.std.proofs.Common.{◌≡◌, ◌<◌, ◌^◌, ℕ, suc, ℤ, pos, List, [], ◌∷◌, length, All, refl, ap, sym, ◌∙◌, subst, arith}
+use Rattle.std.proofs.Common.{◌≡◌, ◌<◌, ◌^◌, ℕ, suc, ℤ, pos, List, [], ◌∷◌, length, refl, ap, sym, ◌∙◌, subst, arith}
 use Rattle.std.specs.Prelude.{◌*ℤ◌, ◌≤ℤ◌, ◌<ℤ◌}
 use Rattle.std.proofs.lemmas.Int.{ints}
 use Rattle.domain_core.specs.Outlines.{Outlined}
@@ -26,15 +25,12 @@ use Rattle.ipet_rows.specs.Bounds.{BoundsAll}
 use Rattle.dual_check.specs.Systems.{System}
 use Rattle.dual_check.specs.Openings.{system_of}
 use Rattle.simplex_rules.specs.Tableaus.{Tableau, next_slack, multipliers, slacks_from}
-use Rattle.simplex_rules.specs.NarrowOpening.{IsSmall}
 use Rattle.simplex_rules.specs.OpeningPlaces.{ended}
 use Rattle.path_lp.specs.declared.solved.SolveEnd.{SolveEnd}
 use Rattle.path_lp.specs.declared.solved.SolveEnd.TheVariants.{Wide}
 use Rattle.path_lp.specs.Handing.{IsHanded}
 use Rattle.path_lp.specs.Solving.{HoldFrom, OnLeast, IsOptimal, opening_worth}
 use Rattle.path_lp.specs.Bounding.{word_at, duals_of, told_duals, opening_sum, AreHeld, IsGreatest}
-use Rattle.path_lp.specs.Sizes.{NumbersFit, CostsFit}
-use Rattle.path_lp.specs.SizeLaws.{rows_small}
 use Rattle.path_lp.specs.OpeningCosts.{openings_above}
 use Rattle.path_lp.proofs.Floors.{floor_most, floor_same, rising_over}
 
@@ -63,12 +59,6 @@ system_held s o facts t scale y is handed above hold =
     subst (λ (z : System). AreHeld z.program scale y) is (record { each = handed_count s.program t scale y handed; scaled = above; hold = hold })
 
 -- ---- sizes
-
--- the rows are small
-pub system_small : (s : System) (o : Outlined) (facts : List Fact) → s ≡ system_of o facts → CostsFit o → All NumbersFit facts
-    → length s.program.rows < 2 ^ 32 → IsSmall s.program
-system_small s o facts is costs fit few =
-    subst (λ (z : System). IsSmall z.program) (sym is) (rows_small o facts costs fit (subst (λ (z : System). length z.program.rows < 2 ^ 32) is few))
 
 -- the sum over the openings is not negative
 sum_above : (s : System) (o : Outlined) (facts : List Fact) → s ≡ system_of o facts → pos 0 ≤ℤ opening_worth s.program s.openings

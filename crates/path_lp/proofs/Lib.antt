@@ -3,8 +3,6 @@ pub mod HandingLaws
 pub mod StepLaws
 pub mod FractionLaws
 pub mod RunLaws
-pub mod SmallLaws
-pub mod Fitting
 pub mod Floors
 pub mod BoundLaws
 pub mod RightLaws

@@ -8,13 +8,12 @@ ghost use Rattle.ipet_rows.specs.Duals.{dual_sum};
 ghost use Rattle.ipet_rows.specs.Verdicts.{floor_of};
 ghost use Rattle.ipet_rows.specs.Bounds.{BoundsAll};
 ghost use Rattle.dual_check.specs.Openings.{system_of};
-ghost use Rattle.simplex_rules.specs.NarrowOpening.{IsSmall};
+ghost use Rattle.dual_check.specs.Small.{IsSmall};
 ghost use Rattle.simplex_rules.specs.OutlineOpenings.{AreLimited};
 ghost use Rattle.path_lp.specs.Solving.{HoldFrom};
 ghost use Rattle.path_lp.specs.Bounding.{word_at, told_path_bound, told_duals, opening_sum, AreHeld, IsAbove, IsGreatest};
 
-use crate::running::solve_small;
-use crate::sizes::{costs_fit, facts_fit};
+use crate::running::solve;
 use crate::solved::{PathBound, SolveEnd};
 use domain_core::Outline;
 use dual_check::{Duals, Rows, Verdict, rows, verdicts_bound_each_run, verify};
@@ -86,13 +85,11 @@ pub fn path_bound(
     ensures small { IfOk result (λ b. IsSmall (system_of outline.now report.now.facts.items).program) }
 {
     outline.kept();
-    costs_fit(outline);
-    facts_fit(&report.facts);
     outlines_open();
     verdicts_bound_each_run();
     let rows = rows(alloc, outline, report)?;
     rows.kept();
-    let solved = solve_small(alloc, &rows, pivots)?;
+    let solved = solve(alloc, &rows, pivots)?;
     let bound = value(&rows, &solved.duals);
     Ok(PathBound {
         value: bound,

@@ -15,10 +15,6 @@ mod solved;
 mod handing;
 mod reading;
 
-// How great the numbers are: of rows, and of facts and costs.
-mod sizes;
-mod small;
-
 // The run.
 mod running;
 mod stepping;

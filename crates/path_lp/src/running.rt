@@ -3,7 +3,6 @@
 ghost use Rattle.std.specs.Prelude.{◌≡◌, ◌*ℤ◌, ◌≤ℤ◌, None, IfOk};
 ghost use Rattle.ipet_rows.specs.Duals.{IsDual, dual_sum};
 ghost use Rattle.simplex_rules.specs.PivotRule.{leaving, at_limit, run as run_of};
-ghost use Rattle.simplex_rules.specs.NarrowOpening.{IsSmall};
 ghost use Rattle.simplex_rules.specs.OpeningPlaces.{OpensRows, ended};
 ghost use Rattle.path_lp.specs.Handing.{IsHanded};
 ghost use Rattle.path_lp.specs.Stepping.{Stands};
@@ -11,7 +10,6 @@ ghost use Rattle.path_lp.specs.Solving.{IsSolved, HoldFrom, OnLeast, IsOptimal, 
 
 use crate::handing::handed;
 use crate::reading::point;
-use crate::small::is_small;
 use crate::solved::{SolveEnd, Solved};
 use crate::stepping::{Standing, next};
 use dual_check::{Duals, Rows};
@@ -90,12 +88,11 @@ fn run(alloc: Global, rows: &Rows, pivots: u32, start: SparseTableau) -> Result<
     Ok(solved)
 }
 
-/// Solves a program of small numbers by so many pivots at most, after the opening: the multipliers, and how it ended.
+/// Solves the program by so many pivots at most, after the opening: the multipliers, and how it ended.
 ///
 /// Memory is said to be wanting with no allocation refused exactly where 32 bits do not number the tableau's places.
-pub(crate) fn solve_small(alloc: Global, rows: &Rows, pivots: u32) -> Result<Solved, AllocError>
-    requires opens { OpensRows rows.now.program rows.now.openings }
-    requires small { IsSmall rows.now.program }
+pub fn solve(alloc: Global, rows: &Rows, pivots: u32) -> Result<Solved, AllocError>
+    requires { OpensRows rows.now.program rows.now.openings }
     ensures rule { IfOk result (λ s. IsSolved rows.now.program (ended rows.now.program rows.now.openings pivots) s.duals.scale s.duals.multipliers.items s.end) }
     ensures dual { IfOk result (λ s. IsDual rows.now.program s.duals.scale s.duals.multipliers.items) }
     ensures holds { IfOk result (λ s. HoldFrom rows.now.program s.duals.scale s.duals.multipliers.items) }
@@ -110,22 +107,4 @@ pub(crate) fn solve_small(alloc: Global, rows: &Rows, pivots: u32) -> Result<Sol
     let start = started(alloc, rows)?;
     let solved = run(alloc, rows, pivots, start)?;
     Ok(solved)
-}
-
-/// Solves the program by so many pivots at most, after the opening: the multipliers, and how it ended.
-///
-/// Memory is said to be wanting with no allocation refused exactly where 32 bits do not number the tableau's places, and
-/// where some coefficient or right side has more than 33 bits, as none has that an outline and a report make.
-pub fn solve(alloc: Global, rows: &Rows, pivots: u32) -> Result<Solved, AllocError>
-    requires { OpensRows rows.now.program rows.now.openings }
-    ensures rule { IfOk result (λ s. IsSolved rows.now.program (ended rows.now.program rows.now.openings pivots) s.duals.scale s.duals.multipliers.items s.end) }
-    ensures dual { IfOk result (λ s. IsDual rows.now.program s.duals.scale s.duals.multipliers.items) }
-    ensures holds { IfOk result (λ s. HoldFrom rows.now.program s.duals.scale s.duals.multipliers.items) }
-    ensures most { IfOk result (λ s. dual_sum rows.now.program s.duals.multipliers.items ≤ℤ (opening_worth rows.now.program rows.now.openings *ℤ s.duals.scale)) }
-    ensures least { IfOk result (λ s. OnLeast s.end (λ point. IsOptimal rows.now.program s.duals.scale s.duals.multipliers.items point)) }
-{
-    if !is_small(rows) {
-        return Err(AllocError);
-    }
-    solve_small(alloc, rows, pivots)
 }

@@ -1,6 +1,5 @@
 -- What the opening hands out fits 128 bits in the test of multipliers.
---   IsSmall p        costs, coefficients, right sides and the number of rows have about 32 bits
---   opening_narrow   so the test of what the opening hands out meets no wide number
+--   opening_narrow   where its numbers are small, the test of what the opening hands out meets no wide number
 use Rattle.std.proofs.Common.{inl, inr, ◌≡◌, ◌<◌, ◌≤◌, ◌⊎◌, ℕ, zero, suc, ℤ, pos, negsuc, Bool, true, false, List, [], ◌∷◌, length, Option, None, Some, refl, ap, sym, ◌∙◌, subst, arith}
 use Rattle.std.specs.Prelude.{◌^◌, ◌+ℤ◌, ◌-ℤ◌, ◌*ℤ◌, ◌≤ℤ◌, int_le, nat_le}
 use Rattle.std.proofs.lemmas.Int.{ints}
@@ -13,6 +12,7 @@ use Rattle.ipet_rows.specs.Duals.{IsDual, column_part, column_sum, right_part, d
 use Rattle.ipet_rows.specs.Verdicts.{wide_at, first_wide, sign_at, column_test, column_at, unless_wide, floor_of, bound_test, verdict}
 use Rattle.ipet_rows.specs.Duality.{times_rising}
 use Rattle.ipet_rows.specs.SumLaws.{total_nothing, times_neg}
+use Rattle.dual_check.specs.Small.{IsUpTo, IsSmall}
 use Rattle.simplex_rules.specs.Tableaus.{Tableau, next_slack, multiplier, multipliers, slacks_from}
 use Rattle.simplex_rules.specs.PivotRule.{is_wide, handed_wide, opening_at}
 use Rattle.simplex_rules.specs.Promise.{coefficient_at, mark_at, cost_of, handed, Opens}
@@ -26,17 +26,6 @@ use Rattle.simplex_rules.specs.HandedLaws.{all_none, sign_none}
 use Rattle.simplex_rules.specs.PlainOpening.{IsPlain, plain_opening, line_own, line_other, cost_scale, times_none}
 
 -- ---- numbers that fit
-
--- between minus so much and so much
-abbrev pub IsUpTo : ℕ → ℤ → Type 0
-IsUpTo n z = ((pos 0 -ℤ pos n) ≤ℤ z) × (z ≤ℤ pos n)
-
--- costs, coefficients, right sides and the number of rows are small
-pub record IsSmall (p : Program) : Type 0 where
-  pub rows : length p.rows < 4294967296
-  pub costs : (e : ℕ) → cost_at p.costs e < 4294967296
-  pub numbers : (k e : ℕ) → IsUpTo 8589934592 (coefficient (row_at p.rows k).terms e)
-  pub rights : (k : ℕ) → IsUpTo 8589934592 (row_at p.rows k).right
 
 about_fits : (z : ℤ) → IsUpTo 316912650057057350374175801344 z → fits z ≡ true
 about_fits (pos n) is = let high = is.1 in lt-ltb n (2 ^ 127) (omega (arith, ints, high))

@@ -18,7 +18,7 @@ ghost use Rattle.simplex_rules.specs.Runs.{IsRight};
 ghost use Rattle.simplex_rules.specs.OpeningPlaces.{opening_places, OpensRows, started, ended};
 ghost use Rattle.simplex_rules.specs.OutlineOpenings.{AreLimited};
 ghost use Rattle.simplex_rules.specs.PlainOpening.{IsPlain};
-ghost use Rattle.simplex_rules.specs.NarrowOpening.{IsSmall};
+ghost use Rattle.dual_check.specs.Small.{IsSmall};
 ghost use Rattle.simplex_rules.specs.ReadOff.{IsReadOff, IsLeastPoint};
 
 /// From rows and their openings, after any number of pivots: the multipliers handed out are a dual point,

@@ -17,7 +17,7 @@ use Rattle.simplex_rules.specs.Lines.{spread, line_gcd}
 use Rattle.simplex_rules.specs.Tableaus.{Held, Tableau, Generator, placed, turned, slack_line, next_slack, row_lines, generators, width_from, cost_terms, objective_line, slacks_from, width_of, held_of}
 use Rattle.simplex_rules.specs.FirstTableau.{beyond, within_more, spread_is}
 use Rattle.simplex_rules.specs.HandedOut.{width_above}
-use Rattle.simplex_rules.specs.NarrowOpening.{IsUpTo}
+use Rattle.dual_check.specs.Small.{IsUpTo}
 use Rattle.simplex_rules.specs.Steps.{divisor_above, line_gcd_least, line_gcd_divides}
 use Rattle.simplex_tableau.specs.TermLaws.{turned_within}
 use Rattle.simplex_tableau.specs.Sparse.{HeldTerms, shown_rows, seen, IsKept, AreKept}

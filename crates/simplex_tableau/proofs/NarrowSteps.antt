@@ -18,7 +18,7 @@ use Rattle.simplex_rules.specs.Tableaus.{Held, Tableau, Generator, held_at, plac
 use Rattle.simplex_rules.specs.PivotRule.{cleared_wide, mixed_wide, rows_wide, opening_at}
 use Rattle.simplex_rules.specs.Promise.{generator_at, coefficient_at, cost_of, Opens}
 use Rattle.simplex_rules.specs.FirstLines.{coefficient_placed, coefficient_placed_low, coefficient_turned}
-use Rattle.simplex_rules.specs.NarrowOpening.{IsUpTo, IsSmall}
+use Rattle.dual_check.specs.Small.{IsUpTo, IsSmall}
 use Rattle.simplex_rules.specs.PlainOpening.{IsPlain, freed_of, times_none}
 use Rattle.simplex_tableau.specs.Stepped.{exchange_wide}
 use Rattle.simplex_rules.specs.Steps.{exact, divisor_above, first_gcd_above}

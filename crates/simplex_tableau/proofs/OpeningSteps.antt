@@ -13,7 +13,7 @@ use Rattle.simplex_rules.specs.OpeningPlaceLaws.{opens_lines}
 use Rattle.simplex_rules.specs.PlainOpening.{plain_opening}
 use Rattle.simplex_tableau.specs.Sparse.{Seen}
 use Rattle.simplex_tableau.specs.Stepped.{CanPivot, exchange_wide, IsOpened as IsPivotOpened}
-use Rattle.simplex_rules.specs.NarrowOpening.{IsSmall}
+use Rattle.dual_check.specs.Small.{IsSmall}
 use Rattle.simplex_tableau.proofs.NarrowSteps.{pivot_narrow}
 use Rattle.simplex_tableau.specs.Started.{IsFirst, IsOpenedSo, IsStarted}
 

@@ -8,7 +8,7 @@ use Rattle.std.specs.Prelude.{ℕ, suc, ℤ, pos, neg_ℤ, Bool, true, false, Li
 use Rattle.ipet_rows.specs.Programs.{Row}
 use Rattle.dual_check.specs.Terms.{term_if}
 use Rattle.simplex_rules.specs.Tableaus.{placed, turned, next_slack}
-use Rattle.simplex_rules.specs.NarrowOpening.{IsUpTo}
+use Rattle.dual_check.specs.Small.{IsUpTo}
 use Rattle.simplex_tableau.specs.Sparse.{HeldTerms}
 
 -- an at-most row with its slack

@@ -2,7 +2,7 @@
 
 ghost use Rattle.std.specs.Prelude.{◌≡◌, ◌<◌, ◌^◌, IfOk};
 ghost use Rattle.simplex_rules.specs.Tableaus.{width_of, slacks_from};
-ghost use Rattle.simplex_rules.specs.NarrowOpening.{IsSmall};
+ghost use Rattle.dual_check.specs.Small.{IsSmall};
 ghost use Rattle.simplex_tableau.specs.FirstTerms.{first_rows as first_rows_of};
 ghost use Rattle.simplex_tableau.specs.Started.{IsFirst};
 

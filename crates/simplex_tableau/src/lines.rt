@@ -5,7 +5,7 @@ ghost use Rattle.ipet_rows.specs.Sums.{IsAscending};
 ghost use Rattle.ipet_rows.specs.Programs.{IsWithin, row_at};
 ghost use Rattle.dual_check.specs.Terms.{term_if};
 ghost use Rattle.simplex_rules.specs.Tableaus.{placed, turned as turned_of, next_slack};
-ghost use Rattle.simplex_rules.specs.NarrowOpening.{IsSmall, IsUpTo};
+ghost use Rattle.dual_check.specs.Small.{IsSmall, IsUpTo};
 ghost use Rattle.simplex_tableau.specs.FirstTerms.{AreSmall, first_terms, slack_held, row_held};
 
 use crate::line::Line;

@@ -1,7 +1,7 @@
 //! The opening.
 
 ghost use Rattle.std.specs.Prelude.{◌≡◌, ◌<◌, ◌+◌, ◌^◌, IfOk, length};
-ghost use Rattle.simplex_rules.specs.NarrowOpening.{IsSmall};
+ghost use Rattle.dual_check.specs.Small.{IsSmall};
 ghost use Rattle.simplex_rules.specs.OpeningPlaces.{OpensRows, line_place, next_line};
 ghost use Rattle.simplex_tableau.specs.Started.{IsOpenedSo, IsStarted};
 

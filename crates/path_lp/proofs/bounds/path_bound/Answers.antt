@@ -1,23 +1,10 @@
 -- What is left to show of `path_bound`.
-use Rattle.std.proofs.Common.{◌<◌, ◌^◌, List, All, length, sym, subst, arith}
-use Rattle.flow_facts.specs.declared.fact.Fact.{Fact}
+use Rattle.std.proofs.Common.{subst}
 use Rattle.dual_check.specs.Systems.{System}
-use Rattle.path_lp.specs.Sizes.{NumbersFit}
-use Rattle.simplex_rules.specs.NarrowOpening.{IsSmall}
+use Rattle.dual_check.specs.Small.{IsSmall}
 use Rattle.simplex_rules.specs.OpeningPlaces.{ended}
-use Rattle.path_lp.specs.SizeLaws.{rows_small}
 use Rattle.path_lp.proofs.BoundLaws.{handed_count, value_most, value_fits, system_bounds, system_duals, system_held, greatest_at}
 use Rattle.path_lp.proofs.bounds.path_bound.Goals as goal
-
-pub solve_small-requires-clause-small : goal.solve_small-requires-clause-small
-solve_small-requires-clause-small c =
-    let o = c.args.outline.now in
-    let facts = c.args.report.now.facts.items in
-    let fit : All NumbersFit facts = subst (λ (fs : List Fact). All NumbersFit fs) c.deref.ensures.value c.facts_fit.ensures in
-    let few = c.kept-2.ensures.few_rows in
-    let low : length c.in_ok-rows.rows.program.rows < 2 ^ 32 = omega (arith, few) in
-    let same = c.in_ok-rows.ensures in
-    subst (λ (s : System). IsSmall s.program) (sym same) (rows_small o facts c.costs_fit.ensures fit (subst (λ (s : System). length s.program.rows < 2 ^ 32) same low))
 
 pub value-bound-requires-clause-multipliers : goal.value-bound-requires-clause-multipliers
 value-bound-requires-clause-multipliers c =
@@ -71,10 +58,4 @@ returns-clause-most c =
     (value_most c.in_ok-rows.rows c.args.outline.now c.args.report.now.facts.items d.scale d.multipliers.items c.in_ok-rows.ensures told.dual.above told.most)
 
 pub returns-clause-small : goal.returns-clause-small
-returns-clause-small c =
-    let o = c.args.outline.now in
-    let facts = c.args.report.now.facts.items in
-    let fit : All NumbersFit facts = subst (λ (fs : List Fact). All NumbersFit fs) c.deref.ensures.value c.facts_fit.ensures in
-    let few = c.kept-2.ensures.few_rows in
-    let low : length c.in_ok-rows.rows.program.rows < 2 ^ 32 = omega (arith, few) in
-    rows_small o facts c.costs_fit.ensures fit (subst (λ (s : System). length s.program.rows < 2 ^ 32) c.in_ok-rows.ensures low)
+returns-clause-small c = subst (λ (s : System). IsSmall s.program) c.in_ok-rows.ensures c.kept-2.ensures.small

@@ -3,26 +3,21 @@
 ghost use Rattle.std.specs.Prelude.{◌≡◌, ◌≤◌, ◌<◌, [], length, IfOk};
 ghost use Rattle.alf_check.specs.CheckedPrograms.{seen};
 ghost use Rattle.alf_check.specs.Inputs.{KeepInputs};
-ghost use Rattle.cost_table.specs.CostTables.{CostTable};
 ghost use Rattle.domain_core.specs.Outlines.{shape_of};
 ghost use Rattle.domain_core.specs.OutlineOf.{IsOutlineOf};
 ghost use Rattle.flow_graph.specs.Numbering.{IsGraph};
 ghost use Rattle.flow_facts.specs.Writable.{IsWritable};
 ghost use Rattle.scope_graph.specs.Placing.{plan_of};
-ghost use Rattle.program_machines.specs.NodeCosts.{HasCosts};
 ghost use Rattle.program_analysis.specs.Answers.{answer_of, IfTold, IfClosed};
-ghost use Rattle.program_analysis.specs.Sound.{IsSound};
 ghost use Rattle.abstract_exec.specs.Explorations.{IsPool};
 ghost use Rattle.abstract_step.specs.Steppers.{stepped_by};
 ghost use Rattle.report_soundness.specs.ReportTold.{four_recording};
-ghost use Rattle.report_soundness.specs.Runs.{IsSound as IsSoundSystem};
 ghost use Rattle.program_analysis.specs.Analyses.{IsFound, IsClosedBy};
 ghost use Rattle.program_analysis.specs.Exploring.{IsEnded, IsWritableOf};
 ghost use Rattle.program_analysis.specs.AnalysisLaws.{names_of};
 ghost use Rattle.program_analysis.specs.Bounds.{most_turns};
 
 use crate::analysed::Analysed;
-use crate::laws::sound_reports_are_sound_for_the_program;
 use abstract_exec::{Explored, Pool};
 use abstract_step::AlfStepper;
 use alf_check::{Checked, InputRow};
@@ -59,15 +54,10 @@ pub(crate) fn explore(
     // The events are the policy's own.
     ensures events { IfOk result (λ analysed. IfClosed analysed (IsClosedBy (record { checked = checked.now; graph = graph.now; rows = rows.now }) outline.now policy turns)) }
 
-    // Each run of the program ends, meets each fact, faults only where an alarm says so, and costs at most the bound.
-    ensures sound { IfOk result (λ analysed. IfTold (answer_of analysed) (λ report. (costs : CostTable) → HasCosts (seen checked.now) graph.now costs outline.now
-        → IsSound (seen checked.now) graph.now rows.now (shape_of outline.now) costs report)) }
-
     // The report is one that some text spells.
     ensures writable { IfOk result (λ analysed. IfTold (answer_of analysed) IsWritable) }
 {
     checked.keeps();
-    sound_reports_are_sound_for_the_program();
     names_tell_nodes_apart();
     let stepper = AlfStepper::new(alloc, checked, graph, rows)?;
     explored(alloc, &stepper, outline, policy, turns)
@@ -86,7 +76,6 @@ fn explored(
     requires turns { turns ≤ most_turns }
     ensures found { IfOk result (λ analysed. IsFound stepper.now outline.now policy turns (answer_of analysed)) }
     ensures events { IfOk result (λ analysed. IfClosed analysed (IsClosedBy stepper.now outline.now policy turns)) }
-    ensures sound { IfOk result (λ analysed. IfTold (answer_of analysed) (IsSoundSystem (stepped_by stepper.now).system outline.now)) }
     ensures writable { IfOk result (λ analysed. IfTold (answer_of analysed) (IsWritableOf outline.now)) }
 {
     stepper.goes_along();
@@ -112,7 +101,6 @@ fn told(
     requires turns { turns ≤ most_turns }
     ensures found { IfOk result (λ analysed. IsFound pool.now.stepper outline.now policy turns (answer_of analysed)) }
     ensures events { IfOk result (λ analysed. IfClosed analysed (IsClosedBy pool.now.stepper outline.now policy turns)) }
-    ensures sound { IfOk result (λ analysed. IfTold (answer_of analysed) (IsSoundSystem (stepped_by pool.now.stepper).system outline.now)) }
     ensures writable { IfOk result (λ analysed. IfTold (answer_of analysed) (IsWritableOf outline.now)) }
 {
     numbers_are_at_most_the_steps::<AlfStepper>();

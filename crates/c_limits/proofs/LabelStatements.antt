@@ -1,22 +1,19 @@
 -- How many labels statements allocate, against their tokens.
-use Rattle.c_grammar.specs.Expressions.{assigned, call, condition, some_token, target, whole_expr}
+use Rattle.c_grammar.specs.Expressions.{assigned, call, some_token, target, whole_expr}
 use Rattle.c_grammar.specs.StatementWalkLaws.{MayAssign, StatementWalk, all_may, standing_goes}
 use Rattle.c_grammar.specs.Statements.{assigning_mark, standing, step}
-use Rattle.c_grammar.specs.Tokens.{Fault, Place, Room, Rule, Seen, constant, mark, name, some_frames}
-use Rattle.c_grammar.specs.TypeWalkLaws.{TypeTokens}
-use Rattle.c_grammar.specs.Types.{array_size, specifier}
-use Rattle.c_grammar.specs.WalkLaws.{IfThere, Quiet, Quietly, Spelled, Walk, seen_anywhere}
-use Rattle.c_grammar.specs.declared.standing.Assigning.{Assigning}
+use Rattle.c_grammar.specs.Tokens.{mark, name, some_frames}
+use Rattle.c_grammar.specs.Types.{array_size}
+use Rattle.c_grammar.specs.WalkLaws.{IfThere, Quietly, seen_anywhere}
 use Rattle.c_grammar.specs.declared.standing.Standing.{Standing}
 use Rattle.c_unit.specs.Tree as tree
 use Rattle.c_unit.specs.Tree.{EffectTree, Expression, Statement, Statements, statements_of, if_of, for_of}
-use Rattle.grammar.specs.Form.{Form, left}
 use Rattle.grammar.specs.Rule.{value, ◌>>=◌, ◌>>◌}
 use Rattle.c_lowered.specs.Conditions.{condition_labels}
 use Rattle.c_lowered.specs.Statements.{is_case, cases_in, labels_in, labels_in_all}
-use Rattle.std.proofs.Common.{Bool, List, [], ◌∷◌, Option, Some, None, refl, true, ℕ, ◌+◌, ◌*◌, ◌≡◌, ◌≤◌, arith}
+use Rattle.std.proofs.Common.{Bool, List, [], ◌∷◌, Option, Some, None, refl, ℕ, ◌+◌, ◌≤◌, arith}
 use Rattle.std.specs.Prelude.{⊤}
-use Rattle.c_limits.proofs.Spending.{Spends, less, strict, total}
+use Rattle.c_limits.proofs.Spending.{Spends, less, total}
 use Rattle.c_limits.proofs.LabelExpressions.{One, free_so, label_condition_goes, label_tokens, label_walk, one_so, quiet_so}
 
 abbrev block_cases : Statement → ℕ

@@ -2,18 +2,18 @@
 --   Good logical e           && and || stand in conditions alone, and e is one only where it may be
 use Rattle.c_grammar.specs.ExpressionWalkLaws.{ExpressionWalk, arguments_goes, assigned_goes, condition_goes, open_paren_quiet, target_goes, whole_expr_goes}
 use Rattle.c_grammar.specs.Expressions.{arguments, assigned, at_call, call, call_frame, condition, is_logical, is_not, joins_conditions, lead, may_stand, open_paren, operator, some_token, target, whole_expr}
-use Rattle.c_grammar.specs.Tokens.{Fault, Room, Seen, most_depth, some_frames}
-use Rattle.c_grammar.specs.WalkLaws.{Quiet, Spelled, done, seen, seen_anywhere, spelled_as, ◌>>-◌, ◌>>!◌}
+use Rattle.c_grammar.specs.Tokens.{some_frames}
+use Rattle.c_grammar.specs.WalkLaws.{Spelled, done, seen, seen_anywhere, spelled_as, ◌>>-◌, ◌>>!◌}
 use Rattle.c_grammar.specs.declared.others.Casts.{Casts}
 use Rattle.c_grammar.specs.declared.others.Others.{Others}
-use Rattle.c_unit.specs.Tree.{CallTree, Expression, OfConstant, OfName, InParentheses, WithUnary, WithCast, AtIndex, WithBinary}
+use Rattle.c_unit.specs.Tree.{Expression, OfConstant, OfName, InParentheses, WithUnary, WithCast, AtIndex, WithBinary}
 use Rattle.c_unit.specs.declared.expression.Unary.{Unary}
 use Rattle.c_unit.specs.declared.expression.Unary.TheVariants as unary
 use Rattle.c_unit.specs.declared.expression.Binary.{Binary}
 use Rattle.c_unit.specs.declared.expression.Binary.TheVariants as binary
 use Rattle.grammar.specs.Rule.{value}
 use Rattle.lists.specs.Tests.{by_test}
-use Rattle.std.proofs.Common.{Bool, All, List, [], ◌∷◌, not, false, true, refl, sym, ◌∙◌, ℕ, ◌&&◌, ◌≡◌}
+use Rattle.std.proofs.Common.{Bool, All, List, not, false, true, refl, sym, ◌∙◌, ℕ, ◌&&◌, ◌≡◌}
 use Rattle.std.proofs.lemmas.Bool.{false≢true}
 use Rattle.std.proofs.lemmas.List.Elements.{All-nil, All-cons}
 use Rattle.std.specs.Prelude.{⊤}

@@ -1,5 +1,5 @@
 -- What rules of statements spell is plain.
-use Rattle.c_grammar.specs.Expressions.{assigned, call, condition, is_postfix, some_token, target, whole_expr}
+use Rattle.c_grammar.specs.Expressions.{is_postfix}
 use Rattle.c_grammar.specs.StatementWalkLaws.{MayAssign, StatementWalk, standing_goes}
 use Rattle.c_grammar.specs.Statements.{assigning_mark, fits_assigning_of, semicolon, standing, step}
 use Rattle.c_grammar.specs.Tokens.{Fault, Seen, misfit}
@@ -22,7 +22,7 @@ use Rattle.lowering_layout.specs.Lists.{EachOf}
 use Rattle.lowering_values.specs.Agreement.{IsPlain}
 use Rattle.lowering_simulation.specs.Plain.{CallIsPlain, IsPlainCondition, IfIsPlain, ValueIsPlain, FirstIsPlain, EffectIsPlain, LastIsPlain, ShapeIsPlain, LocalsArePlain, StatementIsPlain, StatementsArePlain}
 use Rattle.c_limits.proofs.Keeping.{Keeps, Makes, is_plain_update, made_keeps, mark_keeps, one_keeps, one_makes, ◌>>>◌}
-use Rattle.c_limits.proofs.TypesKeep.{array_size_keeps, fine_tokens, fine_walk, free_so, made_so, name_keeps, quiet_so, some_frames_keeps}
+use Rattle.c_limits.proofs.TypesKeep.{array_size_keeps, fine_tokens, fine_walk, free_so, name_keeps, quiet_so, some_frames_keeps}
 use Rattle.c_limits.proofs.PlainExpressions.{call_goes, plain_assigned_goes, plain_condition_goes, plain_target_goes, some_token_keeps, value_goes}
 
 -- ---- tokens

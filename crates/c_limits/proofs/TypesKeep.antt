@@ -13,7 +13,7 @@ use Rattle.c_unit.specs.declared.types.Integer.{Integer}
 use Rattle.c_unit.specs.declared.types.Outcome.{Outcome}
 use Rattle.grammar.specs.Each.{Each}
 use Rattle.grammar.specs.Form.{Form}
-use Rattle.std.proofs.Common.{Bool, List, ap, refl, ℕ, ◌≡◌}
+use Rattle.std.proofs.Common.{Bool, List, ap, refl, ℕ}
 use Rattle.std.specs.Prelude.{codes, ⊤}
 use Rattle.c_grammar.specs.declared.others.Others.TheVariants as others
 

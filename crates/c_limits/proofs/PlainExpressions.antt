@@ -109,9 +109,6 @@ plain_expressions = record {
   binaries = λ d min logical op n left right a b m stands _ _ good made. binary_good min logical op n left right stands good made;
 }
 
-pub open_paren_keeps : Keeps open_paren.form
-open_paren_keeps = keeps_so (open_paren_quiet plain_expressions)
-
 -- a call, where this is asked of its arguments
 pub fine_call : (Arguments : List Expression → Type 0) → ((p : ℕ) → Spelled fine_walk (arguments p).form (λ es m. Arguments es)) → (p : ℕ) → Spelled fine_walk (seen at_call (call p).form) (λ c m. Arguments c.arguments)
 unfolding call

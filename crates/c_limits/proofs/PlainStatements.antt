@@ -27,14 +27,14 @@ use Rattle.c_limits.proofs.PlainExpressions.{call_goes, plain_assigned_goes, pla
 
 -- ---- tokens
 
-abbrev IsPlainUpdate : Binary → Type 0
+abbrev pub IsPlainUpdate : Binary → Type 0
 IsPlainUpdate op = is_of_conditions op ≡ false
 
 is_none : (b : Bool) → not b ≡ true → b ≡ false
 is_none true e = absurd (false≢true e)
 is_none false e = refl
 
-abbrev IsPlainAssigning : Assigning × ℕ → Type 0
+abbrev pub IsPlainAssigning : Assigning × ℕ → Type 0
 IsPlainAssigning x = MayAssign IsPlainUpdate x.0
 
 assigning_made : (s : Symbol) (postfix : Bool) (o : Others) (t : Seen) (x : Assigning × ℕ) → is_plain_update s ≡ true → fits_assigning_of s postfix o t ≡ Ok x → IsPlainAssigning x
@@ -49,42 +49,38 @@ unfolding assigning_mark
 assigning_makes to last = one_makes (λ t. fits_assigning_of t.symbol (is_postfix to) (others.RestOrEnd last) t)
     (λ t x fine e. assigning_made t.symbol (is_postfix to) (others.RestOrEnd last) t x fine e)
 
-assigning_goes : (to : Expression) (last : Bool) → Quietly fine_walk (assigning_mark to last).form IsPlainAssigning
+pub assigning_goes : (to : Expression) (last : Bool) → Quietly fine_walk (assigning_mark to last).form IsPlainAssigning
 assigning_goes to last = record { each = λ at x rest s g. let k = (assigning_makes to last).each at x rest s g in ((refl, k.0), k.1) }
 
 pub step_keeps : Keeps step.form
 unfolding step
 step_keeps = one_keeps
 
-pub semicolon_keeps : (o : Others) → Keeps (semicolon o).form
-unfolding semicolon
-semicolon_keeps o = mark_keeps (codes ";") o >>> λ _. made_keeps
-
 -- ---- what may be missing
 
-first_made : (v : Option ValueTree) (m : Unit {0}) → IfThere fine_walk (λ v m. ValueIsPlain v) v m → FirstIsPlain v
+pub first_made : (v : Option ValueTree) (m : Unit {0}) → IfThere fine_walk (λ v m. ValueIsPlain v) v m → FirstIsPlain v
 first_made None m made = tt
 first_made (Some v) m made = made
 
-if_made : (c : Expression) (s : Statement) (e : Option Statement) (m : Unit {0}) → IsPlainCondition c → StatementIsPlain s → IfThere fine_walk (λ s m. StatementIsPlain s) e m → StatementIsPlain (if_of c s e)
+pub if_made : (c : Expression) (s : Statement) (e : Option Statement) (m : Unit {0}) → IsPlainCondition c → StatementIsPlain s → IfThere fine_walk (λ s m. StatementIsPlain s) e m → StatementIsPlain (if_of c s e)
 if_made c s None m plain made other = (plain, made)
 if_made c s (Some e) m plain made other = (plain, made, other)
 
-condition_made : (c : Option Expression) (m : Unit {0}) → IfThere fine_walk (λ c m. IsPlainCondition c) c m → IfIsPlain c
+pub condition_made : (c : Option Expression) (m : Unit {0}) → IfThere fine_walk (λ c m. IsPlainCondition c) c m → IfIsPlain c
 condition_made None m made = tt
 condition_made (Some c) m made = made
 
-last_made : (e : Option EffectTree) (m : Unit {0}) → IfThere fine_walk (λ e m. EffectIsPlain e) e m → LastIsPlain e
+pub last_made : (e : Option EffectTree) (m : Unit {0}) → IfThere fine_walk (λ e m. EffectIsPlain e) e m → LastIsPlain e
 last_made None m made = tt
 last_made (Some e) m made = made
 
-for_made : (f : Option Statement) (c : Option Expression) (e : Option EffectTree) (s : Statement) (m : Unit {0}) → IfThere fine_walk (λ s m. StatementIsPlain s) f m → IfIsPlain c → LastIsPlain e → StatementIsPlain s → StatementIsPlain (for_of f c e s)
+pub for_made : (f : Option Statement) (c : Option Expression) (e : Option EffectTree) (s : Statement) (m : Unit {0}) → IfThere fine_walk (λ s m. StatementIsPlain s) f m → IfIsPlain c → LastIsPlain e → StatementIsPlain s → StatementIsPlain (for_of f c e s)
 for_made None c e s m first plain last made = (plain, last, made)
 for_made (Some f) c e s m first plain last made = (first, plain, last, made)
 
 -- ---- statements
 
-abbrev plain_walk : StatementWalk fine_walk
+abbrev pub plain_walk : StatementWalk fine_walk
 plain_walk = record {
   One = λ m. ⊤;
   Named = λ n m. ⊤;
@@ -142,10 +138,3 @@ plain_walk = record {
   more_statements = λ s ss a m made others_made. (made, others_made);
   effects = λ e m made. made;
 }
-
-pub standing_makes : (n : ℕ) (s : Standing) → Makes (standing n s).form StatementIsPlain
-standing_makes n s = record { each = λ at x rest spells g. let k = (standing_goes plain_walk n s).each at x rest spells g in (k.0.0, k.1) }
-
-pub statements_made : (ss : List Statement) → EachOf StatementIsPlain ss → StatementsArePlain (statements_of ss)
-statements_made [] made = tt
-statements_made (s ∷ ss) made = (made.0, statements_made ss made.1)

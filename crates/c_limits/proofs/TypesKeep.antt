@@ -36,9 +36,6 @@ quiet_so h = record { each = λ at x rest s g. (refl, h.each at x rest s g) }
 pub keeps_so : {A : Type 0} {p : Form Seen Room Fault A} → Quiet fine_walk p → Keeps p
 keeps_so h = record { each = λ at x rest s g. (h.each at x rest s g).1 }
 
-pub made_so : {A : Type 0} {p : Form Seen Room Fault A} {P : A → Type 0} → Makes p P → Spelled fine_walk p (λ x m. P x)
-made_so h = record { each = λ at x rest s g. h.each at x rest s g }
-
 -- of which nothing is asked
 pub free_so : {A : Type 0} {p : Form Seen Room Fault A} → Keeps p → Spelled fine_walk p (λ x m. ⊤)
 free_so h = record { each = λ at x rest s g. (tt, h.each at x rest s g) }
@@ -50,14 +47,6 @@ name_keeps o = one_keeps
 pub constant_keeps : (o : Others) → Keeps (constant o).form
 unfolding constant
 constant_keeps o = one_keeps
-
-pub next_number_keeps : Keeps next_number.form
-unfolding next_number
-next_number_keeps = judged_keeps
-
-pub sees_keeps : (w : List ℕ) → Keeps (sees w).form
-unfolding sees
-sees_keeps w = judged_keeps
 
 pub before_either_keeps : (w : List ℕ) (v : List ℕ) (o : Others) → Keeps (before_either w v o).form
 unfolding before_either
@@ -91,30 +80,6 @@ fine_tokens = record {
   specifiers = λ setting w. quiet_so (specifier_keeps setting w);
 }
 
-pub type_of_keeps : (setting : Setting) → Keeps (type_of setting).form
-type_of_keeps setting = keeps_so (type_of_quiet fine_tokens setting)
-
-pub integer_told_keeps : (o : Others) (t : Outcome) → Keeps (integer_told o t).form
-integer_told_keeps o t = keeps_so (integer_told_quiet fine_tokens o t)
-
-pub integer_type_keeps : (setting : Setting) → Keeps (integer_type setting).form
-integer_type_keeps setting = keeps_so (integer_type_quiet fine_tokens setting)
-
-pub pointer_stars_keeps : (p : Bool) (i : Integer) → Keeps (pointer_stars p i).form
-pointer_stars_keeps p i = keeps_so (pointer_stars_quiet fine_tokens p i)
-
-pub signed_constant_keeps : (o : Others) → Keeps (signed_constant o).form
-signed_constant_keeps o = keeps_so (signed_constant_quiet fine_tokens o)
-
-pub assign_mark_keeps : Keeps assign_mark.form
-assign_mark_keeps = keeps_so (assign_mark_quiet fine_tokens)
-
-pub comma_mark_keeps : Keeps comma_mark.form
-comma_mark_keeps = keeps_so (comma_mark_quiet fine_tokens)
-
-pub close_brace_keeps : Keeps close_brace.form
-close_brace_keeps = keeps_so (close_brace_quiet fine_tokens)
-
 pub element_list_keeps : Keeps element_list.form
 element_list_keeps = keeps_so (element_list_quiet fine_tokens)
 
@@ -123,9 +88,6 @@ left_bracket_keeps = keeps_so (left_bracket_quiet fine_tokens)
 
 pub right_bracket_keeps : (o : Others) → Keeps (right_bracket o).form
 right_bracket_keeps o = keeps_so (right_bracket_quiet fine_tokens o)
-
-pub parameters_keeps : Keeps parameters.form
-parameters_keeps = keeps_so (parameters_quiet fine_tokens)
 
 pub array_size_keeps : Keeps array_size.form
 unfolding array_size

@@ -49,14 +49,6 @@ pub constant_takes : (o : Others) → Takes (constant o).form
 unfolding constant
 constant_takes o = one_takes (λ t. fits_constant_of t.symbol o t) (λ t x e. fitting (λ s t. fits_constant_of s o t) t (misfit o t) x refl e)
 
-pub next_number_takes : Takes next_number.form
-unfolding next_number
-next_number_takes = judged_takes
-
-pub sees_takes : (w : List ℕ) → Takes (sees w).form
-unfolding sees
-sees_takes w = judged_takes
-
 pub before_either_takes : (w : List ℕ) (v : List ℕ) (o : Others) → Takes (before_either w v o).form
 unfolding before_either
 before_either_takes w v o = judged_takes
@@ -89,30 +81,6 @@ good_tokens = record {
   specifiers = λ setting w. quiet_so (specifier_takes setting w);
 }
 
-pub type_of_takes : (setting : Setting) → Takes (type_of setting).form
-type_of_takes setting = takes_so (type_of_quiet good_tokens setting)
-
-pub integer_told_takes : (o : Others) (t : Outcome) → Takes (integer_told o t).form
-integer_told_takes o t = takes_so (integer_told_quiet good_tokens o t)
-
-pub integer_type_takes : (setting : Setting) → Takes (integer_type setting).form
-integer_type_takes setting = takes_so (integer_type_quiet good_tokens setting)
-
-pub pointer_stars_takes : (p : Bool) (i : Integer) → Takes (pointer_stars p i).form
-pointer_stars_takes p i = takes_so (pointer_stars_quiet good_tokens p i)
-
-pub signed_constant_takes : (o : Others) → Takes (signed_constant o).form
-signed_constant_takes o = takes_so (signed_constant_quiet good_tokens o)
-
-pub assign_mark_takes : Takes assign_mark.form
-assign_mark_takes = takes_so (assign_mark_quiet good_tokens)
-
-pub comma_mark_takes : Takes comma_mark.form
-comma_mark_takes = takes_so (comma_mark_quiet good_tokens)
-
-pub close_brace_takes : Takes close_brace.form
-close_brace_takes = takes_so (close_brace_quiet good_tokens)
-
 pub element_list_takes : Takes element_list.form
 element_list_takes = takes_so (element_list_quiet good_tokens)
 
@@ -121,9 +89,6 @@ left_bracket_takes = takes_so (left_bracket_quiet good_tokens)
 
 pub right_bracket_takes : (o : Others) → Takes (right_bracket o).form
 right_bracket_takes o = takes_so (right_bracket_quiet good_tokens o)
-
-pub parameters_takes : Takes parameters.form
-parameters_takes = takes_so (parameters_quiet good_tokens)
 
 pub array_size_takes : Takes array_size.form
 unfolding array_size

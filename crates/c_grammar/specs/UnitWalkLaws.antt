@@ -1,8 +1,8 @@
 -- The walk over what stands at file level.
 --   UnitWalk walk   what is asked of declarations and definitions; `unit_goes` is what follows
-use Rattle.c_grammar.specs.Statements.{in_block, semicolon, standing}
+use Rattle.c_grammar.specs.Statements.{in_block}
 use Rattle.c_grammar.specs.StatementWalkLaws.{StatementWalk, semicolon_quiet, standing_goes}
-use Rattle.c_grammar.specs.Tokens.{Rule, Seen, declares, most_nesting, one_function, some_frames}
+use Rattle.c_grammar.specs.Tokens.{Seen, declares, most_nesting, one_function, some_frames}
 use Rattle.c_grammar.specs.TypeWalkLaws.{assign_mark_quiet, before_either_quiet, close_brace_quiet, comma_mark_quiet, integer_told_quiet, next_number_quiet, open_brace_prints, open_paren_prints, parameters_quiet, sees_quiet, signed_constant_quiet, type_of_quiet}
 use Rattle.c_grammar.specs.Types.{array, at_assign, at_list_comma}
 use Rattle.c_grammar.specs.Expressions.{open_paren}
@@ -12,7 +12,7 @@ use Rattle.c_unit.specs.Tree.{Declaration, DeclaratorTree, Definition, ExternalT
 use Rattle.c_unit.specs.declared.external.Parameter.{Parameter}
 use Rattle.c_unit.specs.declared.types.Outcome.{Outcome}
 use Rattle.grammar.specs.Rule.{weaken}
-use Rattle.std.proofs.Common.{Bool, List, [], ◌∷◌, length, refl, ℕ, ◌-◌, ◌≡◌}
+use Rattle.std.proofs.Common.{Bool, List, [], ◌∷◌, length, refl, ℕ, ◌-◌}
 use Rattle.std.specs.Prelude.{codes}
 use Rattle.c_grammar.specs.declared.others.Others.TheVariants as others
 use Rattle.c_grammar.specs.declared.specifiers.Setting.TheVariants as settings

@@ -2,18 +2,15 @@
 --   Fine t     a token that is an operator with = is none of && and ||
 --   Keeps p    where the tokens ahead are fine, those that p leaves are
 --   Makes p P  and P holds of what p spells
-use Rattle.std.proofs.Common.{◌≡◌, ℕ, zero, suc, Bool, true, false, not, List, [], ◌∷◌, Result, Ok, Option, Some, None, sym, subst}
-use Rattle.std.specs.Prelude.{⊤}
-use Rattle.grammar.specs.Form.{first_of, others_of, after, Form, fit_first, bound, made, refused, judged, InARow, row, AtMostOne, at_most_one}
+use Rattle.std.proofs.Common.{◌≡◌, ℕ, Bool, true, false, not, List, [], ◌∷◌, Result, Ok, Option, Some, None, sym, subst}
+use Rattle.grammar.specs.Form.{first_of, others_of, after, Form, fit_first, bound, made, judged, AtMostOne, at_most_one}
 use Rattle.grammar.specs.Each.{Each}
 use Rattle.grammar.specs.Exact.{ok_no_err}
-use Rattle.grammar.specs.Chain.{InTurn, chain}
 use Rattle.c_rules.specs.Expressions.{is_of_conditions}
 use Rattle.c_grammar.specs.declared.symbol.Symbol.{Symbol}
 use Rattle.c_grammar.specs.declared.symbol.Symbol.TheVariants as symbols
 use Rattle.c_grammar.specs.declared.others.Others.{Others}
 use Rattle.c_grammar.specs.Tokens.{Fault, Syntax, Seen, Room, Place, Rule, one, mark, either}
-use Rattle.lowering_layout.specs.Lists.{EachOf}
 
 abbrev pub is_plain_update : Symbol → Bool
 is_plain_update (symbols.Update op) = not (is_of_conditions op)

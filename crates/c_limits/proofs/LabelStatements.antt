@@ -1,11 +1,10 @@
 -- How many labels statements allocate, against their tokens.
 use Rattle.c_grammar.specs.Expressions.{assigned, call, some_token, target, whole_expr}
-use Rattle.c_grammar.specs.StatementWalkLaws.{MayAssign, StatementWalk, all_may, standing_goes}
-use Rattle.c_grammar.specs.Statements.{assigning_mark, standing, step}
+use Rattle.c_grammar.specs.StatementWalkLaws.{MayAssign, StatementWalk, all_may}
+use Rattle.c_grammar.specs.Statements.{assigning_mark, step}
 use Rattle.c_grammar.specs.Tokens.{mark, name, some_frames}
 use Rattle.c_grammar.specs.Types.{array_size}
 use Rattle.c_grammar.specs.WalkLaws.{IfThere, Quietly, seen_anywhere}
-use Rattle.c_grammar.specs.declared.standing.Standing.{Standing}
 use Rattle.c_unit.specs.Tree as tree
 use Rattle.c_unit.specs.Tree.{EffectTree, Expression, Statement, Statements, statements_of, if_of, for_of}
 use Rattle.grammar.specs.Rule.{value, ◌>>=◌, ◌>>◌}

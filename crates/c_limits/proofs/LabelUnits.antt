@@ -11,11 +11,10 @@ use Rattle.c_meaning.specs.Objects.{Function, functions_in, functions_of}
 use Rattle.c_reader.specs.Reading.{numbered}
 use Rattle.c_text.specs.Language.{IsSpelled, start}
 use Rattle.c_tokens.specs.Tokens.{Lexeme, tokens_of}
-use Rattle.c_unit.specs.Tree.{DeclaratorTree, ExternalTree, Declaration, Definition, Statement, statements_of}
+use Rattle.c_unit.specs.Tree.{ExternalTree, Declaration, Definition, Statement, statements_of}
 use Rattle.c_unit.specs.Units.{Word, UnitTree, word_of}
-use Rattle.c_unit.specs.declared.types.Outcome.{Outcome}
 use Rattle.c_lowered.specs.Statements.{labels_in_all}
-use Rattle.std.proofs.Common.{List, [], ◌∷◌, length, map, slice_get, Some, suc, zero, ℕ, ◌+◌, ◌*◌, ◌-◌, ◌≤◌, ◌≡◌, refl, sym, ap, ◌∙◌, arith}
+use Rattle.std.proofs.Common.{List, [], ◌∷◌, length, map, slice_get, Some, suc, zero, ℕ, ◌+◌, ◌*◌, ◌≤◌, ◌≡◌, refl, sym, ap, ◌∙◌, arith}
 use Rattle.std.proofs.lemmas.Option.{none-some, same_Some}
 
 abbrev external_weight : ExternalTree → ℕ

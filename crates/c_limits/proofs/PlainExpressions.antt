@@ -1,7 +1,7 @@
 -- What rules of expressions and calls spell is plain.
 --   Good logical e           && and || stand in conditions alone, and e is one only where it may be
 use Rattle.c_grammar.specs.ExpressionWalkLaws.{ExpressionWalk, arguments_goes, assigned_goes, condition_goes, open_paren_quiet, target_goes, whole_expr_goes}
-use Rattle.c_grammar.specs.Expressions.{arguments, assigned, at_call, call, call_frame, condition, is_logical, is_not, joins_conditions, lead, may_stand, open_paren, operator, some_token, target, whole_expr}
+use Rattle.c_grammar.specs.Expressions.{arguments, assigned, at_call, call, call_frame, condition, is_logical, is_not, joins_conditions, lead, may_stand, operator, some_token, target, whole_expr}
 use Rattle.c_grammar.specs.Tokens.{some_frames}
 use Rattle.c_grammar.specs.WalkLaws.{Spelled, done, seen, seen_anywhere, spelled_as, ◌>>-◌, ◌>>!◌}
 use Rattle.c_grammar.specs.declared.others.Casts.{Casts}
@@ -20,7 +20,7 @@ use Rattle.std.specs.Prelude.{⊤}
 use Rattle.lowering_values.specs.Agreement.{IsPlain}
 use Rattle.lowering_simulation.specs.Plain.{IsPlainCondition, CallIsPlain, ValueIsPlain}
 use Rattle.c_limits.proofs.Keeping.{Keeps, either_keeps, judged_keeps, made_keeps, one_keeps, ◌>>>◌}
-use Rattle.c_limits.proofs.TypesKeep.{fine_tokens, fine_walk, free_so, keeps_so, quiet_so, some_frames_keeps}
+use Rattle.c_limits.proofs.TypesKeep.{fine_tokens, fine_walk, free_so, quiet_so, some_frames_keeps}
 
 -- ---- plain expressions
 

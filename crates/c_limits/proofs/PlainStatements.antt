@@ -1,12 +1,11 @@
 -- What rules of statements spell is plain.
 use Rattle.c_grammar.specs.Expressions.{is_postfix}
-use Rattle.c_grammar.specs.StatementWalkLaws.{MayAssign, StatementWalk, standing_goes}
-use Rattle.c_grammar.specs.Statements.{assigning_mark, fits_assigning_of, semicolon, standing, step}
+use Rattle.c_grammar.specs.StatementWalkLaws.{MayAssign, StatementWalk}
+use Rattle.c_grammar.specs.Statements.{assigning_mark, fits_assigning_of, step}
 use Rattle.c_grammar.specs.Tokens.{Fault, Seen, misfit}
 use Rattle.c_grammar.specs.WalkLaws.{IfThere, Quietly, seen_anywhere}
 use Rattle.c_grammar.specs.declared.others.Others.{Others}
 use Rattle.c_grammar.specs.declared.standing.Assigning.{Assigning}
-use Rattle.c_grammar.specs.declared.standing.Standing.{Standing}
 use Rattle.c_grammar.specs.declared.symbol.Symbol.{Symbol}
 use Rattle.c_grammar.specs.declared.symbol.Symbol.TheVariants as symbols
 use Rattle.c_grammar.specs.declared.standing.Assigning.TheVariants as assigning
@@ -15,10 +14,9 @@ use Rattle.c_rules.specs.Expressions.{is_of_conditions}
 use Rattle.c_unit.specs.Tree.{EffectTree, Expression, Statement, ValueTree, statements_of, if_of, for_of}
 use Rattle.c_unit.specs.declared.expression.Binary.{Binary}
 use Rattle.grammar.specs.Exact.{ok_is, ok_no_err}
-use Rattle.std.proofs.Common.{Bool, List, [], ◌∷◌, Option, Some, None, Ok, not, false, true, refl, subst, ℕ, ◌≡◌}
+use Rattle.std.proofs.Common.{Bool, Option, Some, None, Ok, not, false, true, refl, subst, ℕ, ◌≡◌}
 use Rattle.std.proofs.lemmas.Bool.{false≢true}
-use Rattle.std.specs.Prelude.{codes, ⊤}
-use Rattle.lowering_layout.specs.Lists.{EachOf}
+use Rattle.std.specs.Prelude.{⊤}
 use Rattle.lowering_values.specs.Agreement.{IsPlain}
 use Rattle.lowering_simulation.specs.Plain.{CallIsPlain, IsPlainCondition, IfIsPlain, ValueIsPlain, FirstIsPlain, EffectIsPlain, LastIsPlain, ShapeIsPlain, LocalsArePlain, StatementIsPlain, StatementsArePlain}
 use Rattle.c_limits.proofs.Keeping.{Keeps, Makes, is_plain_update, made_keeps, mark_keeps, one_keeps, one_makes, ◌>>>◌}

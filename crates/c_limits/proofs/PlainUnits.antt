@@ -1,5 +1,4 @@
 -- What is spelled at file level is plain.
-use Rattle.c_grammar.specs.Tokens.{Seen}
 use Rattle.c_grammar.specs.UnitWalkLaws.{UnitWalk, unit_goes}
 use Rattle.c_limits.proofs.TypesKeep.{array_keeps, declares_keeps, fine_walk, one_function_keeps, quiet_so, some_frames_keeps}
 use Rattle.c_limits.proofs.PlainStatements.{plain_walk}
@@ -9,15 +8,13 @@ use Rattle.c_rules.specs.Units as checks
 use Rattle.c_meaning.specs.Objects.{Function, functions_in, functions_of}
 use Rattle.c_text.specs.Language.{IsSpelled, start}
 use Rattle.c_tokens.specs.Tokens.{tokens_of}
-use Rattle.c_unit.specs.Tree.{DeclaratorTree, ExternalTree, Declaration, Definition, statements_of}
+use Rattle.c_unit.specs.Tree.{ExternalTree, Declaration, Definition, statements_of}
 use Rattle.c_unit.specs.Units.{UnitTree}
-use Rattle.c_unit.specs.declared.types.Outcome.{Outcome}
-use Rattle.grammar.specs.Rule.{weaken}
-use Rattle.std.proofs.Common.{List, [], ◌∷◌, length, slice_get, Some, suc, zero, ℕ, ◌-◌, ◌≡◌, subst}
+use Rattle.std.proofs.Common.{List, [], ◌∷◌, slice_get, Some, suc, zero, ℕ, ◌≡◌, subst}
 use Rattle.std.proofs.lemmas.Option.{none-some, same_Some}
-use Rattle.std.specs.Prelude.{codes, ⊤}
+use Rattle.std.specs.Prelude.{⊤}
 use Rattle.lowering_layout.specs.Lists.{EachOf}
-use Rattle.lowering_simulation.specs.Plain.{StatementIsPlain, StatementsArePlain}
+use Rattle.lowering_simulation.specs.Plain.{StatementsArePlain}
 use Rattle.c_limits.proofs.PlainTokens.{tokens_fine}
 
 abbrev ExternalIsPlain : ExternalTree → Type 0

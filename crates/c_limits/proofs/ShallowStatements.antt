@@ -1,13 +1,11 @@
 -- In what rules of statements spell each value and each condition is shallow.
-use Rattle.c_grammar.specs.StatementWalkLaws.{MayAssign, StatementWalk, all_may, standing_goes}
-use Rattle.c_grammar.specs.Statements.{assigning_mark, standing}
+use Rattle.c_grammar.specs.StatementWalkLaws.{MayAssign, StatementWalk, all_may}
+use Rattle.c_grammar.specs.Statements.{assigning_mark}
 use Rattle.c_grammar.specs.WalkLaws.{IfThere, Quietly, seen_anywhere}
-use Rattle.c_grammar.specs.declared.standing.Standing.{Standing}
 use Rattle.c_unit.specs.Tree.{EffectTree, Expression, Statement, Statements, ValueTree, statements_of, if_of, for_of}
-use Rattle.std.proofs.Common.{Bool, List, [], ◌∷◌, Option, Some, None, refl, ℕ}
+use Rattle.std.proofs.Common.{Bool, Option, Some, None, refl}
 use Rattle.std.specs.Prelude.{⊤}
-use Rattle.lowering_layout.specs.Lists.{EachOf}
-use Rattle.c_limits.proofs.Keeping.{Makes, made_keeps, mark_keeps, one_keeps, ◌>>>◌}
+use Rattle.c_limits.proofs.Keeping.{made_keeps, mark_keeps, one_keeps, ◌>>>◌}
 use Rattle.c_limits.proofs.TypesKeep.{array_size_keeps, fine_tokens, fine_walk, free_so, name_keeps, quiet_so, some_frames_keeps}
 use Rattle.c_rules.specs.SpelledExpressions.{IfValue, InCall, InValue, InEffect, IfEffect, IfCondition, InShape, InLocals, InStatement, InStatements}
 use Rattle.c_limits.proofs.PlainExpressions.{some_token_keeps}

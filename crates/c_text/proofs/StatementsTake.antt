@@ -2,20 +2,17 @@
 --   good_statements   the walk over them
 use Rattle.c_grammar.specs.Expressions.{is_postfix, some_token}
 use Rattle.c_grammar.specs.ExpressionWalkLaws.{condition_goes, target_goes, whole_expr_goes}
-use Rattle.c_grammar.specs.StatementWalkLaws.{MayAssign, StatementWalk, all_may, standing_goes}
-use Rattle.c_grammar.specs.Statements.{assigning_mark, fits_assigning_of, fits_step_of, is_statement, semicolon, standing, step}
+use Rattle.c_grammar.specs.StatementWalkLaws.{MayAssign, StatementWalk, all_may}
+use Rattle.c_grammar.specs.Statements.{assigning_mark, fits_assigning_of, fits_step_of, is_statement, step}
 use Rattle.c_grammar.specs.Tokens.{at_symbol, misfit}
-use Rattle.c_grammar.specs.TypeWalkLaws.{semicolon_prints}
 use Rattle.c_grammar.specs.WalkLaws.{Quiet, Quietly, seen}
-use Rattle.c_grammar.specs.declared.others.Others.{Others}
-use Rattle.c_grammar.specs.declared.standing.Standing.{Standing}
 use Rattle.c_text.proofs.ExpressionsTake.{call_goes, good_assigned_goes, good_expressions}
 use Rattle.c_text.proofs.Taking.{Takes, first_good, fitting, made_takes, mark_takes, one_takes, same, ◌>>>◌}
 use Rattle.c_text.proofs.TypesTake.{array_size_takes, free_so, good_tokens, good_walk, name_takes, quiet_so, some_frames_takes}
 use Rattle.c_unit.specs.Tree.{Expression}
 use Rattle.grammar.specs.Form.{after}
-use Rattle.std.proofs.Common.{Bool, refl, ℕ}
-use Rattle.std.specs.Prelude.{codes, ⊤}
+use Rattle.std.proofs.Common.{Bool, refl}
+use Rattle.std.specs.Prelude.{⊤}
 use Rattle.c_grammar.specs.declared.others.Others.TheVariants as others
 
 -- ---- tokens

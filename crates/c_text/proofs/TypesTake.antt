@@ -1,17 +1,15 @@
 -- The rules of single tokens, of types and of declarators take tokens that can be printed.
 --   good_walk     where what is left is good, all that stands ahead is, and nothing is counted
 --   good_tokens   so it is over single tokens
-use Rattle.c_grammar.specs.Tokens.{Fault, Place, Room, Seen, before_either, constant, declares, fits_constant_of, fits_name_of, misfit, name, next_number, one_function, sees, some_elements, some_frames}
-use Rattle.c_grammar.specs.TypeWalkLaws.{TypeTokens, assign_mark_quiet, close_brace_quiet, comma_mark_quiet, element_list_quiet, integer_told_quiet, integer_type_quiet, left_bracket_quiet, parameters_quiet, pointer_stars_quiet, right_bracket_quiet, signed_constant_quiet, type_of_quiet}
-use Rattle.c_grammar.specs.Types.{after_array, after_constant, array, array_size, assign_mark, at_assign, close_brace, comma_mark, element_list, fits_word_of, integer_told, integer_type, left_bracket, parameters, pointer_stars, right_bracket, signed_constant, specifier, type_of}
+use Rattle.c_grammar.specs.Tokens.{Fault, Place, Room, Seen, before_either, constant, declares, fits_constant_of, fits_name_of, misfit, name, one_function, some_elements, some_frames}
+use Rattle.c_grammar.specs.TypeWalkLaws.{TypeTokens, element_list_quiet, left_bracket_quiet, right_bracket_quiet}
+use Rattle.c_grammar.specs.Types.{after_array, after_constant, array, array_size, at_assign, element_list, fits_word_of, left_bracket, right_bracket, specifier}
 use Rattle.c_grammar.specs.WalkLaws.{Walk, Spelled, Quiet}
 use Rattle.c_grammar.specs.Words.{with_word}
 use Rattle.c_grammar.specs.declared.others.Others.{Others}
 use Rattle.c_grammar.specs.declared.specifiers.Setting.{Setting}
 use Rattle.c_grammar.specs.declared.specifiers.Specifiers.{Specifiers}
 use Rattle.c_text.proofs.Taking.{Good, Takes, fitting, judged_takes, made_takes, mark_takes, maybe_takes, one_takes, same_ahead, ◌>>>◌}
-use Rattle.c_unit.specs.declared.types.Integer.{Integer}
-use Rattle.c_unit.specs.declared.types.Outcome.{Outcome}
 use Rattle.grammar.specs.Each.{Each}
 use Rattle.grammar.specs.Form.{Form}
 use Rattle.std.proofs.Common.{Bool, List, ap, refl, ℕ}

@@ -1,6 +1,6 @@
 -- All tokens of a text can be printed.
 use Rattle.c_grammar.specs.Tokens.{Place, Seen}
-use Rattle.c_grammar.specs.Units.{is_left, unit}
+use Rattle.c_grammar.specs.Units.{unit}
 use Rattle.c_grammar.specs.UnitWalkLaws.{UnitWalk, unit_goes}
 use Rattle.c_text.proofs.StatementsTake.{good_statements}
 use Rattle.c_text.proofs.Taking.{Good}

@@ -12,3 +12,4 @@ pub mod WalkLaws
 pub mod TypeWalkLaws
 pub mod ExpressionWalkLaws
 pub mod StatementWalkLaws
+pub mod UnitWalkLaws

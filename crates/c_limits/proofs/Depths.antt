@@ -5,9 +5,9 @@ use Rattle.c_grammar.specs.Expressions.{arguments, assigned, at_call, call, cond
 use Rattle.c_grammar.specs.WalkLaws.{Spelled, seen}
 use Rattle.c_grammar.specs.declared.others.Casts.{Casts}
 use Rattle.c_grammar.specs.declared.others.Others.{Others}
-use Rattle.c_unit.specs.Tree.{CallTree, Expression}
+use Rattle.c_unit.specs.Tree.{Expression}
 use Rattle.c_unit.specs.Measures.{depth_of}
-use Rattle.std.proofs.Common.{List, suc, ℕ, max, ◌≤◌, arith}
+use Rattle.std.proofs.Common.{suc, ℕ, max, ◌≤◌, arith}
 use Rattle.std.specs.Prelude.{⊤}
 use Rattle.c_rules.specs.SpelledExpressions.{Every, InCall, InValue}
 use Rattle.c_limits.proofs.TypesKeep.{fine_tokens, fine_walk, free_so, quiet_so}

@@ -2,7 +2,7 @@
 --   label_walk    so many labels are allocated, four for a token at most
 use Rattle.c_grammar.specs.ExpressionWalkLaws.{ExpressionWalk, condition_goes}
 use Rattle.c_grammar.specs.Expressions.{condition, lead, operator}
-use Rattle.c_grammar.specs.Tokens.{Fault, Room, Rule, Seen, constant, mark, name}
+use Rattle.c_grammar.specs.Tokens.{Rule, constant, mark, name}
 use Rattle.c_grammar.specs.TypeWalkLaws.{TypeTokens}
 use Rattle.c_grammar.specs.Types.{specifier}
 use Rattle.c_grammar.specs.WalkLaws.{Quiet, Spelled, Walk}
@@ -13,7 +13,7 @@ use Rattle.c_unit.specs.declared.expression.Binary.{Binary}
 use Rattle.c_unit.specs.declared.expression.Binary.TheVariants as binary
 use Rattle.c_lowered.specs.Conditions.{condition_labels}
 use Rattle.grammar.specs.Form.{left}
-use Rattle.std.proofs.Common.{Bool, List, refl, true, ℕ, ◌+◌, ◌*◌, ◌≡◌, ◌≤◌, arith}
+use Rattle.std.proofs.Common.{Bool, refl, true, ℕ, ◌+◌, ◌*◌, ◌≡◌, ◌≤◌, arith}
 use Rattle.std.specs.Prelude.{⊤}
 use Rattle.c_limits.proofs.Spending.{less, strict}
 

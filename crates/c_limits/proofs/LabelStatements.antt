@@ -1,22 +1,18 @@
 -- How many labels statements allocate, against their tokens.
-use Rattle.c_grammar.specs.Expressions.{assigned, call, condition, some_token, target, whole_expr}
-use Rattle.c_grammar.specs.StatementWalkLaws.{MayAssign, StatementWalk, all_may, standing_goes}
-use Rattle.c_grammar.specs.Statements.{assigning_mark, standing, step}
-use Rattle.c_grammar.specs.Tokens.{Fault, Place, Room, Rule, Seen, constant, mark, name, some_frames}
-use Rattle.c_grammar.specs.TypeWalkLaws.{TypeTokens}
-use Rattle.c_grammar.specs.Types.{array_size, specifier}
-use Rattle.c_grammar.specs.WalkLaws.{IfThere, Quiet, Quietly, Spelled, Walk, seen_anywhere}
-use Rattle.c_grammar.specs.declared.standing.Assigning.{Assigning}
-use Rattle.c_grammar.specs.declared.standing.Standing.{Standing}
+use Rattle.c_grammar.specs.Expressions.{assigned, call, some_token, target, whole_expr}
+use Rattle.c_grammar.specs.StatementWalkLaws.{MayAssign, StatementWalk, all_may}
+use Rattle.c_grammar.specs.Statements.{assigning_mark, step}
+use Rattle.c_grammar.specs.Tokens.{mark, name, some_frames}
+use Rattle.c_grammar.specs.Types.{array_size}
+use Rattle.c_grammar.specs.WalkLaws.{IfThere, Quietly, seen_anywhere}
 use Rattle.c_unit.specs.Tree as tree
 use Rattle.c_unit.specs.Tree.{EffectTree, Expression, Statement, Statements, statements_of, if_of, for_of}
-use Rattle.grammar.specs.Form.{Form, left}
 use Rattle.grammar.specs.Rule.{value, ◌>>=◌, ◌>>◌}
 use Rattle.c_lowered.specs.Conditions.{condition_labels}
 use Rattle.c_lowered.specs.Statements.{is_case, cases_in, labels_in, labels_in_all}
-use Rattle.std.proofs.Common.{Bool, List, [], ◌∷◌, Option, Some, None, refl, true, ℕ, ◌+◌, ◌*◌, ◌≡◌, ◌≤◌, arith}
+use Rattle.std.proofs.Common.{Bool, List, [], ◌∷◌, Option, Some, None, refl, ℕ, ◌+◌, ◌≤◌, arith}
 use Rattle.std.specs.Prelude.{⊤}
-use Rattle.c_limits.proofs.Spending.{Spends, less, strict, total}
+use Rattle.c_limits.proofs.Spending.{less, total}
 use Rattle.c_limits.proofs.LabelExpressions.{One, free_so, label_condition_goes, label_tokens, label_walk, one_so, quiet_so}
 
 abbrev block_cases : Statement → ℕ
@@ -26,54 +22,54 @@ block_cases _ = 0
 abbrev pub weight : Statement → ℕ
 weight s = is_case s + labels_in s + block_cases s
 
-any_assigning : (to : Expression) (last : Bool) → Quietly label_walk (assigning_mark to last).form (λ a. MayAssign (λ op. ⊤) a.0)
+pub any_assigning : (to : Expression) (last : Bool) → Quietly label_walk (assigning_mark to last).form (λ a. MayAssign (λ op. ⊤) a.0)
 any_assigning to last = record { each = λ at x rest s. (0, (refl, all_may x.0), let low = (less (assigning_mark to last)).each at x rest s in omega (arith, low)) }
 
 -- ---- statements
 
-abbrev Heavy : Statement → ℕ → Type 0
+abbrev pub Heavy : Statement → ℕ → Type 0
 Heavy s m = weight s ≤ m
 
-abbrev IfHeavy : Option Statement → ℕ → Type 0
+abbrev pub IfHeavy : Option Statement → ℕ → Type 0
 IfHeavy = IfThere label_walk Heavy
 
-controls_low : (c : Expression) (a m b : ℕ) → One a → condition_labels c ≤ m → One b → condition_labels c + 8 ≤ a + (m + b)
+pub controls_low : (c : Expression) (a m b : ℕ) → One a → condition_labels c ≤ m → One b → condition_labels c + 8 ≤ a + (m + b)
 controls_low c a m b one low other = omega arith
 
-selects_low : (a m b : ℕ) → One a → One b → 8 ≤ a + (m + b)
+pub selects_low : (a m b : ℕ) → One a → One b → 8 ≤ a + (m + b)
 selects_low a m b one other = omega arith
 
-if_low : (c : Expression) (s : Statement) (e : Option Statement) (a m n : ℕ) → condition_labels c + 8 ≤ a → Heavy s m → IfHeavy e n → Heavy (if_of c s e) (a + (m + n))
+pub if_low : (c : Expression) (s : Statement) (e : Option Statement) (a m n : ℕ) → condition_labels c + 8 ≤ a → Heavy s m → IfHeavy e n → Heavy (if_of c s e) (a + (m + n))
 if_low c s None a m n control low other = omega arith
 if_low c s (Some e) a m n control low other = omega arith
 
-while_low : (c : Expression) (s : Statement) (a m : ℕ) → condition_labels c + 8 ≤ a → Heavy s m → Heavy (tree.While c s) (a + m)
+pub while_low : (c : Expression) (s : Statement) (a m : ℕ) → condition_labels c + 8 ≤ a → Heavy s m → Heavy (tree.While c s) (a + m)
 while_low c s a m control low = omega arith
 
-do_low : (s : Statement) (c : Expression) (m a : ℕ) → Heavy s m → condition_labels c + 8 ≤ a → Heavy (tree.Do s c) (m + a)
+pub do_low : (s : Statement) (c : Expression) (m a : ℕ) → Heavy s m → condition_labels c + 8 ≤ a → Heavy (tree.Do s c) (m + a)
 do_low s c m a low control = omega arith
 
-for_low : (f : Option Statement) (c : Option Expression) (e : Option EffectTree) (s : Statement) (p a b d m : ℕ)
+pub for_low : (f : Option Statement) (c : Option Expression) (e : Option EffectTree) (s : Statement) (p a b d m : ℕ)
     → One p → IfHeavy f a → IfThere label_walk (λ c m. condition_labels c ≤ m) c b → Heavy s m → Heavy (for_of f c e s) (p + (a + (b + (d + m))))
 for_low None None e s p a b d m one first control low = omega arith
 for_low None (Some c) e s p a b d m one first control low = omega arith
 for_low (Some f) None e s p a b d m one first control low = omega arith
 for_low (Some f) (Some c) e s p a b d m one first control low = omega arith
 
-switch_low : (e : Expression) (ss : Statements) (a m : ℕ) → 8 ≤ a → Heavy (tree.Block ss) m → Heavy (tree.Switch e ss) (a + m)
+pub switch_low : (e : Expression) (ss : Statements) (a m : ℕ) → 8 ≤ a → Heavy (tree.Block ss) m → Heavy (tree.Switch e ss) (a + m)
 switch_low e ss a m control low = omega arith
 
-one_low : (m : ℕ) → One m → 1 ≤ m
+pub one_low : (m : ℕ) → One m → 1 ≤ m
 one_low m one = omega arith
 
 pub all_low : (ss : List Statement) → labels_in_all (statements_of ss) + cases_in (statements_of ss) ≤ total weight ss
 all_low [] = omega arith
 all_low (s ∷ ss) = omega (arith, all_low ss)
 
-block_low : (ss : List Statement) (m : ℕ) → total weight ss ≤ m → Heavy (tree.Block (statements_of ss)) m
+pub block_low : (ss : List Statement) (m : ℕ) → total weight ss ≤ m → Heavy (tree.Block (statements_of ss)) m
 block_low ss m low = let all = all_low ss in omega (arith, all, low)
 
-abbrev label_statements : StatementWalk label_walk
+abbrev pub label_statements : StatementWalk label_walk
 label_statements = record {
   One = One;
   Named = λ n m. ⊤;
@@ -131,6 +127,3 @@ label_statements = record {
   more_statements = λ s ss a m low others_low. omega (arith, low, others_low);
   effects = λ e m _. omega arith;
 }
-
-pub standing_spends : (n : ℕ) (s : Standing) → Spends 0 (standing n s).form weight
-standing_spends n s = record { each = λ at x rest spells. let k = (standing_goes label_statements n s).each at x rest spells in let low = k.1.0 in let room = k.2 in omega (arith, low, room) }

@@ -1,26 +1,26 @@
 -- What rules of expressions and calls spell is plain.
 --   Good logical e           && and || stand in conditions alone, and e is one only where it may be
 use Rattle.c_grammar.specs.ExpressionWalkLaws.{ExpressionWalk, arguments_goes, assigned_goes, condition_goes, open_paren_quiet, target_goes, whole_expr_goes}
-use Rattle.c_grammar.specs.Expressions.{arguments, assigned, at_call, call, call_frame, condition, is_logical, is_not, joins_conditions, lead, may_stand, open_paren, operator, some_token, target, whole_expr}
-use Rattle.c_grammar.specs.Tokens.{Fault, Room, Seen, most_depth, some_frames}
-use Rattle.c_grammar.specs.WalkLaws.{Quiet, Spelled, done, seen, seen_anywhere, spelled_as, ◌>>-◌, ◌>>!◌}
+use Rattle.c_grammar.specs.Expressions.{arguments, assigned, at_call, call, call_frame, condition, is_logical, is_not, joins_conditions, lead, may_stand, operator, some_token, target, whole_expr}
+use Rattle.c_grammar.specs.Tokens.{some_frames}
+use Rattle.c_grammar.specs.WalkLaws.{Spelled, done, seen, seen_anywhere, spelled_as, ◌>>-◌, ◌>>!◌}
 use Rattle.c_grammar.specs.declared.others.Casts.{Casts}
 use Rattle.c_grammar.specs.declared.others.Others.{Others}
-use Rattle.c_unit.specs.Tree.{CallTree, Expression, OfConstant, OfName, InParentheses, WithUnary, WithCast, AtIndex, WithBinary}
+use Rattle.c_unit.specs.Tree.{Expression, OfConstant, OfName, InParentheses, WithUnary, WithCast, AtIndex, WithBinary}
 use Rattle.c_unit.specs.declared.expression.Unary.{Unary}
 use Rattle.c_unit.specs.declared.expression.Unary.TheVariants as unary
 use Rattle.c_unit.specs.declared.expression.Binary.{Binary}
 use Rattle.c_unit.specs.declared.expression.Binary.TheVariants as binary
 use Rattle.grammar.specs.Rule.{value}
 use Rattle.lists.specs.Tests.{by_test}
-use Rattle.std.proofs.Common.{Bool, All, List, [], ◌∷◌, not, false, true, refl, sym, ◌∙◌, ℕ, ◌&&◌, ◌≡◌}
+use Rattle.std.proofs.Common.{Bool, All, List, not, false, true, refl, sym, ◌∙◌, ℕ, ◌&&◌, ◌≡◌}
 use Rattle.std.proofs.lemmas.Bool.{false≢true}
 use Rattle.std.proofs.lemmas.List.Elements.{All-nil, All-cons}
 use Rattle.std.specs.Prelude.{⊤}
 use Rattle.lowering_values.specs.Agreement.{IsPlain}
 use Rattle.lowering_simulation.specs.Plain.{IsPlainCondition, CallIsPlain, ValueIsPlain}
 use Rattle.c_limits.proofs.Keeping.{Keeps, either_keeps, judged_keeps, made_keeps, one_keeps, ◌>>>◌}
-use Rattle.c_limits.proofs.TypesKeep.{fine_tokens, fine_walk, free_so, keeps_so, quiet_so, some_frames_keeps}
+use Rattle.c_limits.proofs.TypesKeep.{fine_tokens, fine_walk, free_so, quiet_so, some_frames_keeps}
 
 -- ---- plain expressions
 
@@ -108,9 +108,6 @@ plain_expressions = record {
   indexes = λ d logical base n i a m none _ good made. record { plain = (plain_of base good.plain none, plain_value_of i made); may = λ t. absurd (false≢true t) };
   binaries = λ d min logical op n left right a b m stands _ _ good made. binary_good min logical op n left right stands good made;
 }
-
-pub open_paren_keeps : Keeps open_paren.form
-open_paren_keeps = keeps_so (open_paren_quiet plain_expressions)
 
 -- a call, where this is asked of its arguments
 pub fine_call : (Arguments : List Expression → Type 0) → ((p : ℕ) → Spelled fine_walk (arguments p).form (λ es m. Arguments es)) → (p : ℕ) → Spelled fine_walk (seen at_call (call p).form) (λ c m. Arguments c.arguments)

@@ -1,12 +1,11 @@
 -- What rules of statements spell is plain.
-use Rattle.c_grammar.specs.Expressions.{assigned, call, condition, is_postfix, some_token, target, whole_expr}
-use Rattle.c_grammar.specs.StatementWalkLaws.{MayAssign, StatementWalk, standing_goes}
-use Rattle.c_grammar.specs.Statements.{assigning_mark, fits_assigning_of, semicolon, standing, step}
+use Rattle.c_grammar.specs.Expressions.{is_postfix}
+use Rattle.c_grammar.specs.StatementWalkLaws.{MayAssign, StatementWalk}
+use Rattle.c_grammar.specs.Statements.{assigning_mark, fits_assigning_of, step}
 use Rattle.c_grammar.specs.Tokens.{Fault, Seen, misfit}
 use Rattle.c_grammar.specs.WalkLaws.{IfThere, Quietly, seen_anywhere}
 use Rattle.c_grammar.specs.declared.others.Others.{Others}
 use Rattle.c_grammar.specs.declared.standing.Assigning.{Assigning}
-use Rattle.c_grammar.specs.declared.standing.Standing.{Standing}
 use Rattle.c_grammar.specs.declared.symbol.Symbol.{Symbol}
 use Rattle.c_grammar.specs.declared.symbol.Symbol.TheVariants as symbols
 use Rattle.c_grammar.specs.declared.standing.Assigning.TheVariants as assigning
@@ -15,26 +14,25 @@ use Rattle.c_rules.specs.Expressions.{is_of_conditions}
 use Rattle.c_unit.specs.Tree.{EffectTree, Expression, Statement, ValueTree, statements_of, if_of, for_of}
 use Rattle.c_unit.specs.declared.expression.Binary.{Binary}
 use Rattle.grammar.specs.Exact.{ok_is, ok_no_err}
-use Rattle.std.proofs.Common.{Bool, List, [], ◌∷◌, Option, Some, None, Ok, not, false, true, refl, subst, ℕ, ◌≡◌}
+use Rattle.std.proofs.Common.{Bool, Option, Some, None, Ok, not, false, true, refl, subst, ℕ, ◌≡◌}
 use Rattle.std.proofs.lemmas.Bool.{false≢true}
-use Rattle.std.specs.Prelude.{codes, ⊤}
-use Rattle.lowering_layout.specs.Lists.{EachOf}
+use Rattle.std.specs.Prelude.{⊤}
 use Rattle.lowering_values.specs.Agreement.{IsPlain}
 use Rattle.lowering_simulation.specs.Plain.{CallIsPlain, IsPlainCondition, IfIsPlain, ValueIsPlain, FirstIsPlain, EffectIsPlain, LastIsPlain, ShapeIsPlain, LocalsArePlain, StatementIsPlain, StatementsArePlain}
 use Rattle.c_limits.proofs.Keeping.{Keeps, Makes, is_plain_update, made_keeps, mark_keeps, one_keeps, one_makes, ◌>>>◌}
-use Rattle.c_limits.proofs.TypesKeep.{array_size_keeps, fine_tokens, fine_walk, free_so, made_so, name_keeps, quiet_so, some_frames_keeps}
+use Rattle.c_limits.proofs.TypesKeep.{array_size_keeps, fine_tokens, fine_walk, free_so, name_keeps, quiet_so, some_frames_keeps}
 use Rattle.c_limits.proofs.PlainExpressions.{call_goes, plain_assigned_goes, plain_condition_goes, plain_target_goes, some_token_keeps, value_goes}
 
 -- ---- tokens
 
-abbrev IsPlainUpdate : Binary → Type 0
+abbrev pub IsPlainUpdate : Binary → Type 0
 IsPlainUpdate op = is_of_conditions op ≡ false
 
 is_none : (b : Bool) → not b ≡ true → b ≡ false
 is_none true e = absurd (false≢true e)
 is_none false e = refl
 
-abbrev IsPlainAssigning : Assigning × ℕ → Type 0
+abbrev pub IsPlainAssigning : Assigning × ℕ → Type 0
 IsPlainAssigning x = MayAssign IsPlainUpdate x.0
 
 assigning_made : (s : Symbol) (postfix : Bool) (o : Others) (t : Seen) (x : Assigning × ℕ) → is_plain_update s ≡ true → fits_assigning_of s postfix o t ≡ Ok x → IsPlainAssigning x
@@ -49,42 +47,38 @@ unfolding assigning_mark
 assigning_makes to last = one_makes (λ t. fits_assigning_of t.symbol (is_postfix to) (others.RestOrEnd last) t)
     (λ t x fine e. assigning_made t.symbol (is_postfix to) (others.RestOrEnd last) t x fine e)
 
-assigning_goes : (to : Expression) (last : Bool) → Quietly fine_walk (assigning_mark to last).form IsPlainAssigning
+pub assigning_goes : (to : Expression) (last : Bool) → Quietly fine_walk (assigning_mark to last).form IsPlainAssigning
 assigning_goes to last = record { each = λ at x rest s g. let k = (assigning_makes to last).each at x rest s g in ((refl, k.0), k.1) }
 
 pub step_keeps : Keeps step.form
 unfolding step
 step_keeps = one_keeps
 
-pub semicolon_keeps : (o : Others) → Keeps (semicolon o).form
-unfolding semicolon
-semicolon_keeps o = mark_keeps (codes ";") o >>> λ _. made_keeps
-
 -- ---- what may be missing
 
-first_made : (v : Option ValueTree) (m : Unit {0}) → IfThere fine_walk (λ v m. ValueIsPlain v) v m → FirstIsPlain v
+pub first_made : (v : Option ValueTree) (m : Unit {0}) → IfThere fine_walk (λ v m. ValueIsPlain v) v m → FirstIsPlain v
 first_made None m made = tt
 first_made (Some v) m made = made
 
-if_made : (c : Expression) (s : Statement) (e : Option Statement) (m : Unit {0}) → IsPlainCondition c → StatementIsPlain s → IfThere fine_walk (λ s m. StatementIsPlain s) e m → StatementIsPlain (if_of c s e)
+pub if_made : (c : Expression) (s : Statement) (e : Option Statement) (m : Unit {0}) → IsPlainCondition c → StatementIsPlain s → IfThere fine_walk (λ s m. StatementIsPlain s) e m → StatementIsPlain (if_of c s e)
 if_made c s None m plain made other = (plain, made)
 if_made c s (Some e) m plain made other = (plain, made, other)
 
-condition_made : (c : Option Expression) (m : Unit {0}) → IfThere fine_walk (λ c m. IsPlainCondition c) c m → IfIsPlain c
+pub condition_made : (c : Option Expression) (m : Unit {0}) → IfThere fine_walk (λ c m. IsPlainCondition c) c m → IfIsPlain c
 condition_made None m made = tt
 condition_made (Some c) m made = made
 
-last_made : (e : Option EffectTree) (m : Unit {0}) → IfThere fine_walk (λ e m. EffectIsPlain e) e m → LastIsPlain e
+pub last_made : (e : Option EffectTree) (m : Unit {0}) → IfThere fine_walk (λ e m. EffectIsPlain e) e m → LastIsPlain e
 last_made None m made = tt
 last_made (Some e) m made = made
 
-for_made : (f : Option Statement) (c : Option Expression) (e : Option EffectTree) (s : Statement) (m : Unit {0}) → IfThere fine_walk (λ s m. StatementIsPlain s) f m → IfIsPlain c → LastIsPlain e → StatementIsPlain s → StatementIsPlain (for_of f c e s)
+pub for_made : (f : Option Statement) (c : Option Expression) (e : Option EffectTree) (s : Statement) (m : Unit {0}) → IfThere fine_walk (λ s m. StatementIsPlain s) f m → IfIsPlain c → LastIsPlain e → StatementIsPlain s → StatementIsPlain (for_of f c e s)
 for_made None c e s m first plain last made = (plain, last, made)
 for_made (Some f) c e s m first plain last made = (first, plain, last, made)
 
 -- ---- statements
 
-abbrev plain_walk : StatementWalk fine_walk
+abbrev pub plain_walk : StatementWalk fine_walk
 plain_walk = record {
   One = λ m. ⊤;
   Named = λ n m. ⊤;
@@ -142,10 +136,3 @@ plain_walk = record {
   more_statements = λ s ss a m made others_made. (made, others_made);
   effects = λ e m made. made;
 }
-
-pub standing_makes : (n : ℕ) (s : Standing) → Makes (standing n s).form StatementIsPlain
-standing_makes n s = record { each = λ at x rest spells g. let k = (standing_goes plain_walk n s).each at x rest spells g in (k.0.0, k.1) }
-
-pub statements_made : (ss : List Statement) → EachOf StatementIsPlain ss → StatementsArePlain (statements_of ss)
-statements_made [] made = tt
-statements_made (s ∷ ss) made = (made.0, statements_made ss made.1)

@@ -1,17 +1,12 @@
 -- In what rules of statements spell each value and each condition is shallow.
-use Rattle.c_grammar.specs.Expressions.{assigned, call, condition, some_token, target, whole_expr}
-use Rattle.c_grammar.specs.StatementWalkLaws.{MayAssign, StatementWalk, all_may, standing_goes}
-use Rattle.c_grammar.specs.Statements.{assigning_mark, standing}
+use Rattle.c_grammar.specs.StatementWalkLaws.{MayAssign, StatementWalk, all_may}
+use Rattle.c_grammar.specs.Statements.{assigning_mark}
 use Rattle.c_grammar.specs.WalkLaws.{IfThere, Quietly, seen_anywhere}
-use Rattle.c_grammar.specs.declared.standing.Assigning.{Assigning}
-use Rattle.c_grammar.specs.declared.standing.Standing.{Standing}
 use Rattle.c_unit.specs.Tree.{EffectTree, Expression, Statement, Statements, ValueTree, statements_of, if_of, for_of}
-use Rattle.c_unit.specs.declared.expression.Binary.{Binary}
-use Rattle.std.proofs.Common.{Bool, List, [], ◌∷◌, Option, Some, None, refl, ℕ, ◌≡◌}
+use Rattle.std.proofs.Common.{Bool, Option, Some, None, refl}
 use Rattle.std.specs.Prelude.{⊤}
-use Rattle.lowering_layout.specs.Lists.{EachOf}
-use Rattle.c_limits.proofs.Keeping.{Makes, made_keeps, mark_keeps, one_keeps, ◌>>>◌}
-use Rattle.c_limits.proofs.TypesKeep.{array_size_keeps, fine_tokens, fine_walk, free_so, made_so, name_keeps, quiet_so, some_frames_keeps}
+use Rattle.c_limits.proofs.Keeping.{made_keeps, mark_keeps, one_keeps, ◌>>>◌}
+use Rattle.c_limits.proofs.TypesKeep.{array_size_keeps, fine_tokens, fine_walk, free_so, name_keeps, quiet_so, some_frames_keeps}
 use Rattle.c_rules.specs.SpelledExpressions.{IfValue, InCall, InValue, InEffect, IfEffect, IfCondition, InShape, InLocals, InStatement, InStatements}
 use Rattle.c_limits.proofs.PlainExpressions.{some_token_keeps}
 use Rattle.c_limits.proofs.PlainStatements.{step_keeps}
@@ -23,35 +18,35 @@ StatementIsShallow s = InStatement Shallow Shallow s
 abbrev pub StatementsAreShallow : Statements → Type 0
 StatementsAreShallow ss = InStatements Shallow Shallow ss
 
-any_assigning : (to : Expression) (last : Bool) → Quietly fine_walk (assigning_mark to last).form (λ a. MayAssign (λ op. ⊤) a.0)
+pub any_assigning : (to : Expression) (last : Bool) → Quietly fine_walk (assigning_mark to last).form (λ a. MayAssign (λ op. ⊤) a.0)
 unfolding assigning_mark
 any_assigning to last = record { each = λ at x rest s g. ((refl, all_may x.0), one_keeps.each at x rest s g) }
 
 -- ---- what may be missing
 
-first_made : (v : Option ValueTree) (m : Unit {0}) → IfThere fine_walk (λ v m. InValue Shallow v) v m → IfValue Shallow v
+pub first_made : (v : Option ValueTree) (m : Unit {0}) → IfThere fine_walk (λ v m. InValue Shallow v) v m → IfValue Shallow v
 first_made None m made = tt
 first_made (Some v) m made = made
 
-if_made : (c : Expression) (s : Statement) (e : Option Statement) (m : Unit {0}) → Shallow c → StatementIsShallow s → IfThere fine_walk (λ s m. StatementIsShallow s) e m → StatementIsShallow (if_of c s e)
+pub if_made : (c : Expression) (s : Statement) (e : Option Statement) (m : Unit {0}) → Shallow c → StatementIsShallow s → IfThere fine_walk (λ s m. StatementIsShallow s) e m → StatementIsShallow (if_of c s e)
 if_made c s None m low made other = (low, made)
 if_made c s (Some e) m low made other = (low, made, other)
 
-condition_made : (c : Option Expression) (m : Unit {0}) → IfThere fine_walk (λ c m. Shallow c) c m → IfCondition Shallow c
+pub condition_made : (c : Option Expression) (m : Unit {0}) → IfThere fine_walk (λ c m. Shallow c) c m → IfCondition Shallow c
 condition_made None m made = tt
 condition_made (Some c) m made = made
 
-last_made : (e : Option EffectTree) (m : Unit {0}) → IfThere fine_walk (λ e m. InEffect Shallow e) e m → IfEffect Shallow e
+pub last_made : (e : Option EffectTree) (m : Unit {0}) → IfThere fine_walk (λ e m. InEffect Shallow e) e m → IfEffect Shallow e
 last_made None m made = tt
 last_made (Some e) m made = made
 
-for_made : (f : Option Statement) (c : Option Expression) (e : Option EffectTree) (s : Statement) (m : Unit {0}) → IfThere fine_walk (λ s m. StatementIsShallow s) f m → IfCondition Shallow c → IfEffect Shallow e → StatementIsShallow s → StatementIsShallow (for_of f c e s)
+pub for_made : (f : Option Statement) (c : Option Expression) (e : Option EffectTree) (s : Statement) (m : Unit {0}) → IfThere fine_walk (λ s m. StatementIsShallow s) f m → IfCondition Shallow c → IfEffect Shallow e → StatementIsShallow s → StatementIsShallow (for_of f c e s)
 for_made None c e s m first low last made = (low, last, made)
 for_made (Some f) c e s m first low last made = (first, low, last, made)
 
 -- ---- statements
 
-abbrev shallow_walk : StatementWalk fine_walk
+abbrev pub shallow_walk : StatementWalk fine_walk
 shallow_walk = record {
   One = λ m. ⊤;
   Named = λ n m. ⊤;
@@ -109,10 +104,3 @@ shallow_walk = record {
   more_statements = λ s ss a m made others_made. (made, others_made);
   effects = λ e m made. made;
 }
-
-pub standing_makes : (n : ℕ) (s : Standing) → Makes (standing n s).form StatementIsShallow
-standing_makes n s = record { each = λ at x rest spells g. let k = (standing_goes shallow_walk n s).each at x rest spells g in (k.0.0, k.1) }
-
-pub statements_made : (ss : List Statement) → EachOf StatementIsShallow ss → StatementsAreShallow (statements_of ss)
-statements_made [] made = tt
-statements_made (s ∷ ss) made = (made.0, statements_made ss made.1)

@@ -1,19 +1,17 @@
 -- The rules of single tokens, of types and of declarators keep tokens fine.
 --   fine_walk     where the tokens ahead are fine, those that are left are, and nothing is counted
 --   fine_tokens   so it is over single tokens
-use Rattle.c_grammar.specs.Tokens.{Fault, Place, Room, Seen, before_either, constant, declares, name, next_number, one_function, sees, some_elements, some_frames}
-use Rattle.c_grammar.specs.TypeWalkLaws.{TypeTokens, assign_mark_quiet, close_brace_quiet, comma_mark_quiet, element_list_quiet, integer_told_quiet, integer_type_quiet, left_bracket_quiet, parameters_quiet, pointer_stars_quiet, right_bracket_quiet, signed_constant_quiet, type_of_quiet}
-use Rattle.c_grammar.specs.Types.{after_array, after_constant, array, array_size, assign_mark, at_assign, close_brace, comma_mark, element_list, integer_told, integer_type, left_bracket, parameters, pointer_stars, right_bracket, signed_constant, specifier, type_of}
+use Rattle.c_grammar.specs.Tokens.{Fault, Place, Room, Seen, before_either, constant, declares, name, one_function, some_elements, some_frames}
+use Rattle.c_grammar.specs.TypeWalkLaws.{TypeTokens, element_list_quiet, left_bracket_quiet, right_bracket_quiet}
+use Rattle.c_grammar.specs.Types.{after_array, after_constant, array, array_size, at_assign, element_list, left_bracket, right_bracket, specifier}
 use Rattle.c_grammar.specs.WalkLaws.{Walk, Spelled, Quiet}
 use Rattle.c_grammar.specs.declared.others.Others.{Others}
 use Rattle.c_grammar.specs.declared.specifiers.Setting.{Setting}
 use Rattle.c_grammar.specs.declared.specifiers.Specifiers.{Specifiers}
-use Rattle.c_limits.proofs.Keeping.{Fine, Keeps, Makes, judged_keeps, made_keeps, mark_keeps, maybe_keeps, one_keeps, same_ahead, ◌>>>◌}
-use Rattle.c_unit.specs.declared.types.Integer.{Integer}
-use Rattle.c_unit.specs.declared.types.Outcome.{Outcome}
+use Rattle.c_limits.proofs.Keeping.{Fine, Keeps, judged_keeps, made_keeps, mark_keeps, maybe_keeps, one_keeps, same_ahead, ◌>>>◌}
 use Rattle.grammar.specs.Each.{Each}
 use Rattle.grammar.specs.Form.{Form}
-use Rattle.std.proofs.Common.{Bool, List, ap, refl, ℕ, ◌≡◌}
+use Rattle.std.proofs.Common.{Bool, List, ap, refl, ℕ}
 use Rattle.std.specs.Prelude.{codes, ⊤}
 use Rattle.c_grammar.specs.declared.others.Others.TheVariants as others
 
@@ -36,9 +34,6 @@ quiet_so h = record { each = λ at x rest s g. (refl, h.each at x rest s g) }
 pub keeps_so : {A : Type 0} {p : Form Seen Room Fault A} → Quiet fine_walk p → Keeps p
 keeps_so h = record { each = λ at x rest s g. (h.each at x rest s g).1 }
 
-pub made_so : {A : Type 0} {p : Form Seen Room Fault A} {P : A → Type 0} → Makes p P → Spelled fine_walk p (λ x m. P x)
-made_so h = record { each = λ at x rest s g. h.each at x rest s g }
-
 -- of which nothing is asked
 pub free_so : {A : Type 0} {p : Form Seen Room Fault A} → Keeps p → Spelled fine_walk p (λ x m. ⊤)
 free_so h = record { each = λ at x rest s g. (tt, h.each at x rest s g) }
@@ -50,14 +45,6 @@ name_keeps o = one_keeps
 pub constant_keeps : (o : Others) → Keeps (constant o).form
 unfolding constant
 constant_keeps o = one_keeps
-
-pub next_number_keeps : Keeps next_number.form
-unfolding next_number
-next_number_keeps = judged_keeps
-
-pub sees_keeps : (w : List ℕ) → Keeps (sees w).form
-unfolding sees
-sees_keeps w = judged_keeps
 
 pub before_either_keeps : (w : List ℕ) (v : List ℕ) (o : Others) → Keeps (before_either w v o).form
 unfolding before_either
@@ -91,30 +78,6 @@ fine_tokens = record {
   specifiers = λ setting w. quiet_so (specifier_keeps setting w);
 }
 
-pub type_of_keeps : (setting : Setting) → Keeps (type_of setting).form
-type_of_keeps setting = keeps_so (type_of_quiet fine_tokens setting)
-
-pub integer_told_keeps : (o : Others) (t : Outcome) → Keeps (integer_told o t).form
-integer_told_keeps o t = keeps_so (integer_told_quiet fine_tokens o t)
-
-pub integer_type_keeps : (setting : Setting) → Keeps (integer_type setting).form
-integer_type_keeps setting = keeps_so (integer_type_quiet fine_tokens setting)
-
-pub pointer_stars_keeps : (p : Bool) (i : Integer) → Keeps (pointer_stars p i).form
-pointer_stars_keeps p i = keeps_so (pointer_stars_quiet fine_tokens p i)
-
-pub signed_constant_keeps : (o : Others) → Keeps (signed_constant o).form
-signed_constant_keeps o = keeps_so (signed_constant_quiet fine_tokens o)
-
-pub assign_mark_keeps : Keeps assign_mark.form
-assign_mark_keeps = keeps_so (assign_mark_quiet fine_tokens)
-
-pub comma_mark_keeps : Keeps comma_mark.form
-comma_mark_keeps = keeps_so (comma_mark_quiet fine_tokens)
-
-pub close_brace_keeps : Keeps close_brace.form
-close_brace_keeps = keeps_so (close_brace_quiet fine_tokens)
-
 pub element_list_keeps : Keeps element_list.form
 element_list_keeps = keeps_so (element_list_quiet fine_tokens)
 
@@ -123,9 +86,6 @@ left_bracket_keeps = keeps_so (left_bracket_quiet fine_tokens)
 
 pub right_bracket_keeps : (o : Others) → Keeps (right_bracket o).form
 right_bracket_keeps o = keeps_so (right_bracket_quiet fine_tokens o)
-
-pub parameters_keeps : Keeps parameters.form
-parameters_keeps = keeps_so (parameters_quiet fine_tokens)
 
 pub array_size_keeps : Keeps array_size.form
 unfolding array_size

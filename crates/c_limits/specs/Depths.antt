@@ -1,6 +1,6 @@
 -- What rules of expressions spell is no deeper than they allow.
 --   whole_expr_deep, condition_deep, target_deep, arguments_deep
-use Rattle.std.proofs.Common.{◌≤◌, ◌<◌, ℕ, suc, max, List, arith}
+use Rattle.std.proofs.Common.{◌≤◌, ℕ, suc, max, List, arith}
 use Rattle.std.specs.Prelude.{⊤}
 use Rattle.grammar.specs.Form.{Form}
 use Rattle.c_unit.specs.Tree.{Expression}

@@ -1,36 +1,24 @@
 -- What calls, values, effects and declarations count.
 use Rattle.std.proofs.Common.{◌≡◌, ◌≤◌, ◌+◌, ◌-◌, ℕ, suc, Bool, true, false, List, [], ◌∷◌, ◌++◌, Option, refl, sym, ap, ap₂, subst, ◌∙◌, arith}
 use Rattle.std.specs.Prelude.{codes}
-use Rattle.grammar.specs.Form.{Form, InARow, row}
-use Rattle.grammar.specs.Rule.{value, weaken, maybe}
+use Rattle.grammar.specs.Rule.{value}
 use Rattle.grammar.specs.Exact.{ok_is}
-use Rattle.c_unit.specs.Tree.{Expression, CallTree, ValueTree, OfExpression, OfCall, EffectTree, Assigns, Updates, Steps, Calls, LocalTree, Statement, Declares}
-use Rattle.c_unit.specs.declared.expression.Binary.{Binary}
+use Rattle.c_unit.specs.Tree.{CallTree, ValueTree, OfExpression, OfCall, EffectTree, LocalTree, Statement}
 use Rattle.c_unit.specs.Units.{Word}
 use Rattle.c_rules.specs.Names.{text_at}
 use Rattle.c_rules.specs.Recursion.{calls_in_value, calls_if_valued, calls_in_effect, calls_in_shape, calls_in_locals, calls_in}
-use Rattle.c_grammar.specs.declared.standing.Assigning.{Assigning}
-use Rattle.c_grammar.specs.declared.standing.Assigning.TheVariants as assigning
-use Rattle.c_grammar.specs.declared.specifiers.Setting.TheVariants as settings
-use Rattle.c_grammar.specs.declared.others.Casts.TheVariants as casts
 use Rattle.c_grammar.specs.declared.others.Others.{Others}
-use Rattle.c_grammar.specs.declared.others.Others.TheVariants as others
-use Rattle.c_grammar.specs.Tokens.{Fault, Seen, Room, Place, some_frames, gives_value, either, most_parens}
-use Rattle.c_grammar.specs.Types.{at_assign, at_list_comma}
-use Rattle.c_grammar.specs.Expressions.{some_token, fits_any, call_frame, arguments, argument, further_argument, some_arguments}
-use Rattle.c_grammar.specs.Expressions.{no_arguments, at_comma, call, called_value, plain_value, assigned, rest_of, rest_after_postfix}
-use Rattle.c_grammar.specs.Expressions.{rest_of_value}
-use Rattle.c_grammar.specs.Statements.{effect_end, call_effect, fits_step_of, step, prefix_step, assigning_mark, assign, update}
-use Rattle.c_grammar.specs.Statements.{postfix_step, effect_after, target_effect, other_effect, effect, initial, after_local, local_end}
-use Rattle.c_grammar.specs.Statements.{pointer_local, array_local, integer_local, plain_local, local, further_local, semicolon}
-use Rattle.c_grammar.specs.Statements.{declaration}
-use Rattle.c_rules.specs.SpelledExpressions.{Every, InCall, InValue, IfValue, InEffect, InShape, InLocals, InStatement}
+use Rattle.c_grammar.specs.Tokens.{Fault, Seen, Room, Place, some_frames, gives_value, either}
+use Rattle.c_grammar.specs.Expressions.{some_token, fits_any, call_frame}
+use Rattle.c_grammar.specs.Expressions.{call, called_value, plain_value, assigned}
+use Rattle.c_grammar.specs.Statements.{semicolon}
+use Rattle.c_rules.specs.SpelledExpressions.{InCall, InValue, IfValue, InEffect, InShape, InLocals, InStatement}
 use Rattle.c_rules.specs.Counts.{tokens_of, elements_of, elements_of_all, tokens_in, elements_in}
-use Rattle.c_limits.specs.Taking.{Good, Later, later_on, same_place, Takes, judged_takes, made_takes, mark_takes, one_takes, ◌>>>◌}
-use Rattle.c_limits.specs.Measuring.{one_if, Quietly, Fits, q_takes, q_made, q_then, q_either, fits_quiet, fits_after, fits_last}
-use Rattle.c_limits.specs.Measuring.{fits_then, fits_either, fits_maybe, fits_row}
+use Rattle.c_limits.specs.Taking.{Good, same_place, Takes, made_takes, mark_takes, ◌>>>◌}
+use Rattle.c_limits.specs.Measuring.{one_if, Fits, q_takes, q_made, q_then, fits_quiet, fits_after, fits_last}
+use Rattle.c_limits.specs.Measuring.{fits_either}
 use Rattle.c_limits.specs.Depths.{arguments_deep, open_paren_takes, sees_call_takes, whole_expr_deep}
-use Rattle.c_limits.specs.Spending.{Shallow, Spends, frames_spend, token_seen, fits_declared, array_fits}
+use Rattle.c_limits.specs.Spending.{Shallow, Spends, frames_spend, token_seen}
 
 module _ (words : List Word) where
   abbrev pub Is : {A : Type 0} → (A → List ℕ) → (A → List ℕ) → (A → ℕ) → (A → Type 0) → A → List ℕ → List ℕ → ℕ → Type 0

@@ -6,15 +6,13 @@ use Rattle.std.specs.Prelude.{⊤}
 use Rattle.grammar.specs.Form.{Form}
 use Rattle.c_unit.specs.Tree.{Expression, ValueTree, EffectTree, LocalTree, Statement, Block, Case, Default, While, Do, Switch, Steps, Updates, Assigns}
 use Rattle.c_unit.specs.Tree.{Statements, statements_of, if_of, for_of, LocalPointer, LocalInteger, LocalArray}
-use Rattle.c_unit.specs.declared.expression.Binary.{Binary}
 use Rattle.c_unit.specs.declared.types.Constant.{Constant}
 use Rattle.c_unit.specs.Units.{Word}
 use Rattle.c_rules.specs.Recursion.{calls_if_done, calls_in, called_in}
 use Rattle.c_rules.specs.Names.{worth_at, number_of}
 use Rattle.c_grammar.specs.declared.standing.Standing.{Standing}
 use Rattle.c_grammar.specs.declared.standing.Standing.TheVariants as standings
-use Rattle.c_grammar.specs.Tokens.{Fault, Seen, Room, Place, name, constant}
-use Rattle.c_grammar.specs.Types.{specifier}
+use Rattle.c_grammar.specs.Tokens.{Fault, Seen, Room, Place}
 use Rattle.c_grammar.specs.Statements.{step, assigning_mark, fits_step_of, standing}
 use Rattle.c_grammar.specs.Expressions.{some_token, fits_any}
 use Rattle.c_grammar.specs.WalkLaws.{Walk, Spelled, Quiet, IfThere, seen_anywhere}
@@ -22,7 +20,7 @@ use Rattle.c_grammar.specs.WalkLaws as walks
 use Rattle.c_grammar.specs.TypeWalkLaws.{TypeTokens}
 use Rattle.c_grammar.specs.StatementWalkLaws as statement_walks
 use Rattle.c_grammar.specs.StatementWalkLaws.{MayAssign, StatementWalk, all_may, standing_goes}
-use Rattle.c_rules.specs.SpelledExpressions.{IfValue, IfEffect, IfCondition, InStatement, InStatements}
+use Rattle.c_rules.specs.SpelledExpressions.{IfEffect, IfCondition, InStatement, InStatements}
 use Rattle.c_rules.specs.Counts.{tokens_in, all_tokens_in, elements_in, all_elements_in}
 use Rattle.c_limits.specs.Taking.{Good, Takes, mark_takes, one_takes, same_place}
 use Rattle.c_limits.specs.Measuring.{Taken, Quietly, Fits, quiet_taken, two_taken, q_made, fits_quiet, fits_as}

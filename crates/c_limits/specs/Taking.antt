@@ -2,15 +2,14 @@
 --   Good words n ts    the tokens ahead have ascending numbers from n on, and each is what the words have there
 --   Later at rest      nothing is counted, and what is left stands later
 --   Takes p            so it is of all that p spells
-use Rattle.std.proofs.Common.{◌≡◌, ◌≤◌, ℕ, zero, suc, Bool, true, false, List, [], ◌∷◌, Result, Option, Some, None, refl, sym, ap, subst, ◌∙◌, arith}
+use Rattle.std.proofs.Common.{◌≡◌, ◌≤◌, ℕ, suc, Bool, List, [], ◌∷◌, Result, Option, Some, None, refl, sym, ap, subst, ◌∙◌, arith}
 use Rattle.std.specs.Prelude.{⊤}
-use Rattle.grammar.specs.Form.{others_of, after, Form, bound, made, refused, judged, InARow, row, AtMostOne, at_most_one}
-use Rattle.grammar.specs.Chain.{InTurn, chain}
+use Rattle.grammar.specs.Form.{others_of, after, Form, bound, made, judged, InARow, row, AtMostOne, at_most_one}
 use Rattle.c_unit.specs.Units.{Word}
 use Rattle.c_rules.specs.Names.{text_at, worth_at, number_of}
 use Rattle.c_grammar.specs.declared.symbol.Symbol.TheVariants as symbols
 use Rattle.c_grammar.specs.declared.others.Others.{Others}
-use Rattle.c_grammar.specs.Tokens.{Fault, Seen, Room, Place, Rule, one, mark, fits_text, either}
+use Rattle.c_grammar.specs.Tokens.{Fault, Seen, Room, Place, one, mark, fits_text}
 use Rattle.c_grammar.specs.WalkLaws.{Walk, Quiet, Spelled}
 use Rattle.lowering_layout.specs.Texts.{IsIdentifier}
 

@@ -1,48 +1,42 @@
 -- The rules of statements take tokens that can be printed.
+--   good_statements   the walk over them
 use Rattle.c_grammar.specs.Expressions.{is_postfix, some_token}
 use Rattle.c_grammar.specs.ExpressionWalkLaws.{condition_goes, target_goes, whole_expr_goes}
-use Rattle.c_grammar.specs.StatementWalkLaws.{MayAssign, StatementWalk, all_may, standing_goes}
-use Rattle.c_grammar.specs.Statements.{assigning_mark, fits_assigning_of, fits_step_of, is_statement, semicolon, standing, step}
+use Rattle.c_grammar.specs.StatementWalkLaws.{MayAssign, StatementWalk, all_may}
+use Rattle.c_grammar.specs.Statements.{assigning_mark, fits_assigning_of, fits_step_of, is_statement, step}
 use Rattle.c_grammar.specs.Tokens.{at_symbol, misfit}
-use Rattle.c_grammar.specs.TypeWalkLaws.{semicolon_prints}
 use Rattle.c_grammar.specs.WalkLaws.{Quiet, Quietly, seen}
-use Rattle.c_grammar.specs.declared.others.Others.{Others}
-use Rattle.c_grammar.specs.declared.standing.Standing.{Standing}
 use Rattle.c_text.proofs.ExpressionsTake.{call_goes, good_assigned_goes, good_expressions}
 use Rattle.c_text.proofs.Taking.{Takes, first_good, fitting, made_takes, mark_takes, one_takes, same, ◌>>>◌}
 use Rattle.c_text.proofs.TypesTake.{array_size_takes, free_so, good_tokens, good_walk, name_takes, quiet_so, some_frames_takes}
 use Rattle.c_unit.specs.Tree.{Expression}
 use Rattle.grammar.specs.Form.{after}
-use Rattle.std.proofs.Common.{Bool, refl, ℕ}
-use Rattle.std.specs.Prelude.{codes, ⊤}
+use Rattle.std.proofs.Common.{Bool, refl}
+use Rattle.std.specs.Prelude.{⊤}
 use Rattle.c_grammar.specs.declared.others.Others.TheVariants as others
 
 -- ---- tokens
 
-step_takes : Takes step.form
+pub step_takes : Takes step.form
 unfolding step
 step_takes = one_takes (λ t. fits_step_of t.symbol t) (λ t x e. fitting fits_step_of t (misfit others.Nothing t) x refl e)
 
-assigning_takes : (to : Expression) (last : Bool) → Takes (assigning_mark to last).form
+pub assigning_takes : (to : Expression) (last : Bool) → Takes (assigning_mark to last).form
 unfolding assigning_mark
 assigning_takes to last = one_takes (λ t. fits_assigning_of t.symbol (is_postfix to) (others.RestOrEnd last) t)
     (λ t x e. fitting (λ s t. fits_assigning_of s (is_postfix to) (others.RestOrEnd last) t) t (misfit (others.RestOrEnd last) t) x refl e)
 
-assigning_goes : (to : Expression) (last : Bool) → Quietly good_walk (assigning_mark to last).form (λ a. MayAssign (λ op. ⊤) a.0)
+pub assigning_goes : (to : Expression) (last : Bool) → Quietly good_walk (assigning_mark to last).form (λ a. MayAssign (λ op. ⊤) a.0)
 assigning_goes to last = record { each = λ at x rest s. ((refl, all_may x.0), (assigning_takes to last).each at x rest s) }
 
 -- where the first word of a statement comes next
-word_goes : Quiet good_walk (seen (λ at. at_symbol is_statement at) some_token.form)
+pub word_goes : Quiet good_walk (seen (λ at. at_symbol is_statement at) some_token.form)
 unfolding some_token
 word_goes = record { each = λ at t rest s. (refl, λ g. first_good is_statement at.ahead refl s.0 (same (after at) rest s.1.1 g)) }
 
-pub semicolon_takes : (o : Others) → Takes (semicolon o).form
-unfolding semicolon
-semicolon_takes o = mark_takes (codes ";") o semicolon_prints >>> λ _. made_takes
-
 -- ---- statements
 
-abbrev good_statements : StatementWalk good_walk
+abbrev pub good_statements : StatementWalk good_walk
 good_statements = record {
   One = λ m. ⊤;
   Named = λ n m. ⊤;
@@ -100,6 +94,3 @@ good_statements = record {
   more_statements = λ s ss a m _ _. tt;
   effects = λ e m _. tt;
 }
-
-pub standing_takes : (n : ℕ) (s : Standing) → Takes (standing n s).form
-standing_takes n s = record { each = λ at x rest spells g. ((standing_goes good_statements n s).each at x rest spells).1 g }

@@ -1,17 +1,15 @@
 -- The rules of single tokens, of types and of declarators take tokens that can be printed.
 --   good_walk     where what is left is good, all that stands ahead is, and nothing is counted
 --   good_tokens   so it is over single tokens
-use Rattle.c_grammar.specs.Tokens.{Fault, Place, Room, Seen, before_either, constant, declares, fits_constant_of, fits_name_of, misfit, name, next_number, one_function, sees, some_elements, some_frames}
-use Rattle.c_grammar.specs.TypeWalkLaws.{TypeTokens, assign_mark_quiet, close_brace_quiet, comma_mark_quiet, element_list_quiet, integer_told_quiet, integer_type_quiet, left_bracket_quiet, parameters_quiet, pointer_stars_quiet, right_bracket_quiet, signed_constant_quiet, type_of_quiet}
-use Rattle.c_grammar.specs.Types.{after_array, after_constant, array, array_size, assign_mark, at_assign, close_brace, comma_mark, element_list, fits_word_of, integer_told, integer_type, left_bracket, parameters, pointer_stars, right_bracket, signed_constant, specifier, type_of}
+use Rattle.c_grammar.specs.Tokens.{Fault, Place, Room, Seen, before_either, constant, declares, fits_constant_of, fits_name_of, misfit, name, one_function, some_elements, some_frames}
+use Rattle.c_grammar.specs.TypeWalkLaws.{TypeTokens, element_list_quiet, left_bracket_quiet, right_bracket_quiet}
+use Rattle.c_grammar.specs.Types.{after_array, after_constant, array, array_size, at_assign, element_list, fits_word_of, left_bracket, right_bracket, specifier}
 use Rattle.c_grammar.specs.WalkLaws.{Walk, Spelled, Quiet}
 use Rattle.c_grammar.specs.Words.{with_word}
 use Rattle.c_grammar.specs.declared.others.Others.{Others}
 use Rattle.c_grammar.specs.declared.specifiers.Setting.{Setting}
 use Rattle.c_grammar.specs.declared.specifiers.Specifiers.{Specifiers}
 use Rattle.c_text.proofs.Taking.{Good, Takes, fitting, judged_takes, made_takes, mark_takes, maybe_takes, one_takes, same_ahead, ◌>>>◌}
-use Rattle.c_unit.specs.declared.types.Integer.{Integer}
-use Rattle.c_unit.specs.declared.types.Outcome.{Outcome}
 use Rattle.grammar.specs.Each.{Each}
 use Rattle.grammar.specs.Form.{Form}
 use Rattle.std.proofs.Common.{Bool, List, ap, refl, ℕ}
@@ -49,14 +47,6 @@ pub constant_takes : (o : Others) → Takes (constant o).form
 unfolding constant
 constant_takes o = one_takes (λ t. fits_constant_of t.symbol o t) (λ t x e. fitting (λ s t. fits_constant_of s o t) t (misfit o t) x refl e)
 
-pub next_number_takes : Takes next_number.form
-unfolding next_number
-next_number_takes = judged_takes
-
-pub sees_takes : (w : List ℕ) → Takes (sees w).form
-unfolding sees
-sees_takes w = judged_takes
-
 pub before_either_takes : (w : List ℕ) (v : List ℕ) (o : Others) → Takes (before_either w v o).form
 unfolding before_either
 before_either_takes w v o = judged_takes
@@ -89,30 +79,6 @@ good_tokens = record {
   specifiers = λ setting w. quiet_so (specifier_takes setting w);
 }
 
-pub type_of_takes : (setting : Setting) → Takes (type_of setting).form
-type_of_takes setting = takes_so (type_of_quiet good_tokens setting)
-
-pub integer_told_takes : (o : Others) (t : Outcome) → Takes (integer_told o t).form
-integer_told_takes o t = takes_so (integer_told_quiet good_tokens o t)
-
-pub integer_type_takes : (setting : Setting) → Takes (integer_type setting).form
-integer_type_takes setting = takes_so (integer_type_quiet good_tokens setting)
-
-pub pointer_stars_takes : (p : Bool) (i : Integer) → Takes (pointer_stars p i).form
-pointer_stars_takes p i = takes_so (pointer_stars_quiet good_tokens p i)
-
-pub signed_constant_takes : (o : Others) → Takes (signed_constant o).form
-signed_constant_takes o = takes_so (signed_constant_quiet good_tokens o)
-
-pub assign_mark_takes : Takes assign_mark.form
-assign_mark_takes = takes_so (assign_mark_quiet good_tokens)
-
-pub comma_mark_takes : Takes comma_mark.form
-comma_mark_takes = takes_so (comma_mark_quiet good_tokens)
-
-pub close_brace_takes : Takes close_brace.form
-close_brace_takes = takes_so (close_brace_quiet good_tokens)
-
 pub element_list_takes : Takes element_list.form
 element_list_takes = takes_so (element_list_quiet good_tokens)
 
@@ -121,9 +87,6 @@ left_bracket_takes = takes_so (left_bracket_quiet good_tokens)
 
 pub right_bracket_takes : (o : Others) → Takes (right_bracket o).form
 right_bracket_takes o = takes_so (right_bracket_quiet good_tokens o)
-
-pub parameters_takes : Takes parameters.form
-parameters_takes = takes_so (parameters_quiet good_tokens)
 
 pub array_size_takes : Takes array_size.form
 unfolding array_size

@@ -1,6 +1,6 @@
 -- What the reader stands for.
 --   seen token         a token, without where its bytes lie in memory; seen_in text token   one that was cut from a text
---   word_in text token a token that was cut from a text, as a word of the text
+--   span_of token      the range of a token that was cut; word_in text token   the token as a word of its text
 --   numbered n tokens  the tokens of a text as the grammar sees them, numbered from n on
 --   position reader    the position that it stands at
 --   fault_of error     the fault of an error, or none where memory ran out
@@ -9,6 +9,7 @@ use Rattle.std.specs.Prelude.{ℕ, ◌+◌, List, [], ◌∷◌, map, take, drop
 use Rattle.grammar.specs.Reading.{Reading}
 use Rattle.grammar.specs.Reading as reading
 use Rattle.c_tokens.specs.Tokens.{Lexeme}
+use Rattle.c_unit.specs.declared.tokens.Span.{Span}
 use Rattle.c_unit.specs.Units.{Word, word_of_span}
 use Rattle.c_grammar.specs.Symbols.{symbol_of}
 use Rattle.c_grammar.specs.Tokens.{Fault, Syntax, Number, OutOfProfile, Limit, Seen, Room, Place, Rule}
@@ -25,7 +26,10 @@ seen t = record { symbol = t.symbol; number = t.number; text = t.text.now }
 abbrev pub seen_in : List ℕ → CutToken → Seen
 seen_in text t = record { symbol = t.symbol; number = t.number; text = take t.span.len (drop t.span.start text) }
 
--- a token that was cut from a text, as a word of the text
+abbrev pub span_of : CutToken → Span
+span_of t = t.span
+
+-- a token that was cut, as a word of its text
 abbrev pub word_in : List ℕ → CutToken → Word
 word_in text t = word_of_span text t.span
 

@@ -1,9 +1,9 @@
 //! The tokens of a text, as the grammar sees them.
 
-ghost use Rattle.std.specs.Prelude.{◌≡◌, ◌+◌, ◌^◌, ◌↔◌, ℕ, List, IsTrue, map, IfOk};
+ghost use Rattle.std.specs.Prelude.{◌≡◌, ◌+◌, ◌^◌, ◌↔◌, IsTrue, map, IfOk};
 ghost use Rattle.c_tokens.specs.Tokens.{tokens_of};
-ghost use Rattle.c_unit.specs.Units.{word_of, word_of_span};
-ghost use Rattle.c_reader.specs.Reading.{seen_in, word_in, numbered};
+ghost use Rattle.c_unit.specs.Units.{word_of};
+ghost use Rattle.c_reader.specs.Reading.{seen_in, span_of, word_in, numbered};
 
 use c_grammar::{Symbol, symbol_of};
 use c_tokens::{Cursor, tokens_stand_in_their_texts};
@@ -63,7 +63,7 @@ pub fn cut(alloc: Global, text: &[u8]) -> Result<Vec<CutToken>, AllocError>
 
 /// The ranges of tokens that were cut, in order.
 pub fn spans(alloc: Global, tokens: &[CutToken]) -> Result<Vec<Span>, AllocError>
-    ensures { IfOk result (λ spans. (text : List ℕ) → map (word_of_span text) spans.items ≡ map (word_in text) tokens.now) }
+    ensures { IfOk result (λ spans. spans.items ≡ map span_of tokens.now) }
 {
     let mut spans = Vec::with_capacity(alloc, tokens.len())?;
     for token in tokens {

@@ -1,15 +1,16 @@
 -- A text has one meaning, which reading computes. It follows from the type of the rule alone.
 use Rattle.std.proofs.Common.{◌≡◌, ℕ, Bool, List, [], map, Result, Ok, Err, Option, Some, None, refl, sym, ap, subst}
 use Rattle.std.specs.Prelude.{IfSome, IsSomeAnd}
+use Rattle.std.proofs.lemmas.Simd.{map-map}
 use Rattle.grammar.specs.Form.{Fails}
 use Rattle.grammar.specs.Exact.{Says}
 use Rattle.c_tokens.specs.Tokens.{tokens_of}
 use Rattle.c_unit.specs.Tree.{ExternalTree}
-use Rattle.c_unit.specs.Units.{Word, UnitTree}
+use Rattle.c_unit.specs.Units.{Word, word_of_span, UnitTree}
 use Rattle.c_grammar.specs.Tokens.{Fault, Seen, Place}
 use Rattle.c_grammar.specs.Units.{unit}
 use Rattle.c_reader.specs.declared.tokens.CutToken.{CutToken}
-use Rattle.c_reader.specs.Reading.{word_in, numbered}
+use Rattle.c_reader.specs.Reading.{span_of, word_in, numbered}
 use Rattle.c_text.specs.Language.{start, words_of, SpellsTrees, SpellsUnit, Departure, placed, Means, HasOneMeaning}
 
 -- what reading gives, as it is told
@@ -46,6 +47,10 @@ module _ (bytes : List ℕ) where
   read_trees ts names cut none externals rest e =
       let here : unit.form.reading (start bytes) ≡ Ok (externals, rest) = (rw (cut, none) at e) in
       (rest, subst (Says unit.form (start bytes)) here (unit.exact.holds (start bytes)))
+
+  -- the words of the ranges are those of the tokens
+  pub same_words : (tokens : List CutToken) → map (word_of_span bytes) (map span_of tokens) ≡ map (word_in bytes) tokens
+  same_words tokens = map-map (word_of_span bytes) span_of tokens
 
   -- a unit of the tokens and of trees that are spelled
   pub unit_spelled : (tokens : List CutToken) (externals : List ExternalTree) (whole : UnitTree) → map (word_in bytes) tokens ≡ words_of bytes → SpellsTrees bytes externals

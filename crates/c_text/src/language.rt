@@ -41,15 +41,16 @@ pub fn read(alloc: Global, bytes: &[u8]) -> Result<CUnit, CTextFault>
     ensures printed { IfOk result (λ unit. list_all can_print (texts_of (unit_of unit)) ≡ true) }
 {
     spelled_units_are_read_back();
-    let Ok(tokens) = cut(alloc, bytes) else {
+    let Ok(all) = cut(alloc, bytes) else {
         return Err(CTextFault::Memory);
     };
-    match read_externals(alloc, bytes, tokens.as_slice()) {
-        Ok(externals) => match whole_unit(alloc, bytes, tokens.as_slice(), externals) {
+    let tokens = all.as_slice();
+    match read_externals(alloc, bytes, tokens) {
+        Ok(externals) => match whole_unit(alloc, bytes, tokens, externals) {
             Ok(unit) => Ok(unit),
             Err(_) => Err(CTextFault::Memory),
         },
-        Err(departure) => Err(told(alloc, bytes, tokens.as_slice(), departure)),
+        Err(departure) => Err(told(alloc, bytes, tokens, departure)),
     }
 }
 
@@ -84,6 +85,7 @@ fn read_externals(
 }
 
 // A text with its tokens and trees.
+#[tactic(auto, using(crate::proofs::Meaning::same_words))]
 fn whole_unit(
     alloc: Global,
     bytes: &[u8],

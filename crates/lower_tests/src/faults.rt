@@ -32,6 +32,14 @@ int main(void){if (f()) ;} @ 2 fault 92 profile 1 21 "(";
 int main(void){x = y++;} @ 2 fault 92 profile 1 21 "++";
 int main(void){x = 1, y = 2;} @ 2 fault 92 profile 1 21 ",";
 int main(void){x;} @ 2 fault 92 profile 1 17 ";";
+int main(void){x = 1 (2);} @ 2 fault 92 profile 1 22 "(";
+int main(void){(f)();} @ 2 fault 92 profile 1 19 "(";
+int main(void){f()();} @ 2 fault 92 profile 1 19 "(";
+int main(void){a[1](2);} @ 2 fault 92 profile 1 20 "(";
+int main(void){x = (y)(1);} @ 2 fault 92 profile 1 23 "(";
+int main(void){switch (1) {case 1 (: ;}} @ 2 fault 92 profile 1 35 "(";
+int f(const void); @ 2 fault 92 profile 1 13 "void";
+int f(void const); @ 2 fault 92 profile 1 12 "const";
 int main(void){return 1 ? 2 : 3;} @ 2 fault 92 profile 1 25 "?";
 int main(void){return sizeof(int);} @ 2 fault 92 profile 1 23 "sizeof";
 int main(void){int **p;} @ 2 fault 92 profile 1 21 "*";
@@ -48,6 +56,7 @@ int a[8193]; @ 2 fault 93 limit elements 8193;
 int a[8000]; int f(void) { int b[193]; } @ 2 fault 93 limit elements 8193;
 int main(void){return -+-+-+-+-+-1;} @ 2 fault 93 limit depth 11;
 int main(void){return ((((((((((((((((((((((((((((((((((((((((((((((((((((((((((((((((( @ 2 fault 93 limit parens 65;
+int main(void){{{{{{{{{{{{{{{{{{{{{{{{{{{{{{{{;}}}}}}}}}}}}}}}}}}}}}}}}}}}}}}}return 0;} @ 2 fault 93 limit nesting 33;
 int main(void){{{{{{{{{{{{{{{{{{{{{{{{{{{{{{{{{ @ 2 fault 93 limit nesting 33;"##;
 
 // Units that are read, and the first fault of their checks.

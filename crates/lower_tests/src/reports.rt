@@ -38,6 +38,7 @@ analyse a.c --costs c.toml @ int f(int x){return x;} int main(void){int a=f(1); 
 static RUNS: &str =
     r#"run a.c @ int main(void){int i=0; while(i<10) i=i+1; return i;} @  @  @ 0 returned 10;turns 24;cost 23;
 run a.c --turns 23 @ int main(void){int i=0; while(i<10) i=i+1; return i;} @  @  @ 3 unbounded 0 "main":entry;
+run a.c @ int main(void){{{{{{{{{{{{{{{{{{{{{{{{{{{{{{{{int x;}}}}}}}}}}}}}}}}}}}}}}}}}}}}}}}return 0;} @  @  @ 0 returned 0;turns 2;cost 1;
 run a.c --inputs i.toml @ int d; int main(void){int x=100/d; return x;} @ [[input]];frame="d";offset=0;size=32;low=0;high=0 @  @ 0 stopped divide "main":0;turns 2;cost 1;
 run a.c @ int d; int main(void){int x=1; if(d!=0 && 10/d>3) x=2; return x;} @  @  @ 0 returned 1;global "d" 0;turns 3;cost 2;
 run a.c @ int w=258; int main(void){unsigned char *p; p=(unsigned char *)&w; return p[0]*256+p[1];} @  @  @ 0 returned 513;global "w" 258;turns 2;cost 1;

@@ -52,7 +52,7 @@ fn add_all_headed(
 
 /// The scopes of which an iteration ends with the step: those that it leaves, and those whose header it
 /// enters from inside.
-fn ended_scopes(
+pub fn ended_scopes(
     alloc: Global,
     outline: &Outline,
     from: u32,
@@ -88,17 +88,18 @@ fn add_all_owned(owned: &[u64], count: usize, scopes: &[u32], marks: &mut [u64])
     }
 }
 
-/// The nodes whose own scope has an iteration that ends with the step, as marks.
+/// The nodes whose own scope is one of those that have an iteration that ends with a step, as marks.
 pub fn ended_nodes(
     alloc: Global,
     outline: &Outline,
     owned: &[u64],
     width: usize,
+    ended: &[u32],
     from: u32,
     to: u32,
 ) -> Result<Vec<u64>, AllocError>
     requires from { from < length outline.now.nodes }
-    requires to { to < length outline.now.nodes }
+    requires ended { (t : ℕ) → list_any (λ s. t == s) ended.now ≡ ends (shape_of outline.now) t from to }
     requires length { length owned.now ≡ length outline.now.scopes * width }
     requires width { length outline.now.nodes ≤ 64 * width }
     requires owned { AreOwned (shape_of outline.now) (length outline.now.scopes) (length outline.now.nodes) width owned.now }
@@ -106,9 +107,8 @@ pub fn ended_nodes(
     ensures ended { IfOk result (λ marks. (a : ℕ) → a < length outline.now.nodes → is_marked marks.items 0 a ≡ ends (shape_of outline.now) (own_of (shape_of outline.now) a) from to) }
 {
     outline.kept();
-    let ended = ended_scopes(alloc, outline, from, to)?;
     let mut marks = vec![in alloc; 0u64; width]?;
     let count = outline.scope_count() as usize;
-    add_all_owned(owned, count, &ended, &mut marks);
+    add_all_owned(owned, count, ended, &mut marks);
     Ok(marks)
 }

@@ -5,7 +5,7 @@ ghost use Rattle.domain_core.specs.Outlines.{shape_of};
 ghost use Rattle.recorder_rules.specs.BitWords.{AreOwned};
 ghost use Rattle.recorder_rules.specs.Seen.{AreLeft, AreLeftRows, AreCollectedRows, AreEntered, AreEnteredRows};
 
-use crate::ending::ended_nodes;
+use crate::ending::{ended_nodes, ended_scopes};
 use crate::marked::{add_marked, clear_marked};
 use crate::tables::own_scope;
 use crate::words::{add_words, clear_marks, keep_words, mark};
@@ -35,8 +35,12 @@ pub fn leave(
     ensures rows { OnOk result (AreLeftRows (shape_of outline.now) (length outline.now.nodes) (length seen.old) from to seen.old rows.old rows.new) }
     ensures book { OnOk result (AreCollectedRows (shape_of outline.now) (length outline.now.nodes) (length seen.old) from to seen.old rows.old book.old book.new) }
 {
+    let ended = ended_scopes(alloc, outline, from, to)?;
+    if ended.is_empty() {
+        return Ok(());
+    }
     let count = outline.node_count() as usize;
-    let mut over = ended_nodes(alloc, outline, owned, seen.len(), from, to)?;
+    let mut over = ended_nodes(alloc, outline, owned, seen.len(), &ended, from, to)?;
     keep_words(&mut over, seen, 0);
     add_marked(book, rows, &over, count);
     clear_marked(rows, &over, count);

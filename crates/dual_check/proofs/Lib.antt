@@ -1,6 +1,8 @@
 mod ByColumns
 mod Fitting
 mod Made
+mod FirstNumbers
+mod MarkedNodes
 mod Small
 mod Kept
 mod Sought

@@ -43,12 +43,12 @@ range_more g n =
     let more : flat_map g (range_with_len 0 (suc n)) ≡ flat_map g (range_with_len 0 n) ++ g n = flat_range g 0 n ∙ ap (λ (k : ℕ). flat_map g (range_with_len 0 n) ++ g k) same in
     rw add-one more
 
-pub fault_more : (old out more : List Column) (end n : ℕ) (facts : List Fact) (is : Bool) → is ≡ has_alarm facts n → out ≡ old ++ flat_map (λ m. fault_if end m (has_alarm facts m)) (range_with_len 0 n) → more ≡ out ++ fault_if end n is
-    → more ≡ old ++ flat_map (λ m. fault_if end m (has_alarm facts m)) (range_with_len 0 (n + 1))
-fault_more old out more end n facts is told so_far next =
-    next ∙ ap (λ (b : Bool). out ++ fault_if end n b) told ∙ ap (λ xs. xs ++ fault_if end n (has_alarm facts n)) so_far
-    ∙ append_assoc old (flat_map (λ m. fault_if end m (has_alarm facts m)) (range_with_len 0 n)) (fault_if end n (has_alarm facts n))
-    ∙ ap (λ xs. old ++ xs) (sym (range_more (λ m. fault_if end m (has_alarm facts m)) n))
+pub fault_more : (old out more : List Column) (end n : ℕ) (p : ℕ → Bool) (is : Bool) → is ≡ p n → out ≡ old ++ flat_map (λ m. fault_if end m (p m)) (range_with_len 0 n) → more ≡ out ++ fault_if end n is
+    → more ≡ old ++ flat_map (λ m. fault_if end m (p m)) (range_with_len 0 (n + 1))
+fault_more old out more end n p is told so_far next =
+    next ∙ ap (λ (b : Bool). out ++ fault_if end n b) told ∙ ap (λ xs. xs ++ fault_if end n (p n)) so_far
+    ∙ append_assoc old (flat_map (λ m. fault_if end m (p m)) (range_with_len 0 n)) (fault_if end n (p n))
+    ∙ ap (λ xs. old ++ xs) (sym (range_more (λ m. fault_if end m (p m)) n))
 
 pub opening_more : (out more : List (ℕ × ℕ)) (columns : List Column) (ks : List Constraint) (n : ℕ) → out ≡ openings_of columns ks n → more ≡ out ++ opening_of columns ks n → more ≡ openings_of columns ks (n + 1)
 opening_more out more columns ks n is next = next ∙ ap (λ xs. xs ++ opening_of columns ks n) is ∙ sym (range_more (λ m. opening_of columns ks m) n)

@@ -1,5 +1,6 @@
 -- Openings, and the program with them.
 --   place_of p b xs       the place of the first member that passes, the first place being b
+--   or_later a b          the first of them that is one
 --   opening_of columns ks n   the first row that says how often a run leaves the node at most, and the node's first column
 --   openings_of columns ks n  those of the nodes below n that some column leaves
 --   costs_of o            the cost of each node
@@ -20,6 +21,11 @@ use Rattle.dual_check.specs.Constraints.{weighing_of, constraints_of, is_limit_o
 abbrev pub place_of : {A : Type 0} → (A → Bool) → ℕ → List A → Option ℕ
 place_of p b [] = None
 place_of p b (x ∷ xs) = if p x then Some b else place_of p (b + 1) xs
+
+-- the first of them that is one
+abbrev pub or_later : Option ℕ → Option ℕ → Option ℕ
+or_later None later = later
+or_later (Some a) later = Some a
 
 -- both, or none
 abbrev pub both_of : Option ℕ → Option ℕ → List (ℕ × ℕ)

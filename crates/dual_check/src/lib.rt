@@ -10,6 +10,7 @@ mod row;
 mod system;
 
 // Columns and what rows weigh.
+mod alarms;
 mod column;
 mod constraint;
 mod group;
@@ -19,6 +20,7 @@ mod outline_columns;
 // The program of an outline and facts: a row looks at the columns that touch its nodes, and the
 // terms by columns are made from those of the rows.
 mod by_columns;
+mod firsts;
 mod made_terms;
 mod places;
 mod system_made;

@@ -1,19 +1,20 @@
 //! The program that an outline and a report's facts make.
 
-ghost use Rattle.std.specs.Prelude.{◌≡◌, ◌==◌, ◌<◌, ◌++◌, ◌^◌, ◌-◌, ◌↔◌, ℕ, IsTrue, map, All, OnOk, IfOk, length};
+ghost use Rattle.std.specs.Prelude.{◌≡◌, ◌<◌, ◌++◌, ◌^◌, ◌-◌, ◌↔◌, ℕ, IsTrue, None, map, All, OnOk, IfOk, length, get_or};
 ghost use Rattle.domain_core.specs.Outlines.{shape_of};
 ghost use Rattle.flow_facts.specs.Facts.{IsAbout};
 ghost use Rattle.ipet_rows.specs.Programs.{cost_at};
 ghost use Rattle.ipet_rows.specs.Rows.{row_of, cost_of};
-ghost use Rattle.dual_check.specs.Constraints.{weighing_of, is_limit_of};
+ghost use Rattle.dual_check.specs.Constraints.{weighing_of};
 ghost use Rattle.dual_check.specs.Small.{ConstraintFits};
 ghost use Rattle.dual_check.specs.Places.{AreTouching};
 ghost use Rattle.dual_check.specs.Terms.{AreFrom};
-ghost use Rattle.dual_check.specs.Openings.{place_of, opening_of, openings_of, costs_of, system_from, system_of};
+ghost use Rattle.dual_check.specs.Openings.{both_of, openings_of, costs_of, system_from, system_of};
 
 use crate::by_columns::by_columns;
 use crate::column::Column;
 use crate::constraint::Constraint;
+use crate::firsts::{first_columns, first_limits};
 use crate::group::constraints;
 use crate::made_terms::row_terms;
 use crate::outline_columns::columns;
@@ -98,60 +99,30 @@ fn costs_fit(costs: &[u32])
     let _ = costs;
 }
 
-/// The first row that says how often a run leaves the node at most.
-fn first_limit(constraints: &[Constraint], node: u32) -> Option<u32>
-    requires { length constraints.now < 2 ^ 32 }
-    ensures { result ≡ place_of (λ k. is_limit_of node k) 0 constraints.now }
+/// The number of a node, if it has one.
+fn number_at(firsts: &[Option<u32>], node: u32) -> Option<u32>
+    requires { node < length firsts.now }
+    ensures { result ≡ get_or firsts.now node None }
 {
-    let mut rest = constraints;
-    let mut number: u32 = 0;
-    while let Some((constraint, others)) = rest.split_first() {
-        if constraint.is_limit(node) {
-            return Some(number);
-        }
-        number += 1;
-        rest = others;
-    }
-    None
-}
-
-/// The first column that leads from the node.
-fn first_column(columns: &[Column], node: u32) -> Option<u32>
-    requires { length columns.now < 2 ^ 32 }
-    ensures { result ≡ place_of (λ c. node == c.from) 0 columns.now }
-{
-    let mut rest = columns;
-    let mut number: u32 = 0;
-    while let Some((column, others)) = rest.split_first() {
-        if node == column.from() {
-            return Some(number);
-        }
-        number += 1;
-        rest = others;
-    }
-    None
+    firsts[node as usize]
 }
 
 /// Appends the opening of a node, if there is one.
 fn push_opening(
     out: &mut Vec<(u32, u32)>,
-    columns: &[Column],
-    constraints: &[Constraint],
-    node: u32,
+    row: Option<u32>,
+    column: Option<u32>,
 ) -> Result<(), AllocError>
-    requires columns { length columns.now < 2 ^ 32 }
-    requires constraints { length constraints.now < 2 ^ 32 }
-    ensures { OnOk result (out.new.items ≡ out.old.items ++ opening_of columns.now constraints.now node) }
+    ensures { OnOk result (out.new.items ≡ out.old.items ++ both_of row column) }
 {
-    match (first_limit(constraints, node), first_column(columns, node)) {
+    match (row, column) {
         (Some(row), Some(column)) => out.push((row, column))?,
         _ => {}
     }
     Ok(())
 }
 
-/// The openings of the nodes that some column leaves.
-#[tactic(auto, using(crate::proofs::Made::opening_more))]
+/// The openings of the nodes that some column leaves. Takes time linear in the nodes, rows and columns.
 fn opening_list(
     alloc: Global,
     nodes: u32,
@@ -162,9 +133,13 @@ fn opening_list(
     requires constraints { length constraints.now < 2 ^ 32 }
     ensures { IfOk result (λ out. out.items ≡ openings_of columns.now constraints.now nodes) }
 {
+    let limits = first_limits(alloc, nodes, constraints)?;
+    let firsts = first_columns(alloc, nodes, columns)?;
     let mut out = Vec::new(alloc);
     for node in 0..nodes {
-        push_opening(&mut out, columns, constraints, node)?;
+        let row = number_at(&limits, node);
+        let column = number_at(&firsts, node);
+        push_opening(&mut out, row, column)?;
     }
     Ok(out)
 }

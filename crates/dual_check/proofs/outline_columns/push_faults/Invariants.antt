@@ -1,8 +1,7 @@
-use Rattle.std.proofs.Common.{◌≡◌, ◌++◌}
+use Rattle.std.proofs.Common.{◌≡◌, ◌++◌, false, get_or}
 use Rattle.std.specs.List.{flat_map, range_with_len}
-use Rattle.ipet_rows.specs.Columns.{has_alarm}
 use Rattle.dual_check.specs.Terms.{fault_if}
 use Rattle.dual_check.proofs.outline_columns.push_faults.Given as goal
 
 abbrev pub invariant-loop-node : goal.invariant-loop-node
-invariant-loop-node l = l.out.items ≡ l.initial.out.items ++ flat_map (λ n. fault_if l.end n (has_alarm l.facts n)) (range_with_len 0 l.node)
+invariant-loop-node l = l.out.items ≡ l.initial.out.items ++ flat_map (λ n. fault_if l.end n (get_or l.marks n false)) (range_with_len 0 l.node)

@@ -57,7 +57,7 @@ subtracts size a b below_a below_b = record {
   enough = λ order. rw (le-leb (2 ^ size) (a + (2 ^ size - 1 - b) + 1) (omega arith)) refl;
   borrowed = λ order. rw (lt-leb (2 ^ size) (a + (2 ^ size - 1 - b) + 1) (omega arith)) refl;
   more_than_enough = λ order. rw (le-leb (2 ^ size) (a + (2 ^ size - 1 - b) + 0) (omega arith)) refl;
-  borrowed_again = λ order. rw (lt-leb (2 ^ size) (a + (2 ^ size - 1 - b) + 0) (omega arith)) refl
+  borrowed_again = λ order. rw (lt-leb (2 ^ size) (a + (2 ^ size - 1 - b) + 0) (omega arith)) refl;
 }
 
 pub negates : (size a : ℕ) → a < 2 ^ size → ((value Neg (size ∷ []) (a ∷ []) + a) % 2 ^ size ≡ 0) × (value Not (size ∷ []) (a ∷ []) + a + 1 ≡ 2 ^ size)
@@ -70,6 +70,7 @@ negates size a below = (negated a below, complement)
         let f = mod_small (2 ^ size - suc a) (2 ^ size) (omega arith) in
         let g : value Neg (size ∷ []) (suc a ∷ []) + suc a ≡ 2 ^ size = omega (arith, e, f) in
         ap (λ (n : ℕ). n % 2 ^ size) g ∙ mod_self (2 ^ size)
+
     complement : value Not (size ∷ []) (a ∷ []) + a + 1 ≡ 2 ^ size
     complement = let e = mod_small (2 ^ size - 1 - a) (2 ^ size) (omega arith) in omega (arith, e)
 
@@ -110,16 +111,18 @@ rounds_down m n a b positive below =
       below = rw down (omega (arith, div-add-mod' a (2 ^ b)));
       nearest = rw down (omega (arith, div-add-mod' a (2 ^ b), mod_below a (2 ^ b) some));
       signed_below = rw read quotient.0;
-      signed_nearest = rw read quotient.1
+      signed_nearest = rw read quotient.1;
     }
   where
     -- a quotient by a positive number lies between the number and 0, or is -1
     nearer_low : (z : ℤ) (p h : ℕ) → 0 < p → 0 < h → (pos 0 -ℤ pos h) ≤ℤ z → (pos 0 -ℤ pos h) ≤ℤ int_div_euclid z (pos p)
     nearer_low (pos k) p h some half low = omega (arith, ints)
     nearer_low (negsuc k) p h some half low = let less = div-le_self k p in omega (arith, ints, less)
+
     nearer_high : (z : ℤ) (p h : ℕ) → 0 < p → 0 < h → z <ℤ pos h → int_div_euclid z (pos p) <ℤ pos h
     nearer_high (pos k) p h some half high = let less = div-le_self k p in omega (arith, ints, less)
     nearer_high (negsuc k) p h some half high = omega (arith, ints)
+
     reading : signed m (value RShiftA (m ∷ n ∷ []) (a ∷ b ∷ [])) ≡ int_div_euclid (signed m a) (pos (2 ^ b))
     reading =
         let within = reads_twos_complement m a positive below in
@@ -149,7 +152,7 @@ below_unsigned size a b order =
       reversed_less = rw not_greater refl;
       reversed_at_most = rw not_at_least refl;
       reversed_greater = rw less refl;
-      reversed_at_least = rw at_most refl
+      reversed_at_least = rw at_most refl;
     }
 
 level_unsigned : (size a : ℕ) → IsLevel ULt ULe UGt UGe size a
@@ -160,9 +163,12 @@ level_unsigned size a =
 
 -- the tests of whole numbers
 lesser : (x y : ℤ) → x <ℤ y → (int_lt x y ≡ true) × (int_le x y ≡ true) × (int_lt y x ≡ false) × (int_le y x ≡ false)
-lesser x y order =
-    (by_test (int_lt x y) (λ e. e) (λ e. absurd (omega (arith, ints))), by_test (int_le x y) (λ e. e) (λ e. absurd (omega (arith, ints))),
-    by_test (int_lt y x) (λ e. absurd (omega (arith, ints))) (λ e. e), by_test (int_le y x) (λ e. absurd (omega (arith, ints))) (λ e. e))
+lesser x y order = (
+  by_test (int_lt x y) (λ e. e) (λ e. absurd (omega (arith, ints))),
+  by_test (int_le x y) (λ e. e) (λ e. absurd (omega (arith, ints))),
+  by_test (int_lt y x) (λ e. absurd (omega (arith, ints))) (λ e. e),
+  by_test (int_le y x) (λ e. absurd (omega (arith, ints))) (λ e. e),
+)
 
 same : (x : ℤ) → (int_lt x x ≡ false) × (int_le x x ≡ true)
 same x = (by_test (int_lt x x) (λ e. absurd (omega (arith, ints))) (λ e. e), by_test (int_le x x) (λ e. e) (λ e. absurd (omega (arith, ints))))
@@ -178,7 +184,7 @@ below_signed size a b order =
       reversed_less = rw tests.2 refl;
       reversed_at_most = rw tests.3 refl;
       reversed_greater = rw tests.0 refl;
-      reversed_at_least = rw tests.1 refl
+      reversed_at_least = rw tests.1 refl;
     }
 
 level_signed : (size a : ℕ) → IsLevel SLt SLe SGt SGe size a
@@ -192,7 +198,7 @@ orders = record { unsigned = below_unsigned; unsigned_level = level_unsigned; si
 pub tells_equal : TellsEqual
 tells_equal = record {
   same = λ size a. let e = eq-eqb a a refl in (rw e refl, rw e refl);
-  other = λ size a b apart. let e = ne_eqb a b apart in (rw e refl, rw e refl)
+  other = λ size a b apart. let e = ne_eqb a b apart in (rw e refl, rw e refl);
 }
 
 -- ---- sizes
@@ -202,6 +208,8 @@ pub keeps_reading : (m n a : ℕ) → 1 ≤ m → m ≤ n → a < 2 ^ m
 keeps_reading m n a positive wider below =
     let within = reads_twos_complement m a positive below in
     let half : 2 ^ (m - 1) ≤ 2 ^ (n - 1) = pow_mono (let less : m - 1 ≤ n - 1 = omega arith in less) in
-    let whole : 2 ^ m ≤ 2 ^ n = pow_mono wider in
-    (is_read n (signed m a) (omega arith) (omega (arith, ints, half, within.1)) (omega (arith, ints, half, within.2)),
-    mod_small a (2 ^ n) (omega arith), mod_small a (2 ^ m) below)
+    let whole : 2 ^ m ≤ 2 ^ n = pow_mono wider in (
+      is_read n (signed m a) (omega arith) (omega (arith, ints, half, within.1)) (omega (arith, ints, half, within.2)),
+      mod_small a (2 ^ n) (omega arith),
+      mod_small a (2 ^ m) below,
+    )

@@ -26,7 +26,7 @@ one_block = record {
   inits = [];
   exports = [];
   root = 0;
-  ranks = []
+  ranks = [];
 }
 
 abbrev pub from_to : ℤ → ℤ → Cells

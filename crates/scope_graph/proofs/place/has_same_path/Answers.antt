@@ -21,8 +21,8 @@ returns-clause-no c = λ e one.
     let first = c.node.result in
     let second = c.node-2.result in
     let turned : reverse first.path.now ≡ reverse second.path.now =
-        sym (read_path c.args.graph.now c.args.m first.path.now first.block c.node.ensures.node)
-        ∙ one
-        ∙ read_path c.args.graph.now c.args.n second.path.now second.block c.node-2.ensures.node in
+    sym (read_path c.args.graph.now c.args.m first.path.now first.block c.node.ensures.node)
+    ∙ one
+    ∙ read_path c.args.graph.now c.args.n second.path.now second.block c.node-2.ensures.node in
     let same : first.path.now ≡ second.path.now = sym (reverse-reverse first.path.now) ∙ ap (λ (xs : List ℕ). reverse xs) turned ∙ reverse-reverse second.path.now in
     false≢true (sym e ∙ (slice_eq-Decides Decides-eqb first.path.now second.path.now c.eq.result c.eq.ensures).1 same)

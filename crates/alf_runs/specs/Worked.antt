@@ -9,6 +9,8 @@
 --   FaultsAtPointer       a switch on a pointer is the fault kind
 --   GivesBack             an input is there at the start, and an exported frame that holds nothing gives none
 --   LeavesFirst           the root is left before the exported frames are loaded: a frame of its own holds nothing
+--   StandsLast            an input stands after what its cell holds at first
+--   StoresInOrder         of two stores of a block the later one is read
 --   FallsToTheDefault     a switch takes the first target of the word, else the default
 use Rattle.std.specs.Prelude.{◌≡◌, ℕ, true, false, List, [], ◌∷◌, Some, None, pos, negsuc}
 use Rattle.alf_ops.specs.declared.operator.Op.TheVariants.{Add, UMul, ZExt, Select}
@@ -200,3 +202,18 @@ own_frame = program (local 0 ∷ []) [] (0 ∷ []) (function [] (0 ∷ []) (bloc
 abbrev pub LeavesFirst : Type 0
 LeavesFirst = ComesTo own_frame (start own_frame [] []) 2 (entry_node [] ∷ block_node [] 0 ∷ [])
     (Ended (record { returned = Some (Int 32 5); globals = None ∷ [] })) 11
+
+-- i holds 5 at first, and an input gives it -2
+abbrev given_over : NumberedProgram
+given_over = program (global ∷ []) (record { frame = 0; offset = 0; num = record { signed = true; size = 32; bits = 5 } } ∷ []) [] (function [] [] (block [] (Return (Some (content 0))) ∷ []) ∷ [])
+
+abbrev pub StandsLast : Type 0
+StandsLast = ComesTo given_over (start given_over (input_row ∷ []) (words_of (input_row ∷ []) (negsuc 1 ∷ []))) 2 (entry_node [] ∷ block_node [] 0 ∷ [])
+    (Ended (record { returned = Some (Int 32 4294967294); globals = [] })) 11
+
+-- a block stores 5, and then 6
+abbrev stored_twice : NumberedProgram
+stored_twice = program (global ∷ []) [] [] (function [] [] (block (Store (Address 0 0) (word 32 5) ∷ Store (Address 0 0) (word 32 6) ∷ []) (Return (Some (content 0))) ∷ []) ∷ [])
+
+abbrev pub StoresInOrder : Type 0
+StoresInOrder = ComesTo stored_twice (start stored_twice [] []) 2 (entry_node [] ∷ block_node [] 0 ∷ []) (Ended (record { returned = Some (Int 32 6); globals = [] })) 11

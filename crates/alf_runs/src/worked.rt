@@ -1,6 +1,6 @@
 //! Runs of small programs, worked out apart from the definitions.
 
-ghost use Rattle.alf_runs.specs.Worked.{CallsTwice, FallsToTheDefault, GivesBack, LeavesFirst, FaultsUnset, FaultsPartlySet, FaultsAtPartOfPointer, ReadsLowestFirst, FaultsDangling, FaultsOutside, FaultsAtPointer};
+ghost use Rattle.alf_runs.specs.Worked.{CallsTwice, FallsToTheDefault, GivesBack, LeavesFirst, StandsLast, StoresInOrder, FaultsUnset, FaultsPartlySet, FaultsAtPartOfPointer, ReadsLowestFirst, FaultsDangling, FaultsOutside, FaultsAtPointer};
 
 /// A call passes the entry and the block of the function that is called, and a switch leads to the first target of
 /// the word, or to the default; exported frames are loaded once the root is left.
@@ -9,6 +9,7 @@ pub fn calls_pass_entries_and_blocks()
     ensures targets { FallsToTheDefault }
     ensures inputs { GivesBack }
     ensures left { LeavesFirst }
+    ensures over { StandsLast }
 {}
 
 /// A word is read byte by byte, the lowest first; bytes that nothing was stored in, and a part of a pointer,
@@ -18,6 +19,7 @@ pub fn loads_read_what_was_stored()
     ensures partly { FaultsPartlySet }
     ensures part { FaultsAtPartOfPointer }
     ensures lowest { ReadsLowestFirst }
+    ensures order { StoresInOrder }
 {}
 
 /// A frame that was left, a place outside of a frame, and a pointer that is switched on are faults.

@@ -13,8 +13,9 @@ mod worked;
 
 pub use laws::{more_turns_keep_an_outcome, no_call_is_too_deep};
 pub use operators::{
-    bits_are_combined, conditions_are_zero_or_one, numbers_are_ordered_with_their_signs,
-    pointers_are_placed_in_their_objects, quotients_go_toward_zero, shifts_move_bits,
+    bits_are_combined, casts_keep_the_lowest_bits, conditions_are_zero_or_one,
+    numbers_are_ordered_with_their_signs, pointers_are_placed_in_their_objects,
+    quotients_go_toward_zero, shifts_move_bits,
 };
 pub use worked::{
     a_case_goes_on_into_the_next, a_guard_keeps_a_division_from_its_fault,

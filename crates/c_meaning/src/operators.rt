@@ -1,12 +1,12 @@
 //! Operators at operands that are known, worked out apart from the definitions.
 
 ghost use Rattle.std.specs.Prelude.{◌≡◌, Err};
-ghost use Rattle.alf_ops.specs.declared.history.Value.TheVariants.{Int};
+ghost use Rattle.alf_ops.specs.declared.history.Value.TheVariants.{Int, Ptr};
 ghost use Rattle.alf_ops.specs.declared.history.RunFault.TheVariants as faults;
 ghost use Rattle.c_unit.specs.declared.types.Integer.TheVariants as types;
 ghost use Rattle.c_unit.specs.declared.types.Scalar.TheVariants as scalars;
 ghost use Rattle.c_unit.specs.declared.expression.Binary.TheVariants.{Divide, Remainder, Add, Subtract, ShiftLeft, ShiftRight, Less, Greater, AtMost, AtLeast, Equal, Unequal, And, Xor, Or, Both, Either};
-ghost use Rattle.c_meaning.specs.Values.{negation, complement, opposite, binary_value};
+ghost use Rattle.c_meaning.specs.Values.{negation, complement, opposite, cast_to, binary_value};
 ghost use Rattle.c_meaning.specs.WorkedOperators.{is, minus, of_ints, of_unsigned, into, of_pointers, moved, faulty};
 
 /// The bits of both words, of either and of just one, and each bit turned.
@@ -88,4 +88,15 @@ pub fn pointers_are_placed_in_their_objects()
     ensures unequal { of_pointers types.Int Unequal (into 3 4) (into 5 4) ≡ is 1 }
     ensures further { moved types.Int Add (into 3 4) 2 ≡ into 3 12 }
     ensures nearer { moved types.Short Subtract (into 3 4) 1 ≡ into 3 2 }
+{}
+
+/// A cast keeps the lowest bits of the type, and its sign; a pointer keeps its place.
+pub fn casts_keep_the_lowest_bits()
+    ensures signed_byte { cast_to (scalars.Integer types.Char) (Int 32 200) ≡ is (minus 56) }
+    ensures byte { cast_to (scalars.Integer types.UnsignedChar) (Int 32 456) ≡ is 200 }
+    ensures signed_short { cast_to (scalars.Integer types.Short) (Int 32 65535) ≡ is (minus 1) }
+    ensures short { cast_to (scalars.Integer types.UnsignedShort) (Int 32 65537) ≡ is 1 }
+    ensures word { cast_to (scalars.Integer types.Int) (Int 32 (minus 1)) ≡ is (minus 1) }
+    ensures pointer { cast_to (scalars.Pointer types.Char) (Ptr 3 4) ≡ into 3 4 }
+    ensures no_word { cast_to (scalars.Integer types.Char) (Ptr 3 4) ≡ Err faults.Kind }
 {}

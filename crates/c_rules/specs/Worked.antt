@@ -1,13 +1,16 @@
 -- Small units, to be worked out: a text, and the trees that a person reads in it.
 --   unit_in text xs   the unit of this line, with the trees given; where nothing stands between two of its words, the line has a bar
+--   found_in inner outer   what `a` finds in two scopes; entry_a and entry_b are names of it and of `b`
 --   int_main body     a function `main` without parameters that gives an `int`, whose block begins after token 5
-use Rattle.std.specs.Prelude.{ℕ, ◌+◌, ◌==◌, false, true, List, [], ◌∷◌, ◌++◌, Some, None, codes, if◌then◌else◌}
+use Rattle.std.specs.Prelude.{ℕ, ◌+◌, ◌==◌, false, true, List, [], ◌∷◌, ◌++◌, Option, Some, None, codes, if◌then◌else◌}
+use Rattle.c_unit.specs.declared.types.Integer.{Integer}
 use Rattle.c_unit.specs.declared.types.Integer.TheVariants.{Int}
 use Rattle.c_unit.specs.declared.types.Scalar.TheVariants as scalars
 use Rattle.c_unit.specs.declared.types.Outcome.TheVariants as outcomes
 use Rattle.c_unit.specs.declared.expression.Binary.TheVariants.{Both}
 use Rattle.c_unit.specs.Tree.{Expression, OfConstant, OfName, WithCast, WithBinary, OfExpression, OfCall, Assigns, Calls, LocalInteger, LocalPointer, LocalTree, Statement, Declares, Block, If, Switch, Case, Break, Returns, Does, FunctionOf, ExternalTree, Declaration, Definition, statements_of}
 use Rattle.c_unit.specs.Units.{Word, UnitTree}
+use Rattle.c_rules.specs.Names.{Entry, Variable, look_up}
 
 abbrev word_from : ℕ → List ℕ → List Word
 word_from start [] = []
@@ -96,3 +99,21 @@ with_a_label_twice = unit_in (codes "int main|(|void|)|{|switch|(|1|)|{|case 429
 abbrev pub with_a_pointer_as_condition : UnitTree
 with_a_pointer_as_condition = unit_in (codes "int main|(|void|)|{|int *|p|; if|(|1|&&|p|) return 1|; return 0|;|}")
     (int_main (Declares 6 Int (record { name = 8; shape = LocalPointer None } ∷ []) ∷ If (WithBinary Both 13 (OfConstant 12) (OfName 14)) (returns 16 (OfConstant 17)) ∷ returns 19 (OfConstant 20) ∷ []) ∷ [])
+
+-- ---- names
+
+abbrev three_names : List Word
+three_names = words_from 0 0 [] (codes "a b a")
+
+abbrev of_type : ℕ → Integer → Entry
+of_type token i = record { token = token; bound = Variable (scalars.Integer i) }
+
+-- what the third word finds, where the first and the second stand in the inner and the outer scope
+abbrev pub found_in : List Entry → List Entry → Option Entry
+found_in inner outer = look_up three_names (inner ∷ outer ∷ []) 2
+
+abbrev pub entry_a : Integer → Entry
+entry_a i = of_type 0 i
+
+abbrev pub entry_b : Integer → Entry
+entry_b i = of_type 1 i

@@ -23,6 +23,7 @@ pub use types::{
 };
 pub use worked::{
     a_circle_is_told_by_its_names, a_root_is_defined, blocks_are_scopes,
-    calls_name_functions_that_are_defined, labels_and_conditions_are_converted,
-    names_are_declared_once, small_types_become_int, what_is_wrong_has_a_place,
+    calls_name_functions_that_are_defined, inner_names_hide_outer_ones,
+    labels_and_conditions_are_converted, names_are_declared_once, small_types_become_int,
+    what_is_wrong_has_a_place,
 };

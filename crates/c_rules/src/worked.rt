@@ -1,12 +1,12 @@
 //! Checks of small units, worked out apart from the definitions.
 
-ghost use Rattle.std.specs.Prelude.{◌≡◌, Some, [], ◌∷◌, codes, true, false};
+ghost use Rattle.std.specs.Prelude.{◌≡◌, Some, None, [], ◌∷◌, codes, true, false};
 ghost use Rattle.c_unit.specs.declared.types.Integer.TheVariants.{Char, UnsignedChar, Short, UnsignedShort, Int, UnsignedInt};
 ghost use Rattle.c_rules.specs.Types.{common};
 ghost use Rattle.c_rules.specs.Units.{faults_in};
 ghost use Rattle.c_rules.specs.Recursion.{calls_of, names_of};
 ghost use Rattle.c_rules.specs.Programs.{UnknownName, DuplicateName, MistypedAt, first_refusal, has_root};
-ghost use Rattle.c_rules.specs.Worked.{in_a_circle, with_an_unknown_name, without_main, with_a_name_twice, with_a_lone_break, with_a_cast_of_a_number, without_a_definition, with_a_local_called, with_nothing_returned, with_an_inner_name, with_a_parameter_twice, with_a_label_twice, with_a_pointer_as_condition};
+ghost use Rattle.c_rules.specs.Worked.{in_a_circle, with_an_unknown_name, without_main, with_a_name_twice, with_a_lone_break, with_a_cast_of_a_number, without_a_definition, with_a_local_called, with_nothing_returned, with_an_inner_name, with_a_parameter_twice, with_a_label_twice, with_a_pointer_as_condition, found_in, entry_a, entry_b};
 
 /// Small types are converted to `int`, and an `int` beside an `unsigned int` is converted to that.
 pub fn small_types_become_int()
@@ -61,4 +61,11 @@ pub fn blocks_are_scopes()
 pub fn labels_and_conditions_are_converted()
     ensures label { first_refusal with_a_label_twice ≡ Some (MistypedAt (record { offset = 43; line = 1; column = 44 })) }
     ensures part { first_refusal with_a_pointer_as_condition ≡ Some (MistypedAt (record { offset = 29; line = 1; column = 30 })) }
+{}
+
+/// A name is that of the innermost scope that has it.
+pub fn inner_names_hide_outer_ones()
+    ensures inner { found_in (entry_a Char ∷ []) (entry_a Int ∷ []) ≡ Some (entry_a Char) }
+    ensures outer { found_in (entry_b Char ∷ []) (entry_a Int ∷ []) ≡ Some (entry_a Int) }
+    ensures none { found_in (entry_b Char ∷ []) [] ≡ None }
 {}

@@ -26,8 +26,10 @@ pub fn wider_facts_are_met(fact: Fact, wider: Fact)
     let _ = (fact, wider);
 }
 
-/// A node that is dead stands nowhere in a trace: its total is 0 and no more.
+/// A node that is dead stands nowhere in a trace: its total is 0 and no more. A total with one number
+/// for both ends is the count itself.
 pub fn dead_nodes_have_no_total()
     ensures none { (o : Shape) (trace : List ℕ) (n : ℕ) → Meets o trace (Dead n) ↔ Meets o trace (Total n 0 0) }
+    ensures exact { (o : Shape) (trace : List ℕ) (n k : ℕ) → Meets o trace (Total n k k) ↔ (places n trace ≡ k) }
     ensures places { places 3 (3 ∷ 4 ∷ 3 ∷ []) ≡ 2 }
 {}

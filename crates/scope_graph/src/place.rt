@@ -20,8 +20,7 @@ pub fn is_under(graph: &Graph, header: u32, n: u32) -> bool
 pub fn has_same_path(graph: &Graph, m: u32, n: u32) -> bool
     requires first { m < length graph.now.nodes }
     requires second { n < length graph.now.nodes }
-    ensures yes { result ≡ true → path_at (plan_of graph.now) m ≡ path_at (plan_of graph.now) n }
-    ensures no { result ≡ false → path_at (plan_of graph.now) m ≡ path_at (plan_of graph.now) n → ⊥ }
+    ensures { result ≡ true → path_at (plan_of graph.now) m ≡ path_at (plan_of graph.now) n }
 {
     graph.node(m).path == graph.node(n).path
 }

@@ -13,3 +13,6 @@ returns-clause-inputs c = record { over = refl; passes = refl; costs = refl }
 
 pub returns-clause-left : goal.returns-clause-left
 returns-clause-left c = record { over = refl; passes = refl; costs = refl }
+
+pub returns-clause-over : goal.returns-clause-over
+returns-clause-over c = record { over = refl; passes = refl; costs = refl }

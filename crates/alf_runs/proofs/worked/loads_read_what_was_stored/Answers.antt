@@ -13,3 +13,6 @@ returns-clause-part c = record { over = refl; passes = refl; costs = refl }
 
 pub returns-clause-lowest : goal.returns-clause-lowest
 returns-clause-lowest c = record { over = refl; passes = refl; costs = refl }
+
+pub returns-clause-order : goal.returns-clause-order
+returns-clause-order c = record { over = refl; passes = refl; costs = refl }

@@ -43,7 +43,6 @@ fn check_parts(alloc: Global, unit: &CUnit, root: &[u8]) -> Result<(), CFault>
     ensures passes { OnOk result (PassesChecks (unit_of unit.now) root.now) }
     ensures told { IfErr result (λ fault. IsTold (unit_of unit.now) root.now fault) }
 {
-    ranked_calls_have_no_cycle();
     let Ok(functions) = Definitions::of(alloc, unit) else {
         return Err(CFault::Memory);
     };
@@ -76,8 +75,10 @@ fn check_calls(alloc: Global, functions: &Definitions<'_>, unit: &CUnit) -> Resu
     requires names { functions.now.names ≡ definitions (unit_of unit.now).externals }
     requires sound { faults_in (unit_of unit.now) ≡ [] }
     ensures ranked { OnOk result ((ranks : List ℕ) × IsRanked (calls_of (unit_of unit.now)) ranks) }
+    ensures acyclic { OnOk result (HasNoCycle (unit_of unit.now)) }
     ensures told { IfErr result (λ fault. (root : List ℕ) → IsTold (unit_of unit.now) root fault) }
 {
+    ranked_calls_have_no_cycle();
     match function_ranks(alloc, functions, unit) {
         Ok(_ranks) => Ok(()),
         Err(CallFault::Cycle(path)) => match names_along(alloc, functions, &path) {

@@ -22,3 +22,7 @@ returns-in-Ok-names_along-clause-told c = λ root.
 
 pub returns-in-Ok-function_ranks-clause-ranked : goal.returns-in-Ok-function_ranks-clause-ranked
 returns-in-Ok-function_ranks-clause-ranked c = (c.in-Ok-function_ranks._ranks.items, c.in-Ok-function_ranks.ensures.ranked)
+
+pub returns-in-Ok-function_ranks-clause-acyclic : goal.returns-in-Ok-function_ranks-clause-acyclic
+returns-in-Ok-function_ranks-clause-acyclic c =
+    c.ranked_calls_have_no_cycle.ensures (calls_of (unit_of c.args.unit.now)) c.in-Ok-function_ranks._ranks.items c.in-Ok-function_ranks.ensures.ranked

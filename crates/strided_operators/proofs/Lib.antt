@@ -3,3 +3,4 @@ mod MaskSizes
 mod Parts
 mod Places
 mod Shifted
+mod Central

@@ -18,9 +18,9 @@ pub fn power(size: u32) -> Whole
     Whole::power_of_two(size)
 }
 
-/// The number of the signed range that is n modulo 2 to the size.
+/// The number of the signed range that is n modulo 2 to the size, by a division.
 #[tactic(auto, using(progressions::specs::ProgressionLaws::halves))]
-fn center(size: u32, n: Whole) -> Whole
+fn wrapped(size: u32, n: Whole) -> Whole
     requires least { 1 ≤ size }
     requires most { size ≤ 64 }
     requires low { neg_ℤ (pos (2 ^ 126)) ≤ℤ n }
@@ -31,6 +31,25 @@ fn center(size: u32, n: Whole) -> Whole
 {
     let half = power(size - 1);
     (n + half).rest(power(size)) - half
+}
+
+/// The same, without a division where n lies in the range, as most numbers do.
+#[tactic(auto, using(progressions::specs::ProgressionLaws::halves, crate::proofs::Central::is_central))]
+fn center(size: u32, n: Whole) -> Whole
+    requires least { 1 ≤ size }
+    requires most { size ≤ 64 }
+    requires low { neg_ℤ (pos (2 ^ 126)) ≤ℤ n }
+    requires high { n <ℤ pos (2 ^ 126) }
+    ensures value { result ≡ centered size n }
+    ensures low { neg_ℤ (half size) ≤ℤ result }
+    ensures high { result <ℤ half size }
+{
+    let half = power(size - 1);
+    if (-half).at_most(n) && !half.at_most(n) {
+        n
+    } else {
+        wrapped(size, n)
+    }
 }
 
 /// Every number of the signed range.

@@ -2,7 +2,7 @@ use Rattle.std.proofs.Common.{◌≡◌, arith}
 use Rattle.std.proofs.lemmas.Int.{ints}
 use Rattle.strided_rules.specs.Strides.{centered}
 use Rattle.strided_rules.specs.PlacedLaws.{centered_range}
-use Rattle.strided_operators.proofs.placing.center.Goals as goal
+use Rattle.strided_operators.proofs.placing.wrapped.Goals as goal
 
 pub returns-clause-high : goal.returns-clause-high
 returns-clause-high c =

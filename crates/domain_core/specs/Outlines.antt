@@ -10,6 +10,8 @@
 --   scopes_from scopes k s  the first k of the chain
 --   scopes_around o n     the scopes that hold the node n, from the outermost to its own
 --   is_held o t n         the test for Holds
+--   NodeCostsFit nodes    what a visit of each of the nodes costs fits 32 bits
+--   CostsFit o            so it is of each node of the outline
 --   IsOutline o           what every outline keeps
 use Rattle.std.specs.Prelude.{◌≡◌, ◌≢◌, ◌<◌, ◌≤◌, ◌-◌, ◌^◌, ℕ, zero, suc, List, [], ◌∷◌, map, ◌⊎◌, ◌==◌, Bool, reverse, Option, None, Some, AllPairs, length, slice_index, slice_index_or}
 use Rattle.std.specs.List.{list_any}
@@ -81,6 +83,13 @@ scopes_around o n = reverse (scopes_from o.scopes (length o.scopes) (slice_index
 -- the scope t is among the scopes around the node n
 abbrev pub is_held : Shape → ℕ → ℕ → Bool
 is_held o t n = list_any (λ s. t == s) (scopes_from o.scopes (length o.scopes) (slice_index o.own n))
+
+-- what a visit of each of the nodes costs fits 32 bits
+abbrev pub NodeCostsFit : List NodeRow → Type 0
+NodeCostsFit nodes = (n : ℕ) → n < length nodes → slice_index (map (λ (row : NodeRow). row.cost) nodes) n < 2 ^ 32
+
+abbrev pub CostsFit : Outlined → Type 0
+CostsFit o = NodeCostsFit o.nodes
 
 -- what every outline keeps
 pub record IsOutline (o : Shape) : Type 0 where

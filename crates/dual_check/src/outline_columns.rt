@@ -1,6 +1,6 @@
 //! The columns of an outline and facts.
 
-ghost use Rattle.std.specs.Prelude.{◌≡◌, ◌<◌, ◌++◌, ℕ, false, map, OnOk, IfOk, length, get_or};
+ghost use Rattle.std.specs.Prelude.{◌≡◌, ◌<◌, ◌++◌, false, map, OnOk, IfOk, length, get_or};
 ghost use Rattle.std.specs.List.{flat_map, range_with_len};
 ghost use Rattle.domain_core.specs.Outlines.{shape_of};
 ghost use Rattle.ipet_rows.specs.Columns.{edge_column, columns_of};

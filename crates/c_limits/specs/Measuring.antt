@@ -4,10 +4,10 @@
 --   Taken n at rest P  from a position on tokens are declared, calls made and elements counted as P says
 --   Quietly p R        p counts nothing, and what it spells keeps R
 --   Fits p post        what p counts
-use Rattle.std.proofs.Common.{◌≡◌, ◌≤◌, ◌+◌, ℕ, suc, Bool, true, false, List, [], ◌∷◌, ◌++◌, length, Option, Some, None, sym, ap, subst}
+use Rattle.std.proofs.Common.{◌≡◌, ◌≤◌, ◌+◌, ℕ, suc, Bool, true, false, List, [], ◌∷◌, ◌++◌, length, sym, ap, subst}
 use Rattle.std.proofs.Common.{◌∙◌, arith, length-append, if◌then◌else◌}
 use Rattle.std.specs.Prelude.{⊤}
-use Rattle.grammar.specs.Form.{Form, bound, made, InARow, row, AtMostOne, at_most_one}
+use Rattle.grammar.specs.Form.{Form, bound, made, InARow, row}
 use Rattle.c_unit.specs.Units.{Word}
 use Rattle.c_rules.specs.Names.{text_at}
 use Rattle.c_grammar.specs.Tokens.{Fault, Seen, Room, Place, Rule, gives_value, either}
@@ -158,11 +158,6 @@ module _ (words : List Word) where
         (later_on at s.1 rest a.0 b.0, b.1);
   }
 
-  pub q_either : {some : Bool} {A : Type 0} {R : A → Type 0} (b : Bool) (p q : Rule some A) → Quietly p.form R → Quietly q.form R
-      → Quietly (either b p q).form R
-  q_either true p q h i = h
-  q_either false p q h i = i
-
   pub fits_quiet : {A : Type 0} {p : Form Seen Room Fault A} {post : A → List ℕ → List ℕ → ℕ → Type 0} → Quietly p (λ x. post x [] [] 0) → Fits p post
   fits_quiet {post = post} h = record { each = λ at x rest s n good. let a = h.each at x rest s in quiet_taken n at rest (post x) a.0 good a.1 }
 
@@ -182,17 +177,6 @@ module _ (words : List Word) where
         let t = h.each at s.0 s.1 s.2 n good in
         let b = (k s.0 t.ds t.calls t.el t.holds).each s.1 y rest s.3 in
         before_quiet n at s.1 rest (P s.0) (post y) t b.0 b.1;
-  }
-
-  pub fits_then : {A B : Type 0} {p : Form Seen Room Fault A} {q : A → Form Seen Room Fault B} {P : A → List ℕ → List ℕ → ℕ
-      → Type 0} {post : B → List ℕ → List ℕ → ℕ → Type 0} → Fits p P
-      → ((x : A) (ds calls : List ℕ) (el : ℕ) → P x ds calls el
-      → Fits (q x) (λ y es more fl. post y (ds ++ es) (calls ++ more) (el + fl))) → Fits (bound p q) post
-  fits_then {P = P} {post = post} h k = record {
-    each = λ at y rest s n good.
-        let t = h.each at s.0 s.1 s.2 n good in
-        let u = (k s.0 t.ds t.calls t.el t.holds).each s.1 y rest s.3 t.m t.good in
-        two_taken n at s.1 rest (P s.0) (λ es more fl. post y (t.ds ++ es) (t.calls ++ more) (t.el + fl)) (post y) t u u.holds;
   }
 
   pub fits_either : {some : Bool} {A : Type 0} {post : A → List ℕ → List ℕ → ℕ → Type 0} (b : Bool) (p q : Rule some A)
@@ -221,16 +205,6 @@ module _ (words : List Word) where
   }
 
   module _ {A : Type 0} (goes_on : Place → Bool) (p : Form Seen Room Fault A) (P : A → List ℕ → List ℕ → ℕ → Type 0) where
-    pub fits_maybe : (post : Option A → List ℕ → List ℕ → ℕ → Type 0) → Fits p P → post None [] [] 0
-        → ((x : A) (ds calls : List ℕ) (el : ℕ) → P x ds calls el → post (Some x) ds calls el) → Fits (at_most_one goes_on p) post
-    fits_maybe post h none some = record { each = maybe_each }
-      where
-        maybe_each : (at : Place) (x : Option A) (rest : Place) → AtMostOne goes_on p at x rest → (n : ℕ) → Good words n at.ahead → Taken n at rest (post x)
-        maybe_each at None rest s n good =
-            quiet_taken n at rest (post None)
-            (record { good = λ words n g. subst (λ (p : Place). Good words n p.ahead) (sym s.1) g; room = ap (λ (p : Place). p.room) s.1 }) good none
-        maybe_each at (Some x) rest s n good = ((fits_as {P = P} {Q = λ y. post (Some y)} (λ y. some y) h).each at x rest s.1 n good)
-
     pub fits_row : (post : List A → List ℕ → List ℕ → ℕ → Type 0) → Fits p P → post [] [] [] 0
         → ((x : A) (xs : List A) (ds calls : List ℕ) (el : ℕ) (es more : List ℕ) (fl : ℕ) → P x ds calls el → post xs es more fl
         → post (x ∷ xs) (ds ++ es) (calls ++ more) (el + fl)) → Fits (row goes_on p) post

@@ -4,7 +4,7 @@
 --   Takes p            so it is of all that p spells
 use Rattle.std.proofs.Common.{◌≡◌, ◌≤◌, ℕ, suc, Bool, List, [], ◌∷◌, Result, Option, Some, None, refl, sym, ap, subst, ◌∙◌, arith}
 use Rattle.std.specs.Prelude.{⊤}
-use Rattle.grammar.specs.Form.{others_of, after, Form, bound, made, judged, InARow, row, AtMostOne, at_most_one}
+use Rattle.grammar.specs.Form.{others_of, after, Form, bound, made, judged, AtMostOne, at_most_one}
 use Rattle.c_unit.specs.Units.{Word}
 use Rattle.c_rules.specs.Names.{text_at, worth_at, number_of}
 use Rattle.c_grammar.specs.declared.symbol.Symbol.TheVariants as symbols
@@ -68,13 +68,6 @@ pub judged_takes : {A : Type 0} {fit : Place → Result A Fault} → Takes (judg
 judged_takes = record { each = λ at x rest s. same_place at rest s.1 }
 
 module _ {A : Type 0} (goes_on : Place → Bool) (p : Form Seen Room Fault A) where
-  pub row_each : Takes p → (at : Place) (xs : List A) (rest : Place) → InARow goes_on p at xs rest → Later at rest
-  row_each h at [] rest s = same_place at rest s
-  row_each h at (x ∷ xs) rest s = later_on at s.1.0 rest (h.each at x s.1.0 s.1.1) (row_each h s.1.0 xs rest s.1.2)
-
-  pub row_takes : Takes p → Takes (row goes_on p)
-  row_takes h = record { each = λ at xs rest s. row_each h at xs rest s.0 }
-
   maybe_each : Takes p → (at : Place) (o : Option A) (rest : Place) → AtMostOne goes_on p at o rest → Later at rest
   maybe_each h at None rest s = same_place at rest s.1
   maybe_each h at (Some x) rest s = h.each at x rest s.1

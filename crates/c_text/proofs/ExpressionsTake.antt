@@ -6,7 +6,7 @@ use Rattle.c_grammar.specs.Tokens.{at_symbol, at_text, misfit, some_frames}
 use Rattle.c_grammar.specs.WalkLaws.{Quiet, Spelled, done, first_seen, seen, ◌>>-◌, ◌>>!◌}
 use Rattle.c_grammar.specs.declared.others.Others.{Others}
 use Rattle.c_text.proofs.Taking.{Takes, either_takes, first_good, first_holds, fitting, judged_takes, made_takes, one_takes, same, ◌>>>◌}
-use Rattle.c_text.proofs.TypesTake.{free_so, good_tokens, good_walk, quiet_so, some_frames_takes, takes_so}
+use Rattle.c_text.proofs.TypesTake.{free_so, good_tokens, good_walk, quiet_so, some_frames_takes}
 use Rattle.grammar.specs.Form.{after, bound, made}
 use Rattle.grammar.specs.Rule.{value}
 use Rattle.std.proofs.Common.{List, refl, ℕ}
@@ -40,9 +40,6 @@ good_expressions = record {
   indexes = λ d logical base n i a m _ _ _ _. tt;
   binaries = λ d min logical op n left right a b m _ _ _ _ _. tt;
 }
-
-pub open_paren_takes : Takes open_paren.form
-open_paren_takes = takes_so (open_paren_quiet good_expressions)
 
 -- where a name comes next
 name_goes : Quiet good_walk (seen at_call some_token.form)

@@ -4,7 +4,7 @@
 use Rattle.std.proofs.Common.{◌≡◌, ℕ, Bool, true, false, ◌&&◌, cond, List, [], ◌∷◌, Result, Ok, Err, Option, Some, None, refl, sym, subst, ◌∙◌}
 use Rattle.std.specs.Str.{bytes_eq}
 use Rattle.std.proofs.lemmas.Slice.Eq.{bytes_eq-Decides}
-use Rattle.grammar.specs.Form.{first_of, others_of, after, Form, fit_first, bound, made, judged, InARow, row, AtMostOne, at_most_one}
+use Rattle.grammar.specs.Form.{first_of, others_of, after, Form, fit_first, bound, made, judged, AtMostOne, at_most_one}
 use Rattle.grammar.specs.Exact.{ok_no_err}
 use Rattle.grammar.specs.Each.{Each}
 use Rattle.c_tokens.specs.declared.token.Kind.{Kind}
@@ -95,13 +95,6 @@ either_takes false p q h i = i
 -- ---- lists and chains
 
 module _ {A : Type 0} (goes_on : Place → Bool) (p : Form Seen Room Fault A) where
-  pub row_each : Takes p → (at : Place) (xs : List A) (rest : Place) → InARow goes_on p at xs rest → Each Good rest.ahead → Each Good at.ahead
-  row_each h at [] rest s g = same at rest s g
-  row_each h at (x ∷ xs) rest s g = h.each at x s.1.0 s.1.1 (row_each h s.1.0 xs rest s.1.2 g)
-
-  pub row_takes : Takes p → Takes (row goes_on p)
-  row_takes h = record { each = λ at xs rest s g. row_each h at xs rest s.0 g }
-
   maybe_each : Takes p → (at : Place) (o : Option A) (rest : Place) → AtMostOne goes_on p at o rest → Each Good rest.ahead → Each Good at.ahead
   maybe_each h at None rest s g = same at rest s.1 g
   maybe_each h at (Some x) rest s g = h.each at x rest s.1 g

@@ -1,17 +1,16 @@
 //! Texts and what they mean.
 
-ghost use Rattle.std.specs.Prelude.{◌≡◌, ◌-◌, ◌≤◌, ℕ, not, List, length, filter, reverse, Ok, Err, IfOk, IfErr, IfSome, IsSomeAnd};
-ghost use Rattle.std.specs.List.{prefix_len};
+ghost use Rattle.std.specs.Prelude.{◌≡◌, ℕ, List, Ok, Err, IfOk, IfErr, IfSome, IsSomeAnd};
 ghost use Rattle.alf_program.specs.Tree.{program_of};
 ghost use Rattle.alf_program.specs.Writable.{IsWritable};
 ghost use Rattle.alf_reader.specs.Reading.{fault_of};
-ghost use Rattle.alf_text.specs.Language.{Means, HasOneMeaning, departure_of, placed, place_of, place_after, is_line_feed};
+ghost use Rattle.alf_text.specs.Language.{Means, HasOneMeaning, departure_of, placed};
 
 use crate::programs::program;
 use crate::writable::writable_programs_are_spelled;
 use alf_program::Program;
 use alf_reader::{Counts, Departure, Reader, TextFault};
-use flow_base::{Name, Place};
+use flow_base::{Name, place_of};
 use std::alloc::Global;
 
 // A text may have as much as the limits allow.
@@ -59,42 +58,4 @@ fn told(alloc: Global, bytes: &[u8], departure: Departure<'_>) -> TextFault
         Departure::Limit(which, count) => TextFault::Limit(which, count),
         Departure::Memory => TextFault::Memory,
     }
-}
-
-// The place where so many bytes are left.
-fn place_of(bytes: &[u8], left: usize) -> Place
-    ensures { result ≡ place_of bytes.now left }
-{
-    let prefix = bytes.len().saturating_sub(left);
-    place_after(&bytes[..prefix])
-}
-
-// The place after these bytes.
-fn place_after(prefix: &[u8]) -> Place
-    ensures { result ≡ place_after prefix.now }
-{
-    Place {
-        offset: prefix.len() as u64,
-        line: line_feeds(prefix) as u64 + 1,
-        column: last_line_len(prefix) as u64 + 1,
-    }
-}
-
-fn line_feeds(prefix: &[u8]) -> usize
-    ensures count { result ≡ length (filter is_line_feed prefix.now) }
-    ensures within { result ≤ length prefix.now }
-{
-    prefix.iter().filter(|byte| **byte == b'\n').count()
-}
-
-// How many bytes stand after the last line feed.
-fn last_line_len(prefix: &[u8]) -> usize
-    ensures count { result ≡ prefix_len (λ byte. not (is_line_feed byte)) (reverse prefix.now) }
-    ensures within { result ≤ length prefix.now }
-{
-    prefix
-        .iter()
-        .rev()
-        .take_while(|byte| **byte != b'\n')
-        .count()
 }

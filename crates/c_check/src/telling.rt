@@ -11,9 +11,8 @@ ghost use Rattle.c_check.specs.Programs.{IsTold};
 
 use crate::fault::CFault;
 use c_scopes::{Fault, Words};
-use c_tokens::place_of;
 use c_unit::{CUnit, Span};
-use flow_base::{Name, Place};
+use flow_base::{Name, Place, place_of};
 use std::alloc::Global;
 
 /// What is told of the first fault of the text.

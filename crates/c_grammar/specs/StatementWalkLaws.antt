@@ -68,9 +68,11 @@ pub record StatementWalk (walk : Walk) : Type 1 where
   pub tokens : TypeTokens walk
   pub counted : (word : List ℕ) (o : Others) → can_print word ≡ true → Spelled walk (mark word o).form (λ n m. One m)
   pub steps : Quiet walk step.form
-  pub assigns : (to : Expression) (last : Bool) → Quietly walk (assigning_mark to last).form (λ a. MayAssign MayUpdate a.0)
+  pub assigns : (to : Expression) (last : Bool)
+      → Quietly walk (assigning_mark to last).form (λ a. MayAssign MayUpdate a.0)
   pub words : Quiet walk (seen (λ at. at_symbol is_statement at) some_token.form)
-  pub named : (o : Others) → Spelled walk (bound (name o).form (λ t. bound (some_frames 1).form (λ _. made t))) (λ t m. Named t.number m)
+  pub named : (o : Others)
+      → Spelled walk (bound (name o).form (λ t. bound (some_frames 1).form (λ _. made t))) (λ t m. Named t.number m)
   pub sized : Spelled walk array_size.form Sized
   -- ---- values
   pub values : (p : ℕ) (o : Others) → Spelled walk (whole_expr p o).form Value
@@ -81,28 +83,41 @@ pub record StatementWalk (walk : Walk) : Type 1 where
   -- ---- effects
   pub call_effects : (c : CallTree) (m : walk.Count) → Call c m → Effect (tree.Calls c) m
   pub step_effects : (e : Expression) (up : Bool) (n : ℕ) (m : walk.Count) → Value e m → Effect (tree.Steps e up n) m
-  pub assign_effects : (to : Expression) (n : ℕ) (v : ValueTree) (a m : walk.Count) → Value to a → Assigned v m → Effect (tree.Assigns to n v) (walk.join a m)
-  pub update_effects : (to : Expression) (op : Binary) (n : ℕ) (e : Expression) (a m : walk.Count) → MayUpdate op → Value to a → Value e m → Effect (tree.Updates to op n e) (walk.join a m)
+  pub assign_effects : (to : Expression) (n : ℕ) (v : ValueTree) (a m : walk.Count) → Value to a → Assigned v m
+      → Effect (tree.Assigns to n v) (walk.join a m)
+  pub update_effects : (to : Expression) (op : Binary) (n : ℕ) (e : Expression) (a m : walk.Count) → MayUpdate op
+      → Value to a → Value e m → Effect (tree.Updates to op n e) (walk.join a m)
   -- ---- locals
-  pub pointers : (n : ℕ) (v : Option ValueTree) (a m : walk.Count) → Named n a → IfThere walk Assigned v m → Local (record { name = n; shape = tree.LocalPointer v }) (walk.join a m)
-  pub integers : (n : ℕ) (v : Option ValueTree) (a m : walk.Count) → Named n a → IfThere walk Assigned v m → Local (record { name = n; shape = tree.LocalInteger v }) (walk.join a m)
-  pub arrays : (n s : ℕ) (cs : Option (List Constant)) (a m : walk.Count) → Named n a → Sized s m → Local (record { name = n; shape = tree.LocalArray s cs }) (walk.join a m)
+  pub pointers : (n : ℕ) (v : Option ValueTree) (a m : walk.Count) → Named n a → IfThere walk Assigned v m
+      → Local (record { name = n; shape = tree.LocalPointer v }) (walk.join a m)
+  pub integers : (n : ℕ) (v : Option ValueTree) (a m : walk.Count) → Named n a → IfThere walk Assigned v m
+      → Local (record { name = n; shape = tree.LocalInteger v }) (walk.join a m)
+  pub arrays : (n s : ℕ) (cs : Option (List Constant)) (a m : walk.Count) → Named n a → Sized s m
+      → Local (record { name = n; shape = tree.LocalArray s cs }) (walk.join a m)
   pub no_locals : Locals [] walk.none
-  pub more_locals : (l : LocalTree) (ls : List LocalTree) (a m : walk.Count) → Local l a → Locals ls m → Locals (l ∷ ls) (walk.join a m)
-  pub declares : (n : ℕ) (i : Integer) (ls : List LocalTree) (m : walk.Count) → Locals ls m → Stands (tree.Declares n i ls) m
+  pub more_locals : (l : LocalTree) (ls : List LocalTree) (a m : walk.Count) → Local l a → Locals ls m
+      → Locals (l ∷ ls) (walk.join a m)
+  pub declares : (n : ℕ) (i : Integer) (ls : List LocalTree) (m : walk.Count) → Locals ls m
+      → Stands (tree.Declares n i ls) m
   -- ---- labels
   pub cases : (n : ℕ) (c : Constant) (m : walk.Count) → One m → Stands (tree.Case n c) m
   pub defaults : (n : ℕ) (m : walk.Count) → One m → Stands (tree.Default n) m
   -- ---- statements
-  pub controls : (e : Expression) (a m b : walk.Count) → One a → Condition e m → One b → Controls e (walk.join a (walk.join m b))
-  pub selects : (e : Expression) (a m b : walk.Count) → One a → Value e m → One b → Selects e (walk.join a (walk.join m b))
-  pub ifs : (c : Expression) (s : Statement) (e : Option Statement) (a m n : walk.Count) → Controls c a → Stands s m → IfThere walk Stands e n → Stands (if_of c s e) (walk.join a (walk.join m n))
-  pub whiles : (c : Expression) (s : Statement) (a m : walk.Count) → Controls c a → Stands s m → Stands (tree.While c s) (walk.join a m)
-  pub dos : (s : Statement) (c : Expression) (m a : walk.Count) → Stands s m → Controls c a → Stands (tree.Do s c) (walk.join m a)
+  pub controls : (e : Expression) (a m b : walk.Count) → One a → Condition e m → One b
+      → Controls e (walk.join a (walk.join m b))
+  pub selects : (e : Expression) (a m b : walk.Count) → One a → Value e m → One b
+      → Selects e (walk.join a (walk.join m b))
+  pub ifs : (c : Expression) (s : Statement) (e : Option Statement) (a m n : walk.Count) → Controls c a → Stands s m
+      → IfThere walk Stands e n → Stands (if_of c s e) (walk.join a (walk.join m n))
+  pub whiles : (c : Expression) (s : Statement) (a m : walk.Count) → Controls c a → Stands s m
+      → Stands (tree.While c s) (walk.join a m)
+  pub dos : (s : Statement) (c : Expression) (m a : walk.Count) → Stands s m → Controls c a
+      → Stands (tree.Do s c) (walk.join m a)
   pub fors : (f : Option Statement) (c : Option Expression) (e : Option EffectTree) (s : Statement) (p a b d m : walk.Count)
       → One p → IfThere walk Stands f a → IfThere walk Condition c b → IfThere walk Effect e d → Stands s m
       → Stands (for_of f c e s) (walk.join p (walk.join a (walk.join b (walk.join d m))))
-  pub switches : (e : Expression) (ss : Statements) (a m : walk.Count) → Selects e a → Stands (tree.Block ss) m → Stands (tree.Switch e ss) (walk.join a m)
+  pub switches : (e : Expression) (ss : Statements) (a m : walk.Count) → Selects e a → Stands (tree.Block ss) m
+      → Stands (tree.Switch e ss) (walk.join a m)
   pub breaks : (n : ℕ) → Stands (tree.Break n) walk.none
   pub continues : (n : ℕ) → Stands (tree.Continue n) walk.none
   pub returns : (n : ℕ) → Stands (tree.Returns n None) walk.none
@@ -110,7 +125,8 @@ pub record StatementWalk (walk : Walk) : Type 1 where
   pub empties : (n : ℕ) → Stands (tree.Empty n) walk.none
   pub blocks : (ss : List Statement) (m : walk.Count) → Stand ss m → Stands (tree.Block (statements_of ss)) m
   pub no_statements : Stand [] walk.none
-  pub more_statements : (s : Statement) (ss : List Statement) (a m : walk.Count) → Stands s a → Stand ss m → Stand (s ∷ ss) (walk.join a m)
+  pub more_statements : (s : Statement) (ss : List Statement) (a m : walk.Count) → Stands s a → Stand ss m
+      → Stand (s ∷ ss) (walk.join a m)
   pub effects : (e : EffectTree) (m : walk.Count) → Effect e m → Stands (tree.Does e) m
 
 module _ {walk : Walk} (w : StatementWalk walk) where
@@ -129,19 +145,30 @@ module _ {walk : Walk} (w : StatementWalk walk) where
       before_quiet w.tokens (effect_end last) (rest_of true e) >>- λ _. done (refl, w.step_effects e s.0 s.1 m h)
 
   -- after what is assigned to
-  assign_goes : (p : ℕ) (last : Bool) (to : Expression) (n : ℕ) (a : walk.Count) → w.Value to a → Spelled walk (assign p last to n).form (λ e m. w.Effect e (walk.join a m))
+  assign_goes : (p : ℕ) (last : Bool) (to : Expression) (n : ℕ) (a : walk.Count) → w.Value to a
+      → Spelled walk (assign p last to n).form (λ e m. w.Effect e (walk.join a m))
   unfolding assign
-  assign_goes p last to n a k = w.assigned_values p others.Steps >>! λ v m h. before_quiet w.tokens (effect_end last) (rest_of_value true v) >>- λ _. done (refl, w.assign_effects to n v a m k h)
+  assign_goes p last to n a k =
+      w.assigned_values p others.Steps >>! λ v m h.
+      before_quiet w.tokens (effect_end last) (rest_of_value true v) >>- λ _.
+      done (refl, w.assign_effects to n v a m k h)
 
-  update_goes : (p : ℕ) (last : Bool) (to : Expression) (op : Binary) (n : ℕ) (a : walk.Count) → w.Value to a → w.MayUpdate op → Spelled walk (update p last to op n).form (λ e m. w.Effect e (walk.join a m))
+  update_goes : (p : ℕ) (last : Bool) (to : Expression) (op : Binary) (n : ℕ) (a : walk.Count) → w.Value to a
+      → w.MayUpdate op → Spelled walk (update p last to op n).form (λ e m. w.Effect e (walk.join a m))
   unfolding update
-  update_goes p last to op n a k may = w.values p others.Steps >>! λ e m h. before_quiet w.tokens (effect_end last) (rest_of true e) >>- λ _. done (refl, w.update_effects to op n e a m may k h)
+  update_goes p last to op n a k may =
+      w.values p others.Steps >>! λ e m h. before_quiet w.tokens (effect_end last) (rest_of true e) >>- λ _.
+      done (refl, w.update_effects to op n e a m may k h)
 
-  postfix_step_goes : (last : Bool) (to : Expression) (up : Bool) (n : ℕ) (a : walk.Count) → w.Value to a → Spelled walk (postfix_step last to up n).form (λ e m. w.Effect e (walk.join a m))
+  postfix_step_goes : (last : Bool) (to : Expression) (up : Bool) (n : ℕ) (a : walk.Count) → w.Value to a
+      → Spelled walk (postfix_step last to up n).form (λ e m. w.Effect e (walk.join a m))
   unfolding postfix_step
-  postfix_step_goes last to up n a k = before_quiet w.tokens (effect_end last) (rest_after_postfix true) >>- λ _. done (at_end walk (w.Effect (tree.Steps to up n)) a (w.step_effects to up n a k))
+  postfix_step_goes last to up n a k =
+      before_quiet w.tokens (effect_end last) (rest_after_postfix true) >>- λ _.
+      done (at_end walk (w.Effect (tree.Steps to up n)) a (w.step_effects to up n a k))
 
-  effect_after_goes : (p : ℕ) (last : Bool) (to : Expression) (x : Assigning) (n : ℕ) (a : walk.Count) → w.Value to a → MayAssign w.MayUpdate x → Spelled walk (effect_after p last to x n).form (λ e m. w.Effect e (walk.join a m))
+  effect_after_goes : (p : ℕ) (last : Bool) (to : Expression) (x : Assigning) (n : ℕ) (a : walk.Count) → w.Value to a
+      → MayAssign w.MayUpdate x → Spelled walk (effect_after p last to x n).form (λ e m. w.Effect e (walk.join a m))
   unfolding effect_after
   effect_after_goes p last to assigning.Assign n a k may = assign_goes p last to n a k
   effect_after_goes p last to (assigning.Update op) n a k may = update_goes p last to op n a k may
@@ -149,28 +176,36 @@ module _ {walk : Walk} (w : StatementWalk walk) where
 
   target_effect_goes : (p : ℕ) (o : Others) (last : Bool) → Spelled walk (target_effect p o last).form w.Effect
   unfolding target_effect
-  target_effect_goes p o last = w.targets p casts.Outside o >>+ λ to a k. w.assigns to last >>= λ x may. effect_after_goes p last to x.0 x.1 a k may >>! λ e m h. done (refl, h)
+  target_effect_goes p o last =
+      w.targets p casts.Outside o >>+ λ to a k. w.assigns to last >>= λ x may.
+      effect_after_goes p last to x.0 x.1 a k may >>! λ e m h. done (refl, h)
 
   other_effect_goes : (p : ℕ) (o : Others) (last : Bool) → Spelled walk (other_effect p o last).form w.Effect
   unfolding other_effect
-  other_effect_goes p o last = judged_spelled >>- λ s. either_spelled s (prefix_step p last) (target_effect p o last) (prefix_step_goes p last) (target_effect_goes p o last) >>! λ e m h. done (refl, h)
+  other_effect_goes p o last =
+      judged_spelled >>- λ s.
+      either_spelled s (prefix_step p last) (target_effect p o last) (prefix_step_goes p last) (target_effect_goes p o last) >>! λ e m h. done (refl, h)
 
   pub effect_goes : (p : ℕ) (o : Others) (last : Bool) → Spelled walk (effect p o last).form w.Effect
   unfolding effect sees_call
-  effect_goes p o last = seen_value at_call (call_effect (p - 1) last) (other_effect p o last) (call_effect_goes (p - 1) last) (other_effect_goes p o last)
+  effect_goes p o last =
+      seen_value at_call (call_effect (p - 1) last) (other_effect p o last) (call_effect_goes (p - 1) last) (other_effect_goes p o last)
 
   -- ---- locals
 
   initial_goes : Spelled walk initial.form w.Assigned
   unfolding initial
-  initial_goes = assign_mark_quiet w.tokens >>- λ _. w.assigned_values most_parens others.StepsAndBraces >>! λ v m h. done (refl, h)
+  initial_goes =
+      assign_mark_quiet w.tokens >>- λ _. w.assigned_values most_parens others.StepsAndBraces >>! λ v m h.
+      done (refl, h)
 
   local_end_quiet : (o : Others) → Quiet walk (local_end o).form
   unfolding local_end
   local_end_quiet o = before_either_quiet w.tokens (codes ",") (codes ";") o
 
   -- a name with its frame, and then the others
-  declared_then : {B : Type 0} {q : Seen → Form Seen Room Fault B} {Q : B → walk.Count → Type 0} (o : Others) → ((t : Seen) (a : walk.Count) → w.Named t.number a → Spelled walk (q t) (λ y m. Q y (walk.join a m)))
+  declared_then : {B : Type 0} {q : Seen → Form Seen Room Fault B} {Q : B → walk.Count → Type 0} (o : Others)
+      → ((t : Seen) (a : walk.Count) → w.Named t.number a → Spelled walk (q t) (λ y m. Q y (walk.join a m)))
       → Spelled walk (bound (name o).form (λ t. bound (some_frames 1).form (λ _. q t))) Q
   declared_then {Q = Q} o h = record {
     each = λ at y rest s.
@@ -191,13 +226,17 @@ module _ {walk : Walk} (w : StatementWalk walk) where
       w.sized >>! λ s m h. maybe_quiet at_assign _ (element_list_quiet w.tokens) >>- λ cs.
       before_either_quiet w.tokens (codes ",") (codes ";") (after_array cs) >>- λ _. done (refl, h)
 
-  array_local_goes : (n : ℕ) (a : walk.Count) → w.Named n a → Spelled walk (array_local n).form (λ l m. w.Local l (walk.join a m))
+  array_local_goes : (n : ℕ) (a : walk.Count) → w.Named n a
+      → Spelled walk (array_local n).form (λ l m. w.Local l (walk.join a m))
   unfolding array_local
   array_local_goes n a k = array_goes >>! λ x m h. done (refl, w.arrays n x.0 x.1 a m k h)
 
-  integer_local_goes : (n : ℕ) (a : walk.Count) → w.Named n a → Spelled walk (integer_local n).form (λ l m. w.Local l (walk.join a m))
+  integer_local_goes : (n : ℕ) (a : walk.Count) → w.Named n a
+      → Spelled walk (integer_local n).form (λ l m. w.Local l (walk.join a m))
   unfolding integer_local
-  integer_local_goes n a k = maybe_spelled at_assign _ initial_goes >>! λ v m h. local_end_quiet (after_local others.Parens v) >>- λ _. done (refl, w.integers n v a m k h)
+  integer_local_goes n a k =
+      maybe_spelled at_assign _ initial_goes >>! λ v m h. local_end_quiet (after_local others.Parens v) >>- λ _.
+      done (refl, w.integers n v a m k h)
 
   plain_local_goes : Spelled walk plain_local.form w.Local
   unfolding plain_local
@@ -206,7 +245,9 @@ module _ {walk : Walk} (w : StatementWalk walk) where
 
   local_goes : Spelled walk local.form w.Local
   unfolding local
-  local_goes = sees_quiet w.tokens (codes "*") >>- λ p. either_spelled p pointer_local plain_local pointer_local_goes plain_local_goes >>! λ l m h. done (refl, h)
+  local_goes =
+      sees_quiet w.tokens (codes "*") >>- λ p.
+      either_spelled p pointer_local plain_local pointer_local_goes plain_local_goes >>! λ l m h. done (refl, h)
 
   further_local_goes : Spelled walk further_local.form w.Local
   unfolding further_local
@@ -241,11 +282,15 @@ module _ {walk : Walk} (w : StatementWalk walk) where
 
   default_label_goes : Spelled walk default_label.form w.Stands
   unfolding default_label
-  default_label_goes = w.counted (codes "default") others.Nothing default_prints >>! λ n m one. colon_quiet others.Nothing >>- λ _. done (refl, w.defaults n m one)
+  default_label_goes =
+      w.counted (codes "default") others.Nothing default_prints >>! λ n m one. colon_quiet others.Nothing >>- λ _.
+      done (refl, w.defaults n m one)
 
   label_goes : Spelled walk label.form w.Stands
   unfolding label
-  label_goes = sees_quiet w.tokens (codes "case") >>- λ c. either_spelled c case_label default_label case_label_goes default_label_goes >>! λ l m h. done (refl, h)
+  label_goes =
+      sees_quiet w.tokens (codes "case") >>- λ c.
+      either_spelled c case_label default_label case_label_goes default_label_goes >>! λ l m h. done (refl, h)
 
   -- ---- statements, where what stands in them is known
 
@@ -263,11 +308,15 @@ module _ {walk : Walk} (w : StatementWalk walk) where
 
   controlling_goes : Spelled walk controlling.form w.Controls
   unfolding controlling
-  controlling_goes = open_paren_goes >>+ λ _ a one. w.conditions (most_parens - 1) >>+ λ c m h. close_paren_goes (rest_of true c) >>! λ _ b other. done (refl, w.controls c a m b one h other)
+  controlling_goes =
+      open_paren_goes >>+ λ _ a one. w.conditions (most_parens - 1) >>+ λ c m h.
+      close_paren_goes (rest_of true c) >>! λ _ b other. done (refl, w.controls c a m b one h other)
 
   switch_value_goes : Spelled walk switch_value.form w.Selects
   unfolding switch_value
-  switch_value_goes = open_paren_goes >>+ λ _ a one. w.values (most_parens - 1) others.Steps >>+ λ e m h. close_paren_goes (rest_of true e) >>! λ _ b other. done (refl, w.selects e a m b one h other)
+  switch_value_goes =
+      open_paren_goes >>+ λ _ a one. w.values (most_parens - 1) others.Steps >>+ λ e m h.
+      close_paren_goes (rest_of true e) >>! λ _ b other. done (refl, w.selects e a m b one h other)
 
   empty_first_goes : Spelled walk empty_first.form (IfThere walk w.Stands)
   unfolding empty_first
@@ -279,15 +328,21 @@ module _ {walk : Walk} (w : StatementWalk walk) where
 
   effect_first_goes : Spelled walk effect_first.form (IfThere walk w.Stands)
   unfolding effect_first
-  effect_first_goes = effect_goes (most_parens - 1) others.Nothing false >>! λ e m h. semicolon_quiet others.Nothing >>- λ _. done (refl, w.effects e m h)
+  effect_first_goes =
+      effect_goes (most_parens - 1) others.Nothing false >>! λ e m h. semicolon_quiet others.Nothing >>- λ _.
+      done (refl, w.effects e m h)
 
   some_first_goes : Spelled walk some_first.form (IfThere walk w.Stands)
   unfolding some_first
-  some_first_goes = judged_spelled >>- λ d. either_spelled d declared_first effect_first declared_first_goes effect_first_goes >>! λ f m h. done (refl, h)
+  some_first_goes =
+      judged_spelled >>- λ d.
+      either_spelled d declared_first effect_first declared_first_goes effect_first_goes >>! λ f m h. done (refl, h)
 
   for_first_goes : Spelled walk for_first.form (IfThere walk w.Stands)
   unfolding for_first
-  for_first_goes = sees_quiet w.tokens (codes ";") >>- λ none. either_spelled none empty_first some_first empty_first_goes some_first_goes >>! λ f m h. done (refl, h)
+  for_first_goes =
+      sees_quiet w.tokens (codes ";") >>- λ none.
+      either_spelled none empty_first some_first empty_first_goes some_first_goes >>! λ f m h. done (refl, h)
 
   empty_condition_goes : Spelled walk empty_condition.form (IfThere walk w.Condition)
   unfolding empty_condition
@@ -295,11 +350,15 @@ module _ {walk : Walk} (w : StatementWalk walk) where
 
   some_condition_goes : Spelled walk some_condition.form (IfThere walk w.Condition)
   unfolding some_condition
-  some_condition_goes = w.conditions (most_parens - 1) >>! λ c m h. semicolon_quiet (rest_of true c) >>- λ _. done (refl, h)
+  some_condition_goes =
+      w.conditions (most_parens - 1) >>! λ c m h. semicolon_quiet (rest_of true c) >>- λ _. done (refl, h)
 
   for_condition_goes : Spelled walk for_condition.form (IfThere walk w.Condition)
   unfolding for_condition
-  for_condition_goes = sees_quiet w.tokens (codes ";") >>- λ none. either_spelled none empty_condition some_condition empty_condition_goes some_condition_goes >>! λ c m h. done (refl, h)
+  for_condition_goes =
+      sees_quiet w.tokens (codes ";") >>- λ none.
+      either_spelled none empty_condition some_condition empty_condition_goes some_condition_goes >>! λ c m h.
+      done (refl, h)
 
   empty_last_goes : Spelled walk empty_last.form (IfThere walk w.Effect)
   unfolding empty_last
@@ -307,11 +366,14 @@ module _ {walk : Walk} (w : StatementWalk walk) where
 
   some_last_goes : Spelled walk some_last.form (IfThere walk w.Effect)
   unfolding some_last
-  some_last_goes = effect_goes (most_parens - 1) others.Nothing true >>! λ e m h. close_paren_quiet others.Nothing >>- λ _. done (refl, h)
+  some_last_goes =
+      effect_goes (most_parens - 1) others.Nothing true >>! λ e m h. close_paren_quiet others.Nothing >>- λ _.
+      done (refl, h)
 
   for_last_goes : Spelled walk for_last.form (IfThere walk w.Effect)
   unfolding for_last
-  for_last_goes = sees_quiet w.tokens (codes ")") >>- λ none. either_spelled none empty_last some_last empty_last_goes some_last_goes >>! λ e m h. done (refl, h)
+  for_last_goes =
+      sees_quiet w.tokens (codes ")") >>- λ none. either_spelled none empty_last some_last empty_last_goes some_last_goes >>! λ e m h. done (refl, h)
 
   while_word_quiet : Quiet walk while_word.form
   unfolding while_word
@@ -320,12 +382,14 @@ module _ {walk : Walk} (w : StatementWalk walk) where
   abbrev pub IsStanding : Standing → Statement → walk.Count → Type 0
   IsStanding place s m = w.Stands s m × IsBlock place s
 
-  switch_goes_on : (e : Expression) (b : Statement) (a m : walk.Count) → w.Selects e a → IsStanding standings.SwitchBlock b m → w.Stands (tree.Switch e (items_of b)) (walk.join a m)
+  switch_goes_on : (e : Expression) (b : Statement) (a m : walk.Count) → w.Selects e a
+      → IsStanding standings.SwitchBlock b m → w.Stands (tree.Switch e (items_of b)) (walk.join a m)
   switch_goes_on e b a m k h =
       let block : w.Stands (tree.Block h.1.0) m = subst (λ (s : Statement). w.Stands s m) h.1.1 h.0 in
       subst (λ (s : Statement). w.Stands (tree.Switch e (items_of s)) (walk.join a m)) (sym h.1.1) (w.switches e h.1.0 a m k block)
 
-  block_goes : (o : Others) (item : Rule true Statement) → Spelled walk item.form w.Stands → Spelled walk (block o item).form (IsStanding standings.SwitchBlock)
+  block_goes : (o : Others) (item : Rule true Statement) → Spelled walk item.form w.Stands
+      → Spelled walk (block o item).form (IsStanding standings.SwitchBlock)
   unfolding block
   block_goes o item h =
       w.tokens.marks (codes "{") o open_brace_prints >>- λ _. row_spelled in_block _ w.Stand h w.no_statements w.more_statements >>! λ ss m k.
@@ -333,7 +397,8 @@ module _ {walk : Walk} (w : StatementWalk walk) where
 
   effect_statement_goes : (o : Others) → Spelled walk (effect_statement o).form w.Stands
   unfolding effect_statement
-  effect_statement_goes o = effect_goes most_parens o false >>! λ e m h. semicolon_quiet others.Nothing >>- λ _. done (refl, w.effects e m h)
+  effect_statement_goes o =
+      effect_goes most_parens o false >>! λ e m h. semicolon_quiet others.Nothing >>- λ _. done (refl, w.effects e m h)
 
   empty_statement_goes : Spelled walk empty_statement.form w.Stands
   unfolding empty_statement
@@ -353,11 +418,15 @@ module _ {walk : Walk} (w : StatementWalk walk) where
 
   return_value_goes : (n : ℕ) → Spelled walk (return_value n).form w.Stands
   unfolding return_value
-  return_value_goes n = w.assigned_values most_parens others.Steps >>! λ v m h. semicolon_quiet (rest_of_value true v) >>- λ _. done (refl, w.value_returns n v m h)
+  return_value_goes n =
+      w.assigned_values most_parens others.Steps >>! λ v m h. semicolon_quiet (rest_of_value true v) >>- λ _.
+      done (refl, w.value_returns n v m h)
 
   return_goes : (n : ℕ) → Spelled walk (return_after n).form w.Stands
   unfolding return_after
-  return_goes n = sees_quiet w.tokens (codes ";") >>- λ none. either_spelled none (return_nothing n) (return_value n) (return_nothing_goes n) (return_value_goes n) >>! λ s m h. done (refl, h)
+  return_goes n =
+      sees_quiet w.tokens (codes ";") >>- λ none.
+      either_spelled none (return_nothing n) (return_value n) (return_nothing_goes n) (return_value_goes n) >>! λ s m h. done (refl, h)
 
   leaving_goes : (t : Seen) → Spelled walk (leaving_after t).form w.Stands
   unfolding leaving_after
@@ -375,7 +444,9 @@ module _ {walk : Walk} (w : StatementWalk walk) where
 
     if_goes : Spelled walk (if_after inner).form w.Stands
     unfolding if_after
-    if_goes = controlling_goes >>+ λ c a k. part_goes >>+ λ s m h. maybe_spelled at_else _ else_goes >>! λ e n j. done (refl, w.ifs c s e a m n k h j)
+    if_goes =
+        controlling_goes >>+ λ c a k. part_goes >>+ λ s m h. maybe_spelled at_else _ else_goes >>! λ e n j.
+        done (refl, w.ifs c s e a m n k h j)
 
     while_goes : Spelled walk (while_after inner).form w.Stands
     unfolding while_after
@@ -383,7 +454,9 @@ module _ {walk : Walk} (w : StatementWalk walk) where
 
     do_goes : Spelled walk (do_after inner).form w.Stands
     unfolding do_after
-    do_goes = part_goes >>+ λ s m h. while_word_quiet >>- λ _. controlling_goes >>! λ c a k. semicolon_quiet others.Nothing >>- λ _. done (refl, w.dos s c m a h k)
+    do_goes =
+        part_goes >>+ λ s m h. while_word_quiet >>- λ _. controlling_goes >>! λ c a k.
+        semicolon_quiet others.Nothing >>- λ _. done (refl, w.dos s c m a h k)
 
     for_goes : Spelled walk (for_after inner).form w.Stands
     unfolding for_after
@@ -393,7 +466,8 @@ module _ {walk : Walk} (w : StatementWalk walk) where
 
     switch_goes : Spelled walk (switch_after inner).form w.Stands
     unfolding switch_after
-    switch_goes = switch_value_goes >>+ λ e a k. i standings.SwitchBlock >>! λ b m h. done (refl, switch_goes_on e b a m k h)
+    switch_goes =
+        switch_value_goes >>+ λ e a k. i standings.SwitchBlock >>! λ b m h. done (refl, switch_goes_on e b a m k h)
 
     worded_after_goes : (t : Seen) → Spelled walk (worded_after inner t).form w.Stands
     unfolding worded_after
@@ -406,7 +480,8 @@ module _ {walk : Walk} (w : StatementWalk walk) where
 
     worded_goes : Spelled walk (seen (λ at. at_symbol is_statement at) (worded inner).form) w.Stands
     unfolding worded
-    worded_goes = first_seen some_token.form (λ t. bound (worded_after inner t).form (λ s. made s)) (w.words >>- λ t. worded_after_goes t >>! λ s m h. done (refl, h))
+    worded_goes =
+        first_seen some_token.form (λ t. bound (worded_after inner t).form (λ s. made s)) (w.words >>- λ t. worded_after_goes t >>! λ s m h. done (refl, h))
 
     unworded_long_goes : (o : Others) → Spelled walk (unworded_long inner o).form w.Stands
     unfolding unworded_long
@@ -416,26 +491,35 @@ module _ {walk : Walk} (w : StatementWalk walk) where
 
     unworded_goes : (o : Others) → Spelled walk (unworded inner o).form w.Stands
     unfolding unworded
-    unworded_goes o = sees_quiet w.tokens (codes ";") >>- λ e. either_spelled e empty_statement (unworded_long inner o) empty_statement_goes (unworded_long_goes o) >>! λ s m h. done (refl, h)
+    unworded_goes o =
+        sees_quiet w.tokens (codes ";") >>- λ e.
+        either_spelled e empty_statement (unworded_long inner o) empty_statement_goes (unworded_long_goes o) >>! λ s m h. done (refl, h)
 
     statement_goes : (o : Others) → Spelled walk (statement inner o).form w.Stands
     unfolding statement
-    statement_goes o = seen_value (λ at. at_symbol is_statement at) (worded inner) (unworded inner o) worded_goes (unworded_goes o)
+    statement_goes o =
+        seen_value (λ at. at_symbol is_statement at) (worded inner) (unworded inner o) worded_goes (unworded_goes o)
 
     item_goes : (o : Others) → Spelled walk (item inner o).form w.Stands
     unfolding item
-    item_goes o = judged_spelled >>- λ d. either_spelled d declaration (statement inner o) declaration_goes (statement_goes o) >>! λ s m h. done (refl, h)
+    item_goes o =
+        judged_spelled >>- λ d.
+        either_spelled d declaration (statement inner o) declaration_goes (statement_goes o) >>! λ s m h. done (refl, h)
 
     switch_item_goes : Spelled walk (switch_item inner).form w.Stands
     unfolding switch_item
-    switch_item_goes = judged_spelled >>- λ l. either_spelled l label (item inner others.Nothing) label_goes (item_goes others.Nothing) >>! λ s m h. done (refl, h)
+    switch_item_goes =
+        judged_spelled >>- λ l.
+        either_spelled l label (item inner others.Nothing) label_goes (item_goes others.Nothing) >>! λ s m h.
+        done (refl, h)
 
     placed_goes : (place : Standing) → Spelled walk (placed_statement inner place).form (IsStanding place)
     unfolding placed_statement
     placed_goes standings.Part = spelled_as (statement_goes others.Labels) (λ s m h. (h, tt))
     placed_goes standings.Item = spelled_as (item_goes others.Labels) (λ s m h. (h, tt))
     placed_goes standings.SwitchItem = spelled_as switch_item_goes (λ s m h. (h, tt))
-    placed_goes standings.SwitchBlock = block_goes others.Statements (inner standings.SwitchItem) (spelled_as (i standings.SwitchItem) (λ s m h. h.0))
+    placed_goes standings.SwitchBlock =
+        block_goes others.Statements (inner standings.SwitchItem) (spelled_as (i standings.SwitchItem) (λ s m h. h.0))
 
   -- ---- nesting
 
@@ -443,12 +527,17 @@ module _ {walk : Walk} (w : StatementWalk walk) where
   none_fits f g x true e = ok_no_err x f e
   none_fits f g x false e = ok_no_err x g e
 
-  too_nested_goes : {P : Statement → walk.Count → Type 0} (place : Standing) → Spelled walk (one (fits_too_nested place)).form P
-  too_nested_goes place = never_spelled (fits_too_nested place) (λ t x e. none_fits (Limit which.Nesting 33) (misfit (others_at place) t) x (may_begin place t.symbol) e)
+  too_nested_goes : {P : Statement → walk.Count → Type 0} (place : Standing)
+      → Spelled walk (one (fits_too_nested place)).form P
+  too_nested_goes place =
+      never_spelled (fits_too_nested place) (λ t x e. none_fits (Limit which.Nesting 33) (misfit (others_at place) t) x (may_begin place t.symbol) e)
 
   innermost_item_goes : (place : Standing) → Spelled walk (innermost_item place).form w.Stands
   unfolding innermost_item
-  innermost_item_goes place = judged_spelled >>- λ d. either_spelled d declaration (one (fits_too_nested place)) declaration_goes (too_nested_goes place) >>! λ s m h. done (refl, h)
+  innermost_item_goes place =
+      judged_spelled >>- λ d.
+      either_spelled d declaration (one (fits_too_nested place)) declaration_goes (too_nested_goes place) >>! λ s m h.
+      done (refl, h)
 
   innermost_goes : (place : Standing) → Spelled walk (innermost place).form (IsStanding place)
   unfolding innermost

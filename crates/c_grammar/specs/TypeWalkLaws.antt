@@ -119,7 +119,9 @@ module _ {walk : Walk} (tokens : TypeTokens walk) where
 
   pub type_of_quiet : (setting : Setting) → Quiet walk (type_of setting).form
   unfolding type_of
-  type_of_quiet setting = tokens.specifiers setting no_words >>- λ w. chain_quiet at_specifier _ (tokens.specifiers setting) w >>- λ ws. type_told_quiet ws >>- λ o. done refl
+  type_of_quiet setting =
+      tokens.specifiers setting no_words >>- λ w. chain_quiet at_specifier _ (tokens.specifiers setting) w >>- λ ws.
+      type_told_quiet ws >>- λ o. done refl
 
   pub integer_told_quiet : (o : Others) (t : Outcome) → Quiet walk (integer_told o t).form
   unfolding integer_told
@@ -135,7 +137,9 @@ module _ {walk : Walk} (tokens : TypeTokens walk) where
 
   pub star_quiet : Quiet walk star.form
   unfolding star
-  star_quiet = tokens.marks (codes "*") others.Nothing star_prints >>- λ _. row_quiet at_const _ const_word_quiet >>- λ consts. done refl
+  star_quiet =
+      tokens.marks (codes "*") others.Nothing star_prints >>- λ _. row_quiet at_const _ const_word_quiet >>- λ consts.
+      done refl
 
   pub pointer_to_quiet : (i : Integer) → Quiet walk (pointer_to i).form
   unfolding pointer_to
@@ -143,7 +147,8 @@ module _ {walk : Walk} (tokens : TypeTokens walk) where
 
   pub pointer_stars_quiet : (p : Bool) (i : Integer) → Quiet walk (pointer_stars p i).form
   unfolding pointer_stars
-  pointer_stars_quiet p i = either_spelled p (weaken (pointer_to i)) (value (scalars.Integer i)) (pointer_to_quiet i) (done refl)
+  pointer_stars_quiet p i =
+      either_spelled p (weaken (pointer_to i)) (value (scalars.Integer i)) (pointer_to_quiet i) (done refl)
 
   pub minus_sign_quiet : Quiet walk minus_sign.form
   unfolding minus_sign
@@ -159,7 +164,10 @@ module _ {walk : Walk} (tokens : TypeTokens walk) where
 
   pub signed_constant_quiet : (o : Others) → Quiet walk (signed_constant o).form
   unfolding signed_constant
-  signed_constant_quiet o = sees_quiet (codes "-") >>- λ m. either_spelled m minus_constant (plain_constant o) minus_constant_quiet (plain_constant_quiet o) >>- λ c. done refl
+  signed_constant_quiet o =
+      sees_quiet (codes "-") >>- λ m.
+      either_spelled m minus_constant (plain_constant o) minus_constant_quiet (plain_constant_quiet o) >>- λ c.
+      done refl
 
   pub assign_mark_quiet : Quiet walk assign_mark.form
   unfolding assign_mark
@@ -171,7 +179,9 @@ module _ {walk : Walk} (tokens : TypeTokens walk) where
 
   pub element_quiet : Quiet walk element.form
   unfolding element
-  element_quiet = signed_constant_quiet others.ExpressionsAndBraces >>- λ c. before_either_quiet (codes ",") (codes "}") after_constant >>- λ _. done refl
+  element_quiet =
+      signed_constant_quiet others.ExpressionsAndBraces >>- λ c.
+      before_either_quiet (codes ",") (codes "}") after_constant >>- λ _. done refl
 
   pub further_element_quiet : Quiet walk further_element.form
   unfolding further_element
@@ -183,11 +193,15 @@ module _ {walk : Walk} (tokens : TypeTokens walk) where
 
   pub elements_quiet : Quiet walk elements.form
   unfolding elements
-  elements_quiet = element_quiet >>- λ c. row_quiet at_further _ further_element_quiet >>- λ cs. maybe_quiet at_list_comma _ comma_mark_quiet >>- λ last. close_brace_quiet >>- λ _. done refl
+  elements_quiet =
+      element_quiet >>- λ c. row_quiet at_further _ further_element_quiet >>- λ cs.
+      maybe_quiet at_list_comma _ comma_mark_quiet >>- λ last. close_brace_quiet >>- λ _. done refl
 
   pub element_list_quiet : Quiet walk element_list.form
   unfolding element_list
-  element_list_quiet = assign_mark_quiet >>- λ _. tokens.marks (codes "{") others.Expressions open_brace_prints >>- λ _. elements_quiet >>- λ cs. done refl
+  element_list_quiet =
+      assign_mark_quiet >>- λ _. tokens.marks (codes "{") others.Expressions open_brace_prints >>- λ _.
+      elements_quiet >>- λ cs. done refl
 
   pub left_bracket_quiet : Quiet walk left_bracket.form
   unfolding left_bracket
@@ -203,7 +217,9 @@ module _ {walk : Walk} (tokens : TypeTokens walk) where
 
   pub pointer_parameter_quiet : (n : ℕ) (i : Integer) → Quiet walk (pointer_parameter n i).form
   unfolding pointer_parameter
-  pointer_parameter_quiet n i = star_quiet >>- λ _. maybe_quiet at_name _ (tokens.names others.Nothing) >>- λ t. parameter_end_quiet (after_pointer t) >>- λ _. done refl
+  pointer_parameter_quiet n i =
+      star_quiet >>- λ _. maybe_quiet at_name _ (tokens.names others.Nothing) >>- λ t.
+      parameter_end_quiet (after_pointer t) >>- λ _. done refl
 
   pub empty_brackets_quiet : (i : Integer) → Quiet walk (empty_brackets i).form
   unfolding empty_brackets
@@ -211,19 +227,26 @@ module _ {walk : Walk} (tokens : TypeTokens walk) where
 
   pub bracketed_type_quiet : (b : Bool) (i : Integer) → Quiet walk (bracketed_type b i).form
   unfolding bracketed_type
-  bracketed_type_quiet b i = either_spelled b (weaken (empty_brackets i)) (value (scalars.Integer i)) (empty_brackets_quiet i) (done refl)
+  bracketed_type_quiet b i =
+      either_spelled b (weaken (empty_brackets i)) (value (scalars.Integer i)) (empty_brackets_quiet i) (done refl)
 
   pub plain_parameter_quiet : (n : ℕ) (i : Integer) → Quiet walk (plain_parameter n i).form
   unfolding plain_parameter
-  plain_parameter_quiet n i = maybe_quiet at_name _ (tokens.names others.Nothing) >>- λ t. sees_quiet (codes "[") >>- λ b. bracketed_type_quiet b i >>- λ k. parameter_end_quiet (after_plain b t) >>- λ _. done refl
+  plain_parameter_quiet n i =
+      maybe_quiet at_name _ (tokens.names others.Nothing) >>- λ t. sees_quiet (codes "[") >>- λ b.
+      bracketed_type_quiet b i >>- λ k. parameter_end_quiet (after_plain b t) >>- λ _. done refl
 
   pub parameter_tail_quiet : (n : ℕ) (i : Integer) → Quiet walk (parameter_tail n i).form
   unfolding parameter_tail
-  parameter_tail_quiet n i = sees_quiet (codes "*") >>- λ p. either_spelled p (weaken (pointer_parameter n i)) (plain_parameter n i) (pointer_parameter_quiet n i) (plain_parameter_quiet n i) >>- λ r. done refl
+  parameter_tail_quiet n i =
+      sees_quiet (codes "*") >>- λ p.
+      either_spelled p (weaken (pointer_parameter n i)) (plain_parameter n i) (pointer_parameter_quiet n i) (plain_parameter_quiet n i) >>- λ r. done refl
 
   pub further_parameter_quiet : Quiet walk further_parameter.form
   unfolding further_parameter
-  further_parameter_quiet = comma_mark_quiet >>- λ _. next_number_quiet >>- λ n. integer_type_quiet settings.Parameter >>- λ i. parameter_tail_quiet n i >>- λ p. done refl
+  further_parameter_quiet =
+      comma_mark_quiet >>- λ _. next_number_quiet >>- λ n. integer_type_quiet settings.Parameter >>- λ i.
+      parameter_tail_quiet n i >>- λ p. done refl
 
   pub right_paren_quiet : (o : Others) → Quiet walk (right_paren o).form
   unfolding right_paren
@@ -231,7 +254,9 @@ module _ {walk : Walk} (tokens : TypeTokens walk) where
 
   pub parameters_from_quiet : (n : ℕ) (i : Integer) → Quiet walk (parameters_from n i).form
   unfolding parameters_from
-  parameters_from_quiet n i = parameter_tail_quiet n i >>- λ p. row_quiet at_list_comma _ further_parameter_quiet >>- λ ps. right_paren_quiet others.Nothing >>- λ _. done refl
+  parameters_from_quiet n i =
+      parameter_tail_quiet n i >>- λ p. row_quiet at_list_comma _ further_parameter_quiet >>- λ ps.
+      right_paren_quiet others.Nothing >>- λ _. done refl
 
   pub void_parameters_quiet : Quiet walk void_parameters.form
   unfolding void_parameters
@@ -243,7 +268,9 @@ module _ {walk : Walk} (tokens : TypeTokens walk) where
 
   pub some_parameters_quiet : Quiet walk some_parameters.form
   unfolding some_parameters
-  some_parameters_quiet = next_number_quiet >>- λ n. type_of_quiet settings.FirstParameter >>- λ o. parameters_after_quiet n o >>- λ ps. done refl
+  some_parameters_quiet =
+      next_number_quiet >>- λ n. type_of_quiet settings.FirstParameter >>- λ o. parameters_after_quiet n o >>- λ ps.
+      done refl
 
   pub no_parameters_quiet : Quiet walk no_parameters.form
   unfolding no_parameters
@@ -251,4 +278,5 @@ module _ {walk : Walk} (tokens : TypeTokens walk) where
 
   pub parameters_quiet : Quiet walk parameters.form
   unfolding parameters
-  parameters_quiet = sees_quiet (codes ")") >>- λ none. either_spelled none no_parameters some_parameters no_parameters_quiet some_parameters_quiet >>- λ ps. done refl
+  parameters_quiet =
+      sees_quiet (codes ")") >>- λ none. either_spelled none no_parameters some_parameters no_parameters_quiet some_parameters_quiet >>- λ ps. done refl

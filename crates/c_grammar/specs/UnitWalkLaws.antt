@@ -27,18 +27,24 @@ pub record UnitWalk (walk : Walk) : Type 1 where
   pub known : (text : List ℕ) (gives : Bool) → Quiet walk (declares text gives).form
   pub arrays : Quiet walk array.form
   pub declarations : (n : ℕ) (o : Outcome) (ds : List DeclaratorTree) → External (Declaration n o ds) walk.none
-  pub definitions : (n : ℕ) (o : Outcome) (name : ℕ) (ps : List Parameter) (ss : List Statement) (m : walk.Count) → statements.Stand ss m → External (Definition n o name ps ss) m
+  pub definitions : (n : ℕ) (o : Outcome) (name : ℕ) (ps : List Parameter) (ss : List Statement) (m : walk.Count)
+      → statements.Stand ss m → External (Definition n o name ps ss) m
   pub no_externals : Externals [] walk.none
-  pub more_externals : (x : ExternalTree) (xs : List ExternalTree) (a m : walk.Count) → External x a → Externals xs m → Externals (x ∷ xs) (walk.join a m)
+  pub more_externals : (x : ExternalTree) (xs : List ExternalTree) (a m : walk.Count) → External x a → Externals xs m
+      → Externals (x ∷ xs) (walk.join a m)
 
 module _ {walk : Walk} (w : UnitWalk walk) where
   global_initial_quiet : Quiet walk global_initial.form
   unfolding global_initial
-  global_initial_quiet = assign_mark_quiet w.statements.tokens >>- λ _. signed_constant_quiet w.statements.tokens others.ExpressionsAndBraces >>- λ c. done refl
+  global_initial_quiet =
+      assign_mark_quiet w.statements.tokens >>- λ _.
+      signed_constant_quiet w.statements.tokens others.ExpressionsAndBraces >>- λ c. done refl
 
   global_integer_quiet : Quiet walk global_integer.form
   unfolding global_integer
-  global_integer_quiet = maybe_quiet at_assign _ global_initial_quiet >>- λ c. before_either_quiet w.statements.tokens (codes ",") (codes ";") (after_global c) >>- λ _. done refl
+  global_integer_quiet =
+      maybe_quiet at_assign _ global_initial_quiet >>- λ c.
+      before_either_quiet w.statements.tokens (codes ",") (codes ";") (after_global c) >>- λ _. done refl
 
   global_array_quiet : Quiet walk global_array.form
   unfolding global_array
@@ -56,7 +62,9 @@ module _ {walk : Walk} (w : UnitWalk walk) where
 
   prototype_quiet : (o : Outcome) (t : Seen) → Quiet walk (prototype o t).form
   unfolding prototype
-  prototype_quiet o t = open_paren_quiet >>- λ _. parameters_quiet w.statements.tokens >>- λ ps. w.known t.text (gives o) >>- λ _. done refl
+  prototype_quiet o t =
+      open_paren_quiet >>- λ _. parameters_quiet w.statements.tokens >>- λ ps. w.known t.text (gives o) >>- λ _.
+      done refl
 
   declarator_quiet : (o : Outcome) → Quiet walk (declarator o).form
   unfolding declarator
@@ -81,11 +89,15 @@ module _ {walk : Walk} (w : UnitWalk walk) where
 
   open_body_quiet : (count : ℕ) → Quiet walk (open_body count).form
   unfolding open_body
-  open_body_quiet count = w.statements.tokens.marks (codes "{") others.Nothing open_brace_prints >>- λ _. w.functions >>- λ _. w.frames count >>- λ _. done refl
+  open_body_quiet count =
+      w.statements.tokens.marks (codes "{") others.Nothing open_brace_prints >>- λ _. w.functions >>- λ _.
+      w.frames count >>- λ _. done refl
 
   definition_goes : (n : ℕ) (o : Outcome) (d : DeclaratorTree) → Spelled walk (definition_after n o d).form w.External
   unfolding definition_after
-  definition_goes n o d = open_body_quiet (length (parameters_of d.shape)) >>- λ _. body_goes >>! λ ss m h. done (refl, w.definitions n o d.name (parameters_of d.shape) ss m h)
+  definition_goes n o d =
+      open_body_quiet (length (parameters_of d.shape)) >>- λ _. body_goes >>! λ ss m h.
+      done (refl, w.definitions n o d.name (parameters_of d.shape) ss m h)
 
   sees_body_quiet : (d : DeclaratorTree) → Quiet walk (sees_body d).form
   unfolding sees_body
@@ -93,7 +105,9 @@ module _ {walk : Walk} (w : UnitWalk walk) where
 
   external_after_goes : (n : ℕ) (o : Outcome) (d : DeclaratorTree) → Spelled walk (external_after n o d).form w.External
   unfolding external_after
-  external_after_goes n o d = sees_body_quiet d >>- λ b. either_spelled b (definition_after n o d) (declaration_after n o d) (definition_goes n o d) (declaration_goes n o d) >>! λ e m h. done (refl, h)
+  external_after_goes n o d =
+      sees_body_quiet d >>- λ b.
+      either_spelled b (definition_after n o d) (declaration_after n o d) (definition_goes n o d) (declaration_goes n o d) >>! λ e m h. done (refl, h)
 
   external_goes : Spelled walk external.form w.External
   unfolding external

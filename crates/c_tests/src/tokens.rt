@@ -1,7 +1,8 @@
 //! Texts and their tokens, worked out by hand from the rules of C99.
 
 use crate::answers::field;
-use c_tokens::{Cursor, Kind, Token, is_keyword, place_of};
+use c_tokens::{Cursor, Kind, Token, is_keyword};
+use flow_base::place_of;
 use std::alloc::{AllocError, Global};
 use std::test::Fail;
 

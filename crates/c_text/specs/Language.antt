@@ -15,7 +15,7 @@ use Rattle.std.specs.List.{slice_get}
 use Rattle.flow_base.specs.declared.place.Place.{Place}
 use Rattle.flow_base.specs.declared.place.Which.{Which}
 use Rattle.c_tokens.specs.Tokens.{tokens_of}
-use Rattle.c_tokens.specs.Places.{place_after}
+use Rattle.flow_base.specs.Places.{place_after}
 use Rattle.c_unit.specs.Tree.{ExternalTree}
 use Rattle.c_unit.specs.Units.{Word, word_of, UnitTree}
 use Rattle.c_grammar.specs.Tokens.{Fault, Room, most_functions, most_frames, most_elements}

@@ -7,9 +7,8 @@ ghost use Rattle.c_text.specs.Language.{OutsideAt, words_of, end_of, word_at, wo
 
 use crate::fault::CTextFault;
 use c_reader::{CutToken, Departure};
-use c_tokens::place_of;
 use c_unit::{Span, range};
-use flow_base::{Name, Place};
+use flow_base::{Name, Place, place_of};
 use std::alloc::Global;
 
 // The range of the token of this number, or of the end of the text.

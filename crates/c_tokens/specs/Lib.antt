@@ -8,7 +8,6 @@ pub mod Keywords
 pub mod Kinds
 pub mod Tokens
 pub mod Cutting
-pub mod Places
 pub mod Ahead
 pub mod Printed
 pub mod Laws

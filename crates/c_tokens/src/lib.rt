@@ -24,9 +24,8 @@ mod punctuators;
 mod cursor;
 mod lexer;
 
-// Which tokens are keywords, and where they stand.
+// Which tokens are keywords.
 mod keywords;
-mod places;
 
 // What the definitions promise of tokens.
 mod laws;
@@ -43,7 +42,6 @@ pub use laws::{
     printed_texts_are_cut, texts_are_their_pieces, tokens_are_known_by_their_texts,
     tokens_stand_in_their_texts,
 };
-pub use places::place_of;
 pub use token::{Kind, Token};
 pub use worked::{characters_have_their_worth, constants_have_their_worth};
 pub use worth::{Worth, worth_of};

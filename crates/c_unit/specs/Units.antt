@@ -6,7 +6,7 @@
 use Rattle.std.specs.Prelude.{ℕ, List, map, take, drop}
 use Rattle.flow_base.specs.declared.place.Place.{Place}
 use Rattle.c_tokens.specs.Tokens.{Lexeme}
-use Rattle.c_tokens.specs.Places.{place_after, place_of}
+use Rattle.flow_base.specs.Places.{place_after, place_of}
 use Rattle.c_unit.specs.declared.tokens.Span.{Span}
 use Rattle.c_unit.specs.declared.unit.CUnit.{CUnit}
 use Rattle.c_unit.specs.Tree.{ExternalTree, external_of}

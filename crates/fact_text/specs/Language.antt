@@ -7,9 +7,9 @@
 --   Means bytes meaning           the bytes spell the report, or depart so
 --   HasOneMeaning bytes           they have exactly one meaning
 --   departure_of answer           the departure of an answer of `read`, or none where memory ran out
-use Rattle.std.specs.Prelude.{◌≡◌, ◌+◌, ◌-◌, ◌==◌, ℕ, not, Bool, List, length, take, filter, reverse, Result, Ok, Err, Option}
-use Rattle.std.specs.List.{prefix_len}
+use Rattle.std.specs.Prelude.{◌≡◌, ℕ, List, Result, Ok, Err, Option}
 use Rattle.flow_base.specs.declared.place.Place.{Place}
+use Rattle.flow_base.specs.Places.{place_of}
 use Rattle.flow_facts.specs.Reports.{Reported}
 use Rattle.fact_words.specs.Tokens.{tokens_of}
 use Rattle.fact_words.specs.declared.fault.FaultAt.{FaultAt}
@@ -33,23 +33,6 @@ IsSpelled whole = (bytes : List ℕ) × SpellsReport bytes whole
 -- the bytes are no spelling, and this is where they leave the grammar first
 abbrev pub DepartsWith : List ℕ → Fault → Type 0
 DepartsWith bytes fault = report.form.Departs (start bytes) fault
-
--- ---- places
-
-abbrev pub is_line_feed : ℕ → Bool
-is_line_feed byte = byte == 10
-
--- the place after these bytes: lines and columns count from 1, and a line ends after each line feed
-abbrev pub place_after : List ℕ → Place
-place_after prefix = record {
-  offset = length prefix;
-  line = length (filter is_line_feed prefix) + 1;
-  column = prefix_len (λ byte. not (is_line_feed byte)) (reverse prefix) + 1;
-}
-
--- the place in the text where so many bytes are left
-abbrev pub place_of : List ℕ → ℕ → Place
-place_of bytes left = place_after (take (length bytes - left) bytes)
 
 -- ---- meanings
 

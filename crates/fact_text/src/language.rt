@@ -1,16 +1,15 @@
 //! Texts and what they mean.
 
-ghost use Rattle.std.specs.Prelude.{◌≡◌, ◌-◌, ◌<◌, ◌≤◌, ◌^◌, ◌↔◌, ℕ, IsTrue, not, List, length, filter, reverse, Ok, Err, IfOk, IfErr, IfSome, IsSomeAnd};
-ghost use Rattle.std.specs.List.{prefix_len};
+ghost use Rattle.std.specs.Prelude.{◌≡◌, ◌-◌, ◌<◌, ◌^◌, ◌↔◌, ℕ, IsTrue, List, length, Ok, Err, IfOk, IfErr, IfSome, IsSomeAnd};
 ghost use Rattle.flow_facts.specs.Reports.{reported};
 ghost use Rattle.flow_facts.specs.Writable.{IsWritable};
 ghost use Rattle.fact_text.specs.Reading.{fault_of};
-ghost use Rattle.fact_text.specs.Language.{Means, HasOneMeaning, departure_of, placed, place_of, place_after, is_line_feed};
+ghost use Rattle.fact_text.specs.Language.{Means, HasOneMeaning, departure_of, placed};
 
 use crate::laws::writable_reports_are_spelled;
 use crate::reader::Reader;
 use fact_words::{Departure, ReportFault};
-use flow_base::Place;
+use flow_base::place_of;
 use flow_facts::Report;
 use std::alloc::Global;
 
@@ -72,42 +71,4 @@ fn told(bytes: &[u8], departure: Departure) -> ReportFault
         Departure::Number(left) => ReportFault::Number(place_of(bytes, left)),
         Departure::Memory => ReportFault::Memory,
     }
-}
-
-// The place where so many bytes are left.
-fn place_of(bytes: &[u8], left: usize) -> Place
-    ensures { result ≡ place_of bytes.now left }
-{
-    let prefix = bytes.len().saturating_sub(left);
-    place_after(&bytes[..prefix])
-}
-
-// The place after these bytes.
-fn place_after(prefix: &[u8]) -> Place
-    ensures { result ≡ place_after prefix.now }
-{
-    Place {
-        offset: prefix.len() as u64,
-        line: line_feeds(prefix) as u64 + 1,
-        column: last_line_len(prefix) as u64 + 1,
-    }
-}
-
-fn line_feeds(prefix: &[u8]) -> usize
-    ensures count { result ≡ length (filter is_line_feed prefix.now) }
-    ensures within { result ≤ length prefix.now }
-{
-    prefix.iter().filter(|byte| **byte == b'\n').count()
-}
-
-// How many bytes stand after the last line feed.
-fn last_line_len(prefix: &[u8]) -> usize
-    ensures count { result ≡ prefix_len (λ byte. not (is_line_feed byte)) (reverse prefix.now) }
-    ensures within { result ≤ length prefix.now }
-{
-    prefix
-        .iter()
-        .rev()
-        .take_while(|byte| **byte != b'\n')
-        .count()
 }

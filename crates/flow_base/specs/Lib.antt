@@ -1,4 +1,5 @@
--- Digits, and the outside: counts and files, shelves, sinks, and those in memory.
+-- Places and digits, and the outside: counts and files, shelves, sinks, and those in memory.
+pub mod Places
 pub mod Digits
 pub mod Outside
 pub mod Shelves

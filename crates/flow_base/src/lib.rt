@@ -12,6 +12,7 @@
 mod name;
 mod numeral;
 mod place;
+mod places;
 
 // The outside: what is asked of it.
 mod shelf;
@@ -33,6 +34,7 @@ pub use memory_sink::MemorySink;
 pub use name::Name;
 pub use numeral::digits;
 pub use place::{Place, Which};
+pub use places::place_of;
 pub use shelf::{ReadError, Shelf};
 pub use sink::{Sink, WriteError};
 pub use standard::StdSink;

@@ -1,9 +1,10 @@
+//! Places in a text, told by what stands before them.
+
 ghost use Rattle.std.specs.Prelude.{◌≡◌, ◌≤◌, length, filter, reverse};
 ghost use Rattle.std.specs.List.{prefix_len};
-ghost use Rattle.c_tokens.specs.Bytes.{is_line_feed, in_line};
-ghost use Rattle.c_tokens.specs.Places.{place_after, place_of};
+ghost use Rattle.flow_base.specs.Places.{in_line, is_line_feed, place_after, place_of};
 
-use flow_base::Place;
+use crate::place::Place;
 
 /// The place in a text where so many of its bytes are left. Takes no memory, and goes over what
 /// stands before the place.

@@ -29,6 +29,7 @@ pub fn words_are_cut_and_computed()
 pub fn operators_have_their_own_names()
     ensures { HaveOwnNames }
 {
+    // Its clauses hold the rows, in which the names are seen to differ.
     let _ = rows();
 }
 

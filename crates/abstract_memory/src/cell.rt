@@ -33,6 +33,7 @@ fn next_cell(members: Strided, bits: u32, size: u32, from: u32) -> Option<u32>
     ensures within { IfSome result (λ offset. offset < bits / 8) }
     ensures first { IfSome result (λ offset. (frame : ℕ) → cells_from frame bits size members from ≡ (frame, offset) ∷ cells_from frame bits size members (offset + 1)) }
 {
+    // Brings in that their progression has its stride and small numbers.
     let _ = members.numbers();
     match next_offset(members, from) {
         None => None,

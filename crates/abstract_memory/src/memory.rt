@@ -234,6 +234,7 @@ impl<'a> AMem<'a> {
         ensures kept { OnOk result (IsMemory self.new) }
         ensures pinned { OnOk result (memory_in self.new ≡ pinned_at abstract_sets (memory_in self.old) (frame, offset) size (alone (Words value))) }
     {
+        // Brings in that their progression has its stride and small numbers.
         let _ = value.numbers();
         pin_in(alloc, &mut self.frames, (frame, offset), size, value)
     }

@@ -120,5 +120,6 @@ fn put(frames: &mut Frames, frame: u32, offset: u32, value: Value)
     ensures puts { (history : List RunEvent) → StandsFor frames.old history → HasRoom (shapes frames.old) history frame offset value
         → StandsFor frames.new (RunEvent.Store frame offset (size_of value) value ∷ history) }
 {
+    // The store has no fault here, so that its answer says nothing.
     let _ = frames.store(Value::Ptr { frame, offset }, value);
 }

@@ -84,6 +84,7 @@ fn cut(words: Strided, size: u32) -> Strided
     ensures value { result ≡ cut_of size words }
     ensures sized { result.size ≡ size }
 {
+    // Brings in that their progression has its stride and small numbers.
     let _ = words.numbers();
     let sizes = [words.size(), size];
     let args = [words];

@@ -28,6 +28,7 @@ pub fn scopes_are_nested(k: ScopeKind, l: ScopeKind)
     ensures { (plan : Plan) → IsPlan plan → (g h x : ℕ) → IsHeader plan k g → IsHeader plan l h → g ≢ h → x < length plan.places
         → InScope plan k g x → InScope plan l h x → IsInside plan k g l h ⊎ IsInside plan l h k g }
 {
+    // Both are read, so that they are known to be of their type.
     let _ = k;
     let _ = l;
 }
@@ -37,6 +38,7 @@ pub fn scopes_are_entered_at_their_headers(kind: ScopeKind)
     ensures { (plan : Plan) → IsPlan plan → (h u v : ℕ) → IsHeader plan kind h → leads plan u v → v < length plan.places → InScope plan kind h v
         → (v ≡ h) ⊎ InScope plan kind h u }
 {
+    // Read, so that it is known to be one of its type.
     let _ = kind;
 }
 
@@ -97,5 +99,6 @@ pub fn fault_sets_are_sets(a: FaultSet, b: FaultSet, kind: RunFault, other: RunF
     ensures kept { kind ≢ other → has_fault (with_fault a kind) other ≡ has_fault a other }
     ensures united { has_fault (either a b) kind ≡ (has_fault a kind || has_fault b kind) }
 {
+    // Read, so that each is known to be one of its type.
     let _ = (a, b, kind, other);
 }

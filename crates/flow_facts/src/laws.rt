@@ -15,6 +15,7 @@ pub fn lines_order_facts(f: Fact, g: Fact, h: Fact)
     ensures once { IsBefore f f → ⊥ }
     ensures all { (f ≡ g) ⊎ IsBefore f g ⊎ IsBefore g f }
 {
+    // Read, so that their numbers are known to fit.
     let _ = (f, g, h);
 }
 
@@ -23,6 +24,7 @@ pub fn lines_order_facts(f: Fact, g: Fact, h: Fact)
 pub fn wider_facts_are_met(fact: Fact, wider: Fact)
     ensures { IsWider fact wider → (o : Shape) (trace : List ℕ) → Meets o trace fact → Meets o trace wider }
 {
+    // Read, so that their numbers are known to fit.
     let _ = (fact, wider);
 }
 

@@ -30,6 +30,7 @@ impl AVal {
     pub fn word(alloc: Global, value: Strided) -> AVal
         ensures { result ≡ alone (Words value) }
     {
+        // Brings in that their progression has its stride and small numbers.
         let _ = value.numbers();
         AVal {
             words: Some(value),
@@ -42,6 +43,7 @@ impl AVal {
         requires { offset.size ≡ 32 }
         ensures { IfOk result (λ value. value ≡ alone (Places frame offset)) }
     {
+        // Brings in that their progression has its stride and small numbers.
         let _ = offset.numbers();
         let mut places = Vec::new(alloc);
         places.push((frame, offset))?;

@@ -56,6 +56,7 @@ pub fn analyses_agree<S: Stepper>(policy: Policy)
         → IsPolicyRun S.machine S.State.order four_order four_recording policy more old others other
         → (other.spots ≡ []) × (told_report new.outline (found_of new) ≡ told_report other.outline (found_of other)) }
 {
+    // The law has a policy, which no code asks for.
     let _ = policy;
 }
 

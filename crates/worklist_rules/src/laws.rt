@@ -63,5 +63,6 @@ pub fn a_pool_has_one_policy_run<S: Stepper, R: Recorder>(policy: Policy)
     ensures longer { (turns more : ℕ) (old new : Pooled S S.State R R.Book) (events : List Event) → new.steps ≤ more
         → IsPolicyRun S.machine S.State.order R.order R.recording policy turns old events new → new.spots ≡ [] → IsPolicyRun S.machine S.State.order R.order R.recording policy more old events new }
 {
+    // The law has a policy, which no code asks for.
     let _ = policy;
 }

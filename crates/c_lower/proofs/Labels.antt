@@ -18,5 +18,5 @@ few_labels few unit spelled short =
     each_by_number (λ (function : Function). labels_in_all function.body < 2 ^ 64) (functions_of unit)
     (λ f function at.
     let here : labels_in_all function.body ≤ 4 * length unit.words = few unit spelled f function at in
-    let words : length unit.words ≤ 4294967296 = short in
+    let words : length unit.words < 4611686018427387904 = short in
     omega arith)

@@ -1,7 +1,7 @@
 -- What is made of a unit.
 --   few_tokens   a unit has as many tokens as its text
 --   is_lowered   the checked program of what the unit is lowered to is one to which it is lowered
-use Rattle.std.proofs.Common.{◌≡◌, ◌≤◌, ℕ, List, length, refl, sym, subst}
+use Rattle.std.proofs.Common.{◌≡◌, ◌<◌, ℕ, List, length, refl, sym, subst}
 use Rattle.std.proofs.lemmas.List.{length-map}
 use Rattle.alf_program.specs.Writable.{IsWritable}
 use Rattle.alf_check.specs.CheckedPrograms.{NumberedProgram}
@@ -14,8 +14,8 @@ use Rattle.c_lowered.specs.Programs.{lowered}
 use Rattle.lowering_simulation.specs.Correct.{IsLowered}
 use Rattle.c_lower.specs.Passing.{TextHasFewTokens}
 
-pub few_tokens : (unit : CUnit) → length unit.tokens.items ≤ 4294967296 → TextHasFewTokens (unit_of unit)
-few_tokens unit low = subst (λ (n : ℕ). n ≤ 4294967296) (sym (length-map unit.tokens.items (word_of_span unit.text.items))) low
+pub few_tokens : (unit : CUnit) → length unit.tokens.items < 4611686018427387904 → TextHasFewTokens (unit_of unit)
+few_tokens unit low = subst (λ (n : ℕ). n < 4611686018427387904) (sym (length-map unit.tokens.items (word_of_span unit.text.items))) low
 
 pub is_lowered : (unit : UnitTree) (root : List ℕ) (program : NumberedProgram) → IsKept program → IsWritable (lowered unit) → Passes (lowered unit) root
     → program ≡ numbered (lowered unit) root → IsLowered unit root program

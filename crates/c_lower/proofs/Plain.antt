@@ -9,7 +9,7 @@ use Rattle.c_lowered.specs.Statements.{labels_in_all}
 use Rattle.lowering_simulation.specs.Correct.{UnitIsPlain}
 use Rattle.c_limits.specs.PlainSpelled.{SpelledUnitsArePlain}
 use Rattle.c_limits.specs.LabelSpelled.{SpelledUnitsHaveFewLabels}
-use Rattle.c_lower.specs.Lowering.{TextHasFewTokens}
+use Rattle.c_lower.specs.Passing.{TextHasFewTokens}
 
 there : (unit : UnitTree) (f : ℕ) → f < length (functions_of unit) → slice_get (functions_of unit) f ≡ Some (function_at (program_of unit) f)
 there unit f low =
@@ -26,6 +26,6 @@ unit_plain plain few unit spelled short = record {
   plain = λ f low. plain unit spelled f (function_at (program_of unit) f) (there unit f low);
   few_labels = λ f. few_of (2 ^ 64) (slice_get (functions_of unit) f) (λ function at.
       let few_here : labels_in_all function.body ≤ 4 * length unit.words = few unit spelled f function at in
-      let words : length unit.words ≤ 4294967296 = short in
+      let words : length unit.words < 4611686018427387904 = short in
       omega arith);
 }

@@ -1,8 +1,7 @@
 -- Each checked program to which a text of C is lowered has the outcome of the text.
---   TextHasFewTokens        the tokens of a text are fewer than its labels may be
 --   SpelledProgramsAreRight the law for cells of the unit: faults included, in as many turns as steps
 --   SpelledStartsAreRight   the law for each list of numbers inside the ranges of the program's input rows
-use Rattle.std.specs.Prelude.{◌≤◌, ◌^◌, ℕ, ℤ, List, length}
+use Rattle.std.specs.Prelude.{ℕ, ℤ, List}
 use Rattle.alf_check.specs.declared.rows.InputRow.{InputRow}
 use Rattle.alf_check.specs.CheckedPrograms.{NumberedProgram}
 use Rattle.alf_check.specs.Inputs.{KeepInputs}
@@ -16,10 +15,7 @@ use Rattle.lowering_values.specs.Agreement.{AreCells}
 use Rattle.lowering_simulation.specs.Outcomes.{IsSameOutcome}
 use Rattle.lowering_simulation.specs.Correct.{IsLowered}
 use Rattle.lowering_simulation.specs.Lowering.{HasOutcomeOfCells}
-
--- a number of 32 bits has place for each
-abbrev pub TextHasFewTokens : UnitTree → Type 0
-TextHasFewTokens unit = length unit.words ≤ 2 ^ 32
+use Rattle.c_lower.specs.Passing.{TextHasFewTokens}
 
 abbrev pub SpelledProgramsAreRight : Type 0
 SpelledProgramsAreRight = (unit : UnitTree) (name ranks : List ℕ) (program : NumberedProgram)

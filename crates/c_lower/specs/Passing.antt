@@ -1,8 +1,8 @@
 -- What becomes of the lowered program of a text of few tokens.
---   TextHasFewTokens            a number of 32 bits has place for each token
+--   TextHasFewTokens            four labels for each token have numbers of 64 bits
 --   SpelledProgramsAreWritten   the lowered program can be written
 --   SpelledProgramsPass         it passes the checks of ALF
-use Rattle.std.specs.Prelude.{◌≤◌, ◌^◌, ℕ, List, length}
+use Rattle.std.specs.Prelude.{◌<◌, ◌^◌, ℕ, List, length}
 use Rattle.alf_program.specs.Writable.{IsWritable}
 use Rattle.alf_check.specs.Checking.{Passes}
 use Rattle.c_unit.specs.Units.{UnitTree}
@@ -11,7 +11,7 @@ use Rattle.c_rules.specs.Programs.{IsProgram}
 use Rattle.c_lowered.specs.Programs.{lowered}
 
 abbrev pub TextHasFewTokens : UnitTree → Type 0
-TextHasFewTokens unit = length unit.words ≤ 2 ^ 32
+TextHasFewTokens unit = length unit.words < 2 ^ 62
 
 abbrev pub SpelledProgramsAreWritten : Type 0
 SpelledProgramsAreWritten = (unit : UnitTree) (root ranks : List ℕ) → IsProgram unit root ranks → IsSpelled unit → TextHasFewTokens unit → IsWritable (lowered unit)

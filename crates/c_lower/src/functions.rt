@@ -1,14 +1,17 @@
 //! Functions, lowered.
 
-ghost use Rattle.std.specs.Prelude.{◌≡◌, ◌<◌, ◌+◌, ◌^◌, ℕ, List, ◌∷◌, ◌++◌, map, SomeIff, IfOk, OnOk};
+ghost use Rattle.std.specs.Prelude.{◌≡◌, ◌≤◌, ◌<◌, ◌+◌, ◌^◌, ℕ, List, ◌∷◌, ◌++◌, map, length, IfOk, OnOk};
 ghost use Rattle.alf_program.specs.Tree as alf;
 ghost use Rattle.c_unit.specs.Tree.{ExternalTree, Declaration, Definition, declarator_of, external_of, statement_of, statements_of};
 ghost use Rattle.c_unit.specs.Units.{unit_of};
-ghost use Rattle.c_rules.specs.Units.{File, external_after};
+ghost use Rattle.c_rules.specs.Counts.{all_elements_in};
+ghost use Rattle.c_rules.specs.Units.{File, external_after, definitions};
+ghost use Rattle.c_rules.specs.SpelledUnits.{elements_of};
 ghost use Rattle.c_lower.specs.Heads.{known_at};
 ghost use Rattle.c_meaning.specs.Objects.{functions_in};
 ghost use Rattle.c_lowered.specs.Statements.{labels_in_all};
 ghost use Rattle.c_lowered.specs.Programs as laws;
+ghost use Rattle.object_layout.specs.Room.{HasRoom};
 ghost use Rattle.object_layout.specs.Views.{program_in};
 ghost use Rattle.statement_lowering.specs.Afterwards.{Stays};
 ghost use Rattle.c_lower.specs.Walk.{funcs_from, HaveFewLabels};
@@ -32,7 +35,8 @@ fn function(
     parameters: &[Parameter],
     body: &[Stmt],
 ) -> Result<Func, AllocError>
-    requires { (unit_of code.table.now).words ≡ scopes.old.words }
+    requires words { (unit_of code.table.now).words ≡ scopes.old.words }
+    requires elements { all_elements_in (unit_of code.table.now).words (statements_of (map statement_of body.now)) ≤ 8192 }
     ensures func { IfOk result (λ func. (name : ℕ) → alf.function_of func ≡ laws.lowered_function (program_in code.entry.table.now) code.entry.function
         (record { name = name; result = given; parameters = parameters.now; scopes = scopes.old.scopes; body = statements_of (map statement_of body.now) })) }
     ensures few { OnOk result (labels_in_all (statements_of (map statement_of body.now)) < 2 ^ 64) }
@@ -57,14 +61,7 @@ fn function(
     })
 }
 
-// The number of the next function, where 32 bits have one.
-fn next_function(function: u32) -> Option<u32>
-    ensures { SomeIff result (function + 1 < 2 ^ 32) (function + 1) }
-{
-    function.checked_add(1)
-}
-
-// Puts a function of this number, and gives the next number. One beyond 32 bits is want of memory.
+// Puts a function of this number, and gives the next number.
 fn put_function(
     code: Code<'_, '_>,
     scopes: &mut Scopes<'_>,
@@ -75,23 +72,23 @@ fn put_function(
     parameters: &[Parameter],
     body: &[Stmt],
 ) -> Result<u32, AllocError>
-    requires { (unit_of code.table.now).words ≡ scopes.old.words }
+    requires words { (unit_of code.table.now).words ≡ scopes.old.words }
+    requires elements { all_elements_in (unit_of code.table.now).words (statements_of (map statement_of body.now)) ≤ 8192 }
+    requires room { code.function + 1 < 2 ^ 32 }
     ensures funcs { IfOk result (λ next. (file : File) (others : List ExternalTree) → scopes.old ≡ known_at scopes.old.words file.scope
         → map alf.function_of funcs.new.items ++ funcs_from (program_in code.entry.table.now) next (external_after file (Definition first given name parameters.now (map statement_of body.now))) others
         ≡ map alf.function_of funcs.old.items ++ funcs_from (program_in code.entry.table.now) code.entry.function file (Definition first given name parameters.now (map statement_of body.now) ∷ others)) }
     ensures few { OnOk result ((file : File) (others : List ExternalTree) → HaveFewLabels (functions_in (external_after file (Definition first given name parameters.now (map statement_of body.now))) others) → HaveFewLabels (functions_in file (Definition first given name parameters.now (map statement_of body.now) ∷ others))) }
     ensures known { OnOk result ((file : File) → scopes.old ≡ known_at scopes.old.words file.scope
         → scopes.new ≡ known_at scopes.old.words (external_after file (Definition first given name parameters.now (map statement_of body.now))).scope) }
+    ensures number { IfOk result (λ next. next ≡ code.entry.function + 1) }
 {
     let _first = first;
     enter_function(code.alloc, scopes, given, name, parameters)?;
     let func = function(code, scopes, given, parameters, body)?;
     scopes.leave()?;
     funcs.push(func)?;
-    match next_function(code.function) {
-        Some(next) => Ok(next),
-        None => Err(AllocError),
-    }
+    Ok(code.function + 1)
 }
 
 // Puts what stands here, if it is a function, and gives the number of the next one.
@@ -101,13 +98,16 @@ fn put_external(
     funcs: &mut Vec<Func>,
     external: &External,
 ) -> Result<u32, AllocError>
-    requires { (unit_of code.table.now).words ≡ scopes.old.words }
+    requires words { (unit_of code.table.now).words ≡ scopes.old.words }
+    requires elements { elements_of (unit_of code.table.now).words (external_of external.now) ≤ 8192 }
+    requires room { code.function + 1 < 2 ^ 32 }
     ensures funcs { IfOk result (λ next. (file : File) (others : List ExternalTree) → scopes.old ≡ known_at scopes.old.words file.scope
         → map alf.function_of funcs.new.items ++ funcs_from (program_in code.entry.table.now) next (external_after file (external_of external.now)) others
         ≡ map alf.function_of funcs.old.items ++ funcs_from (program_in code.entry.table.now) code.entry.function file (external_of external.now ∷ others)) }
     ensures few { OnOk result ((file : File) (others : List ExternalTree) → HaveFewLabels (functions_in (external_after file (external_of external.now)) others) → HaveFewLabels (functions_in file (external_of external.now ∷ others))) }
     ensures known { OnOk result ((file : File) → scopes.old ≡ known_at scopes.old.words file.scope
         → scopes.new ≡ known_at scopes.old.words (external_after file (external_of external.now)).scope) }
+    ensures number { IfOk result (λ next. (others : List ExternalTree) → next + length (definitions others) ≡ code.entry.function + length (definitions (external_of external.now ∷ others))) }
 {
     match external {
         External::Declare(first, given, declarators) => {
@@ -143,7 +143,8 @@ pub fn lowered_functions(
     table: &Table<'_>,
     unit: &CUnit,
 ) -> Result<Vec<Func>, AllocError>
-    requires { table.now ≡ unit.now }
+    requires unit { table.now ≡ unit.now }
+    requires room { HasRoom (unit_of unit.now) }
     ensures funcs { IfOk result (λ funcs. map alf.function_of funcs.items ≡ laws.lowered_from (program_in unit.now) 0 (program_in unit.now).functions) }
     ensures few { OnOk result (HaveFewLabels (program_in unit.now).functions) }
 {

@@ -16,8 +16,7 @@ use std::alloc::{AllocError, Global};
 /// The checked program of ALF that a program of C is lowered to: that of what `lower_text` gives, with the same root.
 ///
 /// Takes memory for that program, which is given up, and for the numbers of its names. It passes the checks of ALF,
-/// which are not made again, so that want of memory is all that can stop it; a text of more than 2^32 tokens has this
-/// answer too.
+/// which are not made again, so that want of memory is all that can stop it.
 pub fn lower(alloc: Global, program: &CProgram) -> Result<Checked, AllocError>
     ensures passes { OnOk result (Passes (lowered (unit_of program.now.unit)) program.now.root) }
     ensures numbered { IfOk result (λ checked. seen checked ≡ numbered (lowered (unit_of program.now.unit)) program.now.root) }

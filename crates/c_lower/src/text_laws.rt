@@ -7,6 +7,7 @@ ghost use Rattle.c_unit.specs.Units.{UnitTree};
 ghost use Rattle.c_rules.specs.Programs.{IsProgram};
 ghost use Rattle.c_text.specs.Language.{IsSpelled};
 ghost use Rattle.c_lowered.specs.Programs.{lowered};
+ghost use Rattle.object_layout.specs.Room.{HasRoom};
 ghost use Rattle.c_lower.specs.Measured.{HasFewLabels};
 ghost use Rattle.c_lower.specs.Passing.{SpelledProgramsAreWritten, SpelledProgramsPass};
 
@@ -28,7 +29,14 @@ pub fn lowered_programs_pass()
     measured_programs_pass();
 }
 
-/// So it is with each unit that a text of at most 2^32 tokens spells and that the checks pass.
+/// A unit that some text spells has room for sizes and numbers, by the limits of texts.
+pub fn spelled_units_have_room()
+    ensures { (unit : UnitTree) → IsSpelled unit → HasRoom unit }
+{
+    spelled_units_are_counted();
+}
+
+/// So it is with each unit that a text of fewer than 2^62 tokens spells and that the checks pass.
 pub fn spelled_programs_pass()
     ensures written { SpelledProgramsAreWritten }
     ensures passes { SpelledProgramsPass }

@@ -1,7 +1,9 @@
 -- Elements of arrays.
 --   next_word   the first element, and the others
-use Rattle.std.proofs.Common.{◌≡◌, ◌+◌, ◌-◌, ◌<◌, ℕ, suc, List, ◌∷◌, ap, arith}
+--   bytes_few   an integer has at most four bytes
+use Rattle.std.proofs.Common.{◌≡◌, ◌+◌, ◌-◌, ◌<◌, ◌≤◌, ℕ, suc, List, ◌∷◌, ap, arith}
 use Rattle.c_unit.specs.declared.types.Integer.{Integer}
+use Rattle.c_unit.specs.declared.types.Integer.TheVariants.{Char, UnsignedChar, Short, UnsignedShort, Int, UnsignedInt}
 use Rattle.c_unit.specs.declared.types.Constant.{Constant}
 use Rattle.c_meaning.specs.Values.{bytes_of_type}
 use Rattle.c_meaning.specs.Objects.{Program}
@@ -14,3 +16,11 @@ pub next_word : (program : Program) (name : List ℕ) (i : Integer) (offset left
 next_word program name i offset left cs low =
     let here : left ≡ suc (left - 1) = omega (arith, low) in
     ap (λ (k : ℕ). element_words program name i offset k cs) here
+
+pub bytes_few : (i : Integer) → bytes_of_type i ≤ 4
+bytes_few Char = omega arith
+bytes_few UnsignedChar = omega arith
+bytes_few Short = omega arith
+bytes_few UnsignedShort = omega arith
+bytes_few Int = omega arith
+bytes_few UnsignedInt = omega arith

@@ -4,6 +4,8 @@ ghost use Rattle.std.specs.Prelude.{◌≡◌, ◌≤◌, ◌+◌, ◌^◌, ◌+
 ghost use Rattle.std.specs.Option.{option_map};
 ghost use Rattle.alf_program.specs.Tree.{allocation_of};
 ghost use Rattle.c_unit.specs.Tree.{call_of, value_of, effect_of, local_of, local_shape_of, statement_of, statements_of};
+ghost use Rattle.c_unit.specs.Units.{unit_of};
+ghost use Rattle.c_rules.specs.Counts.{elements_of_all, elements_in, all_elements_in};
 ghost use Rattle.c_lowered.specs.Effects as effects;
 ghost use Rattle.c_lowered.specs.Statements as statements;
 ghost use Rattle.c_lowered.specs.Frames as laws;
@@ -161,13 +163,14 @@ fn put_locals(
     kind: Integer,
     locals: &[Local],
 ) -> Result<u64, AllocError>
+    requires few { elements_of_all (unit_of place.table.now).words (map local_of locals.now) ≤ 8192 }
     ensures frames { OnOk result (map allocation_of frames.new.items ≡ map allocation_of frames.old.items ++ laws.locals_frames (program_in place.entry.table.now) place.entry.function calls kind (map local_of locals.now)) }
     ensures calls { IfOk result (λ next. next ≡ calls + effects.calls_in_locals (program_in place.entry.table.now) (map local_of locals.now)) }
 {
     let mut next = calls;
     let mut rest = locals;
     'locals: while let Some((local, others)) = rest.split_first() {
-        let bits = bits_of_local(place.table.words(), kind, &local.shape)?;
+        let bits = bits_of_local(place.table.words(), kind, &local.shape);
         put_object(place, frames, local.name, bits)?;
         next = put_shape(place, frames, next, &local.shape)?;
         rest = others;
@@ -183,6 +186,7 @@ fn put_row(
     calls: u64,
     row: &[Stmt],
 ) -> Result<u64, AllocError>
+    requires few { all_elements_in (unit_of place.table.now).words (statements_of (map statement_of row.now)) ≤ 8192 }
     ensures frames { OnOk result (map allocation_of frames.new.items ≡ map allocation_of frames.old.items ++ laws.all_frames_in (program_in place.entry.table.now) place.entry.function calls (statements_of (map statement_of row.now))) }
     ensures calls { IfOk result (λ next. next ≡ calls + statements.calls_in_all (program_in place.entry.table.now) (statements_of (map statement_of row.now))) }
 {
@@ -202,6 +206,7 @@ fn put_turns(
     last: &Option<Effect>,
     body: &Stmt,
 ) -> Result<u64, AllocError>
+    requires few { elements_in (unit_of place.table.now).words (statement_of body.now) ≤ 8192 }
     ensures frames { OnOk result (map allocation_of frames.new.items ≡ map allocation_of frames.old.items ++ (laws.last_frames (program_in place.entry.table.now) place.entry.function calls (option_map effect_of last.now)
         ++ laws.frames_in (program_in place.entry.table.now) place.entry.function (calls + statements.calls_if (program_in place.entry.table.now) (option_map effect_of last.now)) (statement_of body.now))) }
     ensures calls { IfOk result (λ next. next ≡ calls + (statements.calls_if (program_in place.entry.table.now) (option_map effect_of last.now) + statements.calls_in (program_in place.entry.table.now) (statement_of body.now))) }
@@ -219,6 +224,7 @@ fn put_statement(
     calls: u64,
     statement: &Stmt,
 ) -> Result<u64, AllocError>
+    requires few { elements_in (unit_of place.table.now).words (statement_of statement.now) ≤ 8192 }
     ensures frames { OnOk result (map allocation_of frames.new.items ≡ map allocation_of frames.old.items ++ laws.frames_in (program_in place.entry.table.now) place.entry.function calls (statement_of statement.now)) }
     ensures calls { IfOk result (λ next. next ≡ calls + statements.calls_in (program_in place.entry.table.now) (statement_of statement.now)) }
 {
@@ -256,6 +262,7 @@ fn put_statement(
 
 /// The frames of the locals and results of a function, in the order of the text.
 pub fn frames_in(place: Place<'_, '_>, body: &[Stmt]) -> Result<Vec<Alloc>, AllocError>
+    requires few { all_elements_in (unit_of place.table.now).words (statements_of (map statement_of body.now)) ≤ 8192 }
     ensures { IfOk result (λ frames. map allocation_of frames.items ≡ laws.all_frames_in (program_in place.entry.table.now) place.entry.function 0 (statements_of (map statement_of body.now))) }
 {
     let mut frames = Vec::new(place.alloc);

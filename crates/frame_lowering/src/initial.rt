@@ -1,10 +1,12 @@
 //! What globals hold at first.
 
-ghost use Rattle.std.specs.Prelude.{◌≡◌, ◌≤◌, ◌+◌, ◌^◌, [], ◌∷◌, ◌++◌, map, IfOk, OnOk, OnErr};
+ghost use Rattle.std.specs.Prelude.{◌≡◌, ◌≤◌, ◌+◌, [], ◌∷◌, ◌++◌, map, IfOk, OnOk};
 ghost use Rattle.alf_ops.specs.TwosComplement.{word};
 ghost use Rattle.alf_program.specs.Tree.{initial_of};
 ghost use Rattle.c_unit.specs.Tree.{declarator_of, shape_of, external_of};
+ghost use Rattle.c_unit.specs.Units.{unit_of};
 ghost use Rattle.c_rules.specs.Units as checks;
+ghost use Rattle.c_rules.specs.SpelledUnits.{elements_of_shape, elements_of_declarators, all_elements_of};
 ghost use Rattle.c_meaning.specs.Values as sizes;
 ghost use Rattle.c_meaning.specs.Objects as meaning;
 ghost use Rattle.c_meaning.specs.Statements as statements;
@@ -100,15 +102,14 @@ fn further_elements(constants: &[Constant]) -> &[Constant]
     }
 }
 
-// The offset of the next element. One beyond 32 bits is want of memory; no text that is read has one.
-fn after(offset: u32, kind: Integer) -> Result<u32, AllocError>
-    ensures next { IfOk result (λ next. next ≡ offset + sizes.bytes_of_type kind) }
-    ensures past { OnErr result (2 ^ 32 ≤ offset + sizes.bytes_of_type kind) }
+// The offset of the next element.
+#[tactic(auto, using(crate::proofs::Elements::bytes_few))]
+fn after(offset: u32, kind: Integer) -> u32
+    requires room { offset ≤ 32768 }
+    ensures next { result ≡ offset + sizes.bytes_of_type kind }
+    ensures within { result ≤ offset + 4 }
 {
-    match offset.checked_add(bytes_of_type(kind)) {
-        Some(next) => Ok(next),
-        None => Err(AllocError),
-    }
+    offset + bytes_of_type(kind)
 }
 
 // Puts what the element at an offset holds, which is the first of the constants, or 0.
@@ -140,6 +141,7 @@ fn put_elements(
     count: u32,
     constants: &[Constant],
 ) -> Result<(), AllocError>
+    requires few { count ≤ 8192 }
     ensures { OnOk result (map initial_of inits.new.items ≡ map initial_of inits.old.items ++ laws.element_words (program_in table.now) name.now kind 0 count constants.now) }
 {
     let mut left = count;
@@ -147,7 +149,7 @@ fn put_elements(
     let mut rest = constants;
     'elements: while left > 0 {
         put_element(alloc, table, inits, name, kind, offset, rest)?;
-        offset = after(offset, kind)?;
+        offset = after(offset, kind);
         rest = further_elements(rest);
         left -= 1;
     }
@@ -163,6 +165,7 @@ fn put_shape(
     kind: Integer,
     shape: &Shape,
 ) -> Result<(), AllocError>
+    requires few { elements_of_shape (unit_of table.now).words (shape_of shape.now) ≤ 8192 }
     ensures { OnOk result (map initial_of inits.new.items ≡ map initial_of inits.old.items ++ laws.shape_words (program_in table.now) name.now kind (shape_of shape.now)) }
 {
     match shape {
@@ -198,6 +201,7 @@ fn put_declarators(
     kind: Integer,
     declarators: &[Declarator],
 ) -> Result<(), AllocError>
+    requires few { elements_of_declarators (unit_of table.now).words (map declarator_of declarators.now) ≤ 8192 }
     ensures { OnOk result (map initial_of inits.new.items ≡ map initial_of inits.old.items ++ laws.declarators_words (program_in table.now) kind (map declarator_of declarators.now)) }
 {
     let mut rest = declarators;
@@ -215,6 +219,7 @@ pub fn initial_values(
     table: &Table<'_>,
     externals: &[External],
 ) -> Result<Vec<Init>, AllocError>
+    requires few { all_elements_of (unit_of table.now).words (map external_of externals.now) ≤ 8192 }
     ensures { IfOk result (λ inits. map initial_of inits.items ≡ laws.first_words (program_in table.now) (map external_of externals.now)) }
 {
     let mut inits = Vec::new(alloc);

@@ -1,11 +1,14 @@
 //! All objects of a unit: the globals, and then the parameters and locals of each function.
 
-ghost use Rattle.std.specs.Prelude.{◌≡◌, ◌≤◌, ◌+◌, ◌^◌, [], ◌∷◌, ◌++◌, List, map, IfOk, OnOk, IfSome, IfNone};
+ghost use Rattle.std.specs.Prelude.{◌≡◌, ◌≤◌, ◌<◌, ◌+◌, ◌^◌, [], ◌∷◌, ◌++◌, List, map, length, IfOk, OnOk};
 ghost use Rattle.c_unit.specs.Tree.{declarator_of, shape_of, ExternalTree, external_of};
 ghost use Rattle.c_unit.specs.Units.{unit_of};
 ghost use Rattle.c_rules.specs.Units as checks;
+ghost use Rattle.c_rules.specs.Units.{definitions};
+ghost use Rattle.c_rules.specs.SpelledUnits.{elements_of_shape, elements_of_declarators, elements_of, all_elements_of};
 ghost use Rattle.c_meaning.specs.Objects as meaning;
 ghost use Rattle.object_layout.specs.Views.{object_of};
+ghost use Rattle.object_layout.specs.Room.{HasRoom};
 
 use crate::locals::put_all_locals;
 use crate::object::Object;
@@ -17,7 +20,8 @@ use std::alloc::{AllocError, Global};
 
 /// The objects of a unit.
 pub fn objects_of(alloc: Global, words: &Words<'_>, unit: &CUnit) -> Result<Vec<Object>, AllocError>
-    requires { words.now ≡ (unit_of unit.now).words }
+    requires words { words.now ≡ (unit_of unit.now).words }
+    requires room { HasRoom (unit_of unit.now) }
     ensures { IfOk result (λ objects. map object_of objects.items ≡ meaning.objects_of (unit_of unit.now)) }
 {
     let mut objects = Vec::new(alloc);
@@ -42,6 +46,7 @@ fn put_globals(
     objects: &mut Vec<Object>,
     externals: &[External],
 ) -> Result<(), AllocError>
+    requires few { all_elements_of words.now (map external_of externals.now) ≤ 8192 }
     ensures { OnOk result (map object_of objects.new.items ≡ map object_of objects.old.items ++ meaning.globals_in words.now (map external_of externals.now)) }
 {
     let mut rest = externals;
@@ -64,6 +69,7 @@ fn put_declared(
     kind: Integer,
     declarators: &[Declarator],
 ) -> Result<(), AllocError>
+    requires few { elements_of_declarators words.now (map declarator_of declarators.now) ≤ 8192 }
     ensures { OnOk result (map object_of objects.new.items ≡ map object_of objects.old.items ++ meaning.globals_declared words.now kind (map declarator_of declarators.now)) }
 {
     for declarator in declarators {
@@ -80,11 +86,12 @@ fn put_global(
     token: u32,
     shape: &Shape,
 ) -> Result<(), AllocError>
+    requires few { elements_of_shape words.now (shape_of shape.now) ≤ 8192 }
     ensures { OnOk result (map object_of objects.new.items ≡ map object_of objects.old.items ++ meaning.global_object words.now kind token (shape_of shape.now)) }
 {
     let bits = match shape {
         Shape::Integer(_) => bits_of_type(kind),
-        Shape::Array(size, _) => bits_of_array(words, kind, *size)?,
+        Shape::Array(size, _) => bits_of_array(words, kind, *size),
         Shape::Function(_) => return Ok(()),
     };
     objects.push(Object {
@@ -101,6 +108,8 @@ fn put_owned(
     objects: &mut Vec<Object>,
     externals: &[External],
 ) -> Result<(), AllocError>
+    requires few { all_elements_of words.now (map external_of externals.now) ≤ 8192 }
+    requires functions { length (definitions (map external_of externals.now)) ≤ 256 }
     ensures { OnOk result (map object_of objects.new.items ≡ map object_of objects.old.items ++ meaning.owned_in words.now 0 (map external_of externals.now)) }
 {
     let mut owner: u32 = 0;
@@ -112,14 +121,6 @@ fn put_owned(
     Ok(())
 }
 
-// The number of the next function, where 32 bits have one.
-fn next_owner(owner: u32) -> Option<u32>
-    ensures next { IfSome result (λ next. next ≡ owner + 1) }
-    ensures past { IfNone result (2 ^ 32 ≤ owner + 1) }
-{
-    owner.checked_add(1)
-}
-
 // Puts the objects of a function, if this defines one, and gives the number of the next function.
 fn put_function(
     words: &Words<'_>,
@@ -127,18 +128,18 @@ fn put_function(
     objects: &mut Vec<Object>,
     external: &External,
 ) -> Result<u32, AllocError>
-    ensures { IfOk result (λ next. (others : List ExternalTree) → map object_of objects.new.items ++ meaning.owned_in words.now next others
+    requires few { elements_of words.now (external_of external.now) ≤ 8192 }
+    requires room { owner + 1 < 2 ^ 32 }
+    ensures objects { IfOk result (λ next. (others : List ExternalTree) → map object_of objects.new.items ++ meaning.owned_in words.now next others
         ≡ map object_of objects.old.items ++ meaning.owned_in words.now owner (external_of external.now ∷ others)) }
+    ensures number { IfOk result (λ next. (others : List ExternalTree) → next + length (definitions others) ≡ owner + length (definitions (external_of external.now ∷ others))) }
 {
     match external {
         External::Declare(_, _, _) => Ok(owner),
         External::Define(_, _, _, parameters, body) => {
             put_parameters(owner, objects, parameters)?;
             put_all_locals(words, owner, objects, body)?;
-            match next_owner(owner) {
-                Some(next) => Ok(next),
-                None => Err(AllocError),
-            }
+            Ok(owner + 1)
         }
     }
 }

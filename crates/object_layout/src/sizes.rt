@@ -1,7 +1,8 @@
 //! Sizes of objects, in bits.
 
-ghost use Rattle.std.specs.Prelude.{◌≡◌, ◌≤◌, ◌*◌, ◌^◌, IfOk, OnErr};
+ghost use Rattle.std.specs.Prelude.{◌≡◌, ◌≤◌, ◌*◌};
 ghost use Rattle.c_unit.specs.Tree.{local_shape_of};
+ghost use Rattle.c_rules.specs.Counts.{elements_of};
 ghost use Rattle.c_meaning.specs.Objects as meaning;
 ghost use Rattle.c_meaning.specs.Values.{bits_of_type as bits_of};
 
@@ -9,7 +10,6 @@ use c_scopes::Words;
 use c_tokens::Worth;
 use c_unit::{Integer, LocalShape, Parameter, Scalar};
 use operator_lowering::bits_of_type;
-use std::alloc::AllocError;
 
 /// How many elements the token of an array's size gives it.
 pub fn count_at(words: &Words<'_>, size: u32) -> u32
@@ -23,15 +23,13 @@ pub fn count_at(words: &Words<'_>, size: u32) -> u32
     }
 }
 
-/// The bits of so many elements of the type. A size beyond 32 bits is want of memory; no text that is read has one.
-pub fn bits_of_array(words: &Words<'_>, kind: Integer, size: u32) -> Result<u32, AllocError>
-    ensures bits { IfOk result (λ bits. bits ≡ meaning.count_at words.now size * bits_of kind) }
-    ensures past { OnErr result (2 ^ 32 ≤ meaning.count_at words.now size * bits_of kind) }
+/// The bits of so many elements of the type.
+#[tactic(auto, using(crate::proofs::Arrays::array_fits))]
+pub fn bits_of_array(words: &Words<'_>, kind: Integer, size: u32) -> u32
+    requires few { meaning.count_at words.now size ≤ 8192 }
+    ensures { result ≡ meaning.count_at words.now size * bits_of kind }
 {
-    match count_at(words, size).checked_mul(bits_of_type(kind)) {
-        Some(bits) => Ok(bits),
-        None => Err(AllocError),
-    }
+    count_at(words, size) * bits_of_type(kind)
 }
 
 /// The bits of a variable.
@@ -45,17 +43,13 @@ pub fn bits_of_scalar(kind: Scalar) -> u32
 }
 
 /// The bits of a local.
-pub fn bits_of_local(
-    words: &Words<'_>,
-    kind: Integer,
-    shape: &LocalShape,
-) -> Result<u32, AllocError>
-    ensures bits { IfOk result (λ bits. bits ≡ meaning.bits_of_local words.now kind (local_shape_of shape.now)) }
-    ensures past { OnErr result (2 ^ 32 ≤ meaning.bits_of_local words.now kind (local_shape_of shape.now)) }
+pub fn bits_of_local(words: &Words<'_>, kind: Integer, shape: &LocalShape) -> u32
+    requires few { elements_of words.now (local_shape_of shape.now) ≤ 8192 }
+    ensures { result ≡ meaning.bits_of_local words.now kind (local_shape_of shape.now) }
 {
     match shape {
-        LocalShape::Integer(_) => Ok(bits_of_type(kind)),
-        LocalShape::Pointer(_) => Ok(32),
+        LocalShape::Integer(_) => bits_of_type(kind),
+        LocalShape::Pointer(_) => 32,
         LocalShape::Array(size, _) => bits_of_array(words, kind, *size),
     }
 }

@@ -8,6 +8,7 @@ ghost use Rattle.c_meaning.specs.Objects as meaning;
 ghost use Rattle.c_lowered.specs.Names as names;
 ghost use Rattle.object_layout.specs.Views.{object_of, program_in, named_function, signature_of, signature_or_none};
 ghost use Rattle.object_layout.specs.Tables.{IsTable};
+ghost use Rattle.object_layout.specs.Room.{HasRoom};
 
 use crate::frames::frame_names;
 use crate::object::Object;
@@ -43,6 +44,7 @@ impl<'a> Model for Table<'a> {
 impl<'a> Table<'a> {
     /// The table of this unit.
     pub fn of(alloc: Global, unit: &'a CUnit) -> Result<Self, AllocError>
+        requires { HasRoom (unit_of unit.now) }
         ensures { IfOk result (λ table. table ≡ unit.now) }
     {
         let words = Words::of(unit);

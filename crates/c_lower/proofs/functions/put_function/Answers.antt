@@ -14,10 +14,10 @@ use Rattle.c_lower.proofs.functions.put_function.Goals as goal
 
 pub function-requires : goal.function-requires
 function-requires c =
-    c.requires ∙ sym (ap (λ (k : Known). k.words) c.in_ok-enter_function.ensures ∙ head_words c.args.given c.args.name c.args.parameters.now c.args.scopes.now)
+    c.requires.words ∙ sym (ap (λ (k : Known). k.words) c.in_ok-enter_function.ensures ∙ head_words c.args.given c.args.name c.args.parameters.now c.args.scopes.now)
 
-pub returns-in-Some-clause-funcs : goal.returns-in-Some-clause-funcs
-returns-in-Some-clause-funcs c = λ file others here.
+pub returns-in_ok-push-clause-funcs : goal.returns-in_ok-push-clause-funcs
+returns-in_ok-push-clause-funcs c = λ file others here.
     let first = c.args.first in
     let params = c.args.parameters.now in
     let body = map statement_of c.args.body.now in
@@ -30,10 +30,10 @@ returns-in-Some-clause-funcs c = λ file others here.
     ∙ ap (λ (k : Known). lowered_function program f (record { name = c.args.name; result = c.args.given; parameters = params; scopes = k.scopes; body = statements_of body })) within in
     more_functions program f c.args.funcs.now.items c.push.new.self.items c.in_ok-func.func
     (record { name = c.args.name; result = c.args.given; parameters = params; scopes = scopes; body = statements_of body })
-    (functions_in after others) c.in-Some.next c.in_ok-push.ensures.items made (omega arith)
+    (functions_in after others) (f + 1) c.in_ok-push.ensures.items made (omega arith)
 
-pub returns-in-Some-clause-known : goal.returns-in-Some-clause-known
-returns-in-Some-clause-known c = λ file here.
+pub returns-in_ok-push-clause-known : goal.returns-in_ok-push-clause-known
+returns-in_ok-push-clause-known c = λ file here.
     let first = c.args.first in
     let params = c.args.parameters.now in
     let body = map statement_of c.args.body.now in

@@ -19,13 +19,13 @@ map_turned f (x ∷ xs) =
 
 module _ {X : Type 0} (key : X → List ℕ) where
   -- the key of an entry at a place
-  pub key_at_place : (xs : List (Entry X)) (i : ℕ) (d : Entry X) → i < length xs → key (get_or xs i d).item ≡ key_at (keys_of key xs) i
-  key_at_place xs i d low = sym (get_or-map (λ (entry : Entry X). key entry.item) xs i d [] low)
+  pub key_at_place : (xs : List (Entry X)) (i : ℕ) (d : Entry X) → i < length xs → key (get_or xs i d).item.value ≡ key_at (keys_of key xs) i
+  key_at_place xs i d low = sym (get_or-map (λ (entry : Entry X). key entry.item.value) xs i d [] low)
 
   -- and at a place from the end
-  pub key_at_end : (xs : List (Entry X)) (i : ℕ) (d : Entry X) → i < length xs → key (get_or xs (length xs - 1 - i) d).item ≡ key_at (keys_of key (reverse xs)) i
+  pub key_at_end : (xs : List (Entry X)) (i : ℕ) (d : Entry X) → i < length xs → key (get_or xs (length xs - 1 - i) d).item.value ≡ key_at (keys_of key (reverse xs)) i
   key_at_end xs i d low =
-      ap (λ (entry : Entry X). key entry.item) (sym (get_or-reverse xs i d low))
+      ap (λ (entry : Entry X). key entry.item.value) (sym (get_or-reverse xs i d low))
       ∙ key_at_place (reverse xs) i d (let same = length-reverse xs in omega arith)
 
   least_head : (xs : List (Entry X)) (d : Entry X) → 0 < length xs → AreLeast key xs → IsFirstLeast (keys_of key xs) (get_or xs 0 d).least
@@ -51,22 +51,22 @@ module _ {X : Type 0} (key : X → List ℕ) where
       (first_head (reverse xs) d (let same = length-reverse xs in omega arith) are))
     where
       turned : reverse (keys_of key (reverse xs)) ≡ keys_of key xs
-      turned = ap (λ (ys : List (List ℕ)). reverse ys) (map_turned (λ (entry : Entry X). key entry.item) xs) ∙ reverse-reverse (keys_of key xs)
+      turned = ap (λ (ys : List (List ℕ)). reverse ys) (map_turned (λ (entry : Entry X). key entry.item.value) xs) ∙ reverse-reverse (keys_of key xs)
 
   -- an entry more at the end
   pub turned_push : (xs : List (Entry X)) (x : Entry X) → reverse (xs ++ x ∷ []) ≡ x ∷ reverse xs
   turned_push xs x = reverse-append xs (x ∷ [])
 
-  pub least_pushed : (xs : List (Entry X)) (x : Entry X) → IsFirstLeast (key x.item ∷ keys_of key (reverse xs)) x.least → AreLeast key (reverse xs) → AreLeast key (reverse (xs ++ x ∷ []))
+  pub least_pushed : (xs : List (Entry X)) (x : Entry X) → IsFirstLeast (key x.item.value ∷ keys_of key (reverse xs)) x.least → AreLeast key (reverse xs) → AreLeast key (reverse (xs ++ x ∷ []))
   least_pushed xs x here are = subst (AreLeast key) (sym (turned_push xs x)) (here, are)
 
-  pub first_pushed : (xs : List (Entry X)) (x : Entry X) → IsFirstLeast (keys_of key xs ++ key x.item ∷ []) x.least → AreFirst key (reverse xs) → AreFirst key (reverse (xs ++ x ∷ []))
+  pub first_pushed : (xs : List (Entry X)) (x : Entry X) → IsFirstLeast (keys_of key xs ++ key x.item.value ∷ []) x.least → AreFirst key (reverse xs) → AreFirst key (reverse (xs ++ x ∷ []))
   first_pushed xs x here are = subst (AreFirst key) (sym (turned_push xs x)) (subst (λ (keys : List (List ℕ)). IsFirstLeast keys x.least) (sym turned) here, are)
     where
-      turned : reverse (keys_of key (x ∷ reverse xs)) ≡ keys_of key xs ++ key x.item ∷ []
+      turned : reverse (keys_of key (x ∷ reverse xs)) ≡ keys_of key xs ++ key x.item.value ∷ []
       turned =
-          reverse-append (key x.item ∷ []) (keys_of key (reverse xs))
-          ∙ ap (λ (ys : List (List ℕ)). ys ++ key x.item ∷ []) (ap (λ (ys : List (List ℕ)). reverse ys) (map_turned (λ (entry : Entry X). key entry.item) xs) ∙ reverse-reverse (keys_of key xs))
+          reverse-append (key x.item.value ∷ []) (keys_of key (reverse xs))
+          ∙ ap (λ (ys : List (List ℕ)). ys ++ key x.item.value ∷ []) (ap (λ (ys : List (List ℕ)). reverse ys) (map_turned (λ (entry : Entry X). key entry.item.value) xs) ∙ reverse-reverse (keys_of key xs))
 
   -- and one less
   pub least_popped : (xs : List (Entry X)) (x : Entry X) → AreLeast key (reverse (xs ++ x ∷ [])) → AreLeast key (reverse xs)
@@ -76,13 +76,13 @@ module _ {X : Type 0} (key : X → List ℕ) where
   first_popped xs x are = (subst (AreFirst key) (turned_push xs x) are).1
 
   -- the list is the same where its last earlier element becomes the first later one
-  pub line_moved : (earlier later : List (Entry X)) (item : X) (x : Entry X) (after : List (Entry X)) → x.item ≡ item → items_of (reverse after) ≡ item ∷ items_of (reverse later)
+  pub line_moved : (earlier later : List (Entry X)) (item : X) (x : Entry X) (after : List (Entry X)) → x.item.value ≡ item → items_of (reverse after) ≡ item ∷ items_of (reverse later)
       → line_of earlier after ≡ line_of (earlier ++ x ∷ []) later
   line_moved earlier later item x after is put =
       ap (λ (ys : List X). items_of earlier ++ ys) (put ∙ ap (λ (y : X). y ∷ items_of (reverse later)) (sym is))
-      ∙ sym (ap (λ (ys : List X). ys ++ items_of (reverse later)) (map-append (λ (entry : Entry X). entry.item) earlier (x ∷ [])) ∙ simp append_assoc)
+      ∙ sym (ap (λ (ys : List X). ys ++ items_of (reverse later)) (map-append (λ (entry : Entry X). entry.item.value) earlier (x ∷ [])) ∙ simp append_assoc)
 
-  pub line_moved_back : (earlier later : List (Entry X)) (item : X) (x : Entry X) (after : List (Entry X)) → x.item ≡ item → items_of after ≡ items_of earlier ++ item ∷ []
+  pub line_moved_back : (earlier later : List (Entry X)) (item : X) (x : Entry X) (after : List (Entry X)) → x.item.value ≡ item → items_of after ≡ items_of earlier ++ item ∷ []
       → line_of after later ≡ line_of earlier (later ++ x ∷ [])
   line_moved_back earlier later item x after is put =
       ap (λ (ys : List X). ys ++ items_of (reverse later)) put
@@ -155,7 +155,7 @@ module _ {X : Type 0} (key : X → List ℕ) where
       → IsFirstLeast (keys_of key (reverse later)) farther → IsFirstLeast (map key (drop place xs)) farther
   least_from_seam earlier later xs place farther whole seam least =
       subst (λ (keys : List (List ℕ)). IsFirstLeast keys farther)
-      (sym (ap (λ (ys : List X). map key ys) (from_seam earlier later xs place whole seam) ∙ map-map key (λ (entry : Entry X). entry.item) (reverse later))) least
+      (sym (ap (λ (ys : List X). map key ys) (from_seam earlier later xs place whole seam) ∙ map-map key (λ (entry : Entry X). entry.item.value) (reverse later))) least
 
   -- the first element after the seam
   first_after_seam : (xs ys : List X) (x : X) (place : ℕ) → drop place xs ≡ x ∷ ys → (slice_get xs place ≡ Some x) × (drop (suc place) xs ≡ ys)
@@ -165,11 +165,11 @@ module _ {X : Type 0} (key : X → List ℕ) where
   first_after_seam (z ∷ xs) ys x (suc place) e = first_after_seam xs ys x place e
 
   pub taken : (earlier later rest : List (Entry X)) (x : Entry X) (xs : List X) (place : ℕ) → line_of earlier later ≡ xs → length earlier ≡ place → later ≡ rest ++ x ∷ []
-      → (slice_get xs place ≡ Some x.item) × (line_of earlier rest ≡ take place xs ++ drop (suc place) xs)
+      → (slice_get xs place ≡ Some x.item.value) × (line_of earlier rest ≡ take place xs ++ drop (suc place) xs)
   taken earlier later rest x xs place whole seam cut =
       let front = to_seam earlier later xs place whole seam in
-      let back : drop place xs ≡ x.item ∷ items_of (reverse rest) = from_seam earlier later xs place whole seam ∙ ap (λ (ys : List (Entry X)). items_of (reverse ys)) cut ∙ ap (λ (ys : List (Entry X)). items_of ys) (turned_push key rest x) in
-      let first = first_after_seam xs (items_of (reverse rest)) x.item place back in
+      let back : drop place xs ≡ x.item.value ∷ items_of (reverse rest) = from_seam earlier later xs place whole seam ∙ ap (λ (ys : List (Entry X)). items_of (reverse ys)) cut ∙ ap (λ (ys : List (Entry X)). items_of ys) (turned_push key rest x) in
+      let first = first_after_seam xs (items_of (reverse rest)) x.item.value place back in
       (first.0, sym (ap (λ (ys : List X). ys ++ drop (suc place) xs) front ∙ ap (λ (ys : List X). items_of earlier ++ ys) first.1))
 
   pub inserted : (earlier later after : List (Entry X)) (x : X) (xs : List X) (place : ℕ) → line_of earlier later ≡ xs → length earlier ≡ place → items_of (reverse after) ≡ x ∷ items_of (reverse later)

@@ -9,10 +9,10 @@ use Rattle.worklist.specs.declared.entry.Entry.{Entry}
 use Rattle.worklist.specs.Least.{IsFirstLeast}
 
 abbrev pub items_of : {X : Type 0} → List (Entry X) → List X
-items_of entries = map (λ entry. entry.item) entries
+items_of entries = map (λ entry. entry.item.value) entries
 
 abbrev pub keys_of : {X : Type 0} → (X → List ℕ) → List (Entry X) → List (List ℕ)
-keys_of key entries = map (λ entry. key entry.item) entries
+keys_of key entries = map (λ entry. key entry.item.value) entries
 
 abbrev pub line_of : {X : Type 0} → List (Entry X) → List (Entry X) → List X
 line_of earlier later = items_of earlier ++ items_of (reverse later)

@@ -23,7 +23,7 @@ pub fn key_earlier<X: Keyed>(earlier: &[Entry<X>], place: usize) -> &[u32]
     requires { place < length earlier.now }
     ensures { result.now ≡ key_at (keys_of X.key_of earlier.now) place }
 {
-    earlier[place].item.key()
+    earlier[place].item.as_ref().key()
 }
 
 /// The place of the first least of the entries and an element after them.
@@ -43,12 +43,15 @@ fn first_with<X: Keyed>(earlier: &[Entry<X>], item: &X) -> usize
 }
 
 /// Puts an element after the others.
-pub fn put_last<X: Keyed + Drop>(earlier: &mut Vec<Entry<X>>, item: X) -> Result<(), AllocError>
+pub fn put_last<X: Keyed + Drop>(
+    earlier: &mut Vec<Entry<X>>,
+    item: Box<X>,
+) -> Result<(), AllocError>
     requires { AreFirst X.key_of (reverse earlier.old.items) }
-    ensures put { OnOk result (items_of earlier.new.items ≡ items_of earlier.old.items ++ item ∷ []) }
+    ensures put { OnOk result (items_of earlier.new.items ≡ items_of earlier.old.items ++ item.value ∷ []) }
     ensures kept { AreFirst X.key_of (reverse earlier.new.items) }
 {
-    let least = first_with(earlier, &item);
+    let least = first_with(earlier, item.as_ref());
     earlier.push(Entry { item, least })?;
     Ok(())
 }

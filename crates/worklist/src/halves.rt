@@ -46,9 +46,11 @@ pub fn element<'a, X>(earlier: &'a [Entry<X>], later: &'a [Entry<X>], place: usi
     ensures { slice_get (line_of earlier.now later.now) place ≡ Some result.now }
 {
     if place < earlier.len() {
-        &earlier[place].item
+        earlier[place].item.as_ref()
     } else {
-        &later[later.len() - 1 - (place - earlier.len())].item
+        later[later.len() - 1 - (place - earlier.len())]
+            .item
+            .as_ref()
     }
 }
 

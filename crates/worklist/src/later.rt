@@ -23,7 +23,7 @@ pub fn key_later<X: Keyed>(later: &[Entry<X>], farther: usize) -> &[u32]
     requires { farther < length later.now }
     ensures { result.now ≡ key_at (keys_of X.key_of (reverse later.now)) farther }
 {
-    later[later.len() - 1 - farther].item.key()
+    later[later.len() - 1 - farther].item.as_ref().key()
 }
 
 /// How far the first least stands from an element that comes before the others.
@@ -43,12 +43,12 @@ fn farther<X: Keyed>(later: &[Entry<X>], item: &X) -> usize
 }
 
 /// Puts an element before the others.
-pub fn put_first<X: Keyed + Drop>(later: &mut Vec<Entry<X>>, item: X) -> Result<(), AllocError>
+pub fn put_first<X: Keyed + Drop>(later: &mut Vec<Entry<X>>, item: Box<X>) -> Result<(), AllocError>
     requires { AreLeast X.key_of (reverse later.old.items) }
-    ensures put { OnOk result (items_of (reverse later.new.items) ≡ item ∷ items_of (reverse later.old.items)) }
+    ensures put { OnOk result (items_of (reverse later.new.items) ≡ item.value ∷ items_of (reverse later.old.items)) }
     ensures kept { AreLeast X.key_of (reverse later.new.items) }
 {
-    let least = farther(later, &item);
+    let least = farther(later, item.as_ref());
     later.push(Entry { item, least })?;
     Ok(())
 }

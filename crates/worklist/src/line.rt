@@ -31,13 +31,23 @@ impl<X: Keyed> Model for Line<X> {
     ghost invariant = { λ line. AreFirst X.key_of (reverse line.earlier.items) × AreLeast X.key_of (reverse line.later.items) };
 }
 
+/// An element in a room of its own.
+fn boxed<X: Drop>(alloc: Global, element: X) -> Result<Box<X>, AllocError>
+    ensures { IfOk result (λ boxed. boxed.value ≡ element) }
+{
+    match Box::new(alloc, element) {
+        Ok(boxed) => Ok(boxed),
+        Err(_) => Err(AllocError),
+    }
+}
+
 impl<X: Keyed + Drop> Line<X> {
     /// The list of one element.
     pub fn of_one(alloc: Global, element: X) -> Result<Line<X>, AllocError>
         ensures { IfOk result (λ line. line ≡ element ∷ []) }
     {
         let mut later = Vec::new(alloc);
-        put_first(&mut later, element)?;
+        put_first(&mut later, boxed(alloc, element)?)?;
         Ok(Line {
             earlier: Vec::new(alloc),
             later,
@@ -69,7 +79,7 @@ impl<X: Keyed + Drop> Line<X> {
         let Some(entry) = self.later.pop() else {
             unreachable!()
         };
-        Ok(entry.item)
+        Ok(Box::into_inner(entry.item))
     }
 
     /// Puts an element at a place, before those that stood there and after it.
@@ -78,6 +88,7 @@ impl<X: Keyed + Drop> Line<X> {
         ensures { OnOk result (self.new ≡ take place self.old ++ element ∷ drop place self.old) }
     {
         part_at(&mut self.earlier, &mut self.later, place)?;
+        let element = boxed(*self.later.allocator(), element)?;
         put_first(&mut self.later, element)
     }
 

@@ -61,12 +61,7 @@ fn place_told(text: &[u8], tokens: &[CutToken], number: Option<u32>) -> Place
 }
 
 /// The departure with its place in the text, whose tokens are these.
-pub fn told(
-    alloc: Global,
-    text: &[u8],
-    tokens: &[CutToken],
-    departure: Departure,
-) -> CTextFault
+pub fn told(alloc: Global, text: &[u8], tokens: &[CutToken], departure: Departure) -> CTextFault
     requires { map (word_in text.now) tokens.now ≡ words_of text.now }
     ensures { IfSome (departure_of result) (λ told. IsSomeAnd (fault_of departure) (λ fault. told ≡ placed text.now fault)) }
 {

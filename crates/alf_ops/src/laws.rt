@@ -57,7 +57,6 @@ pub fn words_are_ordered_as_they_read()
 pub fn operators_have_their_own_names()
     ensures { HaveOwnNames }
 {
-    // Its clauses hold the rows, in which the names are seen to differ.
     let _ = rows();
 }
 

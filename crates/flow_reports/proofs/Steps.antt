@@ -1,7 +1,6 @@
 -- Turns of the loops over scopes and nodes.
 --   lines_more   one line more
 --   sum_part     a part of a sum
---   costs_more   one cost more that fits
 --   begun        before the first turn nothing is told
 --   told_more    one turn more
 --   told_all     after the last one

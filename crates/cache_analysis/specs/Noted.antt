@@ -9,9 +9,9 @@ use Rattle.alf_check.specs.CheckedPrograms.{NumberedProgram}
 use Rattle.flow_graph.specs.Nodes.{first_node}
 use Rattle.flow_graph.specs.Numbering.{GraphParts}
 use Rattle.flow_graph.specs.Expansions.{IsExpansion}
-use Rattle.domain_core.specs.Outlines.{Outlined}
+use Rattle.domain_core.specs.Outlines.{Outlined, CostsFit}
 use Rattle.line_cache.specs.declared.shape.Shape.{Shape}
-use Rattle.line_cache.specs.Lines.{IsShape, IsPart, HasNoSize, CostsFit, IsNoted}
+use Rattle.line_cache.specs.Lines.{IsShape, IsPart, HasNoSize, IsNoted}
 use Rattle.line_cache.specs.LineLaws.{notes_suit}
 use Rattle.code_layout.specs.Layouts.{all_statements, most_statements, node_part, parts_of}
 use Rattle.code_layout.specs.LayoutLaws.{IsLow, parts_low}

@@ -27,7 +27,7 @@ use alf_check::{Checked, InputRow};
 use cached_runs::{Cached, cached};
 use domain_core::Outline;
 use flow_graph::{Graph, graphs_are_expansions};
-use line_cache::{Shape, costs_fit};
+use line_cache::Shape;
 use std::alloc::{AllocError, Global};
 use worklist_rules::Policy;
 
@@ -89,7 +89,7 @@ fn explored(
     ensures sound { IfOk result (λ cached. IfTold (answer_of cached) (IsSoundSystem (stepped_by stepper.now).system outline.now)) }
 {
     stepper.goes_along();
-    costs_fit(outline);
+    outline.costs_fit();
     graphs_are_expansions();
     cached(alloc, stepper, outline, policy, turns)
 }

@@ -3,5 +3,4 @@ pub mod JudgedTables
 pub mod JudgedTaskFiles
 pub mod JudgedValues
 pub mod JudgedScopes
-pub mod JudgedLayouts
 pub mod JudgedReportFiles

@@ -1,14 +1,13 @@
 -- Turns of the loops over scopes and nodes.
 --   lines_more   one line more
 --   sum_part     a part of a sum
---   costs_more   one cost more that fits
 --   begun        before the first turn nothing is told
 --   told_more    one turn more
 --   told_all     after the last one
 --   nothing_at   a book has nothing at a place where its look-up answers so
 --   no_line      where no span was collected, no line is told
-use Rattle.std.proofs.Common.{◌≡◌, ◌<◌, ◌≤◌, ◌^◌, ℕ, zero, suc, ◌+◌, List, [], ◌∷◌, ◌++◌, map, take, Bool, true, false, cond, Option, Some, None, inl, inr, refl, sym, ap, ◌∙◌, subst, arith, add-one}
-use Rattle.std.specs.Prelude.{slice_get, slice_index}
+use Rattle.std.proofs.Common.{◌≡◌, ◌<◌, ◌≤◌, ℕ, zero, suc, ◌+◌, List, [], ◌∷◌, ◌++◌, map, take, Bool, true, false, cond, Option, Some, None, inl, inr, refl, sym, ap, ◌∙◌, subst, arith, add-one}
+use Rattle.std.specs.Prelude.{slice_get}
 use Rattle.std.proofs.lemmas.Option.{get_or_from_slice_get, slice_get_within}
 use Rattle.std.proofs.lemmas.List.{append-nil, append_assoc, map-append, take_more}
 use Rattle.graph_walks.specs.ListLaws.{same_or_not}
@@ -61,12 +60,4 @@ sum_part f n (suc k) low =
     elim (same_or_not n k) [
       | inl same ↦ subst (λ (m : ℕ). sum_below f m + f m ≤ sum_below f k + f k) (sym same) (omega arith)
       | inr other ↦ let before = sum_part f n k (omega arith) in omega (arith, before)
-    ]
-
--- one cost more that fits
-pub costs_more : (costs : List ℕ) (n cost : ℕ) → ((k : ℕ) → k < n → slice_index costs k < 2 ^ 32) → cost ≡ slice_index costs n → cost < 2 ^ 32 → (k : ℕ) → k < n + 1 → slice_index costs k < 2 ^ 32
-costs_more costs n cost so_far is fits k low =
-    elim (same_or_not k n) [
-      | inl same ↦ subst (λ (i : ℕ). slice_index costs i < 2 ^ 32) (sym same) (omega (arith, is, fits))
-      | inr other ↦ so_far k (omega arith)
     ]

@@ -2,7 +2,6 @@
 
 ghost use Rattle.std.specs.Prelude.{◌≡◌, ◌<◌, ◌^◌, ◌*◌, length, slice_index};
 ghost use Rattle.report_soundness.specs.ReportTold.{greatest_total, costs_of, count_bound};
-ghost use Rattle.report_soundness.specs.Numbers.{CostsFit};
 ghost use Rattle.flow_gathering.specs.Gathering.{found_in, IsSized};
 
 use domain_core::Outline;
@@ -51,13 +50,4 @@ pub fn bound(outline: &Outline, found: &Collected) -> u64
         sum += most_cost(outline, found, n);
     }
     sum
-}
-
-/// Each cost fits 32 bits, as the outline keeps it.
-pub fn costs_fit(outline: &Outline)
-    ensures { CostsFit outline.now }
-{
-    for n in 0..outline.node_count() {
-        let _ = cost_at(outline, n);
-    }
 }

@@ -10,7 +10,7 @@ ghost use Rattle.report_soundness.specs.Runs.{IsSound};
 ghost use Rattle.flow_gathering.specs.Gathering.{found_in, IsSized};
 
 use crate::alarms::tell_alarms;
-use crate::bound::{bound, costs_fit};
+use crate::bound::bound;
 use crate::counts::tell_counts;
 use crate::loops::tell_loops;
 use crate::pairs::tell_pairs;
@@ -86,7 +86,7 @@ pub fn report<S: Stepper>(
     ensures writable { All (λ row. IsNodeName row.name.items) outline.now.nodes → IfOk result (λ report. IsWritable (reported report)) }
 {
     outline.kept();
-    costs_fit(outline);
+    outline.costs_fit();
     told_reports_are_writable();
     closed_explorations_are_sound::<S>();
     let found = gathered(alloc, pool, outline.node_count())?;

@@ -11,9 +11,9 @@ use Rattle.std.proofs.lemmas.Bool.{eqb-false}
 use Rattle.std.proofs.lemmas.Nat.{le-div, div_below}
 use Rattle.std.proofs.lemmas.List.Elements.{All-get_or}
 use Rattle.lists.specs.Tests.{by_test}
-use Rattle.domain_core.specs.Outlines.{Outlined}
+use Rattle.domain_core.specs.Outlines.{Outlined, CostsFit}
 use Rattle.line_cache.specs.declared.shape.Shape.{Shape}
-use Rattle.line_cache.specs.Lines.{IsShape, IsPart, HasNoSize, first_line, end_line, line_pairs, notes_of, first_of, end_of, CostsFit, IsNoted}
+use Rattle.line_cache.specs.Lines.{IsShape, IsPart, HasNoSize, first_line, end_line, line_pairs, notes_of, first_of, end_of, IsNoted}
 
 length-line_pairs : (line : ℕ) (parts : List (ℕ × ℕ)) → length (line_pairs line parts) ≡ 2 * length parts
 length-line_pairs line [] = refl

@@ -22,5 +22,5 @@ mod laws;
 
 pub use laws::{bounds_follow_the_rule, contents_stay_contents, traces_are_turned_runs};
 pub use misses::{Misses, MissesBook};
-pub use outlines::{costs_fit, notes};
+pub use outlines::notes;
 pub use shape::Shape;

@@ -4,12 +4,10 @@
 --   OrderlyRecorders k r   so are all spans of the recorders of totals, loops and counts
 --   OrderlyBooks k b       and all that was collected in their books
 --   AreOrderly k books     and all that an exploration collected of them
---   CostsFit o             each cost fits 32 bits
-use Rattle.std.specs.Prelude.{◌<◌, ◌≤◌, ◌^◌, ℕ, length, slice_index, Option, Some, None}
-use Rattle.domain_core.specs.Outlines.{Outlined}
+use Rattle.std.specs.Prelude.{◌≤◌, ℕ, Option, Some, None}
 use Rattle.recorder_rules.specs.TotalRules.{span_at, spread_at}
 use Rattle.report_soundness.specs.BookTold.{Books}
-use Rattle.report_soundness.specs.ReportTold.{FourRecorders, FourBooks, books_of, costs_of}
+use Rattle.report_soundness.specs.ReportTold.{FourRecorders, FourBooks, books_of}
 
 -- the least is not greater than the greatest, and that not than k
 abbrev pub IsOrderly : ℕ → ℕ × ℕ → Type 0
@@ -32,7 +30,3 @@ pub record AreOrderly (k : ℕ) (books : Books) : Type 0 where
 
 abbrev pub OrderlyBooks : ℕ → FourBooks → Type 0
 OrderlyBooks k b = AreOrderly k (books_of b)
-
--- each cost fits 32 bits
-abbrev pub CostsFit : Outlined → Type 0
-CostsFit o = (n : ℕ) → n < length o.nodes → slice_index (costs_of o) n < 2 ^ 32

@@ -10,7 +10,7 @@ use Rattle.lists.specs.Members.{all_members}
 use Rattle.lists.specs.Images.{all_images}
 use Rattle.domain_core.specs.declared.outline.NodeRow.{NodeRow}
 use Rattle.domain_core.specs.declared.outline.ScopeRow.{ScopeRow}
-use Rattle.domain_core.specs.Outlines.{Outlined, shape_of, IsOutline, no_scope}
+use Rattle.domain_core.specs.Outlines.{Outlined, CostsFit, shape_of, IsOutline, no_scope}
 use Rattle.graph_walks.specs.ListLaws.{same_default}
 use Rattle.flow_facts.specs.declared.fact.Fact.{Fact}
 use Rattle.flow_facts.specs.declared.fact.Fact.TheVariants.{Loop, Count, Dead, Total, Pair, Alarm}
@@ -19,7 +19,7 @@ use Rattle.flow_facts.specs.Writable.{IsNumber, IsNodeName, FactIsWritable, Node
 use Rattle.recorder_rules.specs.TotalRules.{spread_at}
 use Rattle.report_soundness.specs.ReportTold.{Found, is_stepped, sum_below, told_facts, greatest_total, costs_of, count_bound, named_nodes, told_report}
 use Rattle.report_soundness.specs.Lines.{IsLine}
-use Rattle.report_soundness.specs.Numbers.{IsOrderlySpread, AreOrderly, CostsFit}
+use Rattle.report_soundness.specs.Numbers.{IsOrderlySpread, AreOrderly}
 use Rattle.report_soundness.specs.LineLaws.{told_line}
 use Rattle.report_soundness.specs.AscentLaws.{told_ascend}
 

@@ -3,7 +3,7 @@
 ghost use Rattle.std.specs.Prelude.{◌≡◌, ◌≤◌, ◌<◌, ◌*◌, ◌^◌, ℕ, List, [], Option, All, length};
 ghost use Rattle.alf_ops.specs.declared.history.RunFault.{RunFault};
 ghost use Rattle.domain_core.specs.declared.event.Event.{Event};
-ghost use Rattle.domain_core.specs.Outlines.{Outlined, IsOutline, shape_of};
+ghost use Rattle.domain_core.specs.Outlines.{Outlined, CostsFit, IsOutline, shape_of};
 ghost use Rattle.domain_core.specs.Machines.{IsAlong};
 ghost use Rattle.flow_facts.specs.Writable.{IsNodeName, IsWritable};
 ghost use Rattle.worklist_rules.specs.Pools.{Pooled};
@@ -11,7 +11,7 @@ ghost use Rattle.worklist_rules.specs.Events.{opened, HappenAll};
 ghost use Rattle.worklist_rules.specs.Policies.{IsPolicyRun};
 ghost use Rattle.worklist_rules.specs.Kept.{IsKept};
 ghost use Rattle.report_soundness.specs.ReportTold.{FourRecorders, FourBooks, Found, four_order, four_recording, books_of, found_of, count_bound, told_report};
-ghost use Rattle.report_soundness.specs.Numbers.{AreOrderly, CostsFit};
+ghost use Rattle.report_soundness.specs.Numbers.{AreOrderly};
 ghost use Rattle.worklist_rules.specs.EndedRuns.{Passes};
 ghost use Rattle.report_soundness.specs.Runs.{IsSound};
 ghost use Rattle.report_soundness.specs.Exact.{LoneRun};

@@ -20,9 +20,9 @@ returns-in-Ok-names_along-clause-told c = λ root.
     let cycle = subst (λ (fault : CallFault). IsFaultOf (calls_of unit) fault) c.in-Err-Cycle.field-0-is c.in-Err-Cycle.ensures.cycle in
     subst (λ (names : List (List ℕ)). Refuses unit root (checks.Recursion names)) (sym named) (checks.by_cycle {path = c.in-Err-Cycle.path.items} c.requires.sound cycle)
 
-pub returns-in-Ok-function_ranks-clause-ranked : goal.returns-in-Ok-function_ranks-clause-ranked
-returns-in-Ok-function_ranks-clause-ranked c = (c.in-Ok-function_ranks._ranks.items, c.in-Ok-function_ranks.ensures.ranked)
+pub returns-in-Ok-clause-ranked : goal.returns-in-Ok-clause-ranked
+returns-in-Ok-clause-ranked c = (c.in-Ok._ranks.items, c.in-Ok.ensures.ranked)
 
-pub returns-in-Ok-function_ranks-clause-acyclic : goal.returns-in-Ok-function_ranks-clause-acyclic
-returns-in-Ok-function_ranks-clause-acyclic c =
-    c.ranked_calls_have_no_cycle.ensures (calls_of (unit_of c.args.unit.now)) c.in-Ok-function_ranks._ranks.items c.in-Ok-function_ranks.ensures.ranked
+pub returns-in-Ok-clause-acyclic : goal.returns-in-Ok-clause-acyclic
+returns-in-Ok-clause-acyclic c =
+    c.ranked_calls_have_no_cycle.ensures (calls_of (unit_of c.args.unit.now)) c.in-Ok._ranks.items c.in-Ok.ensures.ranked

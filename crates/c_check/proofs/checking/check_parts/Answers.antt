@@ -18,5 +18,5 @@ returns-clause-passes c =
     let calls = c.in_default-check_calls.ensures.ranked in
     follows c.check_root.result (λ rooted. record {
       ranks = calls.0;
-      is_program = record { no_faults = c.in_default.ensures.sound; ranked = calls.1; rooted = rooted };
+      is_program = record { no_faults = c.in_default-check_text.ensures.sound; ranked = calls.1; rooted = rooted };
     }) c.check_root.ensures.rooted

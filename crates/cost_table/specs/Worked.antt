@@ -26,7 +26,6 @@ one_block = record {
   inits = [];
   exports = [];
   root = 0;
-  ranks = [];
 }
 
 abbrev pub from_to : ℤ → ℤ → Cells

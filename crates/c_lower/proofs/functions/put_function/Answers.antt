@@ -1,5 +1,5 @@
 -- A function more.
-use Rattle.std.proofs.Common.{List, [], ◌∷◌, map, ap, sym, ◌∙◌, arith}
+use Rattle.std.proofs.Common.{List, [], ◌∷◌, ◌+◌, map, ap, sym, ◌∙◌, arith}
 use Rattle.c_unit.specs.Tree.{statement_of, statements_of}
 use Rattle.c_rules.specs.Names.{Scope}
 use Rattle.c_rules.specs.Units.{external_after, with_parameters}
@@ -12,12 +12,12 @@ use Rattle.c_lower.proofs.KnownHeads.{head_words}
 use Rattle.c_lower.proofs.Walking.{entered_scopes, left_known, more_functions}
 use Rattle.c_lower.proofs.functions.put_function.Goals as goal
 
-pub function-requires : goal.function-requires
-function-requires c =
+pub function-requires-clause-words : goal.function-requires-clause-words
+function-requires-clause-words c =
     c.requires.words ∙ sym (ap (λ (k : Known). k.words) c.in_ok-enter_function.ensures ∙ head_words c.args.given c.args.name c.args.parameters.now c.args.scopes.now)
 
-pub returns-in_ok-push-clause-funcs : goal.returns-in_ok-push-clause-funcs
-returns-in_ok-push-clause-funcs c = λ file others here.
+pub returns-clause-funcs : goal.returns-clause-funcs
+returns-clause-funcs c = λ file others here.
     let first = c.args.first in
     let params = c.args.parameters.now in
     let body = map statement_of c.args.body.now in
@@ -32,8 +32,8 @@ returns-in_ok-push-clause-funcs c = λ file others here.
     (record { name = c.args.name; result = c.args.given; parameters = params; scopes = scopes; body = statements_of body })
     (functions_in after others) (f + 1) c.in_ok-push.ensures.items made (omega arith)
 
-pub returns-in_ok-push-clause-known : goal.returns-in_ok-push-clause-known
-returns-in_ok-push-clause-known c = λ file here.
+pub returns-clause-known : goal.returns-clause-known
+returns-clause-known c = λ file here.
     let first = c.args.first in
     let params = c.args.parameters.now in
     let body = map statement_of c.args.body.now in

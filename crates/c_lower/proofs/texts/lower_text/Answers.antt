@@ -1,5 +1,5 @@
 -- What is left to show of `lower_text`.
-use Rattle.std.proofs.Common.{◌≡◌, ap, sym, ◌∙◌, subst}
+use Rattle.std.proofs.Common.{◌≡◌, ◌≤◌, length, ap, sym, ◌∙◌, subst, rules, arith}
 use Rattle.alf_program.specs.Tree.{program_of}
 use Rattle.alf_program.specs.Writable.{IsWritable}
 use Rattle.c_unit.specs.declared.unit.CUnit.{CUnit}
@@ -19,7 +19,8 @@ pub returns : goal.returns
 returns c =
     let unit : UnitTree = unit_of c.args.program.now.unit in
     let same : c.unit-unit.result.now ≡ c.args.program.now.unit = c.unit-unit.ensures in
-    let few : TextHasFewTokens unit = subst (λ (u : CUnit). TextHasFewTokens (unit_of u)) same (few_tokens c.unit-unit.result.now c.has_few_tokens.ensures) in
+    let low : length c.unit-unit.result.now.tokens.items ≤ 4294967296 = search rules in
+    let few : TextHasFewTokens unit = subst (λ (u : CUnit). TextHasFewTokens (unit_of u)) same (few_tokens c.unit-unit.result.now (omega arith)) in
     let whole : program_of c.in_ok-text.text ≡ lowered unit = c.in_ok-text.ensures.lowered ∙ ap (λ (u : CUnit). lowered (unit_of u)) same in
     let root = c.args.program.now.root in
     let ranks = c.keeps.ensures.passes.ranks in

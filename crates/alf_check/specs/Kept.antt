@@ -21,6 +21,7 @@
 use Rattle.std.specs.Prelude.{◌≡◌, ◌≢◌, ◌<◌, ◌≤◌, ◌+◌, ◌*◌, ◌/◌, ◌%◌, ◌^◌, ◌⊎◌, ℕ, suc, true, List, [], ◌∷◌, ◌++◌, map, length, All, AllPairs, Contains, Option, Some, None, slice_get}
 use Rattle.std.specs.List.{AllZip, flat_map, sum_by}
 use Rattle.alf_ops.specs.Table.{result_size, operand_sizes}
+use Rattle.alf_program.specs.Writable.{most_functions, most_frames, most_bytes_of_frames}
 use Rattle.alf_program.specs.declared.program.Num.{Num}
 use Rattle.alf_program.specs.Tree.{NumberedExpression, NumberedExpressions, Number, Address, Load, Apply, Empty, With, WholeProgram}
 use Rattle.alf_program.specs.Writable.{IsWritable}
@@ -287,11 +288,11 @@ pub record IsBounded (program : NumberedProgram) : Type 0 where
 abbrev pub row_bytes : FrameRow → ℕ
 row_bytes row = row.bits / 8
 
--- at most 256 functions and frames, and 1,048,576 bytes of frames in all
+-- the functions, the frames and the bytes of all frames are within the limits
 pub record IsWithinLimits (program : NumberedProgram) : Type 0 where
-  pub funcs : length program.funcs ≤ 256
-  pub frames : length program.frames ≤ 256
-  pub bytes : sum_by row_bytes program.frames ≤ 1048576
+  pub funcs : length program.funcs ≤ most_functions
+  pub frames : length program.frames ≤ most_frames
+  pub bytes : sum_by row_bytes program.frames ≤ most_bytes_of_frames
 
 -- what every checked program keeps
 pub record IsKept (program : NumberedProgram) : Type 0 where

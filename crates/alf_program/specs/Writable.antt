@@ -1,5 +1,5 @@
 -- Which programs some text spells, said of the programs alone.
---   most_depth, most_functions, most_frames, most_frame_bytes, most_bytes   the limits of programs
+--   most_depth, most_functions, most_frames, most_frame_bytes, most_bytes_of_frames   the limits of programs
 --   IsName name                  1 to 64 bytes that may stand in a name
 --   IsSize size                  1 to 64
 --   NumIsWritable num            a number of a size, with a word of that size
@@ -41,8 +41,8 @@ abbrev pub most_frame_bytes : ℕ
 most_frame_bytes = 65536
 
 -- bytes of all frames
-abbrev pub most_bytes : ℕ
-most_bytes = 1048576
+abbrev pub most_bytes_of_frames : ℕ
+most_bytes_of_frames = 1048576
 
 -- ---- names and numbers
 
@@ -200,4 +200,4 @@ pub record IsWritable (program : WholeProgram) : Type 0 where
   pub funcs : All FunctionIsWritable program.funcs
   pub few_functions : length program.funcs ≤ most_functions
   pub few_frames : length (frames_of program) ≤ most_frames
-  pub few_bytes : sum_by frame_bytes (frames_of program) ≤ most_bytes
+  pub few_bytes : sum_by frame_bytes (frames_of program) ≤ most_bytes_of_frames

@@ -23,7 +23,7 @@ use Rattle.alf_tokens.specs.Tokens.{Lexeme, is_kind}
 use Rattle.alf_program.specs.declared.program.Num.{Num}
 use Rattle.alf_program.specs.Tree.{NamedExpression, Address, Load, Apply, Allocation, InitialValue, expressions_of}
 use Rattle.alf_program.specs.Tree as tree
-pub use Rattle.alf_program.specs.Writable.{most_depth, most_functions, most_frames, most_frame_bytes, most_bytes, operand_count}
+pub use Rattle.alf_program.specs.Writable.{most_depth, most_functions, most_frames, most_frame_bytes, most_bytes_of_frames, operand_count}
 
 -- how a text departs from the grammar, where places are of type P
 pub data DepartureAt (P : Type 0) : Type 0 where
@@ -207,7 +207,7 @@ fits_frame bytes = judge (λ at. if nat_le bytes most_frame_bytes then Ok tt els
 
 -- nor are those of all frames
 unfoldable pub more_bytes : ℕ → Rule false (Unit {0})
-more_bytes bytes = spend (λ room. room.bytes) (λ room n. record { functions = room.functions; frames = room.frames; bytes = n }) (Limit AllBytes (most_bytes + 1)) bytes
+more_bytes bytes = spend (λ room. room.bytes) (λ room n. record { functions = room.functions; frames = room.frames; bytes = n }) (Limit AllBytes (most_bytes_of_frames + 1)) bytes
 
 -- BITS, a positive multiple of 8
 unfoldable pub bits : Rule true ℕ

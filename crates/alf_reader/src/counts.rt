@@ -8,13 +8,16 @@ use crate::fault::Departure;
 use crate::reader::Reader;
 use flow_base::Which;
 
-const MOST_FUNCTIONS: u64 = 256;
+/// The most functions of a program.
+pub const MOST_FUNCTIONS: u64 = 256;
 
-const MOST_FRAMES: u64 = 256;
+/// The most frames of a program.
+pub const MOST_FRAMES: u64 = 256;
 
 const MOST_FRAME_BYTES: u128 = 65_536;
 
-const MOST_BYTES: u64 = 1_048_576;
+/// The most bytes of all frames of a program.
+pub const MOST_BYTES_OF_FRAMES: u64 = 1_048_576;
 
 impl<'a> Reader<'a> {
     /// Counts a function.
@@ -63,7 +66,7 @@ impl<'a> Reader<'a> {
             self.bytes -= bytes;
             Ok(())
         } else {
-            Err(Departure::Limit(Which::AllBytes, MOST_BYTES + 1))
+            Err(Departure::Limit(Which::AllBytes, MOST_BYTES_OF_FRAMES + 1))
         }
     }
 

@@ -19,5 +19,6 @@ mod names;
 mod numbers;
 mod parts;
 
+pub use counts::{MOST_BYTES_OF_FRAMES, MOST_FRAMES, MOST_FUNCTIONS};
 pub use fault::{Departure, FaultAt, TextFault, misfit, outside};
 pub use reader::{Counts, Reader};

@@ -23,7 +23,7 @@ use Rattle.alf_tokens.specs.Printed.{is_name_text, is_named_well}
 use Rattle.alf_tokens.specs.Laws.{EachNameIsNamedWell}
 use Rattle.alf_program.specs.Tree.{NamedExpression, BodyItem, Allocation, InitialValue, WholeProgram, expressions_of}
 use Rattle.alf_program.specs.Writable.{most_depth, most_frame_bytes, IsName, IsSize, IsFurther, AreSizesOf, NumIsWritable, AddressIsWritable, count, PartsAreWritable, AllPartsAreWritable, depth_of, most_deep, ExpressionIsWritable, TargetIsWritable, ItemIsWritable, ends_well, AllocationIsWritable, InitialIsWritable, FunctionIsWritable, IsWritable}
-use Rattle.alf_reader.specs.Grammar.{Fault, Limit, most_functions, most_frames, most_bytes, Room, Rule, Number, misfit, outside, or_fault, fits, fits_number, number_within, from_least, number_between, either, opening, closing, end, some_word, word, between, fixed, size, at_most, name, begin, unknown, opens, one_function, one_frame, fits_frame, more_bytes, bits, reference, references, offset, zero_offset, label_tail, label, alloc, allocs, address_tail, address, unsigned, minus, signed_bits, signed, num_tail, num, ref_place, init, inits, operator_named, operand_count, unsigned_term, signed_term, address_term, load, further, sizes, apply, operator, expr_tail, nested, expr, whole_expr}
+use Rattle.alf_reader.specs.Grammar.{Fault, Limit, most_functions, most_frames, most_bytes_of_frames, Room, Rule, Number, misfit, outside, or_fault, fits, fits_number, number_within, from_least, number_between, either, opening, closing, end, some_word, word, between, fixed, size, at_most, name, begin, unknown, opens, one_function, one_frame, fits_frame, more_bytes, bits, reference, references, offset, zero_offset, label_tail, label, alloc, allocs, address_tail, address, unsigned, minus, signed_bits, signed, num_tail, num, ref_place, init, inits, operator_named, operand_count, unsigned_term, signed_term, address_term, load, further, sizes, apply, operator, expr_tail, nested, expr, whole_expr}
 use Rattle.alf_text.specs.Grammar.{opens_target, target, default_arm, switch, with_word, store, label_item, null, leaving, jump, result_word, call, returns, item_tail, item, closing_after, stmts, scope, arg_decls, function_tail, function, functions, closing_empty, empty, addr_unit, macro_defs, little_endian, heading, exports, imports, program}
 use Rattle.alf_text.specs.Language.{start, IsSpelled}
 use Rattle.alf_text.proofs.Named.{text_name}
@@ -178,7 +178,7 @@ one_frame_keeps = spent_keeps (λ room. room.frames) (λ room n. record { functi
 
 more_bytes_keeps : (bytes : ℕ) (room : Room) → Keeps Good (more_bytes bytes).form room (λ x after. room ≡ with_bytes bytes after)
 unfolding more_bytes
-more_bytes_keeps bytes = spent_keeps (λ room. room.bytes) (λ room n. record { functions = room.functions; frames = room.frames; bytes = n }) (Limit AllBytes (most_bytes + 1)) bytes (with_bytes bytes)
+more_bytes_keeps bytes = spent_keeps (λ room. room.bytes) (λ room n. record { functions = room.functions; frames = room.frames; bytes = n }) (Limit AllBytes (most_bytes_of_frames + 1)) bytes (with_bytes bytes)
     (λ room le. let e : room.bytes - bytes + bytes ≡ room.bytes = omega arith in rw e refl)
 
 fits_frame_keeps : (bytes : ℕ) → Stays (fits_frame bytes) (λ x. bytes ≤ most_frame_bytes)

@@ -8,7 +8,7 @@ use Rattle.alf_tokens.specs.Tokens.{Lexeme}
 use Rattle.alf_tokens.specs.Printed.{Mark, token_before, tokens_before}
 use Rattle.alf_tokens.specs.Laws.{EachPrintedTextIsCut}
 use Rattle.alf_program.specs.Tree.{Allocation, Function, WholeProgram}
-use Rattle.alf_program.specs.Writable.{most_functions, most_frames, most_bytes, own_frames, frames_of, frame_bytes, IsWritable}
+use Rattle.alf_program.specs.Writable.{most_functions, most_frames, most_bytes_of_frames, own_frames, frames_of, frame_bytes, IsWritable}
 use Rattle.alf_text.specs.Canonical.{program_marks, canonical_text}
 use Rattle.alf_reader.specs.Grammar.{Fault, Room, Place}
 use Rattle.alf_text.specs.Grammar.{program}
@@ -62,14 +62,14 @@ whole_counted whole room =
 
 -- the room that there is at first
 abbrev pub full : Room
-full = record { functions = most_functions; frames = most_frames; bytes = most_bytes }
+full = record { functions = most_functions; frames = most_frames; bytes = most_bytes_of_frames }
 
 same_room : (a b : Room) → a.functions ≡ b.functions → a.frames ≡ b.frames → a.bytes ≡ b.bytes → a ≡ b
 same_room a b e f g = rw (← e, ← f, ← g) refl
 
 -- where nothing is read yet, a writable program has its room
 room_left : WholeProgram → Room
-room_left whole = record { functions = most_functions - length whole.funcs; frames = most_frames - length (frames_of whole); bytes = most_bytes - bytes_of (frames_of whole) }
+room_left whole = record { functions = most_functions - length whole.funcs; frames = most_frames - length (frames_of whole); bytes = most_bytes_of_frames - bytes_of (frames_of whole) }
 
 all_room : (whole : WholeProgram) → IsWritable whole → whole_needs whole (room_left whole) ≡ full
 unfolding room_left

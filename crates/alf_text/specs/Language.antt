@@ -13,7 +13,7 @@ use Rattle.flow_base.specs.Places.{place_of}
 use Rattle.alf_tokens.specs.Tokens.{tokens_of}
 use Rattle.alf_reader.specs.declared.fault.FaultAt.{FaultAt}
 use Rattle.alf_program.specs.Tree.{WholeProgram}
-use Rattle.alf_reader.specs.Grammar.{DepartureAt, Fault, most_functions, most_frames, most_bytes}
+use Rattle.alf_reader.specs.Grammar.{DepartureAt, Fault, most_functions, most_frames, most_bytes_of_frames}
 use Rattle.alf_reader.specs.Grammar as grammar
 use Rattle.alf_reader.specs.Reading.{departure_in}
 use Rattle.alf_text.specs.Grammar.{program}
@@ -21,7 +21,7 @@ pub use Rattle.alf_reader.specs.Grammar.{Syntax, Number, OutOfProfile, Limit}
 
 -- where the reading of a text starts: nothing is counted yet
 abbrev pub start : List ℕ → grammar.Place
-start bytes = record { ahead = tokens_of bytes; room = record { functions = most_functions; frames = most_frames; bytes = most_bytes } }
+start bytes = record { ahead = tokens_of bytes; room = record { functions = most_functions; frames = most_frames; bytes = most_bytes_of_frames } }
 
 -- the bytes are a spelling of the program
 abbrev pub SpellsProgram : List ℕ → WholeProgram → Type 0

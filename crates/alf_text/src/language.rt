@@ -9,15 +9,17 @@ ghost use Rattle.alf_text.specs.Language.{Means, HasOneMeaning, departure_of, pl
 use crate::programs::program;
 use crate::writable::writable_programs_are_spelled;
 use alf_program::Program;
-use alf_reader::{Counts, Departure, Reader, TextFault};
+use alf_reader::{
+    Counts, Departure, MOST_BYTES_OF_FRAMES, MOST_FRAMES, MOST_FUNCTIONS, Reader, TextFault,
+};
 use flow_base::{Name, place_of};
 use std::alloc::Global;
 
 // A text may have as much as the limits allow.
 const LIMITS: Counts = Counts {
-    functions: 256,
-    frames: 256,
-    bytes: 1_048_576,
+    functions: MOST_FUNCTIONS,
+    frames: MOST_FRAMES,
+    bytes: MOST_BYTES_OF_FRAMES,
 };
 
 /// The program that a text spells, or the text's first departure from the grammar.

@@ -10,6 +10,7 @@ use Rattle.std.specs.Prelude.{ℕ, ◌+◌, ◌||◌, List, [], ◌∷◌, ◌++
 use Rattle.std.specs.Str.{bytes_eq}
 use Rattle.flow_base.specs.declared.place.Which.{Which}
 use Rattle.flow_base.specs.declared.place.Which.TheVariants as which
+pub use Rattle.c_unit.specs.Limits.{most_functions, most_frames, most_elements, most_depth, most_parens, most_nesting}
 use Rattle.grammar.specs.Form.{At, first}
 use Rattle.grammar.specs.Rule.{token, judge, refuse, spend, ◌>>=◌, ◌>>◌}
 use Rattle.grammar.specs.Rule as rules
@@ -47,24 +48,6 @@ Place = At Seen Room
 
 abbrev pub Rule : Bool → Type 0 → Type 1
 Rule some A = rules.Rule Seen Room Fault some A
-
-abbrev pub most_functions : ℕ
-most_functions = 256
-
-abbrev pub most_frames : ℕ
-most_frames = 256
-
-abbrev pub most_elements : ℕ
-most_elements = 8192
-
-abbrev pub most_depth : ℕ
-most_depth = 10
-
-abbrev pub most_parens : ℕ
-most_parens = 64
-
-abbrev pub most_nesting : ℕ
-most_nesting = 32
 
 -- ---- one token
 

@@ -6,7 +6,7 @@ use Rattle.std.proofs.Common.{◌≡◌, ◌≢◌, ◌≤◌, ◌+◌, ◌*◌,
 use Rattle.std.specs.List.{sum_by}
 use Rattle.std.specs.Option.{option_map_or}
 use Rattle.alf_program.specs.Tree.{Allocation}
-use Rattle.alf_program.specs.Writable.{frame_bytes, own_frames, frames_of}
+use Rattle.alf_program.specs.Writable.{frame_bytes, own_frames, frames_of, most_frames, most_bytes_of_frames}
 use Rattle.c_unit.specs.declared.types.Integer.{Integer}
 use Rattle.c_unit.specs.declared.types.Integer.TheVariants.{Char, UnsignedChar, Short, UnsignedShort, Int, UnsignedInt}
 use Rattle.c_unit.specs.declared.types.Scalar.{Scalar}
@@ -205,7 +205,7 @@ module _ (unit : UnitTree) where
       let all = light_joined (global_frames whole) (flat_map own_frames (lowered unit).funcs) (e + 0) e first second in
       omega (arith, all)
 
-  pub few_bytes : (IsNamed : List ℕ → Type 0) → IsCounted IsNamed unit → length (frames_of (lowered unit)) ≤ 256 → sum_by frame_bytes (frames_of (lowered unit)) ≤ 1048576
+  pub few_bytes : (IsNamed : List ℕ → Type 0) → IsCounted IsNamed unit → length (frames_of (lowered unit)) ≤ most_frames → sum_by frame_bytes (frames_of (lowered unit)) ≤ most_bytes_of_frames
   few_bytes IsNamed counted few =
       let light = all_frames_light in
       let sum = sum_is (frames_of (lowered unit)) in

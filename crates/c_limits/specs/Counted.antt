@@ -1,8 +1,9 @@
 -- Units that are counted.
 --   CountedUnitsHaveSpelledNames   the names of a counted unit whose checks pass are spelled
 --   calls_of_all program fs        how many calls of functions that give something stand in the blocks of functions
---   CountedUnitsHaveFewFrames      with its objects they are at most 256
+--   CountedUnitsHaveFewFrames      with its objects they are no more than a program may have frames
 use Rattle.std.specs.Prelude.{◌≤◌, ◌+◌, ℕ, List, [], ◌∷◌, length}
+use Rattle.alf_program.specs.Writable.{most_frames}
 use Rattle.c_unit.specs.Units.{UnitTree}
 use Rattle.c_rules.specs.UnitsStand.{UnitStands}
 use Rattle.c_meaning.specs.Objects.{Function, Program, program_of, objects_of, functions_of}
@@ -19,4 +20,4 @@ calls_of_all program [] = 0
 calls_of_all program (f ∷ fs) = calls_in_all program f.body + calls_of_all program fs
 
 abbrev pub CountedUnitsHaveFewFrames : Type 0
-CountedUnitsHaveFewFrames = (unit : UnitTree) → IsCounted IsIdentifier unit → UnitStands unit → length (objects_of unit) + calls_of_all (program_of unit) (functions_of unit) ≤ 256
+CountedUnitsHaveFewFrames = (unit : UnitTree) → IsCounted IsIdentifier unit → UnitStands unit → length (objects_of unit) + calls_of_all (program_of unit) (functions_of unit) ≤ most_frames

@@ -1,8 +1,9 @@
 -- Sizes of objects of a counted unit.
 --   objects_small    each object has at most 262144 bits, where arrays have at most 8192 elements in all
 --   blocks_shallow   at most ten operators are nested in the block of each function
---   functions_few    there are at most 256 functions
+--   functions_few    the functions are no more than a text may define
 use Rattle.std.proofs.Common.{◌≡◌, ◌≤◌, ◌+◌, ◌*◌, ℕ, suc, List, [], ◌∷◌, ◌++◌, map, length, refl, ap, arith}
+use Rattle.c_unit.specs.Limits.{most_functions}
 use Rattle.c_unit.specs.declared.types.Integer.{Integer}
 use Rattle.c_unit.specs.declared.types.Integer.TheVariants.{Char, UnsignedChar, Short, UnsignedShort, Int, UnsignedInt}
 use Rattle.c_unit.specs.declared.types.Scalar.{Scalar}
@@ -120,5 +121,5 @@ module _ (IsNamed : List ℕ → Type 0) (unit : UnitTree) (counted : IsCounted 
   pub blocks_shallow : EachOf (λ (f : Function). InStatements Shallow Shallow f.body) (functions_of unit)
   blocks_shallow = blocks unit.words IsNamed (record { scope = []; made = [] }) unit.externals counted.stand
 
-  pub functions_few : length (functions_of unit) ≤ 256
+  pub functions_few : length (functions_of unit) ≤ most_functions
   functions_few = let same = count (record { scope = []; made = [] }) unit.externals in let few = counted.functions in omega (arith, same, few)

@@ -3,7 +3,7 @@
 --   frames_count        a lowered program has a frame for each object and for each call of a function that gives something
 --   is_measured         so a counted unit is measured
 use Rattle.std.proofs.Common.{◌≡◌, ◌<◌, ◌≤◌, ◌^◌, ◌+◌, ℕ, suc, List, [], ◌∷◌, map, flat_map, length, length-append, slice_get, Some, refl, ap, subst, arith}
-use Rattle.alf_program.specs.Writable.{own_frames, frames_of}
+use Rattle.alf_program.specs.Writable.{own_frames, frames_of, most_frames}
 use Rattle.c_unit.specs.Units.{UnitTree}
 use Rattle.c_meaning.specs.Objects.{Object, Function, Program, program_of, parameter_object, all_locals_in, objects_of, functions_of}
 use Rattle.c_lowered.specs.Statements.{labels_in_all, calls_in_all}
@@ -61,7 +61,7 @@ module _ (unit : UnitTree) (names : HasNames (program_of unit)) where
   is_measured frames counted stands labels =
       let count = frames_count in
       let few = frames unit counted stands in
-      let low : length (frames_of (lowered unit)) ≤ 256 = omega (arith, count, few) in
+      let low : length (frames_of (lowered unit)) ≤ most_frames = omega (arith, count, few) in
       record {
         small = objects_small IsIdentifier unit counted;
         shallow = blocks_shallow IsIdentifier unit counted;

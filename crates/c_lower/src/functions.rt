@@ -2,6 +2,7 @@
 
 ghost use Rattle.std.specs.Prelude.{◌≡◌, ◌≤◌, ◌<◌, ◌+◌, ◌^◌, ℕ, List, ◌∷◌, ◌++◌, map, length, IfOk, OnOk};
 ghost use Rattle.alf_program.specs.Tree as alf;
+ghost use Rattle.c_unit.specs.Limits.{most_elements};
 ghost use Rattle.c_unit.specs.Tree.{ExternalTree, Declaration, Definition, declarator_of, external_of, statement_of, statements_of};
 ghost use Rattle.c_unit.specs.Units.{unit_of};
 ghost use Rattle.c_rules.specs.Counts.{all_elements_in};
@@ -36,7 +37,7 @@ fn function(
     body: &[Stmt],
 ) -> Result<Func, AllocError>
     requires words { (unit_of code.table.now).words ≡ scopes.old.words }
-    requires elements { all_elements_in (unit_of code.table.now).words (statements_of (map statement_of body.now)) ≤ 8192 }
+    requires elements { all_elements_in (unit_of code.table.now).words (statements_of (map statement_of body.now)) ≤ most_elements }
     ensures func { IfOk result (λ func. (name : ℕ) → alf.function_of func ≡ laws.lowered_function (program_in code.entry.table.now) code.entry.function
         (record { name = name; result = given; parameters = parameters.now; scopes = scopes.old.scopes; body = statements_of (map statement_of body.now) })) }
     ensures few { OnOk result (labels_in_all (statements_of (map statement_of body.now)) < 2 ^ 64) }
@@ -73,7 +74,7 @@ fn put_function(
     body: &[Stmt],
 ) -> Result<u32, AllocError>
     requires words { (unit_of code.table.now).words ≡ scopes.old.words }
-    requires elements { all_elements_in (unit_of code.table.now).words (statements_of (map statement_of body.now)) ≤ 8192 }
+    requires elements { all_elements_in (unit_of code.table.now).words (statements_of (map statement_of body.now)) ≤ most_elements }
     requires room { code.function + 1 < 2 ^ 32 }
     ensures funcs { IfOk result (λ next. (file : File) (others : List ExternalTree) → scopes.old ≡ known_at scopes.old.words file.scope
         → map alf.function_of funcs.new.items ++ funcs_from (program_in code.entry.table.now) next (external_after file (Definition first given name parameters.now (map statement_of body.now))) others
@@ -99,7 +100,7 @@ fn put_external(
     external: &External,
 ) -> Result<u32, AllocError>
     requires words { (unit_of code.table.now).words ≡ scopes.old.words }
-    requires elements { elements_of (unit_of code.table.now).words (external_of external.now) ≤ 8192 }
+    requires elements { elements_of (unit_of code.table.now).words (external_of external.now) ≤ most_elements }
     requires room { code.function + 1 < 2 ^ 32 }
     ensures funcs { IfOk result (λ next. (file : File) (others : List ExternalTree) → scopes.old ≡ known_at scopes.old.words file.scope
         → map alf.function_of funcs.new.items ++ funcs_from (program_in code.entry.table.now) next (external_after file (external_of external.now)) others

@@ -6,13 +6,8 @@ ghost use Rattle.c_reader.specs.Reading.{Reads};
 
 use crate::fault::Departure;
 use crate::reader::Reader;
+use c_unit::{MOST_ELEMENTS, MOST_FRAMES, MOST_FUNCTIONS};
 use flow_base::Which;
-
-const MOST_FUNCTIONS: u64 = 256;
-
-const MOST_FRAMES: u64 = 256;
-
-const MOST_ELEMENTS: u64 = 8_192;
 
 impl<'a> Reader<'a> {
     /// Counts one more function that is defined.

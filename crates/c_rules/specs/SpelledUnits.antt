@@ -9,6 +9,7 @@ use Rattle.std.specs.Prelude.{◌≡◌, ◌≤◌, ℕ, suc, ◌+◌, Bool, tru
 use Rattle.std.specs.List.{list_all}
 use Rattle.std.specs.Option.{is_some}
 use Rattle.std.specs.Str.{bytes_eq}
+use Rattle.c_unit.specs.Limits.{most_functions, most_frames, most_elements, most_depth}
 use Rattle.c_unit.specs.declared.types.Outcome.{Outcome}
 use Rattle.c_unit.specs.declared.types.Outcome.TheVariants as outcomes
 use Rattle.c_unit.specs.declared.external.Parameter.{Parameter}
@@ -125,12 +126,12 @@ FunctionsStand IsNamed P words [] = ⊤
 FunctionsStand IsNamed P words (x ∷ xs) = FunctionStands IsNamed P words x × FunctionsStand IsNamed P words xs
 
 abbrev pub Shallow : Expression → Type 0
-Shallow e = depth_of e ≤ 10
+Shallow e = depth_of e ≤ most_depth
 
 pub record IsCounted (IsNamed : List ℕ → Type 0) (unit : UnitTree) : Type 0 where
-  pub frames : all_frames_of unit.words [] unit.externals ≤ 256
-  pub elements : all_elements_of unit.words unit.externals ≤ 8192
-  pub functions : length (definitions unit.externals) ≤ 256
+  pub frames : all_frames_of unit.words [] unit.externals ≤ most_frames
+  pub elements : all_elements_of unit.words unit.externals ≤ most_elements
+  pub functions : length (definitions unit.externals) ≤ most_functions
   pub last : ℕ
   pub tokens : Ascends IsNamed unit.words 0 last (all_tokens_of unit.externals)
   pub stand : FunctionsStand IsNamed Shallow unit.words unit.externals

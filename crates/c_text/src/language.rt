@@ -17,15 +17,8 @@ use crate::externals::read_unit;
 use crate::fault::CTextFault;
 use crate::laws::spelled_units_are_read_back;
 use c_reader::{CutToken, Departure, Names, Reader, cut, spans};
-use c_unit::{CUnit, External};
+use c_unit::{CUnit, External, MOST_ELEMENTS, MOST_FRAMES, MOST_FUNCTIONS};
 use std::alloc::{AllocError, Global};
-
-// A text may have as much as the limits allow.
-const MOST_FUNCTIONS: u64 = 256;
-
-const MOST_FRAMES: u64 = 256;
-
-const MOST_ELEMENTS: u64 = 8_192;
 
 /// The unit that a text spells, or the text's first departure from the grammar.
 ///

@@ -3,5 +3,6 @@
 pub mod Tree
 pub mod Measures
 pub mod Units
--- Texts of tokens.
+-- Limits, and texts of tokens.
+pub mod Limits
 pub mod Texts

@@ -14,7 +14,8 @@ mod external;
 mod statement;
 mod types;
 
-// Tokens, and units.
+// Tokens, units, and their limits.
+mod limits;
 mod tokens;
 mod unit;
 
@@ -23,6 +24,7 @@ mod printing;
 
 pub use expression::{Binary, Expr, Unary};
 pub use external::{Declarator, External, Parameter, Shape};
+pub use limits::{MOST_ELEMENTS, MOST_FRAMES, MOST_FUNCTIONS};
 pub use printing::print;
 pub use statement::{Call, Effect, Local, LocalShape, Stmt, Value};
 pub use tokens::{Span, range};

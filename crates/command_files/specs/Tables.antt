@@ -16,7 +16,7 @@ use Rattle.cost_table.specs.Inputs.{MeansInputs, RefusesInputs}
 use Rattle.command_plans.specs.declared.reading.Role.TheVariants.{Inputs, Costs}
 use Rattle.command_plans.specs.Outcome.{Outcome, Source}
 use Rattle.command_plans.specs.Work.{Work, reads, judged, done, ◌>>=◌}
-use Rattle.program_files.specs.Programs.{most_bytes, too_long}
+use Rattle.program_files.specs.Programs.{most_bytes_of_a_file, too_long}
 use Rattle.answer_texts.specs.TableLines.{table_line}
 
 -- ---- inputs
@@ -36,7 +36,7 @@ InputsMean bytes program (Err outcome) = IsInputsLine bytes program outcome
 -- the file is read, and its rows
 unfoldable pub inputs_told : NumberedProgram → List ℕ → Work (List InputRow)
 inputs_told program file = do
-  bytes ← reads Inputs file most_bytes too_long
+  bytes ← reads Inputs file most_bytes_of_a_file too_long
   judged (InputsMean bytes program)
 
 -- without a file there are no rows
@@ -61,7 +61,7 @@ CostsMean bytes program (Err outcome) = IsCostsLine bytes program outcome
 -- the file is read, and its costs
 unfoldable pub costs_told : NumberedProgram → List ℕ → Work CostTable
 costs_told program file = do
-  bytes ← reads Costs file most_bytes too_long
+  bytes ← reads Costs file most_bytes_of_a_file too_long
   judged (CostsMean bytes program)
 
 -- without a file every block costs 1

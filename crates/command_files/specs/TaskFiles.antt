@@ -9,7 +9,7 @@ use Rattle.cost_table.specs.TaskFiles.{MeansTasks, RefusesTasks}
 use Rattle.command_plans.specs.declared.reading.Role.TheVariants as roles
 use Rattle.command_plans.specs.Outcome.{Outcome, Source}
 use Rattle.command_plans.specs.Work.{Work, reads, judged, ◌>>=◌}
-use Rattle.program_files.specs.Programs.{most_bytes, too_long}
+use Rattle.program_files.specs.Programs.{most_bytes_of_a_file, too_long}
 use Rattle.answer_texts.specs.TableLines.{table_line}
 
 -- the line tells what is wrong with the tasks
@@ -27,5 +27,5 @@ TasksMean bytes (Err outcome) = IsTasksLine bytes outcome
 -- the file is read, and its tasks
 unfoldable pub tasks_told : List ℕ → Work (List TimedTask)
 tasks_told file = do
-  bytes ← reads roles.Tasks file most_bytes too_long
+  bytes ← reads roles.Tasks file most_bytes_of_a_file too_long
   judged (TasksMean bytes)

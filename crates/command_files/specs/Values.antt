@@ -9,7 +9,7 @@ use Rattle.cost_table.specs.RunValues.{MeansValues, RefusesValues}
 use Rattle.command_plans.specs.declared.reading.Role.TheVariants.{Values}
 use Rattle.command_plans.specs.Outcome.{Outcome, Source}
 use Rattle.command_plans.specs.Work.{Work, reads, judged, ◌>>=◌}
-use Rattle.program_files.specs.Programs.{most_bytes, too_long}
+use Rattle.program_files.specs.Programs.{most_bytes_of_a_file, too_long}
 use Rattle.answer_texts.specs.TableLines.{table_line}
 
 -- the line tells what is wrong with the values
@@ -27,7 +27,7 @@ ValuesMean bytes n (Err outcome) = IsValuesLine bytes n outcome
 -- the file is read, and its numbers
 unfoldable pub values_told : ℕ → List ℕ → Work (List ℤ)
 values_told n file = do
-  bytes ← reads Values file most_bytes too_long
+  bytes ← reads Values file most_bytes_of_a_file too_long
   judged (ValuesMean bytes n)
 
 -- a file without numbers

@@ -14,7 +14,7 @@ use flow_facts::Report;
 use std::alloc::Global;
 
 // The most bytes of a report's file.
-const MOST_BYTES: u64 = 67_108_864;
+const MOST_BYTES_OF_A_REPORT: u64 = 67_108_864;
 
 // The line of one that has more.
 const TOO_LONG: &str = "fault 13 limit bytes 67108865\n";
@@ -26,7 +26,14 @@ pub fn report_in<F: Shelf>(alloc: Global, file: &str, shelf: &mut F) -> Result<R
         (F.state shelf.old) result (F.state shelf.new) }
     ensures written { IfOk result (λ report. IsWritable (reported report)) }
 {
-    let bytes = read_file(alloc, shelf, Role::Report, file, MOST_BYTES, TOO_LONG)?;
+    let bytes = read_file(
+        alloc,
+        shelf,
+        Role::Report,
+        file,
+        MOST_BYTES_OF_A_REPORT,
+        TOO_LONG,
+    )?;
     spelled(alloc, &bytes)
 }
 

@@ -12,7 +12,7 @@ use answer_texts::table_line;
 use command_plans::{Role, Stop, Why, read_file};
 use cost_table::{Costs, a_file_has_one_answer, costs, inputs};
 use flow_base::Shelf;
-use program_files::{MOST_BYTES, TOO_LONG};
+use program_files::{MOST_BYTES_OF_A_FILE, TOO_LONG};
 use std::alloc::Global;
 
 /// The rows of inputs, and the costs of blocks.
@@ -66,7 +66,14 @@ fn inputs_told<F: Shelf>(
     ensures work { Works (inputs_told (seen checked.now) file.now) (λ rows. rows.items) (F.state shelf.old) result (F.state shelf.new) }
     ensures keep { IfOk result (λ rows. KeepInputs (seen checked.now) rows.items) }
 {
-    let bytes = read_file(alloc, shelf, Role::Inputs, file, MOST_BYTES, TOO_LONG)?;
+    let bytes = read_file(
+        alloc,
+        shelf,
+        Role::Inputs,
+        file,
+        MOST_BYTES_OF_A_FILE,
+        TOO_LONG,
+    )?;
     inputs_meant(alloc, checked, &bytes)
 }
 
@@ -110,7 +117,14 @@ fn costs_told<F: Shelf>(
 ) -> Result<Costs, Stop>
     ensures { Works (costs_told (seen checked.now) file.now) (λ costs. costs) (F.state shelf.old) result (F.state shelf.new) }
 {
-    let bytes = read_file(alloc, shelf, Role::Costs, file, MOST_BYTES, TOO_LONG)?;
+    let bytes = read_file(
+        alloc,
+        shelf,
+        Role::Costs,
+        file,
+        MOST_BYTES_OF_A_FILE,
+        TOO_LONG,
+    )?;
     costs_meant(alloc, checked, &bytes)
 }
 

@@ -9,7 +9,7 @@ use answer_texts::table_line;
 use command_plans::{Role, Stop, Why, read_file};
 use cost_table::{Task, a_tasks_file_has_one_answer, tasks as tasks_of};
 use flow_base::Shelf;
-use program_files::{MOST_BYTES, TOO_LONG};
+use program_files::{MOST_BYTES_OF_A_FILE, TOO_LONG};
 use std::alloc::Global;
 
 /// The tasks of the file.
@@ -18,7 +18,14 @@ pub fn tasks_told<F: Shelf>(alloc: Global, file: &str, shelf: &mut F) -> Result<
     ensures work { Works (tasks_told file.now) (λ tasks. tasks.items) (F.state shelf.old) result (F.state shelf.new) }
     ensures keep { IfOk result (λ tasks. AreTasks tasks.items) }
 {
-    let bytes = read_file(alloc, shelf, Role::Tasks, file, MOST_BYTES, TOO_LONG)?;
+    let bytes = read_file(
+        alloc,
+        shelf,
+        Role::Tasks,
+        file,
+        MOST_BYTES_OF_A_FILE,
+        TOO_LONG,
+    )?;
     tasks_meant(alloc, &bytes)
 }
 

@@ -9,7 +9,7 @@ use answer_texts::table_line;
 use command_plans::{Role, Stop, Why, read_file};
 use cost_table::{a_values_file_has_one_answer, values};
 use flow_base::Shelf;
-use program_files::{MOST_BYTES, TOO_LONG};
+use program_files::{MOST_BYTES_OF_A_FILE, TOO_LONG};
 use std::alloc::Global;
 
 /// The values of a run. Without a file they are those of a file without any.
@@ -41,7 +41,14 @@ fn values_told<F: Shelf>(
         (F.state shelf.old) result (F.state shelf.new) }
     ensures one_each { IfOk result (λ values. length values.items ≡ length rows.now) }
 {
-    let bytes = read_file(alloc, shelf, Role::Values, file, MOST_BYTES, TOO_LONG)?;
+    let bytes = read_file(
+        alloc,
+        shelf,
+        Role::Values,
+        file,
+        MOST_BYTES_OF_A_FILE,
+        TOO_LONG,
+    )?;
     values_meant(alloc, &bytes, rows)
 }
 

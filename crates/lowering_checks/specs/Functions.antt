@@ -9,7 +9,7 @@ use Rattle.std.proofs.lemmas.Slice.Eq.{bytes_eq-Decides}
 use Rattle.lists.specs.Members.{contained}
 use Rattle.alf_program.specs.Tree as alf
 use Rattle.std.specs.List.{sum_by}
-use Rattle.alf_program.specs.Writable.{IsName, most_functions, most_frames, most_bytes, frame_bytes, frames_of}
+use Rattle.alf_program.specs.Writable.{IsName, most_functions, most_frames, most_bytes_of_frames, frame_bytes, frames_of}
 use Rattle.c_unit.specs.declared.types.Outcome.{Outcome}
 use Rattle.c_unit.specs.declared.types.Outcome.TheVariants as outcomes
 use Rattle.c_unit.specs.declared.external.Parameter.{Parameter}
@@ -129,7 +129,7 @@ pub record IsMeasured (unit : UnitTree) (names : HasNames (program_of unit)) : T
   pub few_labels : EachOf (λ (function : Function). labels_in_all function.body < 2 ^ 64) (functions_of unit)
   pub few_functions : length (functions_of unit) ≤ most_functions
   pub few_frames : length (frames_of (lowered unit)) ≤ most_frames
-  pub few_bytes : sum_by frame_bytes (frames_of (lowered unit)) ≤ most_bytes
+  pub few_bytes : sum_by frame_bytes (frames_of (lowered unit)) ≤ most_bytes_of_frames
 
 module _ (unit : UnitTree) (names : HasNames (program_of unit)) (stands : UnitStands unit) (measured : IsMeasured unit names) where
   abbrev pub program : Program

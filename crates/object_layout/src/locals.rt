@@ -1,6 +1,7 @@
 //! Locals of functions, in the order of the text.
 
 ghost use Rattle.std.specs.Prelude.{◌≡◌, ◌≤◌, [], ◌∷◌, ◌++◌, map, OnOk};
+ghost use Rattle.c_unit.specs.Limits.{most_elements};
 ghost use Rattle.c_unit.specs.Tree.{local_of, statement_of, statements_of};
 ghost use Rattle.c_rules.specs.Counts.{elements_of, elements_of_all, elements_in, all_elements_in};
 ghost use Rattle.c_meaning.specs.Objects as meaning;
@@ -20,7 +21,7 @@ pub fn put_all_locals(
     objects: &mut Vec<Object>,
     row: &[Stmt],
 ) -> Result<(), AllocError>
-    requires few { all_elements_in words.now (statements_of (map statement_of row.now)) ≤ 8192 }
+    requires few { all_elements_in words.now (statements_of (map statement_of row.now)) ≤ most_elements }
     ensures { OnOk result (map object_of objects.new.items ≡ map object_of objects.old.items ++ meaning.all_locals_in words.now owner (statements_of (map statement_of row.now))) }
 {
     for statement in row {
@@ -37,7 +38,7 @@ fn put_locals(
     objects: &mut Vec<Object>,
     statement: &Stmt,
 ) -> Result<(), AllocError>
-    requires few { elements_in words.now (statement_of statement.now) ≤ 8192 }
+    requires few { elements_in words.now (statement_of statement.now) ≤ most_elements }
     ensures { OnOk result (map object_of objects.new.items ≡ map object_of objects.old.items ++ meaning.locals_in words.now owner (statement_of statement.now)) }
 {
     match statement {
@@ -80,7 +81,7 @@ fn put_declared(
     kind: Integer,
     locals: &[Local],
 ) -> Result<(), AllocError>
-    requires few { elements_of_all words.now (map local_of locals.now) ≤ 8192 }
+    requires few { elements_of_all words.now (map local_of locals.now) ≤ most_elements }
     ensures { OnOk result (map object_of objects.new.items ≡ map object_of objects.old.items ++ map (meaning.local_object words.now owner kind) (map local_of locals.now)) }
 {
     for local in locals {
@@ -97,7 +98,7 @@ fn put_local(
     kind: Integer,
     local: &Local,
 ) -> Result<(), AllocError>
-    requires few { elements_of words.now (local_of local.now).shape ≤ 8192 }
+    requires few { elements_of words.now (local_of local.now).shape ≤ most_elements }
     ensures { OnOk result (map object_of objects.new.items ≡ map object_of objects.old.items ++ meaning.local_object words.now owner kind (local_of local.now) ∷ []) }
 {
     objects.push(Object {

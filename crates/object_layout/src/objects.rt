@@ -1,6 +1,7 @@
 //! All objects of a unit: the globals, and then the parameters and locals of each function.
 
 ghost use Rattle.std.specs.Prelude.{◌≡◌, ◌≤◌, ◌<◌, ◌+◌, ◌^◌, [], ◌∷◌, ◌++◌, List, map, length, IfOk, OnOk};
+ghost use Rattle.c_unit.specs.Limits.{most_elements, most_functions};
 ghost use Rattle.c_unit.specs.Tree.{declarator_of, shape_of, ExternalTree, external_of};
 ghost use Rattle.c_unit.specs.Units.{unit_of};
 ghost use Rattle.c_rules.specs.Units as checks;
@@ -46,7 +47,7 @@ fn put_globals(
     objects: &mut Vec<Object>,
     externals: &[External],
 ) -> Result<(), AllocError>
-    requires few { all_elements_of words.now (map external_of externals.now) ≤ 8192 }
+    requires few { all_elements_of words.now (map external_of externals.now) ≤ most_elements }
     ensures { OnOk result (map object_of objects.new.items ≡ map object_of objects.old.items ++ meaning.globals_in words.now (map external_of externals.now)) }
 {
     let mut rest = externals;
@@ -69,7 +70,7 @@ fn put_declared(
     kind: Integer,
     declarators: &[Declarator],
 ) -> Result<(), AllocError>
-    requires few { elements_of_declarators words.now (map declarator_of declarators.now) ≤ 8192 }
+    requires few { elements_of_declarators words.now (map declarator_of declarators.now) ≤ most_elements }
     ensures { OnOk result (map object_of objects.new.items ≡ map object_of objects.old.items ++ meaning.globals_declared words.now kind (map declarator_of declarators.now)) }
 {
     for declarator in declarators {
@@ -86,7 +87,7 @@ fn put_global(
     token: u32,
     shape: &Shape,
 ) -> Result<(), AllocError>
-    requires few { elements_of_shape words.now (shape_of shape.now) ≤ 8192 }
+    requires few { elements_of_shape words.now (shape_of shape.now) ≤ most_elements }
     ensures { OnOk result (map object_of objects.new.items ≡ map object_of objects.old.items ++ meaning.global_object words.now kind token (shape_of shape.now)) }
 {
     let bits = match shape {
@@ -108,8 +109,8 @@ fn put_owned(
     objects: &mut Vec<Object>,
     externals: &[External],
 ) -> Result<(), AllocError>
-    requires few { all_elements_of words.now (map external_of externals.now) ≤ 8192 }
-    requires functions { length (definitions (map external_of externals.now)) ≤ 256 }
+    requires few { all_elements_of words.now (map external_of externals.now) ≤ most_elements }
+    requires functions { length (definitions (map external_of externals.now)) ≤ most_functions }
     ensures { OnOk result (map object_of objects.new.items ≡ map object_of objects.old.items ++ meaning.owned_in words.now 0 (map external_of externals.now)) }
 {
     let mut owner: u32 = 0;
@@ -128,7 +129,7 @@ fn put_function(
     objects: &mut Vec<Object>,
     external: &External,
 ) -> Result<u32, AllocError>
-    requires few { elements_of words.now (external_of external.now) ≤ 8192 }
+    requires few { elements_of words.now (external_of external.now) ≤ most_elements }
     requires room { owner + 1 < 2 ^ 32 }
     ensures objects { IfOk result (λ next. (others : List ExternalTree) → map object_of objects.new.items ++ meaning.owned_in words.now next others
         ≡ map object_of objects.old.items ++ meaning.owned_in words.now owner (external_of external.now ∷ others)) }

@@ -10,6 +10,7 @@ use Rattle.program_analysis.specs.Answers.{Answer, Told, Unbounded, answer_of, I
 use Rattle.std.proofs.Common.{◌≡◌, ◌≤◌, ◌*◌, ◌^◌, ℕ, List, [], length, refl, arith}
 use Rattle.domain_core.specs.declared.event.Event.{Event}
 use Rattle.domain_core.specs.Outlines.{Outlined}
+use Rattle.flow_graph.specs.Numbering.{most_nodes}
 use Rattle.flow_facts.specs.Reports.{Reported}
 use Rattle.flow_facts.specs.Writable.{IsNodeName, IsWritable}
 use Rattle.worklist_rules.specs.declared.policy.Policy.{Policy}
@@ -39,7 +40,7 @@ module _ (pool : PoolOf) (o : Outlined) (policy : Policy) (turns : ℕ) (events 
   pub along_in : pool.outline ≡ o
   along_in = run_same stepped_by parts_order four_order four_recording policy turns events (first_pool pool.stepper o) pool ended.explored
 
-  pub room_in : length o.nodes ≤ 512 → turns ≤ most_turns → length o.nodes * pool.steps ≤ 2 ^ 31
+  pub room_in : length o.nodes ≤ most_nodes → turns ≤ most_turns → length o.nodes * pool.steps ≤ 2 ^ 31
   room_in few most =
       let turned : HasTurns turns pool = run_turns stepped_by parts_order four_order four_recording policy turns events (first_pool pool.stepper o) pool (omega arith) ended.explored in
       has_room (length o.nodes) pool.steps turns few turned.within most

@@ -5,7 +5,7 @@ ghost use Rattle.alf_check.specs.CheckedPrograms.{seen};
 ghost use Rattle.alf_check.specs.Inputs.{KeepInputs};
 ghost use Rattle.domain_core.specs.Outlines.{shape_of};
 ghost use Rattle.domain_core.specs.OutlineOf.{IsOutlineOf};
-ghost use Rattle.flow_graph.specs.Numbering.{IsGraph};
+ghost use Rattle.flow_graph.specs.Numbering.{IsGraph, most_nodes};
 ghost use Rattle.flow_facts.specs.Writable.{IsWritable};
 ghost use Rattle.scope_graph.specs.Placing.{plan_of};
 ghost use Rattle.program_analysis.specs.Answers.{answer_of, IfTold, IfClosed};
@@ -72,7 +72,7 @@ fn explored(
     turns: u32,
 ) -> Result<Analysed, AllocError>
     requires outline { IsOutlineOf (plan_of stepper.now.graph) (shape_of outline.now) }
-    requires nodes { length outline.now.nodes ≤ 512 }
+    requires nodes { length outline.now.nodes ≤ most_nodes }
     requires turns { turns ≤ most_turns }
     ensures found { IfOk result (λ analysed. IsFound stepper.now outline.now policy turns (answer_of analysed)) }
     ensures events { IfOk result (λ analysed. IfClosed analysed (IsClosedBy stepper.now outline.now policy turns)) }
@@ -97,7 +97,7 @@ fn told(
 ) -> Result<Analysed, AllocError>
     requires kept { IsPool stepped_by four_recording pool.now }
     requires explored { IsEnded pool.now outline.now policy turns events.items }
-    requires nodes { length outline.now.nodes ≤ 512 }
+    requires nodes { length outline.now.nodes ≤ most_nodes }
     requires turns { turns ≤ most_turns }
     ensures found { IfOk result (λ analysed. IsFound pool.now.stepper outline.now policy turns (answer_of analysed)) }
     ensures events { IfOk result (λ analysed. IfClosed analysed (IsClosedBy pool.now.stepper outline.now policy turns)) }

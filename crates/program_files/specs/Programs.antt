@@ -1,5 +1,5 @@
 -- The program of ALF that a command reads, checked.
---   most_bytes, too_long         the most bytes of a file, and the line of one that has more
+--   most_bytes_of_a_file, too_long         the most bytes of a file, and the line of one that has more
 --   ProgramMeans bytes meaning   the program that the bytes spell, or the line of their first departure
 --   program_in file              a file is read, and its program
 --   CheckMeans whole root meaning   the program with numbers in place of names, where it passes the checks, or the line of its fault
@@ -20,8 +20,8 @@ use Rattle.program_files.specs.CheckLines.{check_line, check_cause}
 -- ---- text
 
 -- the most bytes of a program's file, and of each other
-abbrev pub most_bytes : ℕ
-most_bytes = 1048576
+abbrev pub most_bytes_of_a_file : ℕ
+most_bytes_of_a_file = 1048576
 
 -- the line of a file that has more
 abbrev pub too_long : List ℕ
@@ -29,7 +29,7 @@ too_long = codes "fault 13 limit bytes 1048577\n"
 
 -- the bytes of the file, or the line that it has more
 abbrev pub program_bytes : List ℕ → Work (List ℕ)
-program_bytes file = reads Program file most_bytes too_long
+program_bytes file = reads Program file most_bytes_of_a_file too_long
 
 -- the program that the bytes spell, or the line of their first departure from the grammar
 abbrev pub ProgramMeans : List ℕ → Result WholeProgram Outcome → Type 0

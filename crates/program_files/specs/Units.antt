@@ -12,7 +12,7 @@ use Rattle.c_check.specs.Programs.{PassesChecks}
 use Rattle.command_plans.specs.declared.reading.Role.TheVariants.{Program}
 use Rattle.command_plans.specs.Outcome.{Outcome, refused}
 use Rattle.command_plans.specs.Work.{Work, reads, judged, ◌>>=◌}
-use Rattle.program_files.specs.Programs.{most_bytes}
+use Rattle.program_files.specs.Programs.{most_bytes_of_a_file}
 use Rattle.program_files.specs.UnitLines.{unit_line}
 use Rattle.program_files.specs.RefusalLines.{refusal_told}
 
@@ -24,7 +24,7 @@ unit_too_long = codes "fault 93 limit bytes 1048577\n"
 
 -- the bytes of the file, or the line that it has more
 abbrev pub unit_bytes : List ℕ → Work (List ℕ)
-unit_bytes file = reads Program file most_bytes unit_too_long
+unit_bytes file = reads Program file most_bytes_of_a_file unit_too_long
 
 -- the unit that the bytes spell, or the line of their first departure from the grammar
 abbrev pub UnitMeans : List ℕ → Result UnitTree Outcome → Type 0

@@ -18,5 +18,5 @@ mod expanding;
 
 pub use expanding::{Expanded, checked_in, expanded_in, graph_of};
 pub use lines::{limit_line, number_or_dash, push_quoted};
-pub use programs::{MOST_BYTES, TOO_LONG, program_in};
+pub use programs::{MOST_BYTES_OF_A_FILE, TOO_LONG, program_in};
 pub use units::{checked_unit_in, unit_in};

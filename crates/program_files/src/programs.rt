@@ -17,7 +17,7 @@ use flow_base::Shelf;
 use std::alloc::Global;
 
 /// The most bytes of a file.
-pub const MOST_BYTES: u64 = 1_048_576;
+pub const MOST_BYTES_OF_A_FILE: u64 = 1_048_576;
 
 /// The line of a file that has more.
 pub const TOO_LONG: &str = "fault 13 limit bytes 1048577\n";
@@ -28,7 +28,14 @@ pub fn program_in<F: Shelf>(alloc: Global, file: &str, shelf: &mut F) -> Result<
     ensures work { Works (program_in file.now) (λ program. program_of program) (F.state shelf.old) result (F.state shelf.new) }
     ensures written { IfOk result (λ program. IsWritable (program_of program)) }
 {
-    let bytes = read_file(alloc, shelf, Role::Program, file, MOST_BYTES, TOO_LONG)?;
+    let bytes = read_file(
+        alloc,
+        shelf,
+        Role::Program,
+        file,
+        MOST_BYTES_OF_A_FILE,
+        TOO_LONG,
+    )?;
     spelled(alloc, &bytes)
 }
 

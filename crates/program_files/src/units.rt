@@ -8,7 +8,7 @@ ghost use Rattle.program_files.specs.Units.{UnitMeans, unit_in, UnitCheckMeans, 
 ghost use Rattle.program_files.specs.Told.{IsToldUnit};
 
 use crate::lines::{refusal_line, refusal_why, unit_line};
-use crate::programs::MOST_BYTES;
+use crate::programs::MOST_BYTES_OF_A_FILE;
 use c_check::{CProgram, check};
 use c_text::{CUnit, one_meaning, read};
 use command_plans::{Role, Stop, Why, read_file};
@@ -25,7 +25,14 @@ pub fn unit_in<F: Shelf>(alloc: Global, file: &str, shelf: &mut F) -> Result<CUn
     ensures work { Works (unit_in file.now) (λ unit. unit_of unit) (F.state shelf.old) result (F.state shelf.new) }
     ensures spelled { IfOk result (λ unit. IsSpelled (unit_of unit)) }
 {
-    let bytes = read_file(alloc, shelf, Role::Program, file, MOST_BYTES, TOO_LONG)?;
+    let bytes = read_file(
+        alloc,
+        shelf,
+        Role::Program,
+        file,
+        MOST_BYTES_OF_A_FILE,
+        TOO_LONG,
+    )?;
     spelled(alloc, &bytes)
 }
 

@@ -16,7 +16,7 @@ use Rattle.command_plans.specs.declared.reading.Role.TheVariants.{Inputs, Costs,
 use Rattle.command_plans.specs.Log.{Log, log_with}
 use Rattle.command_plans.specs.Outcome.{Outcome}
 use Rattle.command_plans.specs.Work.{Work, reads, judged, done, ◌>>=◌}
-use Rattle.program_files.specs.Programs.{most_bytes, too_long, ProgramMeans, program_in, CheckMeans, numbered_in}
+use Rattle.program_files.specs.Programs.{most_bytes_of_a_file, too_long, ProgramMeans, program_in, CheckMeans, numbered_in}
 use Rattle.program_files.specs.Units.{unit_too_long, UnitMeans, unit_in, UnitCheckMeans, checked_unit_in}
 use Rattle.program_files.specs.Expanding.{lowered_in, checked_in, GraphMeans, expanded_in}
 use Rattle.command_files.specs.Scopes.{ScopesMean, scoped_in}
@@ -49,14 +49,14 @@ module _ (files later : Files) where
   unfolding numbered_in program_in
   of_alf file root same =
       going_on (program_in file) (λ whole. judged (CheckMeans whole root))
-      (going_on (reads Program file most_bytes too_long) (λ bytes. judged (ProgramMeans bytes)) (reading Program file most_bytes too_long same) (λ bytes. judging (ProgramMeans bytes)))
+      (going_on (reads Program file most_bytes_of_a_file too_long) (λ bytes. judged (ProgramMeans bytes)) (reading Program file most_bytes_of_a_file too_long same) (λ bytes. judging (ProgramMeans bytes)))
       (λ whole. judging (CheckMeans whole root))
 
   of_unit : (file root : List ℕ) → later file ≡ files file → Carries (checked_unit_in file root)
   unfolding checked_unit_in unit_in
   of_unit file root same =
       going_on (unit_in file) (λ unit. judged (UnitCheckMeans unit root))
-      (going_on (reads Program file most_bytes unit_too_long) (λ bytes. judged (UnitMeans bytes)) (reading Program file most_bytes unit_too_long same) (λ bytes. judging (UnitMeans bytes)))
+      (going_on (reads Program file most_bytes_of_a_file unit_too_long) (λ bytes. judged (UnitMeans bytes)) (reading Program file most_bytes_of_a_file unit_too_long same) (λ bytes. judging (UnitMeans bytes)))
       (λ unit. judging (UnitCheckMeans unit root))
 
   of_c : (file root : List ℕ) → later file ≡ files file → Carries (lowered_in file root)
@@ -91,13 +91,13 @@ module _ (files later : Files) where
   unfolding inputs_told
   of_rows program None same = ending []
   of_rows program (Some file) same =
-      going_on (reads Inputs file most_bytes too_long) (λ bytes. judged (InputsMean bytes program)) (reading Inputs file most_bytes too_long same) (λ bytes. judging (InputsMean bytes program))
+      going_on (reads Inputs file most_bytes_of_a_file too_long) (λ bytes. judged (InputsMean bytes program)) (reading Inputs file most_bytes_of_a_file too_long same) (λ bytes. judging (InputsMean bytes program))
 
   of_costs : (program : NumberedProgram) (file : Option (List ℕ)) → IfSome file (λ name. later name ≡ files name) → Carries (costs_in program file)
   unfolding costs_told
   of_costs program None same = ending one_each
   of_costs program (Some file) same =
-      going_on (reads Costs file most_bytes too_long) (λ bytes. judged (CostsMean bytes program)) (reading Costs file most_bytes too_long same) (λ bytes. judging (CostsMean bytes program))
+      going_on (reads Costs file most_bytes_of_a_file too_long) (λ bytes. judged (CostsMean bytes program)) (reading Costs file most_bytes_of_a_file too_long same) (λ bytes. judging (CostsMean bytes program))
 
   -- of the reads of inputs and costs
   pub tables_carried : (program : NumberedProgram) (inputs costs : Option (List ℕ)) → IfSome inputs (λ name. later name ≡ files name)

@@ -1,5 +1,6 @@
 -- The functions so far, with those that are left, are all, and there is room for what is left.
 use Rattle.std.proofs.Common.{◌≤◌, ◌+◌, map, length}
+use Rattle.c_unit.specs.Limits.{most_functions, most_elements}
 use Rattle.c_unit.specs.Tree.{external_of}
 use Rattle.c_unit.specs.Units.{unit_of}
 use Rattle.c_rules.specs.Units.{definitions}
@@ -11,8 +12,8 @@ use Rattle.c_lower.proofs.functions.lowered_functions.Given as goal
 abbrev pub invariant-externals : goal.invariant-externals
 invariant-externals l =
     IsWalk (unit_of l.unit).words (program_in l.unit) l.scopes l.funcs.items l.function (map external_of l.rest)
-    × (all_elements_of (unit_of l.unit).words (map external_of l.rest) ≤ 8192)
-    × (l.function + length (definitions (map external_of l.rest)) ≤ 256)
+    × (all_elements_of (unit_of l.unit).words (map external_of l.rest) ≤ most_elements)
+    × (l.function + length (definitions (map external_of l.rest)) ≤ most_functions)
 
 abbrev pub decreases-externals : goal.decreases-externals
 decreases-externals l = length l.rest

@@ -18,14 +18,13 @@ use Rattle.c_meaning.specs.Objects.{Function, Program, functions_in}
 use Rattle.c_lowered.specs.Programs.{lowered_from, lowered_function}
 use Rattle.statement_lowering.specs.Afterwards.{Stays}
 use Rattle.c_lower.specs.Heads.{known_at, with_head}
-use Rattle.c_lower.specs.Walk.{funcs_from, HaveFewLabels}
+use Rattle.c_lower.specs.Walk.{funcs_from}
 use Rattle.c_lower.proofs.KnownHeads.{params_known}
 
 pub record IsWalk (words : List Word) (p : Program) (known : Known) (funcs : List Func) (number : ℕ) (xs : List ExternalTree) : Type 0 where
   pub file : File
   pub here : known ≡ known_at words file.scope
   pub all : map alf.function_of funcs ++ funcs_from p number file xs ≡ lowered_from p 0 p.functions
-  pub few : HaveFewLabels (functions_in file xs) → HaveFewLabels p.functions
 
 -- in a function its parameters are known, and the function itself at file level
 pub entered_scopes : (file : File) (first : ℕ) (o : Outcome) (name : ℕ) (params : List Parameter) (body : List Statement) (known entered : Known)

@@ -9,13 +9,12 @@ ghost use Rattle.c_rules.specs.Counts.{all_elements_in};
 ghost use Rattle.c_rules.specs.Units.{File, external_after, definitions};
 ghost use Rattle.c_rules.specs.SpelledUnits.{elements_of};
 ghost use Rattle.c_lower.specs.Heads.{known_at};
-ghost use Rattle.c_meaning.specs.Objects.{functions_in};
-ghost use Rattle.c_lowered.specs.Statements.{labels_in_all};
+ghost use Rattle.c_lowered.specs.Statements.{labels_in_all, calls_in_all};
 ghost use Rattle.c_lowered.specs.Programs as laws;
 ghost use Rattle.object_layout.specs.Room.{HasRoom};
 ghost use Rattle.object_layout.specs.Views.{program_in};
 ghost use Rattle.statement_lowering.specs.Afterwards.{Stays};
-ghost use Rattle.c_lower.specs.Walk.{funcs_from, HaveFewLabels};
+ghost use Rattle.c_lower.specs.Walk.{funcs_from, HasFewNumbers, HaveFewNumbers};
 
 use crate::heads::{declare, enter_function};
 use alf_program::Func;
@@ -38,9 +37,10 @@ fn function(
 ) -> Result<Func, AllocError>
     requires words { (unit_of code.table.now).words ≡ scopes.old.words }
     requires elements { all_elements_in (unit_of code.table.now).words (statements_of (map statement_of body.now)) ≤ most_elements }
+    requires labels { labels_in_all (statements_of (map statement_of body.now)) < 2 ^ 64 }
+    requires calls { calls_in_all (program_in code.table.now) (statements_of (map statement_of body.now)) < 2 ^ 64 }
     ensures func { IfOk result (λ func. (name : ℕ) → alf.function_of func ≡ laws.lowered_function (program_in code.entry.table.now) code.entry.function
         (record { name = name; result = given; parameters = parameters.now; scopes = scopes.old.scopes; body = statements_of (map statement_of body.now) })) }
-    ensures few { OnOk result (labels_in_all (statements_of (map statement_of body.now)) < 2 ^ 64) }
     ensures stays { OnOk result (Stays scopes.old scopes.new) }
 {
     let name = Name::new(code.alloc, code.table.function_name(code.function))?;
@@ -76,10 +76,11 @@ fn put_function(
     requires words { (unit_of code.table.now).words ≡ scopes.old.words }
     requires elements { all_elements_in (unit_of code.table.now).words (statements_of (map statement_of body.now)) ≤ most_elements }
     requires room { code.function + 1 < 2 ^ 32 }
+    requires labels { labels_in_all (statements_of (map statement_of body.now)) < 2 ^ 64 }
+    requires calls { calls_in_all (program_in code.table.now) (statements_of (map statement_of body.now)) < 2 ^ 64 }
     ensures funcs { IfOk result (λ next. (file : File) (others : List ExternalTree) → scopes.old ≡ known_at scopes.old.words file.scope
         → map alf.function_of funcs.new.items ++ funcs_from (program_in code.entry.table.now) next (external_after file (Definition first given name parameters.now (map statement_of body.now))) others
         ≡ map alf.function_of funcs.old.items ++ funcs_from (program_in code.entry.table.now) code.entry.function file (Definition first given name parameters.now (map statement_of body.now) ∷ others)) }
-    ensures few { OnOk result ((file : File) (others : List ExternalTree) → HaveFewLabels (functions_in (external_after file (Definition first given name parameters.now (map statement_of body.now))) others) → HaveFewLabels (functions_in file (Definition first given name parameters.now (map statement_of body.now) ∷ others))) }
     ensures known { OnOk result ((file : File) → scopes.old ≡ known_at scopes.old.words file.scope
         → scopes.new ≡ known_at scopes.old.words (external_after file (Definition first given name parameters.now (map statement_of body.now))).scope) }
     ensures number { IfOk result (λ next. next ≡ code.entry.function + 1) }
@@ -102,10 +103,10 @@ fn put_external(
     requires words { (unit_of code.table.now).words ≡ scopes.old.words }
     requires elements { elements_of (unit_of code.table.now).words (external_of external.now) ≤ most_elements }
     requires room { code.function + 1 < 2 ^ 32 }
+    requires few { HasFewNumbers (program_in code.table.now) (external_of external.now) }
     ensures funcs { IfOk result (λ next. (file : File) (others : List ExternalTree) → scopes.old ≡ known_at scopes.old.words file.scope
         → map alf.function_of funcs.new.items ++ funcs_from (program_in code.entry.table.now) next (external_after file (external_of external.now)) others
         ≡ map alf.function_of funcs.old.items ++ funcs_from (program_in code.entry.table.now) code.entry.function file (external_of external.now ∷ others)) }
-    ensures few { OnOk result ((file : File) (others : List ExternalTree) → HaveFewLabels (functions_in (external_after file (external_of external.now)) others) → HaveFewLabels (functions_in file (external_of external.now ∷ others))) }
     ensures known { OnOk result ((file : File) → scopes.old ≡ known_at scopes.old.words file.scope
         → scopes.new ≡ known_at scopes.old.words (external_after file (external_of external.now)).scope) }
     ensures number { IfOk result (λ next. (others : List ExternalTree) → next + length (definitions others) ≡ code.entry.function + length (definitions (external_of external.now ∷ others))) }
@@ -146,8 +147,8 @@ pub fn lowered_functions(
 ) -> Result<Vec<Func>, AllocError>
     requires unit { table.now ≡ unit.now }
     requires room { HasRoom (unit_of unit.now) }
+    requires few { HaveFewNumbers (program_in unit.now) (unit_of unit.now).externals }
     ensures funcs { IfOk result (λ funcs. map alf.function_of funcs.items ≡ laws.lowered_from (program_in unit.now) 0 (program_in unit.now).functions) }
-    ensures few { OnOk result (HaveFewLabels (program_in unit.now).functions) }
 {
     let mut scopes = Scopes::new(alloc, unit);
     scopes.enter()?;

@@ -9,7 +9,7 @@ ghost use Rattle.c_text.specs.Language.{IsSpelled};
 ghost use Rattle.c_lowered.specs.Programs.{lowered};
 ghost use Rattle.object_layout.specs.Room.{HasRoom};
 ghost use Rattle.c_lower.specs.Measured.{HasFewLabels};
-ghost use Rattle.c_lower.specs.Passing.{SpelledProgramsAreWritten, SpelledProgramsPass};
+ghost use Rattle.c_lower.specs.Passing.{SpelledProgramsAreWritten, SpelledProgramsPass, SpelledProgramsHaveFewNumbers};
 
 use c_limits::{
     counted_units_have_few_frames, counted_units_have_spelled_names, spelled_units_are_counted,
@@ -43,4 +43,13 @@ pub fn spelled_programs_pass()
 {
     spelled_units_have_few_labels();
     lowered_programs_pass();
+}
+
+/// In each such unit 64 bits have the number of each label and of each call.
+pub fn spelled_programs_have_few_numbers()
+    ensures { SpelledProgramsHaveFewNumbers }
+{
+    spelled_units_are_counted();
+    counted_units_have_spelled_names();
+    spelled_units_have_few_labels();
 }

@@ -10,7 +10,9 @@ ghost use Rattle.c_lower.specs.Outcomes.{HaveUnitsOutcomes};
 
 use crate::lowering::lower_unit;
 use crate::program_laws::spelled_programs_have_the_outcome_of_their_unit;
-use crate::text_laws::{spelled_programs_pass, spelled_units_have_room};
+use crate::text_laws::{
+    spelled_programs_have_few_numbers, spelled_programs_pass, spelled_units_have_room,
+};
 use alf_program::Program;
 use c_check::CProgram;
 use c_unit::CUnit;
@@ -40,6 +42,7 @@ pub fn lower_text(alloc: Global, program: &CProgram) -> Result<Program, AllocErr
 {
     spelled_programs_pass();
     spelled_units_have_room();
+    spelled_programs_have_few_numbers();
     spelled_programs_have_the_outcome_of_their_unit();
     program.keeps();
     let unit = program.unit();

@@ -1,6 +1,6 @@
 //! Conditions, as switches on one bit.
 
-ghost use Rattle.std.specs.Prelude.{◌≡◌, ◌+◌, ◌∷◌, IfOk, OnOk};
+ghost use Rattle.std.specs.Prelude.{◌≡◌, ◌+◌, ◌<◌, ◌^◌, ◌∷◌, IfOk, OnOk};
 ghost use Rattle.alf_program.specs.Tree as alf;
 ghost use Rattle.c_unit.specs.Tree.{expression_of};
 ghost use Rattle.c_unit.specs.Units.{unit_of};
@@ -10,7 +10,7 @@ ghost use Rattle.c_lowered.specs.Conditions as laws;
 ghost use Rattle.object_layout.specs.Views.{program_in};
 ghost use Rattle.condition_lowering.specs.Views.{Makes, within_of};
 
-use crate::code::{Code, greater};
+use crate::code::Code;
 use crate::items::put_act;
 use crate::joins::{Join, is_not, join_of};
 use crate::labels::{label_name, put_label};
@@ -98,7 +98,8 @@ pub fn put_condition(
     held: &[u8],
     failed: &[u8],
 ) -> Result<u64, AllocError>
-    requires { (unit_of code.table.now).words ≡ scopes.now.words }
+    requires words { (unit_of code.table.now).words ≡ scopes.now.words }
+    requires few { next + laws.condition_labels (expression_of e.now) < 2 ^ 64 }
     ensures items { OnOk result (Makes items.old.items items.new.items (laws.condition_items (within_of code.entry) scopes.now.scopes (expression_of e.now) next held.now failed.now)) }
     ensures labels { IfOk result (λ after. after ≡ next + laws.condition_labels (expression_of e.now)) }
 {
@@ -117,7 +118,7 @@ pub fn put_condition(
         Expr::Binary(op, _, left, right) => match join_of(*op) {
             Join::Both => {
                 let mid = label_name(code, next)?;
-                let first = greater(1, next)?;
+                let first = 1 + next;
                 let second = put_condition(code, scopes, items, left, first, mid.bytes(), failed)?;
                 put_label(code, items, next)?;
                 let after = put_condition(code, scopes, items, right, second, held, failed)?;
@@ -125,7 +126,7 @@ pub fn put_condition(
             }
             Join::Either => {
                 let mid = label_name(code, next)?;
-                let first = greater(1, next)?;
+                let first = 1 + next;
                 let second = put_condition(code, scopes, items, left, first, held, mid.bytes())?;
                 put_label(code, items, next)?;
                 let after = put_condition(code, scopes, items, right, second, held, failed)?;

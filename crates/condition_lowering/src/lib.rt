@@ -18,7 +18,7 @@ mod joins;
 mod branches;
 
 pub use branches::{begin_if, end_else, end_if, end_then, put_checked};
-pub use code::{Code, greater};
+pub use code::Code;
 pub use conditions::put_condition;
 pub use items::put_act;
 pub use labels::{label_name, put_jump, put_label};

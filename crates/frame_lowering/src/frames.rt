@@ -1,8 +1,9 @@
 //! The frames of a function: its locals and the results of its calls, in the order of the text.
 
-ghost use Rattle.std.specs.Prelude.{◌≡◌, ◌≤◌, ◌+◌, ◌^◌, ◌++◌, [], ◌∷◌, map, IfOk, OnOk, OnErr};
+ghost use Rattle.std.specs.Prelude.{◌≡◌, ◌≤◌, ◌<◌, ◌+◌, ◌^◌, ◌++◌, [], ◌∷◌, map, IfOk, OnOk};
 ghost use Rattle.std.specs.Option.{option_map};
 ghost use Rattle.alf_program.specs.Tree.{allocation_of};
+ghost use Rattle.c_unit.specs.Limits.{most_elements};
 ghost use Rattle.c_unit.specs.Tree.{call_of, value_of, effect_of, local_of, local_shape_of, statement_of, statements_of};
 ghost use Rattle.c_unit.specs.Units.{unit_of};
 ghost use Rattle.c_rules.specs.Counts.{elements_of_all, elements_in, all_elements_in};
@@ -19,18 +20,14 @@ use object_layout::{bits_of_local, bits_of_scalar, parameter_token};
 use operator_lowering::bits_of_type;
 use std::alloc::AllocError;
 
-// The number after a call. One beyond 64 bits is want of memory.
-fn after(calls: u64, given: Outcome) -> Result<u64, AllocError>
-    ensures next { IfOk result (λ next. next ≡ calls + effects.calls_of_outcome given) }
-    ensures past { OnErr result (2 ^ 64 ≤ calls + effects.calls_of_outcome given) }
+// The number after a call.
+fn after(calls: u64, given: Outcome) -> u64
+    requires { calls + effects.calls_of_outcome given < 2 ^ 64 }
+    ensures { result ≡ calls + effects.calls_of_outcome given }
 {
-    let own = match given {
-        Outcome::Nothing => 0,
-        Outcome::Integer(_) => 1,
-    };
-    match calls.checked_add(own) {
-        Some(next) => Ok(next),
-        None => Err(AllocError),
+    match given {
+        Outcome::Nothing => calls,
+        Outcome::Integer(_) => calls + 1,
     }
 }
 
@@ -55,6 +52,7 @@ fn put_call(
     calls: u64,
     call: &Call,
 ) -> Result<u64, AllocError>
+    requires calls { calls + effects.calls_in_call (program_in place.table.now) (call_of call.now) < 2 ^ 64 }
     ensures frames { OnOk result (map allocation_of frames.new.items ≡ map allocation_of frames.old.items ++ laws.call_frames (program_in place.entry.table.now) place.entry.function calls (call_of call.now)) }
     ensures calls { IfOk result (λ next. next ≡ calls + effects.calls_in_call (program_in place.entry.table.now) (call_of call.now)) }
 {
@@ -69,7 +67,7 @@ fn put_call(
             })?;
         }
     }
-    after(calls, given)
+    Ok(after(calls, given))
 }
 
 // Puts that of a value, if it is a call.
@@ -79,6 +77,7 @@ fn put_value(
     calls: u64,
     value: &Value,
 ) -> Result<u64, AllocError>
+    requires calls { calls + effects.calls_in_value (program_in place.table.now) (value_of value.now) < 2 ^ 64 }
     ensures frames { OnOk result (map allocation_of frames.new.items ≡ map allocation_of frames.old.items ++ laws.value_frames (program_in place.entry.table.now) place.entry.function calls (value_of value.now)) }
     ensures calls { IfOk result (λ next. next ≡ calls + effects.calls_in_value (program_in place.entry.table.now) (value_of value.now)) }
 {
@@ -95,6 +94,7 @@ fn put_first(
     calls: u64,
     first: &Option<Value>,
 ) -> Result<u64, AllocError>
+    requires calls { calls + effects.calls_in_first (program_in place.table.now) (option_map value_of first.now) < 2 ^ 64 }
     ensures frames { OnOk result (map allocation_of frames.new.items ≡ map allocation_of frames.old.items ++ laws.first_frames (program_in place.entry.table.now) place.entry.function calls (option_map value_of first.now)) }
     ensures calls { IfOk result (λ next. next ≡ calls + effects.calls_in_first (program_in place.entry.table.now) (option_map value_of first.now)) }
 {
@@ -111,6 +111,7 @@ fn put_effect(
     calls: u64,
     effect: &Effect,
 ) -> Result<u64, AllocError>
+    requires calls { calls + effects.calls_in_effect (program_in place.table.now) (effect_of effect.now) < 2 ^ 64 }
     ensures frames { OnOk result (map allocation_of frames.new.items ≡ map allocation_of frames.old.items ++ laws.effect_frames (program_in place.entry.table.now) place.entry.function calls (effect_of effect.now)) }
     ensures calls { IfOk result (λ next. next ≡ calls + effects.calls_in_effect (program_in place.entry.table.now) (effect_of effect.now)) }
 {
@@ -129,6 +130,7 @@ fn put_last(
     calls: u64,
     last: &Option<Effect>,
 ) -> Result<u64, AllocError>
+    requires calls { calls + statements.calls_if (program_in place.table.now) (option_map effect_of last.now) < 2 ^ 64 }
     ensures frames { OnOk result (map allocation_of frames.new.items ≡ map allocation_of frames.old.items ++ laws.last_frames (program_in place.entry.table.now) place.entry.function calls (option_map effect_of last.now)) }
     ensures calls { IfOk result (λ next. next ≡ calls + statements.calls_if (program_in place.entry.table.now) (option_map effect_of last.now)) }
 {
@@ -145,6 +147,7 @@ fn put_shape(
     calls: u64,
     shape: &LocalShape,
 ) -> Result<u64, AllocError>
+    requires calls { calls + effects.calls_in_shape (program_in place.table.now) (local_shape_of shape.now) < 2 ^ 64 }
     ensures frames { OnOk result (map allocation_of frames.new.items ≡ map allocation_of frames.old.items ++ laws.shape_frames (program_in place.entry.table.now) place.entry.function calls (local_shape_of shape.now)) }
     ensures calls { IfOk result (λ next. next ≡ calls + effects.calls_in_shape (program_in place.entry.table.now) (local_shape_of shape.now)) }
 {
@@ -163,7 +166,8 @@ fn put_locals(
     kind: Integer,
     locals: &[Local],
 ) -> Result<u64, AllocError>
-    requires few { elements_of_all (unit_of place.table.now).words (map local_of locals.now) ≤ 8192 }
+    requires few { elements_of_all (unit_of place.table.now).words (map local_of locals.now) ≤ most_elements }
+    requires calls { calls + effects.calls_in_locals (program_in place.table.now) (map local_of locals.now) < 2 ^ 64 }
     ensures frames { OnOk result (map allocation_of frames.new.items ≡ map allocation_of frames.old.items ++ laws.locals_frames (program_in place.entry.table.now) place.entry.function calls kind (map local_of locals.now)) }
     ensures calls { IfOk result (λ next. next ≡ calls + effects.calls_in_locals (program_in place.entry.table.now) (map local_of locals.now)) }
 {
@@ -186,7 +190,8 @@ fn put_row(
     calls: u64,
     row: &[Stmt],
 ) -> Result<u64, AllocError>
-    requires few { all_elements_in (unit_of place.table.now).words (statements_of (map statement_of row.now)) ≤ 8192 }
+    requires few { all_elements_in (unit_of place.table.now).words (statements_of (map statement_of row.now)) ≤ most_elements }
+    requires calls { calls + statements.calls_in_all (program_in place.table.now) (statements_of (map statement_of row.now)) < 2 ^ 64 }
     ensures frames { OnOk result (map allocation_of frames.new.items ≡ map allocation_of frames.old.items ++ laws.all_frames_in (program_in place.entry.table.now) place.entry.function calls (statements_of (map statement_of row.now))) }
     ensures calls { IfOk result (λ next. next ≡ calls + statements.calls_in_all (program_in place.entry.table.now) (statements_of (map statement_of row.now))) }
 {
@@ -206,7 +211,8 @@ fn put_turns(
     last: &Option<Effect>,
     body: &Stmt,
 ) -> Result<u64, AllocError>
-    requires few { elements_in (unit_of place.table.now).words (statement_of body.now) ≤ 8192 }
+    requires few { elements_in (unit_of place.table.now).words (statement_of body.now) ≤ most_elements }
+    requires calls { calls + (statements.calls_if (program_in place.table.now) (option_map effect_of last.now) + statements.calls_in (program_in place.table.now) (statement_of body.now)) < 2 ^ 64 }
     ensures frames { OnOk result (map allocation_of frames.new.items ≡ map allocation_of frames.old.items ++ (laws.last_frames (program_in place.entry.table.now) place.entry.function calls (option_map effect_of last.now)
         ++ laws.frames_in (program_in place.entry.table.now) place.entry.function (calls + statements.calls_if (program_in place.entry.table.now) (option_map effect_of last.now)) (statement_of body.now))) }
     ensures calls { IfOk result (λ next. next ≡ calls + (statements.calls_if (program_in place.entry.table.now) (option_map effect_of last.now) + statements.calls_in (program_in place.entry.table.now) (statement_of body.now))) }
@@ -224,7 +230,8 @@ fn put_statement(
     calls: u64,
     statement: &Stmt,
 ) -> Result<u64, AllocError>
-    requires few { elements_in (unit_of place.table.now).words (statement_of statement.now) ≤ 8192 }
+    requires few { elements_in (unit_of place.table.now).words (statement_of statement.now) ≤ most_elements }
+    requires calls { calls + statements.calls_in (program_in place.table.now) (statement_of statement.now) < 2 ^ 64 }
     ensures frames { OnOk result (map allocation_of frames.new.items ≡ map allocation_of frames.old.items ++ laws.frames_in (program_in place.entry.table.now) place.entry.function calls (statement_of statement.now)) }
     ensures calls { IfOk result (λ next. next ≡ calls + statements.calls_in (program_in place.entry.table.now) (statement_of statement.now)) }
 {
@@ -262,7 +269,8 @@ fn put_statement(
 
 /// The frames of the locals and results of a function, in the order of the text.
 pub fn frames_in(place: Place<'_, '_>, body: &[Stmt]) -> Result<Vec<Alloc>, AllocError>
-    requires few { all_elements_in (unit_of place.table.now).words (statements_of (map statement_of body.now)) ≤ 8192 }
+    requires few { all_elements_in (unit_of place.table.now).words (statements_of (map statement_of body.now)) ≤ most_elements }
+    requires calls { statements.calls_in_all (program_in place.table.now) (statements_of (map statement_of body.now)) < 2 ^ 64 }
     ensures { IfOk result (λ frames. map allocation_of frames.items ≡ laws.all_frames_in (program_in place.entry.table.now) place.entry.function 0 (statements_of (map statement_of body.now))) }
 {
     let mut frames = Vec::new(place.alloc);

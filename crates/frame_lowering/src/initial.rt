@@ -3,6 +3,7 @@
 ghost use Rattle.std.specs.Prelude.{◌≡◌, ◌≤◌, ◌+◌, [], ◌∷◌, ◌++◌, map, IfOk, OnOk};
 ghost use Rattle.alf_ops.specs.TwosComplement.{word};
 ghost use Rattle.alf_program.specs.Tree.{initial_of};
+ghost use Rattle.c_unit.specs.Limits.{most_elements};
 ghost use Rattle.c_unit.specs.Tree.{declarator_of, shape_of, external_of};
 ghost use Rattle.c_unit.specs.Units.{unit_of};
 ghost use Rattle.c_rules.specs.Units as checks;
@@ -141,7 +142,7 @@ fn put_elements(
     count: u32,
     constants: &[Constant],
 ) -> Result<(), AllocError>
-    requires few { count ≤ 8192 }
+    requires few { count ≤ most_elements }
     ensures { OnOk result (map initial_of inits.new.items ≡ map initial_of inits.old.items ++ laws.element_words (program_in table.now) name.now kind 0 count constants.now) }
 {
     let mut left = count;
@@ -165,7 +166,7 @@ fn put_shape(
     kind: Integer,
     shape: &Shape,
 ) -> Result<(), AllocError>
-    requires few { elements_of_shape (unit_of table.now).words (shape_of shape.now) ≤ 8192 }
+    requires few { elements_of_shape (unit_of table.now).words (shape_of shape.now) ≤ most_elements }
     ensures { OnOk result (map initial_of inits.new.items ≡ map initial_of inits.old.items ++ laws.shape_words (program_in table.now) name.now kind (shape_of shape.now)) }
 {
     match shape {
@@ -201,7 +202,7 @@ fn put_declarators(
     kind: Integer,
     declarators: &[Declarator],
 ) -> Result<(), AllocError>
-    requires few { elements_of_declarators (unit_of table.now).words (map declarator_of declarators.now) ≤ 8192 }
+    requires few { elements_of_declarators (unit_of table.now).words (map declarator_of declarators.now) ≤ most_elements }
     ensures { OnOk result (map initial_of inits.new.items ≡ map initial_of inits.old.items ++ laws.declarators_words (program_in table.now) kind (map declarator_of declarators.now)) }
 {
     let mut rest = declarators;
@@ -219,7 +220,7 @@ pub fn initial_values(
     table: &Table<'_>,
     externals: &[External],
 ) -> Result<Vec<Init>, AllocError>
-    requires few { all_elements_of (unit_of table.now).words (map external_of externals.now) ≤ 8192 }
+    requires few { all_elements_of (unit_of table.now).words (map external_of externals.now) ≤ most_elements }
     ensures { IfOk result (λ inits. map initial_of inits.items ≡ laws.first_words (program_in table.now) (map external_of externals.now)) }
 {
     let mut inits = Vec::new(alloc);

@@ -1,10 +1,12 @@
 -- Steps of loops.
 --   next_argument   the first argument, and the others
 --   next_element    the first element, and the others
+--   bytes_few       an integer has at most four bytes
 --   value_first     a value's call comes first
-use Rattle.std.proofs.Common.{◌≡◌, ◌+◌, ◌-◌, ◌<◌, ℕ, suc, List, [], ◌∷◌, refl, ap, arith}
+use Rattle.std.proofs.Common.{◌≡◌, ◌+◌, ◌-◌, ◌<◌, ◌≤◌, ℕ, suc, List, [], ◌∷◌, refl, ap, arith}
 use Rattle.alf_program.specs.Tree.{NamedExpression, BodyItem, Address, Do, Store}
 use Rattle.c_unit.specs.declared.types.Integer.{Integer}
+use Rattle.c_unit.specs.declared.types.Integer.TheVariants.{Char, UnsignedChar, Short, UnsignedShort, Int, UnsignedInt}
 use Rattle.c_unit.specs.declared.types.Constant.{Constant}
 use Rattle.c_unit.specs.declared.external.Parameter.{Parameter}
 use Rattle.c_unit.specs.Tree.{Expression, ValueTree, OfExpression, OfCall}
@@ -29,6 +31,14 @@ pub next_element : (program : Program) (name : List ℕ) (kind : Integer) (offse
 next_element program name kind offset left cs rest low =
     let here : left ≡ suc (left - 1) = omega (arith, low) in
     ap (λ (k : ℕ). element_items program name kind offset k cs rest) here
+
+pub bytes_few : (i : Integer) → bytes_of_type i ≤ 4
+bytes_few Char = omega arith
+bytes_few UnsignedChar = omega arith
+bytes_few Short = omega arith
+bytes_few UnsignedShort = omega arith
+bytes_few Int = omega arith
+bytes_few UnsignedInt = omega arith
 
 pub value_first : (within : Within) (scopes : List Scope) (value : ValueTree) (n : ℕ) (made : NamedExpression → BodyItem) (rest : List BodyItem)
     → value_items within scopes value n made rest ≡ value_calls within scopes value n (made (value_term within scopes value n) ∷ rest)

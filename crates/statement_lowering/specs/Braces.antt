@@ -1,6 +1,7 @@
 -- Statements in braces: those of a block, and the body of a switch.
 --   place_items within s place rest   the label of a switch that the statement is, before what is put for it
 --   next_place s place           the number of the next label of the switch
+--   HasPlace place, HasPlaces place ss   64 bits have this number of a label of the switch; those of all its labels in the row
 --   row_items within scopes ss place k c around rest   the items of statements in a row; in the body of a switch its labels are numbered from the place on
 --   before_row within scopes braces ss k rest   the items before the row; labels are numbered from k on
 --   labels_at_row braces ss k    the number of the first label of the row
@@ -8,7 +9,7 @@
 --   place_of braces k, close_of braces ss k   the number of the first label of a switch, and of the label after it
 --   after_row within close rest  the items after the row
 --   braced_items within scopes braces ss k c around rest   all of them
-use Rattle.std.specs.Prelude.{ℕ, ◌+◌, List, [], ◌∷◌, Option, None, Some}
+use Rattle.std.specs.Prelude.{⊤, ℕ, ◌+◌, ◌<◌, ◌^◌, List, [], ◌∷◌, Option, None, Some}
 use Rattle.alf_program.specs.Tree.{BodyItem}
 use Rattle.c_unit.specs.Tree.{Statement, Statements, expression_of}
 use Rattle.c_rules.specs.Names.{Scope}
@@ -26,6 +27,16 @@ place_items within s (Some place) rest = if_case within s place rest
 abbrev pub next_place : Statement → Option ℕ → Option ℕ
 next_place s None = None
 next_place s (Some place) = Some (is_case s + place)
+
+-- 64 bits have the number, if there is one
+abbrev pub HasPlace : Option ℕ → Type 0
+HasPlace None = ⊤
+HasPlace (Some place) = place < 2 ^ 64
+
+-- they have the numbers of all labels of the switch that stand in the row
+abbrev pub HasPlaces : Option ℕ → Statements → Type 0
+HasPlaces None ss = ⊤
+HasPlaces (Some place) ss = place + cases_in ss < 2 ^ 64
 
 abbrev pub row_items : Within → List Scope → Statements → Option ℕ → ℕ → ℕ → Around → List BodyItem → List BodyItem
 row_items within scopes ss None k c around rest = all_items_of within scopes ss k c around rest

@@ -5,6 +5,7 @@
 --   around_part within around control k        where `break` and `continue` lead in the part
 --   after_part within scopes control k c m rest   the items after the part, up to which labels are numbered to m
 --   labels_after control m       the number of the next label after the statement
+--   last_label control k         the number of the last label that stands around the part
 --   control_items within scopes control part k c around rest   all of them
 use Rattle.std.specs.Prelude.{ℕ, ◌+◌, List, [], ◌∷◌}
 use Rattle.std.specs.Option.{option_map}
@@ -72,6 +73,14 @@ labels_after (controls.Else first) m = m
 labels_after (controls.While condition) m = m
 labels_after (controls.Do condition) m = m + condition_labels (expression_of condition.now)
 labels_after (controls.For condition last) m = m
+
+abbrev pub last_label : Control → ℕ → ℕ
+last_label (controls.If condition) k = 1 + k
+last_label (controls.Then condition) k = 2 + k
+last_label (controls.Else first) k = 2 + first
+last_label (controls.While condition) k = 2 + k
+last_label (controls.Do condition) k = 2 + k
+last_label (controls.For condition last) k = 3 + k
 
 abbrev pub control_items : Within → List Scope → Control → Statement → ℕ → ℕ → Around → List BodyItem → List BodyItem
 control_items within scopes control part k c around rest =

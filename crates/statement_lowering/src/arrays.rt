@@ -1,8 +1,11 @@
 //! What local arrays hold at first.
 
-ghost use Rattle.std.specs.Prelude.{◌≡◌, ◌≤◌, ◌+◌, ◌^◌, IfOk, OnOk, OnErr};
+ghost use Rattle.std.specs.Prelude.{◌≡◌, ◌≤◌, ◌+◌, IfOk, OnOk};
 ghost use Rattle.std.specs.Option.{option_map};
 ghost use Rattle.alf_program.specs.Tree as alf;
+ghost use Rattle.c_unit.specs.Limits.{most_elements};
+ghost use Rattle.c_unit.specs.Units.{unit_of};
+ghost use Rattle.c_meaning.specs.Objects.{count_at};
 ghost use Rattle.c_meaning.specs.Values as sizes;
 ghost use Rattle.c_meaning.specs.Statements as meaning;
 ghost use Rattle.c_lowered.specs.Effects as laws;
@@ -58,6 +61,7 @@ fn put_elements(
     count: u32,
     constants: &[Constant],
 ) -> Result<(), AllocError>
+    requires few { count ≤ most_elements }
     ensures { OnOk result (Makes items.old.items items.new.items (laws.element_items (program_in code.entry.table.now) name.now kind 0 count constants.now)) }
 {
     let mut left = count;
@@ -68,22 +72,21 @@ fn put_elements(
         let value = cut(code.alloc, kind, number)?;
         let at = address(code.alloc, name, offset)?;
         put_act(items, Act::Store(at, value))?;
-        offset = after(offset, kind)?;
+        offset = after(offset, kind);
         rest = further_elements(rest);
         left -= 1;
     }
     Ok(())
 }
 
-// The offset of the next element. One beyond 32 bits is want of memory; no text that is read has one.
-fn after(offset: u32, kind: Integer) -> Result<u32, AllocError>
-    ensures next { IfOk result (λ next. next ≡ offset + sizes.bytes_of_type kind) }
-    ensures past { OnErr result (2 ^ 32 ≤ offset + sizes.bytes_of_type kind) }
+// The offset of the next element.
+#[tactic(auto, using(crate::proofs::Steps::bytes_few))]
+fn after(offset: u32, kind: Integer) -> u32
+    requires room { offset ≤ 32768 }
+    ensures next { result ≡ offset + sizes.bytes_of_type kind }
+    ensures within { result ≤ offset + 4 }
 {
-    match offset.checked_add(bytes_of_type(kind)) {
-        Some(next) => Ok(next),
-        None => Err(AllocError),
-    }
+    offset + bytes_of_type(kind)
 }
 
 /// Puts what an array holds at first, if it is told.
@@ -95,6 +98,7 @@ pub fn put_array(
     size: u32,
     firsts: &Option<Vec<Constant>>,
 ) -> Result<(), AllocError>
+    requires few { count_at (unit_of code.table.now).words size ≤ most_elements }
     ensures { OnOk result (Makes items.old.items items.new.items (laws.array_items (program_in code.entry.table.now) kind name.now size (option_map (λ constants. constants.items) firsts.now))) }
 {
     match firsts {

@@ -1,12 +1,12 @@
 //! Statements in braces: what is put before them, and what after them.
 
-ghost use Rattle.std.specs.Prelude.{◌≡◌, ◌+◌, ◌∷◌, map, Some, IfOk, OnOk};
+ghost use Rattle.std.specs.Prelude.{◌≡◌, ◌<◌, ◌+◌, ◌^◌, ◌∷◌, map, Some, IfOk, OnOk};
 ghost use Rattle.c_unit.specs.Tree.{expression_of, statement_of, statements_of};
 ghost use Rattle.c_unit.specs.Units.{unit_of};
 ghost use Rattle.c_scopes.specs.Views.{entered, left};
 ghost use Rattle.c_lowered.specs.Statements as laws;
 ghost use Rattle.condition_lowering.specs.Views.{Makes, within_of};
-ghost use Rattle.statement_lowering.specs.Braces.{after_row, around_row, before_row, close_of, labels_at_row, next_place, place_items, place_of};
+ghost use Rattle.statement_lowering.specs.Braces.{HasPlace, after_row, around_row, before_row, close_of, labels_at_row, next_place, place_items, place_of};
 ghost use Rattle.statement_lowering.specs.Views.{around_of};
 
 use crate::context::Targets;
@@ -15,7 +15,7 @@ use crate::switches::{cases_in, put_mark, put_switch};
 use alf_program::Item;
 use c_scopes::Scopes;
 use c_unit::{Expr, Stmt};
-use condition_lowering::{Code, greater, put_label};
+use condition_lowering::{Code, put_label};
 use std::alloc::AllocError;
 
 /// What statements in braces are.
@@ -44,6 +44,7 @@ pub fn put_place(
     statement: &Stmt,
     place: Option<u64>,
 ) -> Result<Option<u64>, AllocError>
+    requires { HasPlace (next_place (statement_of statement.now) place) }
     ensures items { OnOk result (Makes items.old.items items.new.items (place_items (within_of code.entry) (statement_of statement.now) place)) }
     ensures next { IfOk result (λ next. next ≡ next_place (statement_of statement.now) place) }
 {
@@ -52,7 +53,7 @@ pub fn put_place(
         Some(label) => {
             let mark = mark_of(statement);
             put_mark(code, items, mark, label)?;
-            let next = greater(labels_of(mark), label)?;
+            let next = labels_of(mark) + label;
             Ok(Some(next))
         }
     }
@@ -68,7 +69,8 @@ fn open_switch(
     value: &Expr,
     row: &[Stmt],
 ) -> Result<Opened, AllocError>
-    requires { (unit_of code.table.now).words ≡ scopes.now.words }
+    requires words { (unit_of code.table.now).words ≡ scopes.now.words }
+    requires few { labels + laws.cases_in (statements_of (map statement_of row.now)) + 1 < 2 ^ 64 }
     ensures items { OnOk result (Makes items.old.items items.new.items (λ rest. laws.switch_item (within_of code.entry) scopes.now.scopes (expression_of value.now) (statements_of (map statement_of row.now)) labels (labels + laws.cases_in (statements_of (map statement_of row.now))) ∷ rest)) }
     ensures labels { IfOk result (λ opened. opened.labels ≡ labels + laws.cases_in (statements_of (map statement_of row.now)) + 1) }
     ensures leave { IfOk result (λ opened. opened.targets.leave ≡ Some (labels + laws.cases_in (statements_of (map statement_of row.now)))) }
@@ -76,8 +78,8 @@ fn open_switch(
     ensures place { IfOk result (λ opened. opened.place ≡ Some labels) }
     ensures close { IfOk result (λ opened. opened.close ≡ Some (labels + laws.cases_in (statements_of (map statement_of row.now)))) }
 {
-    let end = greater(labels, cases_in(row)?)?;
-    let inner = greater(end, 1)?;
+    let end = labels + cases_in(row);
+    let inner = end + 1;
     put_switch(code, scopes, items, value, row, labels, end)?;
     Ok(Opened {
         labels: inner,
@@ -100,7 +102,8 @@ fn open(
     braces: Braces<'_>,
     row: &[Stmt],
 ) -> Result<Opened, AllocError>
-    requires { (unit_of code.table.now).words ≡ scopes.now.words }
+    requires words { (unit_of code.table.now).words ≡ scopes.now.words }
+    requires few { labels_at_row braces (statements_of (map statement_of row.now)) labels < 2 ^ 64 }
     ensures items { OnOk result (Makes items.old.items items.new.items (before_row (within_of code.entry) scopes.now.scopes braces.entry (statements_of (map statement_of row.now)) labels)) }
     ensures labels { IfOk result (λ opened. opened.labels ≡ labels_at_row braces.entry (statements_of (map statement_of row.now)) labels) }
     ensures targets { IfOk result (λ opened. around_of code.entry opened.targets ≡ around_row (within_of code.entry) (around_of code.entry targets) braces.entry (statements_of (map statement_of row.now)) labels) }
@@ -128,7 +131,8 @@ pub fn open_row(
     braces: Braces<'_>,
     row: &[Stmt],
 ) -> Result<Opened, AllocError>
-    requires { (unit_of code.table.now).words ≡ scopes.old.words }
+    requires words { (unit_of code.table.now).words ≡ scopes.old.words }
+    requires few { labels_at_row braces (statements_of (map statement_of row.now)) labels < 2 ^ 64 }
     ensures items { OnOk result (Makes items.old.items items.new.items (before_row (within_of code.entry) scopes.old.scopes braces.entry (statements_of (map statement_of row.now)) labels)) }
     ensures labels { IfOk result (λ opened. opened.labels ≡ labels_at_row braces.entry (statements_of (map statement_of row.now)) labels) }
     ensures targets { IfOk result (λ opened. around_of code.entry opened.targets ≡ around_row (within_of code.entry) (around_of code.entry targets) braces.entry (statements_of (map statement_of row.now)) labels) }

@@ -1,20 +1,20 @@
 //! Statements with a part of their own: what is put before the part, and what after it.
 
-ghost use Rattle.std.specs.Prelude.{◌≡◌, IfOk, OnOk};
+ghost use Rattle.std.specs.Prelude.{◌≡◌, ◌<◌, ◌^◌, IfOk, OnOk};
 ghost use Rattle.c_unit.specs.Units.{unit_of};
 ghost use Rattle.c_scopes.specs.Views.{entered, left};
 ghost use Rattle.object_layout.specs.Views.{program_in};
 ghost use Rattle.condition_lowering.specs.declared.code.Code as codes;
 ghost use Rattle.condition_lowering.specs.Views.{Makes, within_of};
 ghost use Rattle.statement_lowering.specs.Views.{around_of};
-ghost use Rattle.statement_lowering.specs.Controls.{after_part, around_part, before_part, calls_at, labels_after, labels_at};
+ghost use Rattle.statement_lowering.specs.Controls.{after_part, around_part, before_part, calls_at, labels_after, labels_at, last_label};
 
 use crate::context::{Next, Targets};
 use crate::loops::{begin_for, begin_while, calls_if, end_do, end_for, end_while, loop_targets};
 use alf_program::Item;
 use c_scopes::Scopes;
 use c_unit::{Effect, Expr};
-use condition_lowering::{Code, begin_if, end_else, end_if, end_then, greater, put_label};
+use condition_lowering::{Code, begin_if, end_else, end_if, end_then, put_label};
 use object_layout::Table;
 use std::alloc::AllocError;
 
@@ -48,7 +48,8 @@ fn put_before(
     control: Control<'_>,
     labels: u64,
 ) -> Result<u64, AllocError>
-    requires { (unit_of code.table.now).words ≡ scopes.now.words }
+    requires words { (unit_of code.table.now).words ≡ scopes.now.words }
+    requires few { labels_at control labels < 2 ^ 64 }
     ensures items { OnOk result (Makes items.old.items items.new.items (before_part (within_of code.entry) scopes.now.scopes control.entry labels)) }
     ensures labels { IfOk result (λ inner. inner ≡ labels_at control.entry labels) }
 {
@@ -59,7 +60,7 @@ fn put_before(
         Control::While(condition) => begin_while(code, scopes, items, condition, labels),
         Control::Do(_) => {
             put_label(code, items, labels)?;
-            let inner = greater(3, labels)?;
+            let inner = 3 + labels;
             Ok(inner)
         }
         Control::For(condition, _) => begin_for(code, scopes, items, condition, labels),
@@ -67,40 +68,42 @@ fn put_before(
 }
 
 // The number of the first call of the part.
-fn first_call(table: &Table<'_>, control: Control<'_>, calls: u64) -> Result<u64, AllocError>
-    ensures { IfOk result (λ first. first ≡ calls_at (program_in table.now) control.entry calls) }
+fn first_call(table: &Table<'_>, control: Control<'_>, calls: u64) -> u64
+    requires { calls_at (program_in table.now) control calls < 2 ^ 64 }
+    ensures { result ≡ calls_at (program_in table.now) control.entry calls }
 {
     match control {
-        Control::If(_) => Ok(calls),
-        Control::Then(_) => Ok(calls),
-        Control::Else(_) => Ok(calls),
-        Control::While(_) => Ok(calls),
-        Control::Do(_) => Ok(calls),
-        Control::For(_, last) => greater(calls, calls_if(table, last)),
+        Control::If(_) => calls,
+        Control::Then(_) => calls,
+        Control::Else(_) => calls,
+        Control::While(_) => calls,
+        Control::Do(_) => calls,
+        Control::For(_, last) => calls + calls_if(table, last),
     }
 }
 
 // Where `break` and `continue` lead in the part.
-fn targets_in(control: Control<'_>, around: Targets, labels: u64) -> Result<Targets, AllocError>
-    ensures { IfOk result (λ targets. (code : codes.Code) → around_of code targets ≡ around_part (within_of code) (around_of code around) control.entry labels) }
+fn targets_in(control: Control<'_>, around: Targets, labels: u64) -> Targets
+    requires { labels_at control labels < 2 ^ 64 }
+    ensures { (code : codes.Code) → around_of code result ≡ around_part (within_of code) (around_of code around) control.entry labels }
 {
     match control {
-        Control::If(_) => Ok(around),
-        Control::Then(_) => Ok(around),
-        Control::Else(_) => Ok(around),
+        Control::If(_) => around,
+        Control::Then(_) => around,
+        Control::Else(_) => around,
         Control::While(_) => {
-            let end = greater(2, labels)?;
-            Ok(loop_targets(end, labels))
+            let end = 2 + labels;
+            loop_targets(end, labels)
         }
         Control::Do(_) => {
-            let end = greater(2, labels)?;
-            let test = greater(1, labels)?;
-            Ok(loop_targets(end, test))
+            let end = 2 + labels;
+            let test = 1 + labels;
+            loop_targets(end, test)
         }
         Control::For(_, _) => {
-            let end = greater(3, labels)?;
-            let further = greater(2, labels)?;
-            Ok(loop_targets(end, further))
+            let end = 3 + labels;
+            let further = 2 + labels;
+            loop_targets(end, further)
         }
     }
 }
@@ -114,7 +117,9 @@ pub fn begin_part(
     next: Next,
     control: Control<'_>,
 ) -> Result<Begun, AllocError>
-    requires { (unit_of code.table.now).words ≡ scopes.old.words }
+    requires words { (unit_of code.table.now).words ≡ scopes.old.words }
+    requires labels { labels_at control next.labels < 2 ^ 64 }
+    requires calls { calls_at (program_in code.table.now) control next.calls < 2 ^ 64 }
     ensures items { OnOk result (Makes items.old.items items.new.items (before_part (within_of code.entry) scopes.old.scopes control.entry next.labels)) }
     ensures labels { IfOk result (λ begun. begun.next.labels ≡ labels_at control.entry next.labels) }
     ensures calls { IfOk result (λ begun. begun.next.calls ≡ calls_at (program_in code.entry.table.now) control.entry next.calls) }
@@ -122,8 +127,8 @@ pub fn begin_part(
     ensures known { OnOk result (scopes.new ≡ entered scopes.old) }
 {
     let labels = put_before(code, scopes, items, control, next.labels)?;
-    let calls = first_call(code.table, control, next.calls)?;
-    let targets = targets_in(control, targets, next.labels)?;
+    let calls = first_call(code.table, control, next.calls);
+    let targets = targets_in(control, targets, next.labels);
     scopes.enter()?;
     Ok(Begun {
         next: Next { labels, calls },
@@ -140,7 +145,9 @@ fn put_after(
     first: Next,
     labels: u64,
 ) -> Result<u64, AllocError>
-    requires { (unit_of code.table.now).words ≡ scopes.now.words }
+    requires words { (unit_of code.table.now).words ≡ scopes.now.words }
+    requires own { last_label control first.labels < 2 ^ 64 }
+    requires few { labels_after control labels < 2 ^ 64 }
     ensures items { OnOk result (Makes items.old.items items.new.items (after_part (within_of code.entry) scopes.now.scopes control.entry first.labels first.calls labels)) }
     ensures labels { IfOk result (λ after. after ≡ labels_after control.entry labels) }
 {
@@ -178,7 +185,9 @@ pub fn end_part(
     first: Next,
     after: Next,
 ) -> Result<Next, AllocError>
-    requires { (unit_of code.table.now).words ≡ scopes.old.words }
+    requires words { (unit_of code.table.now).words ≡ scopes.old.words }
+    requires own { last_label control first.labels < 2 ^ 64 }
+    requires few { labels_after control after.labels < 2 ^ 64 }
     ensures items { OnOk result (Makes items.old.items items.new.items (after_part (within_of code.entry) (left scopes.old).scopes control.entry first.labels first.calls after.labels)) }
     ensures labels { IfOk result (λ next. next.labels ≡ labels_after control.entry after.labels) }
     ensures calls { IfOk result (λ next. next.calls ≡ after.calls) }

@@ -1,11 +1,13 @@
 //! Locals that are declared.
 
-ghost use Rattle.std.specs.Prelude.{◌≡◌, ◌+◌, map, IfOk, OnOk};
+ghost use Rattle.std.specs.Prelude.{◌≡◌, ◌≤◌, ◌<◌, ◌+◌, ◌^◌, map, IfOk, OnOk};
 ghost use Rattle.std.specs.Option.{option_map};
+ghost use Rattle.c_unit.specs.Limits.{most_elements};
 ghost use Rattle.c_unit.specs.Tree.{local_of, local_shape_of, value_of};
 ghost use Rattle.c_unit.specs.Units.{unit_of};
 ghost use Rattle.c_rules.specs.Statements as checks;
 ghost use Rattle.c_scopes.specs.Views.{bound_of};
+ghost use Rattle.c_rules.specs.Counts.{elements_of, elements_of_all};
 ghost use Rattle.c_lowered.specs.Effects as laws;
 ghost use Rattle.object_layout.specs.Views.{program_in};
 ghost use Rattle.condition_lowering.specs.Views.{Makes, within_of};
@@ -17,7 +19,7 @@ use crate::values::{calls_in_first, put_value};
 use alf_program::Item;
 use c_scopes::{Bound, Scopes};
 use c_unit::{Integer, Local, LocalShape, Scalar, Value};
-use condition_lowering::{Code, greater};
+use condition_lowering::Code;
 use object_layout::Table;
 use operator_lowering::address;
 use std::alloc::AllocError;
@@ -79,7 +81,8 @@ fn put_shape(
     shape: &LocalShape,
     number: u64,
 ) -> Result<(), AllocError>
-    requires { (unit_of code.table.now).words ≡ scopes.now.words }
+    requires words { (unit_of code.table.now).words ≡ scopes.now.words }
+    requires elements { elements_of (unit_of code.table.now).words (local_shape_of shape.now) ≤ most_elements }
     ensures { OnOk result (Makes items.old.items items.new.items (laws.shape_items (within_of code.entry) scopes.now.scopes kind name.now (local_shape_of shape.now) number)) }
 {
     match shape {
@@ -115,7 +118,9 @@ pub fn put_locals(
     locals: &[Local],
     number: u64,
 ) -> Result<u64, AllocError>
-    requires { (unit_of code.table.now).words ≡ scopes.old.words }
+    requires words { (unit_of code.table.now).words ≡ scopes.old.words }
+    requires few { number + laws.calls_in_locals (program_in code.table.now) (map local_of locals.now) < 2 ^ 64 }
+    requires elements { elements_of_all (unit_of code.table.now).words (map local_of locals.now) ≤ most_elements }
     ensures items { OnOk result (Makes items.old.items items.new.items (laws.locals_items (within_of code.entry) kind scopes.old.scopes (map local_of locals.now) number)) }
     ensures calls { IfOk result (λ after. after ≡ number + laws.calls_in_locals (program_in code.entry.table.now) (map local_of locals.now)) }
     ensures known { OnOk result (scopes.new ≡ with_declared kind scopes.old (map local_of locals.now)) }
@@ -126,7 +131,7 @@ pub fn put_locals(
         scopes.declare(local.name, local_bound(kind, &local.shape))?;
         let name = code.table.frame_of(local.name);
         put_shape(code, scopes, items, kind, name, &local.shape, calls)?;
-        calls = greater(calls, calls_in_shape(code.table, &local.shape))?;
+        calls += calls_in_shape(code.table, &local.shape);
         rest = others;
     }
     Ok(calls)

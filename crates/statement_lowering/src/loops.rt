@@ -1,6 +1,6 @@
 //! The labels, tests and jumps of loops.
 
-ghost use Rattle.std.specs.Prelude.{◌≡◌, ◌+◌, ◌∷◌, Some, IfOk, OnOk};
+ghost use Rattle.std.specs.Prelude.{◌≡◌, ◌<◌, ◌+◌, ◌^◌, ◌∷◌, Some, IfOk, OnOk};
 ghost use Rattle.std.specs.Option.{option_map};
 ghost use Rattle.c_unit.specs.Tree.{expression_of, effect_of};
 ghost use Rattle.c_unit.specs.Units.{unit_of};
@@ -14,9 +14,7 @@ use crate::effects::{calls_in_effect, put_effect};
 use alf_program::Item;
 use c_scopes::Scopes;
 use c_unit::{Effect, Expr};
-use condition_lowering::{
-    Code, greater, label_name, put_checked, put_condition, put_jump, put_label,
-};
+use condition_lowering::{Code, label_name, put_checked, put_condition, put_jump, put_label};
 use object_layout::Table;
 use std::alloc::AllocError;
 
@@ -39,14 +37,15 @@ pub fn begin_while(
     condition: &Expr,
     labels: u64,
 ) -> Result<u64, AllocError>
-    requires { (unit_of code.table.now).words ≡ scopes.now.words }
+    requires words { (unit_of code.table.now).words ≡ scopes.now.words }
+    requires few { 3 + labels + conditions.condition_labels (expression_of condition.now) < 2 ^ 64 }
     ensures items { OnOk result (Makes items.old.items items.new.items (λ rest. conditions.label_item (within_of code.entry) labels ∷ conditions.condition_items (within_of code.entry) scopes.now.scopes (expression_of condition.now) (3 + labels) (conditions.label (within_of code.entry) (1 + labels)) (conditions.label (within_of code.entry) (2 + labels))
         (conditions.label_item (within_of code.entry) (1 + labels) ∷ rest))) }
     ensures labels { IfOk result (λ after. after ≡ 3 + labels + conditions.condition_labels (expression_of condition.now)) }
 {
-    let begin = greater(1, labels)?;
-    let end = greater(2, labels)?;
-    let inner = greater(3, labels)?;
+    let begin = 1 + labels;
+    let end = 2 + labels;
+    let inner = 3 + labels;
     put_label(code, items, labels)?;
     let after = put_checked(code, scopes, items, condition, inner, begin, end)?;
     Ok(after)
@@ -54,9 +53,10 @@ pub fn begin_while(
 
 /// Puts what stands after the body of a `while`.
 pub fn end_while(code: Code<'_, '_>, items: &mut Vec<Item>, labels: u64) -> Result<(), AllocError>
+    requires { 2 + labels < 2 ^ 64 }
     ensures { OnOk result (Makes items.old.items items.new.items (λ rest. conditions.jump (within_of code.entry) labels ∷ conditions.label_item (within_of code.entry) (2 + labels) ∷ rest)) }
 {
-    let end = greater(2, labels)?;
+    let end = 2 + labels;
     put_jump(code, items, labels)?;
     put_label(code, items, end)?;
     Ok(())
@@ -71,13 +71,15 @@ pub fn end_do(
     labels: u64,
     next: u64,
 ) -> Result<u64, AllocError>
-    requires { (unit_of code.table.now).words ≡ scopes.now.words }
+    requires words { (unit_of code.table.now).words ≡ scopes.now.words }
+    requires own { 2 + labels < 2 ^ 64 }
+    requires few { next + conditions.condition_labels (expression_of condition.now) < 2 ^ 64 }
     ensures items { OnOk result (Makes items.old.items items.new.items (λ rest. conditions.label_item (within_of code.entry) (1 + labels) ∷ conditions.condition_items (within_of code.entry) scopes.now.scopes (expression_of condition.now) next (conditions.label (within_of code.entry) labels) (conditions.label (within_of code.entry) (2 + labels))
         (conditions.label_item (within_of code.entry) (2 + labels) ∷ rest))) }
     ensures labels { IfOk result (λ after. after ≡ next + conditions.condition_labels (expression_of condition.now)) }
 {
-    let test = greater(1, labels)?;
-    let end = greater(2, labels)?;
+    let test = 1 + labels;
+    let end = 2 + labels;
     let held = label_name(code, labels)?;
     let failed = label_name(code, end)?;
     put_label(code, items, test)?;
@@ -104,7 +106,8 @@ fn put_condition_if(
     held: u64,
     failed: u64,
 ) -> Result<u64, AllocError>
-    requires { (unit_of code.table.now).words ≡ scopes.now.words }
+    requires words { (unit_of code.table.now).words ≡ scopes.now.words }
+    requires few { next + laws.labels_if (option_map expression_of condition.now) < 2 ^ 64 }
     ensures items { OnOk result (Makes items.old.items items.new.items (laws.condition_if (within_of code.entry) scopes.now.scopes (option_map expression_of condition.now) next held failed)) }
     ensures labels { IfOk result (λ after. after ≡ next + laws.labels_if (option_map expression_of condition.now)) }
 {
@@ -164,14 +167,15 @@ pub fn begin_for(
     condition: &Option<Expr>,
     labels: u64,
 ) -> Result<u64, AllocError>
-    requires { (unit_of code.table.now).words ≡ scopes.now.words }
+    requires words { (unit_of code.table.now).words ≡ scopes.now.words }
+    requires few { 4 + labels + laws.labels_if (option_map expression_of condition.now) < 2 ^ 64 }
     ensures items { OnOk result (Makes items.old.items items.new.items (λ rest. conditions.label_item (within_of code.entry) labels ∷ laws.condition_if (within_of code.entry) scopes.now.scopes (option_map expression_of condition.now) (4 + labels) (1 + labels) (3 + labels)
         (conditions.label_item (within_of code.entry) (1 + labels) ∷ rest))) }
     ensures labels { IfOk result (λ after. after ≡ 4 + labels + laws.labels_if (option_map expression_of condition.now)) }
 {
-    let begin = greater(1, labels)?;
-    let end = greater(3, labels)?;
-    let inner = greater(4, labels)?;
+    let begin = 1 + labels;
+    let end = 3 + labels;
+    let inner = 4 + labels;
     put_label(code, items, labels)?;
     let after = put_condition_if(code, scopes, items, condition, inner, begin, end)?;
     put_label(code, items, begin)?;
@@ -186,12 +190,13 @@ pub fn end_for(
     last: &Option<Effect>,
     first: Next,
 ) -> Result<(), AllocError>
-    requires { (unit_of code.table.now).words ≡ scopes.now.words }
+    requires words { (unit_of code.table.now).words ≡ scopes.now.words }
+    requires few { 3 + first.labels < 2 ^ 64 }
     ensures { OnOk result (Makes items.old.items items.new.items (λ rest. conditions.label_item (within_of code.entry) (2 + first.labels) ∷ laws.effect_if (within_of code.entry) scopes.now.scopes (option_map effect_of last.now) first.calls
         (conditions.jump (within_of code.entry) first.labels ∷ conditions.label_item (within_of code.entry) (3 + first.labels) ∷ rest))) }
 {
-    let further = greater(2, first.labels)?;
-    let end = greater(3, first.labels)?;
+    let further = 2 + first.labels;
+    let end = 3 + first.labels;
     put_label(code, items, further)?;
     put_effect_if(code, scopes, items, last, first.calls)?;
     put_jump(code, items, first.labels)?;

@@ -1,9 +1,11 @@
 //! Statements in which no statement stands.
 
-ghost use Rattle.std.specs.Prelude.{◌≡◌, ◌+◌, true, map, IfOk, OnOk};
+ghost use Rattle.std.specs.Prelude.{◌≡◌, ◌≤◌, ◌<◌, ◌+◌, ◌^◌, true, map, IfOk, OnOk};
 ghost use Rattle.std.specs.Option.{option_map};
+ghost use Rattle.c_unit.specs.Limits.{most_elements};
 ghost use Rattle.c_unit.specs.Tree.{value_of, effect_of, local_of, statement_of};
 ghost use Rattle.c_unit.specs.Units.{unit_of};
+ghost use Rattle.c_rules.specs.Counts.{elements_of_all, elements_in};
 ghost use Rattle.c_lowered.specs.Effects as effects;
 ghost use Rattle.c_lowered.specs.Statements as laws;
 ghost use Rattle.object_layout.specs.Views.{program_in};
@@ -20,7 +22,7 @@ use crate::values::calls_in_first;
 use alf_program::Item;
 use c_scopes::Scopes;
 use c_unit::{Effect, Integer, Local, Stmt, Value};
-use condition_lowering::{Code, greater};
+use condition_lowering::Code;
 use std::alloc::AllocError;
 
 // Puts a `return`.
@@ -31,13 +33,14 @@ fn put_returned(
     next: Next,
     value: &Option<Value>,
 ) -> Result<Next, AllocError>
-    requires { (unit_of code.table.now).words ≡ scopes.now.words }
+    requires words { (unit_of code.table.now).words ≡ scopes.now.words }
+    requires few { next.calls + laws.calls_in_returned (program_in code.table.now) (option_map value_of value.now) < 2 ^ 64 }
     ensures items { OnOk result (Makes items.old.items items.new.items (laws.return_items (within_of code.entry) scopes.now.scopes (option_map value_of value.now) next.calls)) }
     ensures labels { IfOk result (λ after. after.labels ≡ next.labels) }
     ensures calls { IfOk result (λ after. after.calls ≡ next.calls + laws.calls_in_returned (program_in code.entry.table.now) (option_map value_of value.now)) }
 {
     put_return(code, scopes, items, value, next.calls)?;
-    let calls = greater(calls_in_first(code.table, value), next.calls)?;
+    let calls = calls_in_first(code.table, value) + next.calls;
     Ok(Next {
         labels: next.labels,
         calls,
@@ -52,13 +55,14 @@ fn put_done(
     next: Next,
     effect: &Effect,
 ) -> Result<Next, AllocError>
-    requires { (unit_of code.table.now).words ≡ scopes.now.words }
+    requires words { (unit_of code.table.now).words ≡ scopes.now.words }
+    requires few { next.calls + effects.calls_in_effect (program_in code.table.now) (effect_of effect.now) < 2 ^ 64 }
     ensures items { OnOk result (Makes items.old.items items.new.items (effects.effect_items (within_of code.entry) scopes.now.scopes (effect_of effect.now) next.calls)) }
     ensures labels { IfOk result (λ after. after.labels ≡ next.labels) }
     ensures calls { IfOk result (λ after. after.calls ≡ next.calls + effects.calls_in_effect (program_in code.entry.table.now) (effect_of effect.now)) }
 {
     put_effect(code, scopes, items, effect, next.calls)?;
-    let calls = greater(calls_in_effect(code.table, effect), next.calls)?;
+    let calls = calls_in_effect(code.table, effect) + next.calls;
     Ok(Next {
         labels: next.labels,
         calls,
@@ -74,7 +78,9 @@ fn put_declared(
     kind: Integer,
     locals: &[Local],
 ) -> Result<Next, AllocError>
-    requires { (unit_of code.table.now).words ≡ scopes.old.words }
+    requires words { (unit_of code.table.now).words ≡ scopes.old.words }
+    requires few { next.calls + effects.calls_in_locals (program_in code.table.now) (map local_of locals.now) < 2 ^ 64 }
+    requires elements { elements_of_all (unit_of code.table.now).words (map local_of locals.now) ≤ most_elements }
     ensures items { OnOk result (Makes items.old.items items.new.items (effects.locals_items (within_of code.entry) kind scopes.old.scopes (map local_of locals.now) next.calls)) }
     ensures labels { IfOk result (λ after. after.labels ≡ next.labels) }
     ensures calls { IfOk result (λ after. after.calls ≡ next.calls + effects.calls_in_locals (program_in code.entry.table.now) (map local_of locals.now)) }
@@ -97,7 +103,9 @@ pub fn put_plain(
     statement: &Stmt,
 ) -> Result<Next, AllocError>
     requires words { (unit_of code.table.now).words ≡ scopes.old.words }
+    requires few { next.calls + laws.calls_in (program_in code.table.now) (statement_of statement.now) < 2 ^ 64 }
     requires plain { is_plain (statement_of statement.now) ≡ true }
+    requires elements { elements_in (unit_of code.table.now).words (statement_of statement.now) ≤ most_elements }
     ensures items { OnOk result (Makes items.old.items items.new.items (laws.items_of (within_of code.entry) scopes.old.scopes (statement_of statement.now) next.labels next.calls (around_of code.entry targets))) }
     ensures labels { IfOk result (λ after. after.labels ≡ next.labels + laws.labels_in (statement_of statement.now)) }
     ensures calls { IfOk result (λ after. after.calls ≡ next.calls + laws.calls_in (program_in code.entry.table.now) (statement_of statement.now)) }

@@ -1,15 +1,17 @@
 //! Statements, and those in a row.
 
-ghost use Rattle.std.specs.Prelude.{◌≡◌, ◌+◌, ◌<◌, ◌^◌, None, ◌∷◌, map, IfOk, OnOk};
+ghost use Rattle.std.specs.Prelude.{◌≡◌, ◌≤◌, ◌+◌, ◌<◌, ◌^◌, None, ◌∷◌, map, IfOk, OnOk};
+ghost use Rattle.c_unit.specs.Limits.{most_elements};
 ghost use Rattle.c_unit.specs.Tree.{statement_of, statements_of};
 ghost use Rattle.c_unit.specs.Units.{unit_of};
+ghost use Rattle.c_rules.specs.Counts.{elements_in, all_elements_in};
 ghost use Rattle.c_lowered.specs.Statements as laws;
 ghost use Rattle.c_lowered.specs.Programs as programs;
 ghost use Rattle.object_layout.specs.Views.{program_in};
 ghost use Rattle.condition_lowering.specs.Views.{Makes, within_of};
 ghost use Rattle.statement_lowering.specs.Afterwards.{Stays};
-ghost use Rattle.statement_lowering.specs.Braces.{braced_items, labels_at_row, row_items};
-ghost use Rattle.statement_lowering.specs.Controls.{calls_at, control_items, labels_after, labels_at};
+ghost use Rattle.statement_lowering.specs.Braces.{HasPlaces, braced_items, labels_at_row, row_items};
+ghost use Rattle.statement_lowering.specs.Controls.{calls_at, control_items, labels_after, labels_at, last_label};
 ghost use Rattle.statement_lowering.specs.Views.{around_of, known_after};
 
 use crate::braces::{Braces, close_row, open_row, put_place};
@@ -32,9 +34,11 @@ pub fn put_body(
     given: Outcome,
     body: &[Stmt],
 ) -> Result<(), AllocError>
-    requires { (unit_of code.table.now).words ≡ scopes.old.words }
+    requires words { (unit_of code.table.now).words ≡ scopes.old.words }
+    requires labels { laws.labels_in_all (statements_of (map statement_of body.now)) < 2 ^ 64 }
+    requires calls { laws.calls_in_all (program_in code.table.now) (statements_of (map statement_of body.now)) < 2 ^ 64 }
+    requires elements { all_elements_in (unit_of code.table.now).words (statements_of (map statement_of body.now)) ≤ most_elements }
     ensures items { OnOk result (Makes items.old.items items.new.items (λ rest. laws.all_items_of (within_of code.entry) scopes.old.scopes (statements_of (map statement_of body.now)) 0 0 programs.nowhere (programs.last_return given ∷ rest))) }
-    ensures few { OnOk result (laws.labels_in_all (statements_of (map statement_of body.now)) < 2 ^ 64) }
     ensures stays { OnOk result (Stays scopes.old scopes.new) }
 {
     let nowhere = Targets {
@@ -45,8 +49,7 @@ pub fn put_body(
         labels: 0,
         calls: 0,
     };
-    let after = put_row(code, scopes, items, nowhere, next, None, body)?;
-    let _labels = after.labels;
+    put_row(code, scopes, items, nowhere, next, None, body)?;
     put_last_return(code, items, given)?;
     Ok(())
 }
@@ -62,7 +65,11 @@ fn put_row(
     place: Option<u64>,
     row: &[Stmt],
 ) -> Result<Next, AllocError>
-    requires { (unit_of code.table.now).words ≡ scopes.old.words }
+    requires words { (unit_of code.table.now).words ≡ scopes.old.words }
+    requires labels { next.labels + laws.labels_in_all (statements_of (map statement_of row.now)) < 2 ^ 64 }
+    requires calls { next.calls + laws.calls_in_all (program_in code.table.now) (statements_of (map statement_of row.now)) < 2 ^ 64 }
+    requires places { HasPlaces place (statements_of (map statement_of row.now)) }
+    requires elements { all_elements_in (unit_of code.table.now).words (statements_of (map statement_of row.now)) ≤ most_elements }
     ensures items { OnOk result (Makes items.old.items items.new.items (row_items (within_of code.entry) scopes.old.scopes (statements_of (map statement_of row.now)) place next.labels next.calls (around_of code.entry targets))) }
     ensures labels { IfOk result (λ after. after.labels ≡ next.labels + laws.labels_in_all (statements_of (map statement_of row.now))) }
     ensures calls { IfOk result (λ after. after.calls ≡ next.calls + laws.calls_in_all (program_in code.entry.table.now) (statements_of (map statement_of row.now))) }
@@ -89,7 +96,10 @@ fn put_braced(
     row: &[Stmt],
     braces: Braces<'_>,
 ) -> Result<Next, AllocError>
-    requires { (unit_of code.table.now).words ≡ scopes.old.words }
+    requires words { (unit_of code.table.now).words ≡ scopes.old.words }
+    requires labels { labels_at_row braces (statements_of (map statement_of row.now)) next.labels + laws.labels_in_all (statements_of (map statement_of row.now)) < 2 ^ 64 }
+    requires calls { next.calls + laws.calls_in_all (program_in code.table.now) (statements_of (map statement_of row.now)) < 2 ^ 64 }
+    requires elements { all_elements_in (unit_of code.table.now).words (statements_of (map statement_of row.now)) ≤ most_elements }
     ensures items { OnOk result (Makes items.old.items items.new.items (braced_items (within_of code.entry) scopes.old.scopes braces.entry (statements_of (map statement_of row.now)) next.labels next.calls (around_of code.entry targets))) }
     ensures labels { IfOk result (λ after. after.labels ≡ labels_at_row braces.entry (statements_of (map statement_of row.now)) next.labels + laws.labels_in_all (statements_of (map statement_of row.now))) }
     ensures calls { IfOk result (λ after. after.calls ≡ next.calls + laws.calls_in_all (program_in code.entry.table.now) (statements_of (map statement_of row.now))) }
@@ -125,7 +135,11 @@ fn put_controlled(
     part: &Stmt,
     control: Control<'_>,
 ) -> Result<Next, AllocError>
-    requires { (unit_of code.table.now).words ≡ scopes.old.words }
+    requires words { (unit_of code.table.now).words ≡ scopes.old.words }
+    requires own { last_label control next.labels < 2 ^ 64 }
+    requires labels { labels_after control (labels_at control next.labels + laws.labels_in (statement_of part.now)) < 2 ^ 64 }
+    requires calls { calls_at (program_in code.table.now) control next.calls + laws.calls_in (program_in code.table.now) (statement_of part.now) < 2 ^ 64 }
+    requires elements { elements_in (unit_of code.table.now).words (statement_of part.now) ≤ most_elements }
     ensures items { OnOk result (Makes items.old.items items.new.items (control_items (within_of code.entry) scopes.old.scopes control.entry (statement_of part.now) next.labels next.calls (around_of code.entry targets))) }
     ensures labels { IfOk result (λ after. after.labels ≡ labels_after control.entry (labels_at control.entry next.labels + laws.labels_in (statement_of part.now))) }
     ensures calls { IfOk result (λ after. after.calls ≡ calls_at (program_in code.entry.table.now) control.entry next.calls + laws.calls_in (program_in code.entry.table.now) (statement_of part.now)) }
@@ -148,7 +162,10 @@ fn put_statement(
     next: Next,
     statement: &Stmt,
 ) -> Result<Next, AllocError>
-    requires { (unit_of code.table.now).words ≡ scopes.old.words }
+    requires words { (unit_of code.table.now).words ≡ scopes.old.words }
+    requires labels { next.labels + laws.labels_in (statement_of statement.now) < 2 ^ 64 }
+    requires calls { next.calls + laws.calls_in (program_in code.table.now) (statement_of statement.now) < 2 ^ 64 }
+    requires elements { elements_in (unit_of code.table.now).words (statement_of statement.now) ≤ most_elements }
     ensures items { OnOk result (Makes items.old.items items.new.items (laws.items_of (within_of code.entry) scopes.old.scopes (statement_of statement.now) next.labels next.calls (around_of code.entry targets))) }
     ensures labels { IfOk result (λ after. after.labels ≡ next.labels + laws.labels_in (statement_of statement.now)) }
     ensures calls { IfOk result (λ after. after.calls ≡ next.calls + laws.calls_in (program_in code.entry.table.now) (statement_of statement.now)) }

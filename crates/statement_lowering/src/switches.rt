@@ -1,6 +1,6 @@
 //! Labels of a switch.
 
-ghost use Rattle.std.specs.Prelude.{◌≡◌, ℕ, List, ◌∷◌, ◌++◌, map, IfOk, OnOk};
+ghost use Rattle.std.specs.Prelude.{◌≡◌, ◌<◌, ◌+◌, ◌^◌, ℕ, List, ◌∷◌, ◌++◌, map, IfOk, OnOk};
 ghost use Rattle.alf_program.specs.declared.program.Num as num;
 ghost use Rattle.c_unit.specs.Tree.{expression_of, statement_of, statements_of};
 ghost use Rattle.c_unit.specs.Units.{unit_of};
@@ -16,7 +16,7 @@ use alf_program::{Item, Num, Stmt as Act};
 use c_scopes::{Scopes, Words};
 use c_tokens::Worth;
 use c_unit::{Constant, Expr, Integer, Stmt};
-use condition_lowering::{Code, greater, label_name, put_act, put_label};
+use condition_lowering::{Code, label_name, put_act, put_label};
 use expression_lowering::{kind_or_int, value_of};
 use flow_base::Name;
 use operator_lowering::{is_signed, left_type};
@@ -47,16 +47,17 @@ fn label_of(words: &Words<'_>, constant: Constant) -> u32
 }
 
 /// How many labels of a switch stand in its body.
-pub fn cases_in(body: &[Stmt]) -> Result<u64, AllocError>
-    ensures { IfOk result (λ count. count ≡ laws.cases_in (statements_of (map statement_of body.now))) }
+pub fn cases_in(body: &[Stmt]) -> u64
+    requires { laws.cases_in (statements_of (map statement_of body.now)) < 2 ^ 64 }
+    ensures { result ≡ laws.cases_in (statements_of (map statement_of body.now)) }
 {
     let mut count: u64 = 0;
     let mut rest = body;
     'cases: while let Some((statement, others)) = rest.split_first() {
-        count = greater(count, labels_of(mark_of(statement)))?;
+        count += labels_of(mark_of(statement));
         rest = others;
     }
-    Ok(count)
+    count
 }
 
 // The target of a constant, at the type of the switch.
@@ -105,6 +106,7 @@ fn targets_in(
     first: u64,
     body: &[Stmt],
 ) -> Result<Vec<(Num, Name)>, AllocError>
+    requires { first + laws.cases_in (statements_of (map statement_of body.now)) < 2 ^ 64 }
     ensures { IfOk result (λ targets. targets.items ≡ laws.targets_in (within_of code.entry) kind first (statements_of (map statement_of body.now))) }
 {
     let mut targets = Vec::new(code.alloc);
@@ -113,20 +115,16 @@ fn targets_in(
     'targets: while let Some((statement, others)) = rest.split_first() {
         let mark = mark_of(statement);
         put_target(code, &mut targets, kind, mark, label)?;
-        label = greater(labels_of(mark), label)?;
+        label += labels_of(mark);
         rest = others;
     }
     Ok(targets)
 }
 
 // The number of the default's label; where there is none, that of this one.
-fn default_in(
-    code: Code<'_, '_>,
-    first: u64,
-    otherwise: u64,
-    body: &[Stmt],
-) -> Result<u64, AllocError>
-    ensures { IfOk result (λ number. names.label (within_of code.entry) number ≡ laws.default_in (within_of code.entry) first otherwise (statements_of (map statement_of body.now))) }
+fn default_in(code: Code<'_, '_>, first: u64, otherwise: u64, body: &[Stmt]) -> u64
+    requires { first + laws.cases_in (statements_of (map statement_of body.now)) < 2 ^ 64 }
+    ensures { names.label (within_of code.entry) result ≡ laws.default_in (within_of code.entry) first otherwise (statements_of (map statement_of body.now)) }
 {
     let _table = code.table;
     let mut label = first;
@@ -134,12 +132,12 @@ fn default_in(
     'labels: while let Some((statement, others)) = rest.split_first() {
         let mark = mark_of(statement);
         if is_default(mark) {
-            return Ok(label);
+            return label;
         }
-        label = greater(labels_of(mark), label)?;
+        label += labels_of(mark);
         rest = others;
     }
-    Ok(otherwise)
+    otherwise
 }
 
 /// Puts the switch itself: its labels are numbered from `first` on, and `otherwise` is where it leads without a
@@ -153,13 +151,14 @@ pub fn put_switch(
     first: u64,
     otherwise: u64,
 ) -> Result<(), AllocError>
-    requires { (unit_of code.table.now).words ≡ scopes.now.words }
+    requires words { (unit_of code.table.now).words ≡ scopes.now.words }
+    requires few { first + laws.cases_in (statements_of (map statement_of body.now)) < 2 ^ 64 }
     ensures { OnOk result (Makes items.old.items items.new.items (λ rest. laws.switch_item (within_of code.entry) scopes.now.scopes (expression_of value.now) (statements_of (map statement_of body.now)) first otherwise ∷ rest)) }
 {
     let value = value_of(code.alloc, code.table, scopes, value)?;
     let kind = left_type(kind_or_int(value.kind));
     let targets = targets_in(code, kind, first, body)?;
-    let default = default_in(code, first, otherwise, body)?;
+    let default = default_in(code, first, otherwise, body);
     let default = label_name(code, default)?;
     put_act(items, Act::Switch(value.value, targets, default))?;
     Ok(())

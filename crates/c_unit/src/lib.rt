@@ -21,6 +21,9 @@ mod unit;
 // The canonical text.
 mod printing;
 
+// Rows, worked out by hand.
+mod worked;
+
 pub use expression::{Binary, Expr, Unary};
 pub use external::{Declarator, External, Parameter, Shape};
 pub use printing::print;
@@ -28,3 +31,4 @@ pub use statement::{Call, Effect, Local, LocalShape, Stmt, Value};
 pub use tokens::{Span, range};
 pub use types::{Constant, Integer, Outcome, Scalar};
 pub use unit::CUnit;
+pub use worked::{operators_are_nested_in_one_another, tokens_stand_at_their_places};

@@ -11,3 +11,4 @@ pub mod Lookups
 pub mod Inputs
 pub mod Shapes
 pub mod Rows
+pub mod Worked

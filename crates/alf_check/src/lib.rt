@@ -30,7 +30,11 @@ mod calls;
 mod checking;
 mod fault;
 
+// Rows, worked out by hand.
+mod worked;
+
 pub use checking::check;
 pub use fault::CheckFault;
 pub use program::{Checked, number};
 pub use rows::{Act, Block, BlockEnd, FrameRow, FuncRow, InitRow, InputRow, Term};
+pub use worked::{items_are_cut_into_blocks, names_have_their_numbers};

@@ -13,3 +13,4 @@ pub mod FoundFaults
 pub mod NoFault
 pub mod NoFaultLaws
 pub mod Scopes
+pub mod Worked

@@ -38,8 +38,14 @@ mod function_faults;
 // What the definitions promise.
 mod laws;
 
+// Rows, worked out by hand.
+mod worked;
+
 pub use first_faults::first_fault;
 pub use item_faults::ItemFault;
 pub use label_table::Labels;
 pub use laws::no_fault_is_by_parts;
 pub use places::{frame_named, function_named};
+pub use worked::{
+    calls_and_returns_agree, faults_stand_in_the_order_of_the_text, sizes_are_those_of_the_rules,
+};

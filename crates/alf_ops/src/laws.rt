@@ -1,5 +1,8 @@
 //! What words, operators and the meaning of a run promise, as clauses of functions that do nothing.
 
+ghost use Rattle.std.specs.Prelude.{◌≡◌, ℕ, true, false};
+ghost use Rattle.alf_ops.specs.declared.history.Value.TheVariants.{Int, Ptr};
+ghost use Rattle.alf_ops.specs.Values.{size_of, bits_of, is_pointer};
 ghost use Rattle.alf_ops.specs.WordLaws.{ReadsTwosComplement, IsRead, ReadsByHighestBit, BelowItsSize, TruncatesTowardZero, MovesRound, LesserAndGreater, SelectsBytes, ConcatenatesWords};
 ghost use Rattle.alf_ops.specs.OperatorLaws.{ChoosesByBit, AddsWithCarry, SubtractsWithBorrow, Negates, MultipliesInFull, MultipliesReadings, DividesWords, ShiftsUp, RoundsDown, OrdersWords, TellsEqual, KeepsReading, TakesBitsOfBoth};
 ghost use Rattle.alf_ops.specs.Names.{HaveOwnNames};
@@ -51,6 +54,15 @@ pub fn words_are_ordered_as_they_read()
     ensures order { OrdersWords }
     ensures equal { TellsEqual }
     ensures extended { KeepsReading }
+{}
+
+/// A pointer has the 32 bits of an address, and its offset in place of a word.
+pub fn pointers_have_the_size_of_an_address()
+    ensures size { (frame offset : ℕ) → size_of (Ptr frame offset) ≡ 32 }
+    ensures offset { (frame offset : ℕ) → bits_of (Ptr frame offset) ≡ offset }
+    ensures word { (size word : ℕ) → size_of (Int size word) ≡ size }
+    ensures pointer { (frame offset : ℕ) → is_pointer (Ptr frame offset) ≡ true }
+    ensures no_pointer { (size word : ℕ) → is_pointer (Int size word) ≡ false }
 {}
 
 /// No two operators have one name.

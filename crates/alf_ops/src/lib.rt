@@ -34,10 +34,10 @@ pub use laws::{
     a_store_leaves_other_cells, an_address_is_tested_in_order,
     entering_empties_the_frames_of_the_function, leaving_ends_the_frames_of_the_function,
     operands_fault_from_left_to_right, operators_have_their_own_names, outcomes_have_their_size,
-    pointers_are_compared_within_a_frame, pointers_stand_where_a_rule_takes_them,
-    sound_histories_give_values_that_fit, the_table_decides_at_words, words_are_added_and_divided,
-    words_are_chosen_and_shifted, words_are_cut_and_computed, words_are_ordered_as_they_read,
-    words_are_read_in_twos_complement,
+    pointers_are_compared_within_a_frame, pointers_have_the_size_of_an_address,
+    pointers_stand_where_a_rule_takes_them, sound_histories_give_values_that_fit,
+    the_table_decides_at_words, words_are_added_and_divided, words_are_chosen_and_shifted,
+    words_are_cut_and_computed, words_are_ordered_as_they_read, words_are_read_in_twos_complement,
 };
 pub use loads::load_after;
 pub use operations::apply;

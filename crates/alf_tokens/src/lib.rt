@@ -16,6 +16,10 @@ mod cursor;
 // What the definitions promise.
 mod laws;
 
+// Rows, worked out by hand.
+mod worked;
+
 pub use cursor::Cursor;
 pub use laws::{printed_texts_are_cut, texts_are_their_pieces};
 pub use token::{Kind, Token};
+pub use worked::{pieces_end_where_they_must, texts_have_their_tokens};

@@ -43,5 +43,8 @@ pub use laws::{
     tokens_stand_in_their_texts,
 };
 pub use token::{Kind, Token};
-pub use worked::{characters_have_their_worth, constants_have_their_worth};
+pub use worked::{
+    characters_have_their_worth, comments_and_literals_end, constants_have_their_worth,
+    keywords_are_those_of_c, texts_are_of_their_kinds, tokens_are_the_longest,
+};
 pub use worth::{Worth, worth_of};

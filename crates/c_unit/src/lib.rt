@@ -22,6 +22,9 @@ mod unit;
 // The canonical text.
 mod printing;
 
+// Rows, worked out by hand.
+mod worked;
+
 pub use expression::{Binary, Expr, Unary};
 pub use external::{Declarator, External, Parameter, Shape};
 pub use limits::{MOST_ELEMENTS, MOST_FRAMES, MOST_FUNCTIONS};
@@ -30,3 +33,4 @@ pub use statement::{Call, Effect, Local, LocalShape, Stmt, Value};
 pub use tokens::{Span, range};
 pub use types::{Constant, Integer, Outcome, Scalar};
 pub use unit::CUnit;
+pub use worked::{operators_are_nested_in_one_another, tokens_stand_at_their_places};

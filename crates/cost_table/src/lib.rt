@@ -45,6 +45,6 @@ pub use run_values::values;
 pub use task_list::tasks;
 pub use task_set::Task;
 pub use worked::{
-    globals_and_arguments_are_inputs, ranges_have_the_words_of_their_size,
-    the_last_entry_tells_a_cost,
+    blocks_cost_what_the_table_says, globals_and_arguments_are_inputs, keys_have_their_kinds,
+    ranges_have_the_words_of_their_size, the_last_entry_tells_a_cost,
 };

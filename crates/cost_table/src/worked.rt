@@ -1,7 +1,10 @@
 //! Entries of tables, worked out apart from the definitions.
 
+ghost use Rattle.cost_table.specs.Documents.{entries_at, number_at, only_keys, text_at};
+ghost use Rattle.cost_table.specs.CostTables.{cost_at, one_each};
+ghost use Rattle.std.specs.Str.{bytes_eq};
+ghost use Rattle.toml.specs.Data.{no_members, member, integer, string, array, table, item, no_items};
 ghost use Rattle.std.specs.Prelude.{◌≡◌, pos, negsuc, Some, None, [], ◌∷◌, codes, true, false};
-ghost use Rattle.toml.specs.Data.{no_members};
 ghost use Rattle.cost_table.specs.Costs.{default_cost, told_cost};
 ghost use Rattle.cost_table.specs.Inputs.{HasRange, is_input_frame};
 ghost use Rattle.cost_table.specs.Worked.{of_default, cost_of_entry, named, one_block, from_to};
@@ -36,4 +39,22 @@ pub fn globals_and_arguments_are_inputs()
     ensures argument { is_input_frame (2 ∷ 3 ∷ []) (codes "x") 3 (named (Some 0) (codes "x")) ≡ true }
     ensures local { is_input_frame (2 ∷ []) (codes "x") 3 (named (Some 0) (codes "x")) ≡ false }
     ensures other { is_input_frame (3 ∷ []) (codes "x") 3 (named None (codes "y")) ≡ false }
+{}
+
+/// What stands at a key has the kind that is wanted there; entries are tables in a row, and none where their key is absent.
+pub fn keys_have_their_kinds()
+    ensures number { number_at (codes "k") (member (codes "j") (integer (pos 1)) (member (codes "k") (integer (pos 2)) no_members)) ≡ Some (pos 2) }
+    ensures no_number { number_at (codes "k") (member (codes "k") (string (codes "2")) no_members) ≡ None }
+    ensures text { text_at (codes "k") (member (codes "k") (string (codes "2")) no_members) ≡ Some (codes "2") }
+    ensures absent { entries_at (codes "e") (member (codes "k") (integer (pos 1)) no_members) ≡ Some [] }
+    ensures tables { entries_at (codes "e") (member (codes "e") (array (item (table no_members) (item (table no_members) no_items))) no_members) ≡ Some (table no_members ∷ table no_members ∷ []) }
+    ensures no_table { entries_at (codes "e") (member (codes "e") (array (item (table no_members) (item (integer (pos 1)) no_items))) no_members) ≡ None }
+    ensures all_keys { only_keys (bytes_eq (codes "k")) (member (codes "k") (integer (pos 1)) (member (codes "j") (integer (pos 1)) no_members)) ≡ false }
+{}
+
+/// Every block costs 1 where no file is named, and what is not in a table costs as the others.
+pub fn blocks_cost_what_the_table_says()
+    ensures one { cost_at one_each 3 4 ≡ 1 }
+    ensures told { cost_at (record { rows = (5 ∷ []) ∷ (6 ∷ 7 ∷ []) ∷ []; others = 9 }) 1 0 ≡ 6 }
+    ensures others { cost_at (record { rows = (5 ∷ []) ∷ (6 ∷ 7 ∷ []) ∷ []; others = 9 }) 0 1 ≡ 9 }
 {}

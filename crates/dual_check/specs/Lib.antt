@@ -5,3 +5,4 @@ pub mod Constraints
 pub mod Terms
 pub mod Places
 pub mod Openings
+pub mod Worked

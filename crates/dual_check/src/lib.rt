@@ -36,6 +36,9 @@ mod signs;
 // What a verdict promises of runs.
 mod laws;
 
+// Rows, worked out by hand.
+mod worked;
+
 pub use column::Column;
 pub use constraint::Constraint;
 pub use duals::{Duals, verify};
@@ -43,3 +46,4 @@ pub use ipet_rows::Verdict;
 pub use laws::verdicts_bound_each_run;
 pub use system::Rows;
 pub use system_made::rows;
+pub use worked::rows_and_openings_stand_in_their_order;

@@ -29,6 +29,9 @@ mod spaced_words;
 // What the definitions promise.
 mod laws;
 
+// Rows, worked out by hand.
+mod worked;
+
 pub use cursor::Cursor;
 pub use fault::{Departure, FaultAt, ReportFault};
 pub use laws::{printed_texts_are_cut, texts_are_their_tokens};
@@ -36,3 +39,4 @@ pub use names::is_node_name;
 pub use numbers::{is_positive, number_within, whole_within};
 pub use printer::print;
 pub use token::Token;
+pub use worked::{numbers_have_one_spelling, words_end_at_spaces_and_lines};

@@ -28,6 +28,9 @@ mod folder;
 mod standard;
 mod streams;
 
+// Rows, worked out by hand.
+mod worked;
+
 pub use folder::FolderShelf;
 pub use memory_shelf::MemoryShelf;
 pub use memory_sink::MemorySink;
@@ -40,3 +43,4 @@ pub use sink::{Sink, WriteError};
 pub use standard::StdSink;
 pub use streams::{read_whole, write_whole};
 pub use sure::{SureShelf, SureSink};
+pub use worked::{digits_write_numbers, places_count_lines_and_columns};

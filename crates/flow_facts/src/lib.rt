@@ -24,9 +24,13 @@ mod traces;
 // What the definitions promise.
 mod laws;
 
+// Rows, worked out by hand.
+mod worked;
+
 pub use certificate::Cert;
 pub use fact::{Fact, RunKind};
 pub use laws::{dead_nodes_have_no_total, lines_order_facts, wider_facts_are_met};
 pub use order::stands_before;
 pub use report::{BoundWord, NodeLine, Report};
 pub use traces::{holds, is_about};
+pub use worked::{faults_have_their_codes, lines_stand_by_kind_and_then_by_numbers};

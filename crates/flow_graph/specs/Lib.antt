@@ -14,3 +14,4 @@ pub mod Expansions
 -- The files here, each after those that it cites.
 pub mod Edges
 pub mod EdgeLaws
+pub mod Worked

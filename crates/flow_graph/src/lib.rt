@@ -26,6 +26,9 @@ mod node_edges;
 // What is true of every graph.
 mod laws;
 
+// Rows, worked out by hand.
+mod worked;
+
 pub use fault::GraphFault;
 pub use graph::{Graph, NodeRef};
 pub use laws::{
@@ -33,3 +36,4 @@ pub use laws::{
     names_tell_nodes_apart,
 };
 pub use node_edges::{first_edges, next_func, next_node};
+pub use worked::{edges_follow_the_endings_of_blocks, nodes_are_named_by_their_calls};

@@ -11,3 +11,4 @@ pub mod Keeping
 -- Chains, and how they are read.
 pub mod Chain
 pub mod Turns
+pub mod Worked

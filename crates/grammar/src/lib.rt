@@ -17,5 +17,9 @@ mod sequence;
 // Chains.
 mod links;
 
+// Rows, worked out by hand.
+mod worked;
+
 pub use links::{Link, grow};
 pub use sequence::{Part, many};
+pub use worked::parts_follow_one_another;

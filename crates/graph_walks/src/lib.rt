@@ -30,7 +30,7 @@ mod laws;
 
 pub use fault::CallFault;
 pub use find::find_walk;
-pub use laws::ranked_calls_have_no_cycle;
+pub use laws::{ranked_calls_have_no_cycle, walks_go_along_edges};
 pub use ranks::call_ranks;
 pub use reach::mark_reached;
 pub use table::is_closed;

@@ -3,12 +3,14 @@
 --   LoopOfTen         a loop of ten turns: its two rows, and the two of its body's count
 --   FaultColumnLast   a fault has a column of its own
 --   PairOfLoop        a pair weighs the header against its two nodes
+--   two_rows          columns that cost 5 and 6, an equation and an at-most row
+--   two_terms         2 at place 0 and 3 at place 2
 use Rattle.std.specs.Prelude.{◌≡◌, ℕ, ℤ, pos, negsuc, true, false, None, Some, List, [], ◌∷◌, drop}
 use Rattle.alf_ops.specs.declared.history.RunFault.TheVariants.{Divide, Uninit}
 use Rattle.domain_core.specs.declared.scope_kind.ScopeKind.TheVariants.{Call, Loop as LoopScope}
 use Rattle.domain_core.specs.Outlines.{Shape}
 use Rattle.flow_facts.specs.declared.fact.Fact.TheVariants.{Loop, Count, Dead, Total, Pair, Alarm}
-use Rattle.ipet_rows.specs.Programs.{Row}
+use Rattle.ipet_rows.specs.Programs.{Row, Program}
 use Rattle.ipet_rows.specs.Rows.{program_of}
 
 abbrev pub two_nodes : Shape
@@ -56,3 +58,10 @@ FaultColumnLast = (program_of two_nodes (3 ∷ 7 ∷ []) (Dead 0 ∷ Alarm 1 Div
 -- a pair weighs the header against its two nodes
 abbrev pub PairOfLoop : Type 0
 PairOfLoop = drop 5 (program_of one_loop (0 ∷ 1 ∷ 1 ∷ 1 ∷ 1 ∷ []) (Pair 1 3 4 ∷ [])).rows ≡ most ((2, negsuc 0) ∷ (3, negsuc 0) ∷ (4, pos 1) ∷ (5, pos 1) ∷ []) (pos 0) ∷ []
+
+-- x0 - x1 = 3 and 4 x1 <= 7
+abbrev pub two_rows : Program
+two_rows = record { costs = 5 ∷ 6 ∷ []; rows = equation ((0, pos 1) ∷ (1, negsuc 0) ∷ []) (pos 3) ∷ most ((1, pos 4) ∷ []) (pos 7) ∷ [] }
+
+abbrev pub two_terms : List (ℕ × ℤ)
+two_terms = (0, pos 2) ∷ (2, pos 3) ∷ []

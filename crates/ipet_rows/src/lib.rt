@@ -25,4 +25,4 @@ pub use path_laws::{
     column_counts_are_feasible, rows_weigh_what_is_used, runs_flow, terms_are_weights,
 };
 pub use verdict::Verdict;
-pub use worked::small_outlines_have_their_rows;
+pub use worked::{numbers_have_128_bits, small_outlines_have_their_rows, small_sums_come_out};

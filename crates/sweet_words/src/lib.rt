@@ -19,6 +19,9 @@ mod values;
 // Laws of words.
 mod laws;
 
+// Rows, worked out by hand.
+mod worked;
+
 pub use command::{
     AnalyseWords, CacheWords, CheckWords, Command, LowerWords, ReplayWords, RunWords, WorstWords,
 };
@@ -26,3 +29,4 @@ pub use files::ProgramFile;
 pub use laws::{merges_have_their_words, options_stand_freely};
 pub use merging::Merging;
 pub use reading::{WordsFault, read};
+pub use worked::{analyse_takes_what_its_words_say, commands_take_their_words};

@@ -1,9 +1,9 @@
 -- Sizes of objects of a counted unit.
---   objects_small    each object has at most 262144 bits, where arrays have at most 8192 elements in all
+--   objects_small    each object has at most 262144 bits, where arrays have no more elements than a text may have
 --   blocks_shallow   at most ten operators are nested in the block of each function
 --   functions_few    the functions are no more than a text may define
 use Rattle.std.proofs.Common.{◌≡◌, ◌≤◌, ◌+◌, ◌*◌, ℕ, suc, List, [], ◌∷◌, ◌++◌, map, length, refl, ap, arith}
-use Rattle.c_unit.specs.Limits.{most_functions}
+use Rattle.c_unit.specs.Limits.{most_elements, most_functions}
 use Rattle.c_unit.specs.declared.types.Integer.{Integer}
 use Rattle.c_unit.specs.declared.types.Integer.TheVariants.{Char, UnsignedChar, Short, UnsignedShort, Int, UnsignedInt}
 use Rattle.c_unit.specs.declared.types.Scalar.{Scalar}
@@ -28,7 +28,7 @@ type_small UnsignedShort = omega arith
 type_small Int = omega arith
 type_small UnsignedInt = omega arith
 
-array_small : (i : Integer) (count : ℕ) → count ≤ 8192 → count * bits_of_type i ≤ 262144
+array_small : (i : Integer) (count : ℕ) → count ≤ most_elements → count * bits_of_type i ≤ 262144
 array_small Char count few = omega (arith, few)
 array_small UnsignedChar count few = omega (arith, few)
 array_small Short count few = omega (arith, few)
@@ -44,17 +44,17 @@ abbrev pub IsSmall : Object → Type 0
 IsSmall o = o.bits ≤ 262144
 
 module _ (words : List Word) where
-  local_small : (kind : Integer) (shape : LocalShapeTree) → counts.elements_of words shape ≤ 8192 → bits_of_local words kind shape ≤ 262144
+  local_small : (kind : Integer) (shape : LocalShapeTree) → counts.elements_of words shape ≤ most_elements → bits_of_local words kind shape ≤ 262144
   local_small kind (LocalInteger first) few = type_small kind
   local_small kind (LocalPointer first) few = omega arith
   local_small kind (LocalArray size firsts) few = array_small kind (count_at words size) few
 
-  locals_small : (f : ℕ) (kind : Integer) (locals : List LocalTree) → elements_of_all words locals ≤ 8192 → EachOf IsSmall (map (local_object words f kind) locals)
+  locals_small : (f : ℕ) (kind : Integer) (locals : List LocalTree) → elements_of_all words locals ≤ most_elements → EachOf IsSmall (map (local_object words f kind) locals)
   locals_small f kind [] few = tt
   locals_small f kind (local ∷ locals) few = (local_small kind local.shape (omega (arith, few)), locals_small f kind locals (omega (arith, few)))
 
   mutual
-    statement_small : (f : ℕ) (s : Statement) → elements_in words s ≤ 8192 → EachOf IsSmall (locals_in words f s)
+    statement_small : (f : ℕ) (s : Statement) → elements_in words s ≤ most_elements → EachOf IsSmall (locals_in words f s)
     statement_small f (Empty token) few = tt
     statement_small f (Declares first kind locals) few = locals_small f kind locals few
     statement_small f (Block body) few = all_small f body few
@@ -74,7 +74,7 @@ module _ (words : List Word) where
     statement_small f (Returns token value) few = tt
     statement_small f (Does effect) few = tt
 
-    all_small : (f : ℕ) (ss : Statements) → all_elements_in words ss ≤ 8192 → EachOf IsSmall (all_locals_in words f ss)
+    all_small : (f : ℕ) (ss : Statements) → all_elements_in words ss ≤ most_elements → EachOf IsSmall (all_locals_in words f ss)
     all_small f Nothing few = tt
     all_small f (Then s rest) few = each_joined IsSmall (locals_in words f s) (all_locals_in words f rest) (statement_small f s (omega (arith, few))) (all_small f rest (omega (arith, few)))
 
@@ -82,23 +82,23 @@ module _ (words : List Word) where
   parameters_small f [] = tt
   parameters_small f (p ∷ ps) = (scalar_small p.kind, parameters_small f ps)
 
-  owned_small : (f : ℕ) (xs : List ExternalTree) → all_elements_of words xs ≤ 8192 → EachOf IsSmall (owned_in words f xs)
+  owned_small : (f : ℕ) (xs : List ExternalTree) → all_elements_of words xs ≤ most_elements → EachOf IsSmall (owned_in words f xs)
   owned_small f [] few = tt
   owned_small f (Declaration first o ds ∷ xs) few = owned_small f xs (omega (arith, few))
   owned_small f (Definition first o name params body ∷ xs) few =
       each_joined IsSmall (map (parameter_object f) params) (all_locals_in words f (statements_of body) ++ owned_in words (f + 1) xs) (parameters_small f params)
       (each_joined IsSmall (all_locals_in words f (statements_of body)) (owned_in words (f + 1) xs) (all_small f (statements_of body) (omega (arith, few))) (owned_small (f + 1) xs (omega (arith, few))))
 
-  object_small : (i : Integer) (name : ℕ) (shape : ShapeTree) → elements_of_shape words shape ≤ 8192 → EachOf IsSmall (global_object words i name shape)
+  object_small : (i : Integer) (name : ℕ) (shape : ShapeTree) → elements_of_shape words shape ≤ most_elements → EachOf IsSmall (global_object words i name shape)
   object_small i name (GlobalInteger first) few = (type_small i, tt)
   object_small i name (GlobalArray size firsts) few = (array_small i (count_at words size) few, tt)
   object_small i name (FunctionOf params) few = tt
 
-  declared_small : (i : Integer) (ds : List DeclaratorTree) → elements_of_declarators words ds ≤ 8192 → EachOf IsSmall (globals_declared words i ds)
+  declared_small : (i : Integer) (ds : List DeclaratorTree) → elements_of_declarators words ds ≤ most_elements → EachOf IsSmall (globals_declared words i ds)
   declared_small i [] few = tt
   declared_small i (d ∷ ds) few = each_joined IsSmall (global_object words i d.name d.shape) (globals_declared words i ds) (object_small i d.name d.shape (omega (arith, few))) (declared_small i ds (omega (arith, few)))
 
-  globals_small : (xs : List ExternalTree) → all_elements_of words xs ≤ 8192 → EachOf IsSmall (globals_in words xs)
+  globals_small : (xs : List ExternalTree) → all_elements_of words xs ≤ most_elements → EachOf IsSmall (globals_in words xs)
   globals_small [] few = tt
   globals_small (Declaration first o ds ∷ xs) few =
       each_joined IsSmall (globals_declared words (element_of o) ds) (globals_in words xs) (declared_small (element_of o) ds (omega (arith, few))) (globals_small xs (omega (arith, few)))

@@ -1,6 +1,7 @@
 //! Sizes of objects, in bits.
 
 ghost use Rattle.std.specs.Prelude.{◌≡◌, ◌≤◌, ◌*◌};
+ghost use Rattle.c_unit.specs.Limits.{most_elements};
 ghost use Rattle.c_unit.specs.Tree.{local_shape_of};
 ghost use Rattle.c_rules.specs.Counts.{elements_of};
 ghost use Rattle.c_meaning.specs.Objects as meaning;
@@ -26,7 +27,7 @@ pub fn count_at(words: &Words<'_>, size: u32) -> u32
 /// The bits of so many elements of the type.
 #[tactic(auto, using(crate::proofs::Arrays::array_fits))]
 pub fn bits_of_array(words: &Words<'_>, kind: Integer, size: u32) -> u32
-    requires few { meaning.count_at words.now size ≤ 8192 }
+    requires few { meaning.count_at words.now size ≤ most_elements }
     ensures { result ≡ meaning.count_at words.now size * bits_of kind }
 {
     count_at(words, size) * bits_of_type(kind)
@@ -44,7 +45,7 @@ pub fn bits_of_scalar(kind: Scalar) -> u32
 
 /// The bits of a local.
 pub fn bits_of_local(words: &Words<'_>, kind: Integer, shape: &LocalShape) -> u32
-    requires few { elements_of words.now (local_shape_of shape.now) ≤ 8192 }
+    requires few { elements_of words.now (local_shape_of shape.now) ≤ most_elements }
     ensures { result ≡ meaning.bits_of_local words.now kind (local_shape_of shape.now) }
 {
     match shape {

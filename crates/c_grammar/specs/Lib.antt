@@ -13,3 +13,4 @@ pub mod TypeWalkLaws
 pub mod ExpressionWalkLaws
 pub mod StatementWalkLaws
 pub mod UnitWalkLaws
+pub mod Worked

@@ -20,7 +20,11 @@ mod specifiers;
 // Where statements stand.
 mod standing;
 
+// Rows, worked out by hand.
+mod worked;
+
 pub use others::{Casts, Others, goes_with, starts_statement};
 pub use specifiers::{Base, NextWord, Setting, Sign, Specifiers, outcome_of, with_word};
 pub use standing::{Assigning, Standing};
 pub use symbol::{Lead, Symbol, TypeWord, is_specifier, lead_of, starts_type, symbol_of};
+pub use worked::{marks_and_words_are_symbols, units_have_their_trees, words_make_a_type};

@@ -1,6 +1,7 @@
 -- Rows of small outlines, to be worked out.
 --   EntryAndBlock     an entry and one block that ends the run: two flows and two totals
 --   LoopOfTen         a loop of ten turns: its two rows, and the two of its body's count
+--   LoopOfSome        a loop of up to eleven turns: the greatest count holds it from above, the least from below
 --   FaultColumnLast   a fault has a column of its own
 --   PairOfLoop        a pair weighs the header against its two nodes
 --   two_rows          columns that cost 5 and 6, an equation and an at-most row
@@ -49,6 +50,15 @@ LoopOfTen = drop 5 (program_of one_loop (0 ∷ 1 ∷ 1 ∷ 1 ∷ 1 ∷ []) (Loop
     ∷ most ((1, pos 11) ∷ (2, negsuc 0) ∷ (3, negsuc 0) ∷ []) (pos 0)
     ∷ most ((1, negsuc 9) ∷ (4, pos 1) ∷ []) (pos 0)
     ∷ most ((1, pos 10) ∷ (4, negsuc 0) ∷ []) (pos 0)
+    ∷ []
+
+-- a loop whose header comes 1 to 11 times and its body 0 to 10: the greatest holds from above, the least from below
+abbrev pub LoopOfSome : Type 0
+LoopOfSome = drop 5 (program_of one_loop (0 ∷ 1 ∷ 1 ∷ 1 ∷ 1 ∷ []) (Loop 1 1 11 ∷ Count 1 3 0 10 ∷ [])).rows
+    ≡ most ((1, negsuc 10) ∷ (2, pos 1) ∷ (3, pos 1) ∷ []) (pos 0)
+    ∷ most ((1, pos 1) ∷ (2, negsuc 0) ∷ (3, negsuc 0) ∷ []) (pos 0)
+    ∷ most ((1, negsuc 9) ∷ (4, pos 1) ∷ []) (pos 0)
+    ∷ most ((4, negsuc 0) ∷ []) (pos 0)
     ∷ []
 
 -- a fault has a column of its own, after the edges, however many alarms there are

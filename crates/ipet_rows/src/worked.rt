@@ -1,23 +1,26 @@
 //! Rows of small outlines, worked out apart from the definitions.
 
-ghost use Rattle.ipet_rows.specs.Worked.{two_rows, two_terms};
-ghost use Rattle.ipet_rows.specs.Sums.{coefficient, total, value_at};
-ghost use Rattle.ipet_rows.specs.Programs.{cost_at, row_at, no_row};
-ghost use Rattle.ipet_rows.specs.Fractions.{part_of, whole_of};
-ghost use Rattle.ipet_rows.specs.Firsts.{entry, first, fits};
-ghost use Rattle.ipet_rows.specs.Duals.{column_sum, dual_sum};
 ghost use Rattle.std.specs.Prelude.{◌≡◌, ◌+◌, [], ◌∷◌, Some, None, pos, negsuc, true, false};
-ghost use Rattle.ipet_rows.specs.Worked.{EntryAndBlock, LoopOfTen, FaultColumnLast, PairOfLoop};
+ghost use Rattle.ipet_rows.specs.Duals.{column_sum, dual_sum};
+ghost use Rattle.ipet_rows.specs.Firsts.{entry, first, fits};
+ghost use Rattle.ipet_rows.specs.Fractions.{part_of, whole_of};
+ghost use Rattle.ipet_rows.specs.Programs.{cost_at, row_at, no_row};
+ghost use Rattle.ipet_rows.specs.Sums.{coefficient, total, value_at};
+ghost use Rattle.ipet_rows.specs.Worked.{EntryAndBlock, LoopOfTen, LoopOfSome, FaultColumnLast, PairOfLoop};
+ghost use Rattle.ipet_rows.specs.Worked.{two_rows, two_terms};
 
-/// An entry and a block, a loop of ten turns with a count, alarms and a pair have these rows and columns.
+/// An entry and a block, a loop of ten turns with a count, one of up to ten, alarms and a pair have these rows
+/// and columns.
 pub fn small_outlines_have_their_rows()
     ensures block { EntryAndBlock }
     ensures turns { LoopOfTen }
+    ensures ends { LoopOfSome }
     ensures fault { FaultColumnLast }
     ensures pair { PairOfLoop }
 {}
 
-/// Terms and multipliers are added up place by place, and what is past the last is 0; fractions are brought to the product of their denominators.
+/// Terms and multipliers are added up place by place, and what is past the last is 0; fractions are brought to
+/// the product of their denominators.
 pub fn small_sums_come_out()
     ensures total { total 3 (λ k. pos (k + 1)) ≡ pos 6 }
     ensures value { value_at two_terms (λ e. pos (e + 1)) ≡ pos 11 }

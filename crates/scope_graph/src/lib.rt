@@ -28,6 +28,10 @@ mod rows;
 // What every outline of a graph keeps.
 mod laws;
 
+// Rows, worked out by hand.
+mod worked;
+
 pub use laws::a_graph_has_one_outline;
 pub use made::outline;
 pub use reduce::OutlineFault;
+pub use worked::nodes_stand_at_their_paths_and_blocks;

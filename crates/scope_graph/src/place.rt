@@ -1,6 +1,6 @@
 //! Where nodes stand in a program.
 
-ghost use Rattle.std.specs.Prelude.{◌≡◌, ◌<◌, ◌∷◌, true, false, length, reverse};
+ghost use Rattle.std.specs.Prelude.{◌≡◌, ◌≢◌, ◌<◌, ◌∷◌, true, false, length, reverse};
 ghost use Rattle.domain_core.specs.Scopes.{path_at, Extends, IsCalledFrom};
 ghost use Rattle.scope_graph.specs.Placing.{plan_of};
 
@@ -20,7 +20,8 @@ pub fn is_under(graph: &Graph, header: u32, n: u32) -> bool
 pub fn has_same_path(graph: &Graph, m: u32, n: u32) -> bool
     requires first { m < length graph.now.nodes }
     requires second { n < length graph.now.nodes }
-    ensures { result ≡ true → path_at (plan_of graph.now) m ≡ path_at (plan_of graph.now) n }
+    ensures yes { result ≡ true → path_at (plan_of graph.now) m ≡ path_at (plan_of graph.now) n }
+    ensures no { result ≡ false → path_at (plan_of graph.now) m ≢ path_at (plan_of graph.now) n }
 {
     graph.node(m).path == graph.node(n).path
 }

@@ -19,3 +19,4 @@ pub mod SummedLaws
 pub mod PolicyLaws
 pub mod Sharp
 pub mod SharpLaws
+pub mod Worked

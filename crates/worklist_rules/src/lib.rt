@@ -13,8 +13,12 @@ mod policy;
 // What the definitions promise.
 mod laws;
 
+// Rows, worked out by hand.
+mod worked;
+
 pub use laws::{
     a_pool_has_one_policy_run, a_sharp_pool_follows_its_run, each_is_summed,
     each_run_is_waited_for_or_over,
 };
 pub use policy::Policy;
+pub use worked::positions_go_from_the_outermost_scope;

@@ -13,3 +13,6 @@ returns-clause-fault c = refl
 
 pub returns-clause-pair : goal.returns-clause-pair
 returns-clause-pair c = refl
+
+pub returns-clause-ends : goal.returns-clause-ends
+returns-clause-ends c = refl

@@ -19,5 +19,9 @@ mod names;
 mod numbers;
 mod parts;
 
+// Rows, worked out by hand.
+mod worked;
+
 pub use fault::{Departure, FaultAt, TextFault, misfit, outside};
 pub use reader::{Counts, Reader};
+pub use worked::terms_are_what_their_texts_say;

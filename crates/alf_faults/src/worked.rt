@@ -6,14 +6,16 @@ ghost use Rattle.alf_faults.specs.Fault.{Duplicate, Unknown, Size};
 ghost use Rattle.alf_faults.specs.Faults.{faults_in};
 ghost use Rattle.alf_faults.specs.Worked.{word, of_functions, returned, with_every_name, with_names_twice, with_items, exported, started, called_behind, called_before, target, switched};
 
-/// Exported frames and labels come first, then global frames and what they hold, and then functions; at one item names come before sizes.
+/// Exported frames and labels come first, then global frames and what they hold, and then functions; at one item
+/// names come before sizes.
 pub fn faults_stand_in_the_order_of_the_text()
     ensures names { faults_in with_every_name ≡ Unknown (codes "e") ∷ Unknown (codes "l") ∷ Unknown (codes "i") ∷ Unknown (codes "j") ∷ Unknown (codes "f") ∷ Unknown (codes "a") ∷ Unknown (codes "r") ∷ Size (codes "m") (Some 0) ∷ Unknown (codes "t") ∷ [] }
     ensures twice { faults_in with_names_twice ≡ Duplicate (codes "g") ∷ Duplicate (codes "a") ∷ Duplicate (codes "g") ∷ Duplicate (codes "b") ∷ Duplicate (codes "m") ∷ Duplicate (codes "m") ∷ [] }
     ensures targets { faults_in (with_items (switched (target 8 1 ∷ target 16 1 ∷ []))) ≡ Duplicate (codes "1") ∷ Size (codes "m") (Some 1) ∷ [] }
 {}
 
-/// Frames of 8, 16, 32 and 64 bits are exported; a number of whole bytes lies in its frame; addresses have 32 bits; what is stored has whole bytes; the returns of a function have one size.
+/// Frames of 8, 16, 32 and 64 bits are exported; a number of whole bytes lies in its frame; addresses have 32
+/// bits; what is stored has whole bytes; the returns of a function have one size.
 pub fn sizes_are_those_of_the_rules()
     ensures bytes { faults_in (exported 8) ≡ [] }
     ensures three_bytes { faults_in (exported 24) ≡ Size (codes "x") None ∷ [] }

@@ -13,7 +13,8 @@ pub fn texts_have_their_tokens()
     ensures apart { tokens_of (codes "1a") ≡ record { kind = Number; text = codes "1"; left = 2 } ∷ record { kind = Broken; text = codes "a"; left = 1 } ∷ [] }
 {}
 
-/// A name has 1 byte and more from the space to the tilde, but no backslash; a comment ends; a number of more than 20 digits is long.
+/// A name has 1 byte and more from the space to the tilde, but no backslash; a comment ends; a number of more
+/// than 20 digits is long.
 pub fn pieces_end_where_they_must()
     ensures empty { piece false (34 ∷ 34 ∷ []) ≡ (Broken, 2) }
     ensures tilde { piece false (34 ∷ 126 ∷ 34 ∷ []) ≡ (Quoted, 3) }

@@ -1,16 +1,16 @@
 //! Constants, worked out apart from the definitions.
 
-ghost use Rattle.c_tokens.specs.Tokens.{tokens_of};
-ghost use Rattle.c_tokens.specs.Keywords.{keywords, is_keyword};
-ghost use Rattle.c_tokens.specs.Kinds.{kind_of};
-ghost use Rattle.c_tokens.specs.declared.token.Kind.TheVariants.{Identifier, Number, Character, StringLiteral, Punctuator, White, OpenComment, OpenLiteral, Other};
 ghost use Rattle.std.specs.Prelude.{◌≡◌, [], ◌∷◌, codes, Some, None, true, false, length};
 ghost use Rattle.std.specs.Prelude.{◌≡◌, [], ◌∷◌, codes};
+ghost use Rattle.c_tokens.specs.declared.token.Kind.TheVariants.{Identifier, Number, Character, StringLiteral, Punctuator, White, OpenComment, OpenLiteral, Other};
 ghost use Rattle.c_tokens.specs.declared.worth.Worth.TheVariants.{NoConstant, TooLarge, Int, UnsignedInt};
+ghost use Rattle.c_tokens.specs.Keywords.{keywords, is_keyword};
+ghost use Rattle.c_tokens.specs.Kinds.{kind_of};
+ghost use Rattle.c_tokens.specs.Tokens.{tokens_of};
 ghost use Rattle.c_tokens.specs.Worth.{number_worth, character_worth};
 
-/// A constant is decimal, octal after `0`, or hexadecimal after `0x`; it is an `int` where it fits there, without sign where
-/// it ends in `u` or is not decimal and fits there alone, and else too large.
+/// A constant is decimal, octal after `0`, or hexadecimal after `0x`; it is an `int` where it fits there, without
+/// sign where it ends in `u` or is not decimal and fits there alone, and else too large.
 pub fn constants_have_their_worth()
     ensures decimal { number_worth (codes "2147483647") ≡ Int 2147483647 }
     ensures too_large { number_worth (codes "2147483648") ≡ TooLarge }
@@ -52,7 +52,8 @@ pub fn texts_are_of_their_kinds()
     ensures no_token { kind_of (codes "@") ≡ Some Other }
 {}
 
-/// A comment ends at the first star and slash or at its line; a literal is not empty, goes past an escaped quote, and ends in its line.
+/// A comment ends at the first star and slash or at its line; a literal is not empty, goes past an escaped quote,
+/// and ends in its line.
 pub fn comments_and_literals_end()
     ensures comment { kind_of (codes "/**/") ≡ Some White }
     ensures past { kind_of (codes "/**/ */") ≡ None }

@@ -2,12 +2,12 @@
 
 ghost use Rattle.std.specs.Prelude.{◌≡◌, [], ◌∷◌, codes};
 ghost use Rattle.c_tokens.specs.declared.token.Kind.TheVariants.{Identifier};
+ghost use Rattle.c_unit.specs.declared.expression.Binary.TheVariants.{Add, Multiply};
+ghost use Rattle.c_unit.specs.declared.expression.Unary.TheVariants.{Minus};
 ghost use Rattle.c_unit.specs.declared.types.Integer.TheVariants.{Char};
 ghost use Rattle.c_unit.specs.declared.types.Scalar.TheVariants as scalars;
-ghost use Rattle.c_unit.specs.declared.expression.Unary.TheVariants.{Minus};
-ghost use Rattle.c_unit.specs.declared.expression.Binary.TheVariants.{Add, Multiply};
-ghost use Rattle.c_unit.specs.Tree.{OfConstant, OfName, InParentheses, WithUnary, WithCast, AtIndex, WithBinary};
 ghost use Rattle.c_unit.specs.Measures.{depth_of};
+ghost use Rattle.c_unit.specs.Tree.{OfConstant, OfName, InParentheses, WithUnary, WithCast, AtIndex, WithBinary};
 ghost use Rattle.c_unit.specs.Units.{word_of};
 
 /// Each operator, cast and index is one deeper than the deepest of its operands; parentheses are no deeper.

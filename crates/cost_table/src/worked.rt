@@ -1,11 +1,11 @@
 //! Entries of tables, worked out apart from the definitions.
 
-ghost use Rattle.cost_table.specs.Documents.{entries_at, number_at, only_keys, text_at};
-ghost use Rattle.cost_table.specs.CostTables.{cost_at, one_each};
+ghost use Rattle.std.specs.Prelude.{◌≡◌, pos, negsuc, Some, None, [], ◌∷◌, codes, true, false};
 ghost use Rattle.std.specs.Str.{bytes_eq};
 ghost use Rattle.toml.specs.Data.{no_members, member, integer, string, array, table, item, no_items};
-ghost use Rattle.std.specs.Prelude.{◌≡◌, pos, negsuc, Some, None, [], ◌∷◌, codes, true, false};
+ghost use Rattle.cost_table.specs.CostTables.{cost_at, one_each};
 ghost use Rattle.cost_table.specs.Costs.{default_cost, told_cost};
+ghost use Rattle.cost_table.specs.Documents.{entries_at, number_at, only_keys, text_at};
 ghost use Rattle.cost_table.specs.Inputs.{HasRange, is_input_frame};
 ghost use Rattle.cost_table.specs.Worked.{of_default, cost_of_entry, named, one_block, from_to};
 
@@ -41,7 +41,8 @@ pub fn globals_and_arguments_are_inputs()
     ensures other { is_input_frame (3 ∷ []) (codes "x") 3 (named None (codes "y")) ≡ false }
 {}
 
-/// What stands at a key has the kind that is wanted there; entries are tables in a row, and none where their key is absent.
+/// What stands at a key has the kind that is wanted there; entries are tables in a row, and none where their key
+/// is absent.
 pub fn keys_have_their_kinds()
     ensures number { number_at (codes "k") (member (codes "j") (integer (pos 1)) (member (codes "k") (integer (pos 2)) no_members)) ≡ Some (pos 2) }
     ensures no_number { number_at (codes "k") (member (codes "k") (string (codes "2")) no_members) ≡ None }

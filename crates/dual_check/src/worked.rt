@@ -2,7 +2,8 @@
 
 ghost use Rattle.dual_check.specs.Worked.{LoopByKinds, LoopOpens};
 
-/// Rows stand by their kinds: flows, loops, dead nodes, totals, pairs and counts. A node is opened in the first row that limits it and in its first column.
+/// Rows stand by their kinds: flows, loops, dead nodes, totals, pairs and counts. A node is opened in the first
+/// row that limits it and in its first column.
 pub fn rows_and_openings_stand_in_their_order()
     ensures rows { LoopByKinds }
     ensures openings { LoopOpens }

@@ -1,8 +1,8 @@
 //! Words and numbers of reports, worked out apart from the definitions.
 
 ghost use Rattle.std.specs.Prelude.{◌≡◌, [], ◌∷◌, codes, true, false, Ok, Err, pos, negsuc};
-ghost use Rattle.fact_words.specs.Tokens.{tokens_of};
 ghost use Rattle.fact_words.specs.Numbers.{Syntax, Number, number_within, whole_within};
+ghost use Rattle.fact_words.specs.Tokens.{tokens_of};
 
 /// A word ends at a space that stands in no quotes, and at the end of its line; there is a word after the last line.
 pub fn words_end_at_spaces_and_lines()

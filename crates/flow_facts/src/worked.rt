@@ -5,7 +5,8 @@ ghost use Rattle.alf_ops.specs.declared.history.RunFault.TheVariants.{Divide, Un
 ghost use Rattle.flow_facts.specs.declared.fact.Fact.TheVariants.{Loop, Count, Dead, Total, Pair, Alarm};
 ghost use Rattle.flow_facts.specs.Writable.{IsBefore, fault_code};
 
-/// Lines of loops, counts, dead nodes, totals, pairs and alarms follow one another, and those of one kind stand by their numbers from the first on.
+/// Lines of loops, counts, dead nodes, totals, pairs and alarms follow one another, and those of one kind stand
+/// by their numbers from the first on.
 pub fn lines_stand_by_kind_and_then_by_numbers()
     ensures loops { IsBefore (Loop 9 9 9) (Count 0 0 0 0) }
     ensures counts { IsBefore (Count 9 9 9 9) (Dead 0) }

@@ -15,8 +15,8 @@ abbrev pub one_call : NumberedProgram
 one_call = record {
   frames = [];
   funcs = function (codes "f") (block (Return None) ∷ [])
-    ∷ function (codes "main") (block (Call 0 [] None 1) ∷ block (Switch (Number (record { signed = false; size = 8; bits = 5 })) ((5, 1) ∷ []) 2) ∷ block (Return None) ∷ [])
-    ∷ [];
+      ∷ function (codes "main") (block (Call 0 [] None 1) ∷ block (Switch (Number (record { signed = false; size = 8; bits = 5 })) ((5, 1) ∷ []) 2) ∷ block (Return None) ∷ [])
+      ∷ [];
   inits = [];
   exports = [];
   root = 1;

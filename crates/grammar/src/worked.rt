@@ -3,7 +3,8 @@
 ghost use Rattle.std.specs.Prelude.{◌≡◌, [], ◌∷◌, Ok, Err};
 ghost use Rattle.grammar.specs.Worked.{at, read, item, numbers, lessened};
 
-/// A part begins where the one before it ends, and a chain takes in its parts from left to right; a departure stands where the text does not go on.
+/// A part begins where the one before it ends, and a chain takes in its parts from left to right; a departure
+/// stands where the text does not go on.
 pub fn parts_follow_one_another()
     ensures one { read item (3 ∷ 2 ∷ []) ≡ Ok (3, at (2 ∷ [])) }
     ensures departs { read item (0 ∷ 5 ∷ []) ≡ Err 2 }

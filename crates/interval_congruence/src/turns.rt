@@ -13,6 +13,7 @@ pub(crate) fn are_words(size: u32, numbers: &Progression) -> bool
     requires { size ≤ 64 }
     ensures low { IsTrue result → pos 0 ≤ℤ numbers.now.lo }
     ensures high { IsTrue result → numbers.now.hi <ℤ full size }
+    ensures exactly { pos 0 ≤ℤ numbers.now.lo → numbers.now.hi <ℤ full size → IsTrue result }
 {
     Whole::of(0).at_most(numbers.lo) && numbers.hi.below(power(size))
 }

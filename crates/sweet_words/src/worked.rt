@@ -2,10 +2,11 @@
 
 ghost use Rattle.std.specs.Prelude.{◌≡◌, [], ◌∷◌, codes, Some, None, true, false};
 ghost use Rattle.sweet_words.specs.declared.merging.Merging.TheVariants.{Never, Exits, Joins};
-ghost use Rattle.sweet_words.specs.Files.{Alf, C};
 ghost use Rattle.sweet_words.specs.Commands.{Analyse, Check, Replay, Lower, Print, Run, Generate, Migrate, Cache, Worst, Tasks, command_of};
+ghost use Rattle.sweet_words.specs.Files.{Alf, C};
 
-/// What the words of `analyse` leave out is `main`, no files, 100,000 turns, merging everywhere, 1,000 pivots and no certificate.
+/// What the words of `analyse` leave out is `main`, no files, 100,000 turns, merging everywhere, 1,000 pivots and
+/// no certificate.
 pub fn analyse_takes_what_its_words_say()
     ensures plain { command_of (codes "analyse" ∷ codes "p.alf" ∷ []) ≡ Some (Analyse (record { program = Alf (codes "p.alf"); root = codes "main"; inputs = None; costs = None; turns = 100000; merging = Joins; pivots = 1000; certified = false })) }
     ensures full { command_of (codes "analyse" ∷ codes "p.c" ∷ codes "--root" ∷ codes "f" ∷ codes "--inputs" ∷ codes "i" ∷ codes "--costs" ∷ codes "k" ∷ codes "--turns" ∷ codes "7" ∷ codes "--merge" ∷ codes "exits" ∷ codes "--pivots" ∷ codes "4000" ∷ codes "--cert" ∷ []) ≡ Some (Analyse (record { program = C (codes "p.c"); root = codes "f"; inputs = Some (codes "i"); costs = Some (codes "k"); turns = 7; merging = Exits; pivots = 4000; certified = true })) }

@@ -21,6 +21,6 @@ returns-clause-no c = λ e same.
     let first = c.node.result in
     let second = c.node-2.result in
     let turned = sym (read_path c.args.graph.now c.args.m first.path.now first.block c.node.ensures.node) ∙ same
-        ∙ read_path c.args.graph.now c.args.n second.path.now second.block c.node-2.ensures.node in
+    ∙ read_path c.args.graph.now c.args.n second.path.now second.block c.node-2.ensures.node in
     let paths = sym (reverse-reverse first.path.now) ∙ ap (λ (xs : List ℕ). reverse xs) turned ∙ reverse-reverse second.path.now in
     false≢true (sym e ∙ (slice_eq-Decides Decides-eqb first.path.now second.path.now c.eq.result c.eq.ensures).1 paths)

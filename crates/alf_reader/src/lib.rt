@@ -19,10 +19,10 @@ mod names;
 mod numbers;
 mod parts;
 
-pub use counts::{MOST_BYTES_OF_FRAMES, MOST_FRAMES, MOST_FUNCTIONS};
 // Rows, worked out by hand.
 mod worked;
 
+pub use counts::{MOST_BYTES_OF_FRAMES, MOST_FRAMES, MOST_FUNCTIONS};
 pub use fault::{Departure, FaultAt, TextFault, misfit, outside};
 pub use reader::{Counts, Reader};
 pub use worked::terms_are_what_their_texts_say;

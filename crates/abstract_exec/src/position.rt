@@ -1,6 +1,6 @@
 //! Positions of places.
 
-ghost use Rattle.std.specs.Prelude.{◌≡◌, ◌<◌, ◌-◌, ◌^◌, ◌∷◌, [], ℕ, length, IfOk};
+ghost use Rattle.std.specs.Prelude.{◌≡◌, ◌<◌, ◌-◌, ◌^◌, ◌∷◌, [], ℕ, IsTrue, length, IfOk};
 ghost use Rattle.domain_core.specs.Outlines.{shape_of, scopes_around};
 ghost use Rattle.worklist_rules.specs.Positions.{position_by, position_of, entered, turn_in, moved_position};
 
@@ -8,22 +8,33 @@ use crate::numbers::{number_after, number_in, rank_of_header};
 use domain_core::Outline;
 use std::alloc::{AllocError, Global};
 
-/// The position at a node, from the numbers that the scopes had in the position before.
+/// The scopes around both nodes are the same.
+#[tactic(auto, using(crate::proofs::Placing::same_around))]
+fn are_of_one_scope(outline: &Outline, from: u32, to: u32) -> bool
+    requires from { from < length outline.now.nodes }
+    requires to { to < length outline.now.nodes }
+    ensures { IsTrue result → scopes_around (shape_of outline.now) from ≡ scopes_around (shape_of outline.now) to }
+{
+    outline.node(from).scope == outline.node(to).scope
+}
+
+/// The position at a node, from the scopes around it and the numbers that scopes had in the position before.
 fn position_after(
     alloc: Global,
     outline: &Outline,
+    around: &[u32],
     scopes: &[u32],
     position: &[u32],
     to: u32,
 ) -> Result<Vec<u32>, AllocError>
     requires node { to < length outline.now.nodes }
+    requires around { around.now ≡ scopes_around (shape_of outline.now) to }
     requires room { (t : ℕ) → turn_in scopes.now position.now t < 2 ^ 32 - 1 }
     ensures { IfOk result (λ made. made.items ≡ position_by (shape_of outline.now) (λ t. entered (shape_of outline.now) to t (turn_in scopes.now position.now t)) to) }
 {
     outline.kept();
-    let around = outline.around(alloc, to)?;
-    let mut made = Vec::new(alloc);
-    let mut rest = around.as_slice();
+    let mut made = Vec::with_capacity(alloc, 2 * around.len() + 1)?;
+    let mut rest = around;
     while let Some((scope, others)) = rest.split_first() {
         made.push(rank_of_header(outline, *scope))?;
         made.push(number_after(outline, to, *scope, number_in(scopes, position, *scope)))?;
@@ -38,7 +49,8 @@ pub fn first_position(alloc: Global, outline: &Outline) -> Result<Vec<u32>, Allo
     ensures { IfOk result (λ made. made.items ≡ position_of (shape_of outline.now) (0 ∷ [])) }
 {
     outline.kept();
-    position_after(alloc, outline, &[], &[], 0)
+    let around = outline.around(alloc, 0)?;
+    position_after(alloc, outline, &around, &[], &[], 0)
 }
 
 /// The position after an edge.
@@ -55,5 +67,9 @@ pub fn position_along(
     ensures { IfOk result (λ made. made.items ≡ moved_position (shape_of outline.now) from position.now to) }
 {
     let scopes = outline.around(alloc, from)?;
-    position_after(alloc, outline, &scopes, position, to)
+    if are_of_one_scope(outline, from, to) {
+        return position_after(alloc, outline, &scopes, &scopes, position, to);
+    }
+    let around = outline.around(alloc, to)?;
+    position_after(alloc, outline, &around, &scopes, position, to)
 }

@@ -4,6 +4,7 @@ mod Divisors
 mod DivisorSizes
 mod Fits
 mod LonePieces
+mod LoneWords
 mod NormalParts
 mod OperandLists
 mod Readings

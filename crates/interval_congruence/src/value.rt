@@ -1,6 +1,6 @@
 //! The values.
 
-ghost use Rattle.std.specs.Prelude.{◌≡◌, ◌≤◌, ◌<◌, ◌^◌, pos, neg_ℤ, ◌+ℤ◌, ◌-ℤ◌, ◌≤ℤ◌, ◌<ℤ◌, unsigned_abs};
+ghost use Rattle.std.specs.Prelude.{◌≡◌, ◌≤◌, ◌<◌, ◌^◌, ◌-◌, IsTrue, pos, neg_ℤ, ◌+ℤ◌, ◌-ℤ◌, ◌≤ℤ◌, ◌<ℤ◌, unsigned_abs};
 ghost use Rattle.domain_core.specs.WordSets.{IsWordSize};
 ghost use Rattle.progressions.specs.Progressions.{IsProgression, IsPlaced, full, half};
 ghost use Rattle.progressions.specs.Parts.{ArePieces};
@@ -38,6 +38,14 @@ impl Model for Strided {
     } };
 
     ghost invariant = { λ s. IsStride (record { size = s.size; numbers = record { lo = s.lo; hi = s.lo +ℤ pos s.width; step = pos s.step } }) };
+}
+
+/// The word lies in the signed range, as a number from 0 on.
+fn is_low(size: u32, bits: u64) -> bool
+    requires { IsWordSize size }
+    ensures { IsTrue result → bits < 2 ^ (size - 1) }
+{
+    bits >> (size - 1) == 0
 }
 
 impl Strided {
@@ -130,11 +138,28 @@ impl Strided {
         Strided::of(size, whole(size))
     }
 
-    /// The one word.
+    /// The one word, a number of the signed range, which is in normal form as it is.
+    fn low_word(size: u32, bits: u64) -> Strided
+        requires size { IsWordSize size }
+        requires low { bits < 2 ^ (size - 1) }
+        ensures { result ≡ one_word_of size bits }
+    {
+        Strided {
+            size,
+            lo: bits as i64,
+            width: 0,
+            step: 0,
+        }
+    }
+
+    /// The one word. Most lie in the signed range.
     pub fn one_word(size: u32, bits: u64) -> Strided
         requires { IsWordSize size }
         ensures { result ≡ one_word_of size bits }
     {
+        if is_low(size, bits) {
+            return Strided::low_word(size, bits);
+        }
         let lone = Progression::lone(Whole::of_word(bits));
         Strided::of(size, normed(size, &lone))
     }

@@ -9,10 +9,10 @@ use Rattle.abstract_exec.proofs.position.position_after.Goals as goal
 pub loop-scope-init : goal.loop-scope-init
 loop-scope-init c =
     let o = shape_of c.args.outline.now in
-    let is = c.as_slice-rest.ensures.value ∙ c.in_ok-around.ensures in
+    let is = c.requires.around in
     record {
       low = λ t there. around_low c.args.outline.now c.kept.ensures c.args.to c.requires.node t (subst (λ (xs : List ℕ). Contains xs t) is there);
-      same = begun o (λ t. entered o c.args.to t (turn_in c.args.scopes.now c.args.position.now t)) c.new-made.result.items c.as_slice-rest.result.now (scopes_around o c.args.to) c.new-made.ensures.items is;
+      same = begun o (λ t. entered o c.args.to t (turn_in c.args.scopes.now c.args.position.now t)) _ c.args.around.now (scopes_around o c.args.to) c.in_ok-made.ensures.items is;
     }
 
 pub rank_of_header-requires : goal.rank_of_header-requires

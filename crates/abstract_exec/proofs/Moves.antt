@@ -20,7 +20,7 @@ use Rattle.worklist.specs.Least.{key_at}
 use Rattle.domain_core.specs.declared.event.Event.{Event}
 use Rattle.domain_core.specs.declared.event.Event.TheVariants.{Step, Merge}
 use Rattle.domain_core.specs.declared.fault_set.FaultSet.{FaultSet}
-use Rattle.lists.specs.Members.{contained}
+use Rattle.lists.specs.MemberLaws.{contained}
 use Rattle.domain_core.specs.Orders.{Order, IsOrder}
 use Rattle.domain_core.specs.Outlines.{Outlined, shape_of}
 use Rattle.domain_core.specs.Machines.{Machine, IsMachine, IsAlong}
@@ -31,8 +31,7 @@ use Rattle.worklist_rules.specs.Events.{opened, Happens, met, stepped_at, merged
 use Rattle.worklist_rules.specs.Policies.{IsChoice, merges, steps, IsPolicyRun}
 use Rattle.worklist_rules.specs.Kept.{IsPlaced, IsKept}
 use Rattle.worklist_rules.specs.MergeLaws.{alike_at}
-use Rattle.worklist_rules.specs.EventLaws.{start_kept, event_kept}
-use Rattle.worklist_rules.specs.EventLaws.{event_one_on}
+use Rattle.worklist_rules.specs.EventLaws.{start_kept, event_kept, event_one_on}
 use Rattle.worklist_rules.specs.PolicyLaws.{IsPolicyStart, start_done, start_more}
 use Rattle.abstract_exec.specs.Points.{AreMergePoints}
 use Rattle.domain_core.specs.FaultSets.{either}

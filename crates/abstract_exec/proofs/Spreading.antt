@@ -10,7 +10,8 @@ use Rattle.domain_core.specs.Outlines.{Outlined}
 use Rattle.domain_core.specs.Recordings.{Recording, IsRecording, IsSuited}
 use Rattle.worklist_rules.specs.Pools.{Spot}
 use Rattle.worklist_rules.specs.Events.{book_after, spots_after, spread_book, spread_spots}
-use Rattle.worklist_rules.specs.Successors.{AreAlong, along_first, along_rest, after_of}
+use Rattle.worklist_rules.specs.Successors.{AreAlong}
+use Rattle.worklist_rules.specs.SuccessorLaws.{along_first, along_rest, after_of}
 
 -- a list with one more at its end, turned round
 pub turned_push : {X : Type 0} (xs : List X) (x : X) → reverse (xs ++ x ∷ []) ≡ x ∷ reverse xs

@@ -4,7 +4,7 @@
 --   tested_none, tested_some   the test of a pointer into the frame
 use Rattle.std.proofs.Common.{◌≡◌, ℕ, Bool, [], Option, Some, None, Ok, Err, ◌-◌, ◌/◌, refl, ap, subst, arith}
 use Rattle.std.specs.Prelude.{if◌then◌else◌}
-use Rattle.lists.specs.Tests.{by_test}
+use Rattle.lists.specs.TestLaws.{by_test}
 use Rattle.alf_ops.specs.declared.history.RunFault.TheVariants.{Dead, Bounds}
 use Rattle.alf_ops.specs.declared.history.FrameShape.{FrameShape}
 use Rattle.alf_ops.specs.Histories.{fits_in, offsets}

@@ -7,7 +7,7 @@
 --   changed_kept      the parts of a memory stay parts of one
 use Rattle.std.specs.Prelude.{slice_get, slice_set, get_or, ◌==◌}
 use Rattle.std.proofs.Common.{Bool, ◌≡◌, ◌∙◌, ap, subst, sym, ℕ, suc, zero, List, [], ◌∷◌, map, length, refl, arith, ◌+◌, ◌/◌, ◌<◌, ◌≤◌}
-use Rattle.lists.specs.Tests.{by_test}
+use Rattle.lists.specs.TestLaws.{by_test}
 use Rattle.pointer_rules.specs.AbstractValues.{AbstractValue}
 use Rattle.memory_pages.specs.Slots.{HeldSlot}
 use Rattle.memory_pages.specs.Pages.{list_or}

@@ -4,7 +4,7 @@
 use Rattle.std.specs.Prelude.{slice_set, get_or, take}
 use Rattle.std.proofs.Common.{◌≡◌, ◌∙◌, ap, subst, sym, ℕ, suc, zero, true, List, [], ◌∷◌, map, length, refl, arith, ◌+◌, ◌/◌, ◌<◌}
 use Rattle.std.proofs.lemmas.List.{length-replicate}
-use Rattle.lists.specs.Tests.{by_test}
+use Rattle.lists.specs.TestLaws.{by_test}
 use Rattle.alf_ops.specs.declared.history.FrameShape.{FrameShape}
 use Rattle.alf_ops.specs.Histories.{is_owner}
 use Rattle.alf_check.specs.declared.rows.FrameRow.{FrameRow}
@@ -13,7 +13,7 @@ use Rattle.memory_pages.specs.Slots.{HeldSlot, bare}
 use Rattle.memory_rules.specs.AbstractSets.{abstract_sets}
 use Rattle.memory_rules.specs.AbstractSetLaws.{abstract_is_sets}
 use Rattle.memory_rules.specs.Memories.{Mem, MemSized, entered}
-use Rattle.memory_rules.specs.MemoryProofs.{enter_sized}
+use Rattle.memory_rules.specs.MemoryProofLaws.{enter_sized}
 use Rattle.memory_model.specs.HeldMemories.{held_no_byte, entered_frame, entered_frames, EnteredHeld}
 use Rattle.memory_model.specs.KeptMemories.{MemoryParts, memory_in, rows_of, bytes_in, canonical, IsMemory}
 use Rattle.abstract_memory.specs.Rows.{shape_of}

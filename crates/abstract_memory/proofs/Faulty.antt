@@ -6,7 +6,7 @@
 use Rattle.std.proofs.Common.{◌≡◌, ◌⊎◌, inl, inr, ℕ, Bool, true, false, List, [], ◌∷◌, Option, Some, None, Result, Ok, Err, ◌<◌, ◌≤◌, ◌+◌, ◌-◌, ◌*◌, ◌/◌, ◌↔◌, refl, sym, ap, subst, ◌∙◌, arith}
 use Rattle.std.specs.Prelude.{◌==◌, ◌||◌, if◌then◌else◌, slice_get, IsSomeAnd, IfSome, nat_lt}
 use Rattle.std.proofs.lemmas.Bool.{false≢true, or_left, or_right, eqb-true, eq-eqb, leb-true, leb-false, ltb-true, ltb-false}
-use Rattle.lists.specs.Tests.{by_test}
+use Rattle.lists.specs.TestLaws.{by_test}
 use Rattle.alf_ops.specs.declared.history.Value.{Value}
 use Rattle.alf_ops.specs.declared.history.Value.TheVariants.{Int, Ptr}
 use Rattle.alf_ops.specs.declared.history.RunFault.{RunFault}

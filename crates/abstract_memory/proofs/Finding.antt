@@ -9,7 +9,7 @@ use Rattle.std.specs.Prelude.{◌≤ℤ◌, ◌+ℤ◌, ◌-ℤ◌, nat_le}
 use Rattle.std.specs.Option.{option_map}
 use Rattle.std.proofs.lemmas.Int.{ints}
 use Rattle.std.proofs.lemmas.Bool.{leb-true, leb-false}
-use Rattle.lists.specs.Tests.{by_test}
+use Rattle.lists.specs.TestLaws.{by_test}
 use Rattle.progressions.specs.declared.ends.Progression.{Progression}
 use Rattle.progressions.specs.Progressions.{Has, HasSome, IsProgression, IfProgression}
 use Rattle.progressions.specs.Parts.{from_least}

@@ -13,12 +13,12 @@ use Rattle.memory_rules.specs.AbstractSetLaws.{abstract_is_sets}
 use Rattle.memory_rules.specs.Covers.{FrameSized}
 use Rattle.memory_rules.specs.Frames.{joined as joined_frame}
 use Rattle.memory_rules.specs.Memories.{Mem, MemSized, both}
-use Rattle.memory_rules.specs.MemoryProofs.{join_sized}
+use Rattle.memory_rules.specs.MemoryProofLaws.{join_sized}
 use Rattle.memory_model.specs.HeldFrames.{frame_of}
 use Rattle.memory_model.specs.HeldMemories.{joined_slot, joined_slots, joined_frames, JoinedHeld}
 use Rattle.memory_model.specs.KeptMemories.{MemoryParts, memory_in, rows_of, bytes_in, canonical, IsMemory}
 use Rattle.memory_model.specs.Made.{made}
-use Rattle.memory_model.specs.ReadOff.{length_off}
+use Rattle.memory_model.specs.ReadOffLaws.{length_off}
 use Rattle.memory_model.specs.KeptMemoryLaws.{canonical_off, parts_are}
 use Rattle.memory_model.specs.SeenOrders.{AreAlike, joined}
 use Rattle.abstract_memory.specs.Rows.{AreFrames}

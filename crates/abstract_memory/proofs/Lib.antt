@@ -12,3 +12,4 @@ mod Changing
 mod Loading
 mod Lent
 mod MemoryLone
+pub mod OnlyCellLaws

@@ -9,7 +9,7 @@ use Rattle.memory_pages.specs.Slots.{HeldSlot, bare}
 use Rattle.memory_rules.specs.AbstractSets.{abstract_sets}
 use Rattle.memory_rules.specs.AbstractSetLaws.{abstract_is_sets}
 use Rattle.memory_rules.specs.Memories.{Mem, MemSized, fresh}
-use Rattle.memory_rules.specs.MemoryProofs.{start_sharp}
+use Rattle.memory_rules.specs.MemoryProofLaws.{start_sharp}
 use Rattle.memory_model.specs.HeldMemories.{memory_of, blank_slots, held_no_byte, FreshHeld}
 use Rattle.memory_model.specs.KeptMemories.{MemoryParts, rows_of, functions_of, bytes_in, canonical, IsMemory}
 use Rattle.abstract_memory.specs.Blank.{blank_frame}

@@ -241,7 +241,8 @@ impl<'a> AMem<'a> {
 }
 
 impl<'a> Lattice for AMem<'a> {
-    ghost use Rattle.memory_model.specs.SeenOrders.{parts_order, parts_are_order};
+    ghost use Rattle.memory_model.specs.SeenOrders.{parts_order};
+    ghost use Rattle.memory_model.specs.SeenOrderLaws.{parts_are_order};
 
     ghost order = { parts_order };
 

@@ -16,7 +16,7 @@ use Rattle.std.specs.Option.{option_map}
 use Rattle.std.proofs.Common.{◌≡◌, ◌<◌, inr, ℕ, List, [], ◌∷◌, Vec, map, length, Option, Some, None, refl, sym, ap, subst, ◌∙◌}
 use Rattle.std.proofs.lemmas.List.Elements.{All-nil, All-cons, All-head, All-tail, All-contains}
 use Rattle.std.proofs.lemmas.Option.{same_Some}
-use Rattle.lists.specs.Images.{image}
+use Rattle.lists.specs.ImageLaws.{image}
 use Rattle.alf_program.specs.Tree.{NumberedExpression}
 use Rattle.std.specs.declared.alloc.Global.{Global}
 use Rattle.alf_check.specs.declared.rows.FrameRow.{FrameRow}

@@ -11,7 +11,7 @@ use Rattle.std.proofs.lemmas.Int.{ints, clamps}
 use Rattle.std.proofs.lemmas.Bool.{le-leb, eq-eqb, eqb-true, false≢true}
 use Rattle.std.proofs.lemmas.List.Elements.{All-head, All-tail}
 use Rattle.std.proofs.lemmas.Option.{slice_get-map, same_Some}
-use Rattle.lists.specs.Tests.{by_test}
+use Rattle.lists.specs.TestLaws.{by_test}
 use Rattle.whole_numbers.specs.Numbers.{Divides}
 use Rattle.whole_numbers.specs.ProductLaws.{power_most}
 use Rattle.alf_ops.specs.declared.history.FrameShape.{FrameShape}

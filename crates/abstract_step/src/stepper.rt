@@ -89,7 +89,7 @@ impl<'a> AlfStepper<'a> {
 
 impl<'a> Stepper for AlfStepper<'a> {
     ghost use Rattle.abstract_step.specs.Steppers.{stepped_by};
-    ghost use Rattle.transfer_rules.specs.PartMachines.{is_part_machine};
+    ghost use Rattle.transfer_rules.specs.PartMachineLaws.{is_part_machine};
 
     type State = AMem<'a>;
 

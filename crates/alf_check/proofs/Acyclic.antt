@@ -6,7 +6,7 @@ use Rattle.std.proofs.Common.{◌≡◌, ◌<◌, ◌≤◌, ◌+◌, ◌-◌, �
 use Rattle.std.proofs.Math.Nat.{le-max_left, le-max_right}
 use Rattle.std.proofs.lemmas.List.{length-replicate}
 use Rattle.std.proofs.lemmas.List.Sums.{count_by-le-length}
-use Rattle.lists.specs.Members.{no_member, first_member, further_member, first_or_further}
+use Rattle.lists.specs.MemberLaws.{no_member, first_member, further_member, first_or_further}
 use Rattle.graph_walks.specs.Walks.{stays, goes_on}
 use Rattle.graph_walks.specs.MarkedNodes.{IsMarked, marked_count}
 use Rattle.graph_walks.specs.MarkedNodeLaws.{by_mark, unmarked_is, marked_either, marked_set, none_marked}

@@ -6,9 +6,9 @@ use Rattle.std.proofs.lemmas.Bool.{false≢true, both_ways}
 use Rattle.std.proofs.lemmas.List.{length-map}
 use Rattle.std.proofs.lemmas.Option.{none-some, same_Some, slice_get_within, slice_get-get_or}
 use Rattle.std.proofs.lemmas.List.Elements.{All-nil, All-cons, All-head, All-tail, All-contains}
-use Rattle.lists.specs.Members.{contained}
-use Rattle.lists.specs.Images.{joined, from_joined}
-use Rattle.lists.specs.Tests.{by_test}
+use Rattle.lists.specs.MemberLaws.{contained}
+use Rattle.lists.specs.ImageLaws.{joined, from_joined}
+use Rattle.lists.specs.TestLaws.{by_test}
 use Rattle.alf_program.specs.declared.program.Item.{Item}
 use Rattle.alf_program.specs.Tree.{BodyItem, Label, item_of}
 use Rattle.alf_program.specs.Writable.{is_ending, ends_well}

@@ -17,11 +17,11 @@ use Rattle.alf_faults.specs.TermSizes.{term_size, operands_fit, same_size, retur
 use Rattle.alf_faults.specs.NoFault.{IsSeen, SeesFrames, SeesAllFrames, HasNoFault}
 use Rattle.alf_check.specs.declared.rows.FrameRow.{FrameRow}
 use Rattle.alf_check.specs.Kept.{IsSize, IsWordOf, SeesFrame, HasSize, HaveSizes, IsCellSize, IsFrameOf, InitFits, KeepsExport, KeepsStatement, ArgumentKeeps, GoesOn, TargetKeeps, CallKeeps, GivesSize, Gives, EachReturn, KeepsEnding, KeepsBlock, KeepsResult, IsBlockOf, HasOneReturnSize, KeepsFunction, HasFrame, called_at, called_in, block_calls, IsBounded, IsWithinLimits, IsKept}
-use Rattle.alf_check.specs.KeptLaws.{cell_from, size_within}
+use Rattle.alf_check.proofs.KeptLemmas.{cell_from, size_within}
 use Rattle.alf_program.specs.Writable.{PartsAreWritable, AllPartsAreWritable, ExpressionIsWritable, TargetIsWritable, AddressIsWritable, ItemIsWritable, AllocationIsWritable, InitialIsWritable, FunctionIsWritable, IsWritable, own_frames, frame_bytes, is_ending}
 use Rattle.std.specs.Str.{bytes_eq}
-use Rattle.lists.specs.Members.{contained, no_member, first_or_further, placed, first_member}
-use Rattle.lists.specs.Tests.{by_test}
+use Rattle.lists.specs.MemberLaws.{contained, no_member, first_or_further, placed, first_member}
+use Rattle.lists.specs.TestLaws.{by_test}
 use Rattle.alf_faults.specs.Places.{function_place}
 use Rattle.alf_faults.specs.declared.returns.FirstReturn.{FirstReturn}
 use Rattle.alf_faults.specs.Returns.{return_at, first_return, first_return_from, agrees, is_before, is_breach, function_has_breach, is_breached}
@@ -29,7 +29,7 @@ use Rattle.alf_faults.specs.Sizes.{agrees_behind, breaks_calls, fits_return}
 use Rattle.std.specs.List.{flat_map, AllZip, range_with_len, sum_by}
 use Rattle.std.proofs.lemmas.List.{length-map, length-append}
 use Rattle.std.proofs.lemmas.List.Elements.{Contains-get_or, All-nil, All-cons, All-head, All-tail, All-contains}
-use Rattle.lists.specs.Images.{mapped, from_joined, mapped_at, some_image, all_images, all_joined, joined}
+use Rattle.lists.specs.ImageLaws.{mapped, from_joined, mapped_at, some_image, all_images, all_joined, joined}
 use Rattle.alf_faults.specs.PlaceLaws.{place_within}
 use Rattle.graph_walks.specs.Calls.{Calls, CallsWithin}
 use Rattle.graph_walks.specs.CallLaws.{caller_low}

@@ -2,3 +2,4 @@ pub mod Places
 pub mod Blocks
 pub mod Acyclic
 pub mod Kept
+pub mod KeptLemmas

@@ -15,12 +15,12 @@ use Rattle.std.proofs.lemmas.List.Elements.{All-contains, All-append, Contains-a
 use Rattle.std.proofs.lemmas.List.FromFn.{length-range_with_len, get_or-range_with_len}
 use Rattle.std.proofs.lemmas.List.Quantifiers.{position-Some}
 use Rattle.std.proofs.lemmas.List.Sums.{fails_before_first}
-use Rattle.lists.specs.Members.{contained, all_members}
+use Rattle.lists.specs.MemberLaws.{contained, all_members}
 use Rattle.alf_faults.specs.Places.{place_of, frame_place}
 use Rattle.alf_faults.specs.PlaceLaws.{position_place}
 use Rattle.alf_faults.specs.Fault.{is_exactly}
 use Rattle.std.proofs.lemmas.List.{length-map, length-append, map-append}
-use Rattle.lists.specs.Images.{mapped_at, image, all_joined}
+use Rattle.lists.specs.ImageLaws.{mapped_at, image, all_joined}
 use Rattle.alf_program.specs.declared.program.Num.{Num}
 use Rattle.alf_program.specs.Tree.{Allocation, InitialValue, Function, WholeProgram}
 use Rattle.alf_program.specs.Writable.{NumIsWritable, AllocationIsWritable, InitialIsWritable, FunctionIsWritable, IsWritable, own_frames, frames_of, frame_bytes}
@@ -31,7 +31,7 @@ use Rattle.alf_check.specs.declared.rows.FrameRow.{FrameRow}
 use Rattle.alf_check.specs.Numbers.{row_for, rows_of, rows_from, frame_rows, frames_before, first_frame, placed, frame_number}
 use Rattle.alf_check.specs.Numbered.{numbered_init, export_number}
 use Rattle.alf_check.specs.Kept.{row_bytes, IsWordOf, KeepsFrame, IsSeen, SeesFrame, InitFits, KeepsExport}
-use Rattle.alf_check.specs.KeptLaws.{cell_from}
+use Rattle.alf_check.proofs.KeptLemmas.{cell_from}
 
 -- it holds of a member if of each
 pub of_each : {A : Type 0} (Holds : A → Type 0) (xs : List A) (k : ℕ) (x : A) → All Holds xs → slice_get xs k ≡ Some x → Holds x

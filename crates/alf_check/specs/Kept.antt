@@ -21,10 +21,9 @@
 use Rattle.std.specs.Prelude.{◌≡◌, ◌≢◌, ◌<◌, ◌≤◌, ◌+◌, ◌*◌, ◌/◌, ◌%◌, ◌^◌, ◌⊎◌, ℕ, suc, true, List, [], ◌∷◌, ◌++◌, map, length, All, AllPairs, Contains, Option, Some, None, slice_get}
 use Rattle.std.specs.List.{AllZip, flat_map, sum_by}
 use Rattle.alf_ops.specs.Table.{result_size, operand_sizes}
-use Rattle.alf_program.specs.Writable.{most_functions, most_frames, most_bytes_of_frames}
+use Rattle.alf_program.specs.Writable.{most_functions, most_frames, most_bytes_of_frames, IsWritable}
 use Rattle.alf_program.specs.declared.program.Num.{Num}
 use Rattle.alf_program.specs.Tree.{NumberedExpression, NumberedExpressions, Number, Address, Load, Apply, Empty, With, WholeProgram}
-use Rattle.alf_program.specs.Writable.{IsWritable}
 use Rattle.alf_faults.specs.Sizes.{is_export_size}
 use Rattle.alf_check.specs.declared.rows.FrameRow.{FrameRow}
 use Rattle.alf_check.specs.declared.rows.InitRow.{InitRow}

@@ -1,28 +1,14 @@
 -- What follows from what is kept.
---   size_within   an expression has 1 to 64 bits
---   cell_from     a size of 1 to 64 bits that is one of whole bytes is a cell's
 --   call_falls    a call that a block ends with leads to a lower rank
-use Rattle.std.proofs.Common.{◌≡◌, ◌<◌, ◌%◌, ◌∙◌, ℕ, List, [], Contains, Option, Some, None, slice_get, slice_index, option_map, refl, ap, sym, subst, arith}
+use Rattle.std.proofs.Common.{◌≡◌, ◌<◌, ◌∙◌, ℕ, List, [], Contains, Option, Some, None, slice_get, slice_index, option_map, refl, ap, sym, subst}
 use Rattle.std.specs.Option.{option_map_or}
 use Rattle.std.proofs.lemmas.Option.{none-some, slice_get-map, get_or_from_slice_get}
-use Rattle.lists.specs.Members.{contained, first_member}
-use Rattle.lists.specs.Images.{joined}
+use Rattle.lists.specs.MemberLaws.{contained, first_member}
+use Rattle.lists.specs.ImageLaws.{joined}
 use Rattle.graph_walks.specs.Calls.{IsRanked}
-use Rattle.alf_program.specs.Tree.{NumberedExpression, Number, Address, Load, Apply}
-use Rattle.alf_check.specs.declared.rows.FrameRow.{FrameRow}
+use Rattle.alf_program.specs.Tree.{NumberedExpression}
 use Rattle.alf_check.specs.CheckedPrograms.{BlockEnding, Call, NumberedBlock, NumberedFunction, NumberedProgram, blocks_at}
-use Rattle.alf_check.specs.Kept.{IsSize, IsCellSize, HasSize, called_at, called_in, block_calls}
-
--- an expression has 1 to 64 bits
-pub size_within : (rows : List FrameRow) (k size : ℕ) (e : NumberedExpression) → HasSize rows k size e → IsSize size
-size_within rows k size (Number num) h = h.sized
-size_within rows k size (Address f offset) h = subst IsSize h.same (record { some = omega arith; most = omega arith })
-size_within rows k size (Load bits at) h = subst IsSize h.same (let least = h.cell.least in record { some = omega arith; most = h.cell.most })
-size_within rows k size (Apply op sizes operands) h = h.sized
-
--- a size of whole bytes is a cell's
-pub cell_from : (size : ℕ) → IsSize size → size % 8 ≡ 0 → IsCellSize size
-cell_from size sized bytes = let some = sized.some in record { least = omega arith; most = sized.most; bytes = bytes }
+use Rattle.alf_check.specs.Kept.{called_at, called_in, block_calls}
 
 -- a call that a block ends with leads to a lower rank
 pub call_falls : (program : NumberedProgram) (ranks : List ℕ) → IsRanked (block_calls program) ranks → (k b f next : ℕ) (args : List NumberedExpression) (result : Option (ℕ × ℕ)) (block : NumberedBlock)

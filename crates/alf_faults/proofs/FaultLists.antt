@@ -4,9 +4,9 @@ use Rattle.std.specs.Str.{bytes_eq}
 use Rattle.std.proofs.lemmas.Bool.{false≢true}
 use Rattle.std.proofs.lemmas.Option.{none-some, same_Some, slice_get-get_or, slice_get_within, get_or_from_slice_get}
 use Rattle.std.proofs.lemmas.Slice.Eq.{bytes_eq-Decides}
-use Rattle.lists.specs.Tests.{by_test}
-use Rattle.lists.specs.Members.{no_member, first_member, further_member, first_or_further, contained}
-use Rattle.lists.specs.Images.{some_image}
+use Rattle.lists.specs.TestLaws.{by_test}
+use Rattle.lists.specs.MemberLaws.{no_member, first_member, further_member, first_or_further, contained}
+use Rattle.lists.specs.ImageLaws.{some_image}
 use Rattle.alf_faults.specs.Places.{place_of}
 use Rattle.alf_faults.specs.Fault.{Fault, when, each_from, is_exactly}
 

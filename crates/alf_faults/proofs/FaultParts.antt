@@ -6,8 +6,8 @@ use Rattle.std.proofs.lemmas.Bool.{false≢true, and_parts, or_parts}
 use Rattle.std.proofs.lemmas.Option.{none-some, same_Some}
 use Rattle.std.proofs.lemmas.List.Kept.{AllPairs-cons}
 use Rattle.std.proofs.lemmas.List.Elements.{Contains-append_left, Contains-push, Contains-push_cases}
-use Rattle.lists.specs.Tests.{by_test}
-use Rattle.lists.specs.Members.{no_member, first_member, further_member, first_or_further, contained, placed, all_members}
+use Rattle.lists.specs.TestLaws.{by_test}
+use Rattle.lists.specs.MemberLaws.{no_member, first_member, further_member, first_or_further, contained, placed, all_members}
 use Rattle.alf_program.specs.declared.program.Num.{Num}
 use Rattle.alf_program.specs.Tree.{Number, Address, Load, Apply, Empty, With, NamedExpression, NamedExpressions, BodyItem, Label, Do, Allocation, InitialValue, Function, WholeProgram}
 use Rattle.alf_faults.specs.Places.{frame_place, function_place, label_place, is_label_named}

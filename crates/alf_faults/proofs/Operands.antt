@@ -2,7 +2,7 @@
 use Rattle.std.proofs.Common.{◌≡◌, ◌<◌, ◌≤◌, ℕ, List, Some, None, length, arith}
 use Rattle.std.specs.List.{slice_get, slice_index}
 use Rattle.std.proofs.lemmas.Option.{slice_get_within}
-use Rattle.lists.specs.Tests.{by_test}
+use Rattle.lists.specs.TestLaws.{by_test}
 use Rattle.alf_ops.specs.declared.operator.Op.{Op}
 use Rattle.alf_ops.specs.declared.layout.Layout.{Layout}
 use Rattle.alf_ops.specs.declared.layout.Layout.TheVariants.{Unary, Sum, Carry, Joined, First, Second, Binary, Comparison, Extension, Truncation, Field, Choice}

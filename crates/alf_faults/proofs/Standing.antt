@@ -2,7 +2,7 @@
 use Rattle.std.proofs.Common.{◌≡◌, ◌+◌, ◌<◌, ℕ, suc, Bool, List, [], ◌∷◌, map, length, drop, get_or, drop-cons, zero-add, Option, Some, refl, ap, sym, ◌∙◌, subst, position, IfSome, if◌then◌else◌}
 use Rattle.std.proofs.lemmas.List.{length-map}
 use Rattle.std.specs.Option.{option_map}
-use Rattle.lists.specs.Tests.{by_test}
+use Rattle.lists.specs.TestLaws.{by_test}
 use Rattle.alf_faults.specs.Places.{place_of}
 use Rattle.alf_faults.specs.PlaceLaws.{position_place, counted, place_within}
 

@@ -2,7 +2,7 @@
 use Rattle.std.proofs.Common.{◌≡◌, ◌≢◌, ◌<◌, ◌+◌, ℕ, get_or, cond, ◌==◌, List, [], ◌∷◌, ◌++◌, length, set, Some, refl, ap, sym, ◌∙◌, length-set, get_or-set_other, arith, rules}
 use Rattle.std.proofs.lemmas.List.Sums.{sum_by_push}
 use Rattle.std.proofs.lemmas.Grind.{get_or_default_zero, get_or-set_at}
-use Rattle.lists.specs.Tests.{by_test}
+use Rattle.lists.specs.TestLaws.{by_test}
 use Rattle.flow_graph.specs.Nodes.{Node}
 use Rattle.alf_interp.specs.Traces.{AreNumbersOf, IsNodeAt, places_of, last_of, cost_of}
 use Rattle.alf_interp.specs.Counts.{AreCounts}

@@ -14,13 +14,16 @@ use Rattle.alf_ops.specs.declared.history.RunEvent.{RunEvent}
 use Rattle.alf_ops.specs.Values.{is_pointer, FitsValue}
 use Rattle.alf_ops.specs.Histories.{Byte, origin, bytes_of, is_byte_of, is_empty, is_from, of_pointer, word_of, left_by, cell_in, load, store, IsSound}
 use Rattle.alf_ops.specs.HistoryLaws.{IsCellOf, IsOfSeveral, GivesWord}
-use Rattle.alf_ops.specs.Spans.{each_passes, none_passes, some_pass}
-use Rattle.alf_ops.specs.Tables.{in_cell, cell_ends, whole_cell}
-use Rattle.alf_ops.specs.Readings.{Reading, reading, reads_empty, reads_whole, reads_pointers, reads_word}
-use Rattle.alf_ops.specs.WholeCells.{IsCell, IsTable, origin_is_table}
-use Rattle.alf_ops.specs.WordBytes.{word_of_below, byte_at, stored_word}
+use Rattle.alf_ops.specs.SpanLaws.{each_passes, none_passes, some_pass}
+use Rattle.alf_ops.specs.TableLaws.{in_cell, cell_ends, whole_cell}
+use Rattle.alf_ops.specs.Readings.{Reading, reads_empty, reads_whole, reads_pointers, reads_word}
+use Rattle.alf_ops.specs.ReadingLaws.{reading}
+use Rattle.alf_ops.specs.WholeCells.{IsCell, IsTable}
+use Rattle.alf_ops.specs.WholeCellLaws.{origin_is_table}
+use Rattle.alf_ops.proofs.WordByteLemmas.{word_of_below, byte_at}
+use Rattle.alf_ops.specs.WordByteLaws.{stored_word}
 use Rattle.alf_ops.proofs.LoadsAndStores.{load_cell, cell_loaded, is_stored, stored_table, cell_after}
-use Rattle.lists.specs.Tests.{by_test}
+use Rattle.lists.specs.TestLaws.{by_test}
 
 -- the word of the bytes of a cell is below 2 to its size
 word_below_size : (from : ℕ → Option Byte) (offset size : ℕ) → word_of (map from (bytes_of offset size)) < 2 ^ size

@@ -8,5 +8,7 @@ pub mod Operators
 pub mod Origins
 pub mod OutcomeSizes
 pub mod Rotations
+pub mod SpanLemmas
 pub mod Values
+pub mod WordByteLemmas
 pub mod WordReadings

@@ -11,8 +11,8 @@ use Rattle.alf_ops.specs.declared.history.RunEvent.TheVariants.{Enter, Store}
 use Rattle.alf_ops.specs.Values.{size_of, FitsValue}
 use Rattle.alf_ops.specs.Histories.{Byte, is_owner, put, origin, offsets, contents, cell_in, is_active, fits_in, address_in, loaded, load, stored, store, IsSound}
 use Rattle.alf_ops.specs.HistoryLaws.{IsCellOf}
-use Rattle.alf_ops.specs.Tables.{put_same, put_other, same_cell, origin_stored, origin_elsewhere}
-use Rattle.lists.specs.Tests.{by_test}
+use Rattle.alf_ops.specs.TableLaws.{put_same, put_other, same_cell, origin_stored, origin_elsewhere}
+use Rattle.lists.specs.TestLaws.{by_test}
 
 -- a load of a cell that lies in an active frame gives what the cell gives
 pub load_cell : (row : FrameShape) (frames : List FrameShape) (history : List RunEvent) (frame offset size : ℕ) → IsCellOf row frames history frame offset size

@@ -14,8 +14,8 @@ use Rattle.std.proofs.lemmas.Slice.Eq.{bytes_eq-Decides}
 use Rattle.alf_ops.specs.declared.table.OpRow.{OpRow}
 use Rattle.alf_ops.specs.Layouts.{size_count, operands_by_layout}
 use Rattle.alf_ops.specs.Table.{layout_of}
-use Rattle.lists.specs.Finding.{find_none}
-use Rattle.lists.specs.Tests.{by_test}
+use Rattle.lists.specs.FindingLaws.{find_none}
+use Rattle.lists.specs.TestLaws.{by_test}
 use Rattle.alf_ops.specs.Names.{operator_named, name_of, operators, spelling, TellsOperator}
 
 -- none is found exactly where no row has the name

@@ -8,7 +8,7 @@ use Rattle.alf_ops.specs.declared.history.RunEvent.{RunEvent}
 use Rattle.alf_ops.specs.declared.history.RunEvent.TheVariants.{Enter, Leave, Store}
 use Rattle.alf_ops.specs.Histories.{Byte, is_owner, is_byte_of, left_by, origin}
 use Rattle.alf_ops.specs.HistoryLaws.{leaves_alone, NewestStore}
-use Rattle.lists.specs.Tests.{by_test}
+use Rattle.lists.specs.TestLaws.{by_test}
 
 not_true : (v : Bool) → not v ≡ true → v ≡ false
 not_true true e = absurd (false≢true e)

@@ -16,7 +16,7 @@ use Rattle.alf_ops.specs.Pointers.{applied, at_words, add_rule, subtract_rule, e
 use Rattle.alf_ops.specs.PointerLaws.{has_pointer}
 use Rattle.alf_ops.proofs.Fitting.{at_place}
 use Rattle.alf_ops.proofs.WordReadings.{word_below}
-use Rattle.lists.specs.Tests.{by_test}
+use Rattle.lists.specs.TestLaws.{by_test}
 
 add_fits : (m sum : ℕ) (a b v : Value) → sum < 2 ^ m → FitsValue m a → FitsValue m b → add_rule sum a b ≡ Ok v → FitsValue m v
 add_fits m sum (Int s x) (Int t y) v small fits_a fits_b is = cc

@@ -8,12 +8,14 @@ pub mod OperatorLaws
 pub mod PointerLaws
 pub mod Pointers
 pub mod Readings
-pub mod Spans
+pub mod ReadingLaws
+pub mod SpanLaws
 pub mod Table
-pub mod Tables
+pub mod TableLaws
 pub mod TwosComplement
 pub mod Values
 pub mod WholeCells
-pub mod WordBytes
+pub mod WholeCellLaws
+pub mod WordByteLaws
 pub mod WordLaws
 pub mod Words

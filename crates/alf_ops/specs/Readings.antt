@@ -1,14 +1,12 @@
 -- What a cell gives, by cases.
 --   Reading taken offset size r   the four cases of a cell's bytes, each with the result r that is due
---   reading                       what a cell of a table gives is one of them
-use Rattle.std.proofs.Common.{◌≡◌, ℕ, true, false, List, Option, Result, Ok, Err, refl, map}
+use Rattle.std.proofs.Common.{◌≡◌, ℕ, true, false, List, Option, Result, Ok, Err}
 use Rattle.std.specs.List.{list_all, list_any}
 use Rattle.alf_ops.specs.declared.history.Value.{Value}
 use Rattle.alf_ops.specs.declared.history.Value.TheVariants.{Int}
 use Rattle.alf_ops.specs.declared.history.RunFault.{RunFault}
 use Rattle.alf_ops.specs.declared.history.RunFault.TheVariants.{Uninit, Mixed}
-use Rattle.alf_ops.specs.Histories.{Byte, bytes_of, is_empty, is_from, of_pointer, first_value, word_of, cell_in}
-use Rattle.lists.specs.Tests.{by_test}
+use Rattle.alf_ops.specs.Histories.{Byte, is_empty, is_from, of_pointer, first_value, word_of}
 
 -- some byte is empty, or all are of stores of this cell, or one is of a pointer, or all are of words
 pub data Reading (taken : List (Option Byte)) (offset size : ℕ) (r : Result Value RunFault) : Type 0 where
@@ -18,15 +16,3 @@ pub data Reading (taken : List (Option Byte)) (offset size : ℕ) (r : Result Va
       → Reading taken offset size r
   reads_word : list_any is_empty taken ≡ false → list_all (is_from offset size) taken ≡ false → list_any of_pointer taken ≡ false
       → r ≡ Ok (Int size (word_of taken)) → Reading taken offset size r
-
--- a cell is read in one of these ways
-pub reading : (from : ℕ → Option Byte) (offset size : ℕ) → Reading (map from (bytes_of offset size)) offset size (cell_in from offset size)
-reading from offset size =
-    let bytes : List (Option Byte) = map from (bytes_of offset size) in
-    by_test (list_any is_empty bytes)
-    (λ none. reads_empty none (rw none refl))
-    (λ some. by_test (list_all (is_from offset size) bytes)
-    (λ one. reads_whole some one (rw (some, one) refl))
-    (λ many. by_test (list_any of_pointer bytes)
-    (λ pointer. reads_pointers some many pointer (rw (some, many, pointer) refl))
-    (λ words. reads_word some many words (rw (some, many, words) refl))))

@@ -98,7 +98,7 @@ fn source(history: &[RunEvent], owner: Option<u32>, frame: u32, byte: u64) -> Op
 }
 
 /// Byte number place of a word or an offset.
-#[tactic(auto, using(crate::specs::WordBytes::byte_far))]
+#[tactic(auto, using(crate::proofs::WordByteLemmas::byte_far))]
 fn byte_in(value: Value, place: u64) -> u64
     ensures small { result < 256 }
     ensures bits { result ≡ byte_of place (bits_of value) }
@@ -111,7 +111,7 @@ fn byte_in(value: Value, place: u64) -> u64
 }
 
 /// What the bytes of a cell come from, from one byte of it on.
-#[tactic(auto, using(crate::specs::Spans::offsets_step, crate::specs::WordBytes::wider, crate::specs::WordBytes::within_word))]
+#[tactic(auto, using(crate::specs::SpanLaws::offsets_step, crate::specs::WordByteLaws::wider, crate::specs::WordByteLaws::within_word))]
 fn read(
     history: &[RunEvent],
     owner: Option<u32>,

@@ -1,2 +1,3 @@
 -- Shared lemmas: the reader's.
 pub mod Depths
+pub mod SignedLemmas

@@ -2,4 +2,5 @@
 pub mod Grammar
 pub mod Reading
 pub mod Signed
+pub mod SignedLaws
 pub mod Worked

@@ -59,7 +59,7 @@ impl<'a> Reader<'a> {
         Ok(Some(distance))
     }
 
-    #[tactic(auto, unfolding(crate::specs::Grammar::signed_bits), using(crate::specs::Signed::half_below))]
+    #[tactic(auto, unfolding(crate::specs::Grammar::signed_bits), using(crate::proofs::SignedLemmas::half_below))]
     fn signed_bits(&mut self, size: u32, minus: Option<u64>) -> Result<u64, Departure<'a>>
         requires sized { (1 ≤ size) × (size ≤ 64) }
         requires near { IfSome minus (λ distance. distance ≤ 2 ^ (size - 1)) }

@@ -16,8 +16,8 @@ use Rattle.alf_runs.specs.Expressions.{value_of}
 use Rattle.alf_runs.specs.Statements.{after_statements}
 use Rattle.alf_runs.specs.Steps.{At, frames_of, target_of, switch_step, call_step, move_on, result_step, go_back, leave, return_step, ending_step, then_ending, block_step, node_step, step}
 use Rattle.alf_runs.specs.LeadLaws.{LeadsTo}
-use Rattle.lists.specs.Members.{first_member, further_member}
-use Rattle.lists.specs.Tests.{by_test}
+use Rattle.lists.specs.MemberLaws.{first_member, further_member}
+use Rattle.lists.specs.TestLaws.{by_test}
 
 -- a switch goes to one of its targets, or to the default
 is_target : (targets : List (ℕ × ℕ)) (others word : ℕ) → IsTarget targets others (target_of targets others word)

@@ -15,8 +15,8 @@ use Rattle.alf_check.specs.Kept.{IsKept, KeepsBlock, KeepsEnding, CallKeeps}
 use Rattle.alf_check.specs.KeptLaws.{call_falls}
 use Rattle.flow_graph.specs.Nodes.{callee_of, function_at}
 use Rattle.alf_runs.specs.Places.{functions_on, IsCall, IsCallPath}
-use Rattle.lists.specs.Images.{some_image}
-use Rattle.lists.specs.Tests.{by_test}
+use Rattle.lists.specs.ImageLaws.{some_image}
+use Rattle.lists.specs.TestLaws.{by_test}
 
 -- the function is one of these
 abbrev pub is_among : ℕ → List ℕ → Bool

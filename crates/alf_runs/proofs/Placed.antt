@@ -19,8 +19,8 @@ use Rattle.alf_runs.specs.PlaceLaws.{IsPlaced}
 use Rattle.alf_runs.proofs.Paths.{is_among}
 use Rattle.alf_runs.proofs.Growing.{Promised}
 use Rattle.alf_runs.proofs.Standing.{Stands, IsSafe, step_safe, start_stands}
-use Rattle.lists.specs.Members.{no_member, first_member, further_member, first_or_further}
-use Rattle.lists.specs.Tests.{by_test}
+use Rattle.lists.specs.MemberLaws.{no_member, first_member, further_member, first_or_further}
+use Rattle.lists.specs.TestLaws.{by_test}
 
 -- a function is told by the test exactly where it is a member
 among_member : (functions : List ℕ) (f : ℕ) → (is_among f functions ≡ true) ↔ Contains functions f

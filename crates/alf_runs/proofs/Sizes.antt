@@ -7,9 +7,8 @@ use Rattle.alf_ops.specs.declared.history.Value.TheVariants.{Int, Ptr}
 use Rattle.alf_ops.specs.declared.history.RunFault.{RunFault}
 use Rattle.alf_ops.specs.declared.history.FrameShape.{FrameShape}
 use Rattle.alf_ops.specs.declared.history.RunEvent.{RunEvent}
-use Rattle.alf_ops.specs.Table.{result_size, size_of_result, operand_sizes}
+use Rattle.alf_ops.specs.Table.{result_size, size_of_result, operand_sizes, layout_of}
 use Rattle.alf_ops.specs.Layouts.{is_written_so}
-use Rattle.alf_ops.specs.Table.{layout_of}
 use Rattle.alf_ops.specs.Values.{FitsValue, EachValueFits}
 use Rattle.alf_ops.specs.Histories.{IsSound}
 use Rattle.alf_ops.specs.WholeCells.{IsCell}
@@ -20,7 +19,7 @@ use Rattle.alf_program.specs.Tree.{NumberedExpression, NumberedExpressions, Numb
 use Rattle.alf_check.specs.declared.rows.FrameRow.{FrameRow}
 use Rattle.alf_check.specs.Kept.{HasSize, HaveSizes, IsCellSize}
 use Rattle.alf_runs.specs.Expressions.{load_from, value_of, results_of}
-use Rattle.lists.specs.Tests.{by_test}
+use Rattle.lists.specs.TestLaws.{by_test}
 
 -- the values of operands in a row: the first, and those of the rest
 pub record Row (first : Result Value RunFault) (rest : List (Result Value RunFault)) (values : List Value) : Type 0 where

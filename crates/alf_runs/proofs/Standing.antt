@@ -32,9 +32,8 @@ use Rattle.alf_runs.specs.Starts.{start_history}
 use Rattle.alf_runs.specs.Places.{functions_on, IsCall, IsCallPath, HasPlace, AreWords}
 use Rattle.alf_runs.proofs.Sizes.{value_fits}
 use Rattle.alf_runs.proofs.Paths.{is_among, keeps_block, call_on, newest_is_new}
-use Rattle.alf_runs.proofs.Growing.{Promised, Grown, own_size, AllFit, stored_grown, statements_grown, arguments_fit}
-use Rattle.alf_runs.proofs.Growing.{entered_runs, entered_sound, globals_run, globals_sound, inputs_run, inputs_sound}
-use Rattle.lists.specs.Tests.{by_test}
+use Rattle.alf_runs.proofs.Growing.{Promised, Grown, own_size, AllFit, stored_grown, statements_grown, arguments_fit, entered_runs, entered_sound, globals_run, globals_sound, inputs_run, inputs_sound}
+use Rattle.lists.specs.TestLaws.{by_test}
 
 -- the law of places, with the functions that run told by a test
 pub record Stands (program : NumberedProgram) (path : List ℕ) (place : Option ℕ) (history : List RunEvent) : Type 0 where

@@ -28,7 +28,7 @@ use Rattle.alf_runs.specs.Steps.{frames_of}
 use Rattle.alf_runs.specs.Starts.{with_inputs, start_history}
 use Rattle.alf_runs.specs.Places.{AreWords}
 use Rattle.alf_runs.specs.StoreLaws.{ByStores, unchanged, first_store, FitsFrame, stored_cell, ComesByStores}
-use Rattle.lists.specs.Members.{all_members}
+use Rattle.lists.specs.MemberLaws.{all_members}
 use Rattle.alf_runs.proofs.Sizes.{row_of, value_fits}
 use Rattle.alf_runs.proofs.Growing.{Promised, entered_runs}
 

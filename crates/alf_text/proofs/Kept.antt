@@ -6,13 +6,15 @@ use Rattle.std.specs.Str.{bytes_eq}
 use Rattle.std.proofs.lemmas.Bool.{leb-true}
 use Rattle.std.proofs.lemmas.Bool.Decides.{nat_tests}
 use Rattle.std.proofs.lemmas.List.Elements.{All-head, All-tail}
-use Rattle.lists.specs.Tests.{by_test}
+use Rattle.lists.specs.TestLaws.{by_test}
 use Rattle.flow_base.specs.Digits.{prefix_digits, number_of}
 use Rattle.flow_base.specs.declared.place.Which.TheVariants.{Depth, Functions, Frames, FrameBytes, AllBytes}
 use Rattle.grammar.specs.Form.{bound, made}
-use Rattle.grammar.specs.Exact.{ok_is, ok_no_err}
+use Rattle.grammar.specs.Exact.{ok_no_err}
+use Rattle.grammar.specs.ExactLaws.{ok_is}
 use Rattle.grammar.specs.Each.{Each}
-use Rattle.grammar.specs.Keeping.{Keeps, Any, ◌>>>◌, ◌>>-◌, done, stays, passes, keeps, weakened, one_stays, one_passes, judged_passes, judged_stays, refused_stays, row_stays, row_keeps, spent_keeps, maybe_stays, exactly_stays}
+use Rattle.grammar.specs.Keeping.{Keeps, Any}
+use Rattle.grammar.specs.KeepingLaws.{◌>>>◌, ◌>>-◌, done, stays, passes, keeps, weakened, one_stays, one_passes, judged_passes, judged_stays, refused_stays, row_stays, row_keeps, spent_keeps, maybe_stays, exactly_stays}
 use Rattle.grammar.specs.Keeping
 use Rattle.alf_ops.specs.declared.operator.Op.{Op}
 use Rattle.alf_ops.specs.declared.operator.Op.TheVariants.{Select}
@@ -27,7 +29,7 @@ use Rattle.alf_reader.specs.Grammar.{Fault, Limit, most_functions, most_frames, 
 use Rattle.alf_text.specs.Grammar.{opens_target, target, default_arm, switch, with_word, store, label_item, null, leaving, jump, result_word, call, returns, item_tail, item, closing_after, stmts, scope, arg_decls, function_tail, function, functions, closing_empty, empty, addr_unit, macro_defs, little_endian, heading, exports, imports, program}
 use Rattle.alf_text.specs.Language.{start, IsSpelled}
 use Rattle.alf_text.proofs.Named.{text_name}
-use Rattle.alf_reader.specs.Signed.{half_power, some_power, word_fits}
+use Rattle.alf_reader.specs.SignedLaws.{half_power, some_power, word_fits}
 use Rattle.alf_text.proofs.Written.{with_function, with_frame, with_bytes, need, needs, func_needs, all_need, some_sizes}
 use Rattle.alf_text.proofs.Needs.{full, whole_needs, whole_counted}
 

@@ -7,3 +7,4 @@ pub mod Named
 pub mod Written
 pub mod Needs
 pub mod Kept
+pub mod TextCanonicalLaws

@@ -2,8 +2,9 @@
 use Rattle.std.proofs.Common.{◌≡◌, ◌+◌, ◌-◌, ℕ, List, [], ◌∷◌, ◌++◌, length, Ok, refl, ap, sym, ◌∙◌, arith, length-append}
 use Rattle.std.specs.List.{flat_map, sum_by}
 use Rattle.std.proofs.lemmas.List.Sums.{sum_by-append, sum_by-cons}
-use Rattle.grammar.specs.Exact.{ok_is}
-use Rattle.grammar.specs.Writing.{place, tokens, reads_spells}
+use Rattle.grammar.specs.ExactLaws.{ok_is}
+use Rattle.grammar.specs.Writing.{place, tokens}
+use Rattle.grammar.specs.WritingLaws.{reads_spells}
 use Rattle.alf_tokens.specs.Tokens.{Lexeme}
 use Rattle.alf_tokens.specs.Printed.{Mark, token_before, tokens_before}
 use Rattle.alf_tokens.specs.Laws.{EachPrintedTextIsCut}

@@ -7,7 +7,7 @@ use Rattle.std.proofs.lemmas.Grind.{common_steps}
 use Rattle.std.proofs.lemmas.List.{append-nil}
 use Rattle.alf_tokens.specs.Printed.{Mark, printed, text_of_marks}
 use Rattle.alf_text.specs.Printing.{put, all_put}
-use Rattle.alf_text.specs.TextCanonicalLaws.{terms-marks}
+use Rattle.alf_text.proofs.TextCanonicalLaws.{terms-marks}
 use Rattle.alf_ops.specs.TwosComplement.{is_negative}
 use Rattle.alf_text.specs.Canonical.{opens, space}
 

@@ -9,9 +9,10 @@ use Rattle.std.proofs.lemmas.Bool.{le-leb}
 use Rattle.std.proofs.lemmas.Slice.Eq.{bytes_eq-Decides}
 use Rattle.std.proofs.lemmas.List.Elements.{All-head, All-tail}
 use Rattle.grammar.specs.Form.{Form, first, bound, made, exactly_form}
-use Rattle.lists.specs.Tests.{by_test}
+use Rattle.lists.specs.TestLaws.{by_test}
 use Rattle.grammar.specs.Rule.{many, maybe}
-use Rattle.grammar.specs.Writing.{place, Printing, tokens, row_room, never, value_writes, until, ◌then◌, ends, as_value, ended, grouped, row_writes, same_row}
+use Rattle.grammar.specs.Writing.{place, Printing, tokens, row_room, never}
+use Rattle.grammar.specs.WritingLaws.{value_writes, until, ◌then◌, ends, as_value, ended, grouped, row_writes, same_row}
 use Rattle.grammar.specs.Writing as writing
 use Rattle.alf_ops.specs.declared.operator.Op.{Op}
 use Rattle.alf_ops.specs.declared.operator.Op.TheVariants.{Neg, Select}
@@ -30,7 +31,7 @@ use Rattle.alf_text.specs.Canonical.{space, line_feed, closes, a_word, a_number,
 use Rattle.alf_text.specs.Canonical as canonical
 use Rattle.alf_text.proofs.Decimals.{decimal_within, decimal_text}
 use Rattle.alf_text.proofs.Named.{name_text}
-use Rattle.alf_reader.specs.Signed.{low_power, some_power, half_power, below, not_below, word_back}
+use Rattle.alf_reader.specs.SignedLaws.{low_power, some_power, half_power, below, not_below, word_back}
 
 -- how the marks of a program are printed
 abbrev pub printing : Printing Lexeme Mark

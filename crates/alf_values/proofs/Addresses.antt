@@ -9,7 +9,7 @@ use Rattle.std.specs.Option.{option_map}
 use Rattle.std.proofs.Common.{◌≡◌, sym, subst, ◌∙◌, ap, ℕ, Bool, true, List, ◌∷◌, map, Option, Some, None, Result, Ok, Err, refl, arith, ◌+◌, ◌*◌, ◌/◌, ◌<◌, ◌≤◌}
 use Rattle.std.proofs.lemmas.Bool.{leb-true}
 use Rattle.std.proofs.lemmas.Option.{slice_get-map}
-use Rattle.lists.specs.Tests.{by_test}
+use Rattle.lists.specs.TestLaws.{by_test}
 use Rattle.alf_ops.specs.declared.history.Value.{Value}
 use Rattle.alf_ops.specs.declared.history.Value.TheVariants.{Int, Ptr}
 use Rattle.alf_ops.specs.declared.history.RunFault.{RunFault}

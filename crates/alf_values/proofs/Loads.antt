@@ -6,7 +6,7 @@ use Rattle.std.proofs.Common.{◌≡◌, inl, inr, sym, subst, ◌∙◌, ap, �
 use Rattle.std.specs.Prelude.{◌==◌, ◌&&◌}
 use Rattle.std.specs.List.{list_all, list_any}
 use Rattle.std.proofs.lemmas.Bool.{and_parts, and_from, and_right, or_parts, eq-eqb, eqb-true, false≢true, cases_eq}
-use Rattle.lists.specs.Tests.{by_test}
+use Rattle.lists.specs.TestLaws.{by_test}
 use Rattle.alf_ops.specs.declared.history.Value.{Value}
 use Rattle.alf_ops.specs.declared.history.Value.TheVariants.{Int, Ptr}
 use Rattle.alf_ops.specs.declared.history.RunFault.{RunFault}
@@ -15,10 +15,12 @@ use Rattle.alf_ops.specs.declared.history.RunEvent.TheVariants.{Enter, Leave, St
 use Rattle.alf_ops.specs.Values.{FitsValue, is_pointer, bits_of}
 use Rattle.alf_ops.specs.Histories.{Byte, origin, is_owner, is_byte_of, put, left_by, offsets, bytes_of, is_empty, is_from, byte_of, bits_at, word_of, first_value, cell_in, IsSound}
 use Rattle.alf_ops.specs.Histories as histories
-use Rattle.alf_ops.specs.Spans.{offsets_step, same_bytes, all_pass, each_fails}
-use Rattle.alf_ops.specs.Tables.{in_cell, cell_ends}
-use Rattle.alf_ops.specs.Readings.{Reading, reads_empty, reads_whole, reads_pointers, reads_word, reading}
-use Rattle.alf_ops.specs.WholeCells.{IsCell, knows, origin_is_table, whole_word}
+use Rattle.alf_ops.specs.SpanLaws.{offsets_step, same_bytes, all_pass, each_fails}
+use Rattle.alf_ops.specs.TableLaws.{in_cell, cell_ends}
+use Rattle.alf_ops.specs.Readings.{Reading, reads_empty, reads_whole, reads_pointers, reads_word}
+use Rattle.alf_ops.specs.ReadingLaws.{reading}
+use Rattle.alf_ops.specs.WholeCells.{IsCell}
+use Rattle.alf_ops.specs.WholeCellLaws.{knows, origin_is_table, whole_word}
 use Rattle.alf_values.specs.declared.bytes.Content.{Content}
 use Rattle.alf_values.specs.declared.bytes.Content.TheVariants.{Word, Pointer}
 use Rattle.alf_values.specs.Contents.{part, content_of, is_blank, of_pointer, is_part, are_parts, pointer_in, pointer_of, bits_held, word_held, cell_of, cell_held}

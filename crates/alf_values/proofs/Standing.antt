@@ -8,14 +8,14 @@ use Rattle.std.specs.Prelude.{slice_get, slice_set, ◌==◌}
 use Rattle.std.proofs.Common.{◌≡◌, ◌≢◌, inl, inr, sym, subst, ◌∙◌, ap, ℕ, suc, zero, Bool, true, false, List, [], ◌∷◌, map, Option, Some, None, refl, arith, ◌-◌, ◌/◌, ◌<◌, ◌≤◌, length}
 use Rattle.std.proofs.lemmas.Bool.{cases_eq, cases_lt, eq-eqb, ne_eqb, false≢true}
 use Rattle.std.proofs.lemmas.Option.{slice_get_past}
-use Rattle.lists.specs.Tests.{by_test}
+use Rattle.lists.specs.TestLaws.{by_test}
 use Rattle.alf_ops.specs.declared.history.Value.{Value}
 use Rattle.alf_ops.specs.declared.history.RunEvent.{RunEvent}
 use Rattle.alf_ops.specs.declared.history.RunEvent.TheVariants.{Enter, Leave, Store}
 use Rattle.alf_ops.specs.declared.history.FrameShape.{FrameShape}
 use Rattle.alf_ops.specs.Values.{FitsValue}
 use Rattle.alf_ops.specs.Histories.{origin, is_active, is_byte_of, IsSound}
-use Rattle.alf_ops.specs.Tables.{cell_ends, origin_elsewhere}
+use Rattle.alf_ops.specs.TableLaws.{cell_ends, origin_elsewhere}
 use Rattle.alf_values.specs.declared.slots.Slot.{Slot}
 use Rattle.alf_values.specs.declared.cells.Frame.{Frame}
 use Rattle.alf_values.specs.declared.cells.Activity.{Activity}

@@ -7,12 +7,12 @@
 use Rattle.std.specs.Prelude.{slice_get, slice_set}
 use Rattle.std.proofs.Common.{◌≡◌, ◌≢◌, ◌⊎◌, inl, inr, sym, ◌∙◌, ap, ℕ, suc, zero, false, List, [], ◌∷◌, Option, Some, refl, arith, ◌+◌, ◌-◌, ◌/◌, ◌<◌, ◌≤◌, length, length-set}
 use Rattle.std.proofs.lemmas.Bool.{cases_eq, cases_lt, eq-eqb, false≢true}
-use Rattle.lists.specs.Tests.{by_test}
+use Rattle.lists.specs.TestLaws.{by_test}
 use Rattle.alf_ops.specs.declared.history.Value.{Value}
 use Rattle.alf_ops.specs.declared.history.RunEvent.{RunEvent}
 use Rattle.alf_ops.specs.declared.history.RunEvent.TheVariants.{Store}
 use Rattle.alf_ops.specs.Histories.{origin, is_byte_of, put}
-use Rattle.alf_ops.specs.Tables.{in_cell, cell_ends, origin_stored}
+use Rattle.alf_ops.specs.TableLaws.{in_cell, cell_ends, origin_stored}
 use Rattle.alf_values.specs.declared.slots.Slot.{Slot}
 use Rattle.alf_values.specs.Contents.{part, content_of}
 use Rattle.alf_values.specs.Slots.{held_in, held, written}

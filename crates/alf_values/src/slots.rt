@@ -72,7 +72,7 @@ fn above(word: u64, low: u8, count: u32) -> u64
 }
 
 /// What the bytes of a cell hold, from its byte number `place` on.
-#[tactic(auto, using(alf_ops::specs::Spans::offsets_step))]
+#[tactic(auto, using(alf_ops::specs::SpanLaws::offsets_step))]
 fn read(slots: &[Slot], mark: u64, byte: usize, place: u32, count: u32) -> Reading
     requires few { place + count ≤ 8 }
     requires near { byte + count < 2 ^ 40 }

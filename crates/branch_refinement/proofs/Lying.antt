@@ -8,8 +8,8 @@ use Rattle.std.specs.Option.{option_map}
 use Rattle.std.specs.Result.{result_ok}
 use Rattle.std.proofs.Common.{◌≡◌, ℕ, Bool, true, false, List, [], ◌∷◌, Option, Some, None, Ok, IsTrue, refl, sym, ap, subst}
 use Rattle.std.proofs.lemmas.Option.{none-some, same_Some}
-use Rattle.lists.specs.Tests.{by_test}
-use Rattle.lists.specs.Images.{some_image}
+use Rattle.lists.specs.TestLaws.{by_test}
+use Rattle.lists.specs.ImageLaws.{some_image}
 use Rattle.alf_ops.specs.declared.history.Value.TheVariants.{Ptr}
 use Rattle.alf_ops.specs.declared.history.FrameShape.{FrameShape}
 use Rattle.alf_ops.specs.Histories.{fits_in}
@@ -26,7 +26,7 @@ use Rattle.memory_model.specs.KeptMemories.{MemoryParts, memory_in, rows_of, IsM
 use Rattle.abstract_memory.specs.Cells.{IsCellOf}
 use Rattle.transfer_rules.specs.Evaluating.{loaded, value_at}
 use Rattle.transfer_rules.specs.Refining.{Place as SeenPlace, cell_of, words_alone, cell_where, loaded_cell, load_place, is_extension, operand_place, place_of}
-use Rattle.transfer_rules.specs.PlaceReading.{place_fits}
+use Rattle.transfer_rules.specs.PlaceReadingLaws.{place_fits}
 use Rattle.branch_refinement.specs.declared.refinements.Place.{Place}
 use Rattle.branch_refinement.specs.declared.refinements.Side.{Side}
 use Rattle.branch_refinement.specs.Places.{seen_place, PinFits}

@@ -6,8 +6,8 @@ use Rattle.std.proofs.Common.{◌≡◌, ◌+◌, ◌<◌, ℕ, suc, List, [], �
 use Rattle.std.specs.Option.{option_map}
 use Rattle.std.specs.Str.{bytes_eq}
 use Rattle.std.proofs.lemmas.List.{append_assoc}
-use Rattle.lists.specs.Tests.{by_test}
-use Rattle.lists.specs.Members.{no_member, first_or_further}
+use Rattle.lists.specs.TestLaws.{by_test}
+use Rattle.lists.specs.MemberLaws.{no_member, first_or_further}
 use Rattle.c_unit.specs.Units.{Word}
 use Rattle.c_rules.specs.Names.{text_at}
 use Rattle.c_rules.specs.Recursion.{number_at, with_number, numbers_at}

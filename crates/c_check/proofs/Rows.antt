@@ -3,7 +3,7 @@
 --   noted       one more is gone through
 use Rattle.std.proofs.Common.{◌≡◌, ◌+◌, ◌<◌, ℕ, zero, suc, List, [], ◌∷◌, ◌++◌, map, length, drop, get_or, slice_index_or, Contains, refl, ap, sym, ◌∙◌, subst}
 use Rattle.std.proofs.lemmas.List.{at_drop_more, append_assoc}
-use Rattle.lists.specs.Members.{no_member}
+use Rattle.lists.specs.MemberLaws.{no_member}
 use Rattle.graph_walks.specs.Calls.{CallsWithin}
 use Rattle.c_unit.specs.declared.external.External.{External}
 use Rattle.c_unit.specs.Tree.{ExternalTree, Declaration, Definition, statements_of, external_of}

@@ -5,3 +5,4 @@ mod Pairs
 mod Updates
 mod LocalUnderWay
 mod GlobalUnderWay
+pub mod FileLemmas

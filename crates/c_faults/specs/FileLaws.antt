@@ -1,7 +1,6 @@
 -- What is known at file level, by the words of `c_rules`.
 --   known_at words scope             the file's scope alone is known
 --   params_known                     parameters stand in the innermost scope
---   head_left                        once the scope of the parameters is left, the function is known
 --   declarators_known, faults_known  the scope after a declaration, and its faults
 use Rattle.std.proofs.Common.{◌≡◌, ◌++◌, ℕ, List, [], ◌∷◌, Option, Some, None, refl, ap, ◌∙◌}
 use Rattle.c_unit.specs.declared.types.Scalar.{Scalar}
@@ -10,11 +9,11 @@ use Rattle.c_unit.specs.declared.external.Parameter.{Parameter}
 use Rattle.c_unit.specs.Tree.{DeclaratorTree}
 use Rattle.c_unit.specs.Units.{Word}
 use Rattle.c_rules.specs.Faults.{Fault}
-use Rattle.c_rules.specs.Names.{Entry, Scope}
+use Rattle.c_rules.specs.Names.{Scope}
 use Rattle.c_rules.specs.Units as units
-use Rattle.c_rules.specs.Units.{File, function_of, with_parameter, with_parameters, with_global, global_bound, shape_faults}
-use Rattle.c_scopes.specs.Views.{Known, declared_in, left}
-use Rattle.c_faults.specs.Files.{with_named, with_params, with_head, declarators_faults, with_declarators}
+use Rattle.c_rules.specs.Units.{File, with_parameter, with_parameters, with_global, global_bound, shape_faults}
+use Rattle.c_scopes.specs.Views.{Known}
+use Rattle.c_faults.specs.Files.{with_named, with_params, declarators_faults, with_declarators}
 
 abbrev pub known_at : List Word → Scope → Known
 known_at words scope = record { words = words; scopes = scope ∷ [] }
@@ -27,12 +26,6 @@ param_known words scope rest (Some name) kind = refl
 pub params_known : (words : List Word) (scope : Scope) (rest : List Scope) (params : List Parameter) → with_params params (record { words = words; scopes = scope ∷ rest }) ≡ record { words = words; scopes = with_parameters scope params ∷ rest }
 params_known words scope rest [] = refl
 params_known words scope rest (p ∷ ps) = ap (λ (known : Known). with_params ps known) (param_known words scope rest p.name p.kind) ∙ params_known words (with_parameter scope p.name p.kind) rest ps
-
--- once the scope of the parameters is left
-pub head_left : (o : Outcome) (name : ℕ) (params : List Parameter) (known : Known) → left (with_head o name params known) ≡ declared_in (record { token = name; bound = function_of o params }) known
-head_left o name params known =
-    let e : Entry = record { token = name; bound = function_of o params } in
-    ap left (params_known known.words [] (declared_in e known).scopes params)
 
 -- the scope after a declaration
 pub declarators_known : (words : List Word) (o : Outcome) (file : File) (ds : List DeclaratorTree) → with_declarators o ds (known_at words file.scope) ≡ known_at words (units.with_declarators o file ds).scope

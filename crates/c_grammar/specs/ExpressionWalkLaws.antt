@@ -14,7 +14,8 @@ use Rattle.c_unit.specs.Tree.{AtIndex, CallTree, Expression, InParentheses, OfCa
 use Rattle.c_unit.specs.declared.expression.Binary.{Binary}
 use Rattle.c_unit.specs.declared.expression.Unary.{Unary}
 use Rattle.c_unit.specs.declared.types.Scalar.{Scalar}
-use Rattle.grammar.specs.Exact.{ok_is, ok_no_err}
+use Rattle.grammar.specs.Exact.{ok_no_err}
+use Rattle.grammar.specs.ExactLaws.{ok_is}
 use Rattle.grammar.specs.Form.{bound, fit_first, first_of, made}
 use Rattle.std.proofs.Common.{Bool, Err, List, [], ◌∷◌, None, Ok, Result, false, if◌then◌else◌, nat_le, nat_lt, leb-true, not, refl, subst, suc, true, zero, ℕ, ◌&&◌, ◌+◌, ◌-◌, ◌<◌, ◌≤◌, ◌≡◌, arith}
 use Rattle.std.proofs.lemmas.Bool.{false≢true}

@@ -6,7 +6,8 @@
 --   IfThere w P           P of a value that may be missing, for which nothing is counted
 use Rattle.std.proofs.Common.{◌≡◌, ℕ, zero, suc, Bool, true, false, List, [], ◌∷◌, Result, Ok, Option, Some, None, refl, sym, subst}
 use Rattle.grammar.specs.Form.{Form, first_of, fit_first, bound, made, refused, judged, InARow, row, AtMostOne, at_most_one}
-use Rattle.grammar.specs.Exact.{ok_is, ok_no_err}
+use Rattle.grammar.specs.Exact.{ok_no_err}
+use Rattle.grammar.specs.ExactLaws.{ok_is}
 use Rattle.grammar.specs.Chain.{InTurn, chain}
 use Rattle.c_grammar.specs.Tokens.{Fault, Syntax, Seen, Room, Place, Rule, one, either}
 

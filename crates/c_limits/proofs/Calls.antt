@@ -2,7 +2,7 @@
 use Rattle.std.proofs.Common.{◌≡◌, ◌+◌, ℕ, Bool, true, false, List, [], ◌∷◌, ◌++◌, Option, None, Some, if◌then◌else◌, bytes_eq, refl, sym, ap, ◌∙◌, subst, arith, append_assoc, append-nil}
 use Rattle.std.proofs.lemmas.Bool.{false≢true}
 use Rattle.std.proofs.lemmas.Option.{none-some, same_Some}
-use Rattle.lists.specs.Tests.{by_test}
+use Rattle.lists.specs.TestLaws.{by_test}
 use Rattle.c_unit.specs.declared.types.Integer.{Integer}
 use Rattle.c_unit.specs.declared.types.Scalar.{Scalar}
 use Rattle.c_unit.specs.declared.types.Outcome.{Outcome}
@@ -12,7 +12,8 @@ use Rattle.c_unit.specs.Units.{Word}
 use Rattle.c_rules.specs.Names.{Bound, Variable, Array, Function, Entry, Scope, text_at, named, or_further, look_up, with_name}
 use Rattle.c_rules.specs.Statements.{scopes_after, with_local, with_locals, local_bound}
 use Rattle.c_rules.specs.Units.{File, types_of, is_function, with_global, global_bound, with_declarators, external_after}
-use Rattle.lowering_layout.specs.Declared.{EachEntry, HasFunction, named_entry}
+use Rattle.lowering_layout.specs.Declared.{EachEntry, HasFunction}
+use Rattle.lowering_layout.specs.DeclaredLaws.{named_entry}
 use Rattle.c_rules.specs.SpelledUnits.{Names, gives, known_after, is_known, given, names_of_shape, names_of_declarators, names_after}
 
 -- ---- names that are known

@@ -18,7 +18,8 @@ use Rattle.c_meaning.specs.Objects.{Object, globals_declared, globals_in, owned_
 use Rattle.c_meaning.specs.Statements.{number_named}
 use Rattle.c_lowered.specs.Effects.{calls_of_outcome, calls_in_call, calls_in_value, calls_in_effect, calls_in_first, calls_in_shape, calls_in_locals}
 use Rattle.c_lowered.specs.Statements.{calls_if, calls_in_returned, calls_in, calls_in_all}
-use Rattle.lowering_layout.specs.Declared.{EachEntry, EachScope, EntryAgrees, named_entry}
+use Rattle.lowering_layout.specs.Declared.{EachEntry, EachScope, EntryAgrees}
+use Rattle.lowering_layout.specs.DeclaredLaws.{named_entry}
 use Rattle.lowering_layout.specs.Lists.{EachOf}
 use Rattle.lowering_layout.specs.Spelled.{HasFewCalls}
 use Rattle.c_rules.specs.Counts.{all_tokens_in}

@@ -17,3 +17,14 @@ mod PlainTokens
 mod Depths
 mod ShallowStatements
 mod PlainUnits
+pub mod CountSpelledLaws
+pub mod DepthLaws
+pub mod EffectLaws
+pub mod ExternalLaws
+pub mod MeasuringLaws
+pub mod ParameterLaws
+pub mod SpendingLaws
+pub mod StartLaws
+pub mod StatementLaws
+pub mod TakingLaws
+pub mod TypesTakeLaws

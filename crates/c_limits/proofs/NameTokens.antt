@@ -9,7 +9,8 @@ use Rattle.c_unit.specs.Tree.{LocalTree, Statement, Empty, Declares, Block, If, 
 use Rattle.c_unit.specs.Units.{Word}
 use Rattle.c_rules.specs.Names.{text_at}
 use Rattle.c_meaning.specs.Objects.{Object, local_object, locals_in, all_locals_in, parameter_object, global_object, globals_declared}
-use Rattle.lowering_layout.specs.Lists.{EachOf, Apart, Across, each_when, each_joined, apart_joined}
+use Rattle.lowering_layout.specs.Lists.{EachOf, Apart, Across}
+use Rattle.lowering_layout.specs.ListLaws.{each_when, each_joined, apart_joined}
 use Rattle.lowering_layout.specs.Spelled.{OfOtherTokens}
 use Rattle.c_rules.specs.Counts as counts
 use Rattle.c_rules.specs.Counts.{tokens_in, all_tokens_in}

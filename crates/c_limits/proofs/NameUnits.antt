@@ -2,8 +2,8 @@
 use Rattle.std.proofs.Common.{◌≤◌, List, [], ◌++◌, arith, length-append}
 use Rattle.c_rules.specs.Units.{File}
 use Rattle.c_meaning.specs.Objects.{Object, globals_in, owned_in}
-use Rattle.lowering_layout.specs.Declared.{entries_agree}
-use Rattle.lowering_layout.specs.Lists.{each_when, each_joined, apart_joined}
+use Rattle.lowering_layout.specs.DeclaredLaws.{entries_agree}
+use Rattle.lowering_layout.specs.ListLaws.{each_when, each_joined, apart_joined}
 use Rattle.lowering_layout.specs.Texts.{IsIdentifier}
 use Rattle.lowering_layout.specs.Spelled.{ObjectIsNamed, OfOtherTokens}
 use Rattle.c_rules.specs.SpelledUnits.{Shallow, all_frames_of}

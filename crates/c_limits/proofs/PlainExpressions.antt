@@ -12,7 +12,7 @@ use Rattle.c_unit.specs.declared.expression.Unary.TheVariants as unary
 use Rattle.c_unit.specs.declared.expression.Binary.{Binary}
 use Rattle.c_unit.specs.declared.expression.Binary.TheVariants as binary
 use Rattle.grammar.specs.Rule.{value}
-use Rattle.lists.specs.Tests.{by_test}
+use Rattle.lists.specs.TestLaws.{by_test}
 use Rattle.std.proofs.Common.{Bool, All, List, not, false, true, refl, sym, ◌∙◌, ℕ, ◌&&◌, ◌≡◌}
 use Rattle.std.proofs.lemmas.Bool.{false≢true}
 use Rattle.std.proofs.lemmas.List.Elements.{All-nil, All-cons}

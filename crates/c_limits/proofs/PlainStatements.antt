@@ -13,7 +13,8 @@ use Rattle.c_grammar.specs.declared.others.Others.TheVariants as others
 use Rattle.c_rules.specs.Expressions.{is_of_conditions}
 use Rattle.c_unit.specs.Tree.{EffectTree, Expression, Statement, ValueTree, statements_of, if_of, for_of}
 use Rattle.c_unit.specs.declared.expression.Binary.{Binary}
-use Rattle.grammar.specs.Exact.{ok_is, ok_no_err}
+use Rattle.grammar.specs.Exact.{ok_no_err}
+use Rattle.grammar.specs.ExactLaws.{ok_is}
 use Rattle.std.proofs.Common.{Bool, Option, Some, None, Ok, not, false, true, refl, subst, ℕ, ◌≡◌}
 use Rattle.std.proofs.lemmas.Bool.{false≢true}
 use Rattle.std.specs.Prelude.{⊤}

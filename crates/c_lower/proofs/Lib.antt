@@ -4,3 +4,4 @@ pub mod KnownHeads
 mod Labels
 mod Plain
 pub mod Made
+pub mod MeasuredLaws

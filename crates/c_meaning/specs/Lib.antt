@@ -6,6 +6,3 @@ pub mod Statements
 pub mod Programs
 pub mod Worked
 pub mod WorkedOperators
-pub mod Keeping
-pub mod MoreTurns
-pub mod Depth

@@ -9,9 +9,11 @@ pub mod Units
 pub mod Recursion
 pub mod Programs
 pub mod Typed
+pub mod TypedLaws
 pub mod Standing
 pub mod StandingLaws
 pub mod UnitsStand
+pub mod UnitsStandLaws
 pub mod Worked
 -- What the trees of a unit keep that some text spells.
 pub mod SpelledExpressions

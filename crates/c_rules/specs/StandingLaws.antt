@@ -6,7 +6,7 @@
 use Rattle.std.proofs.Common.{◌≡◌, ◌<◌, ◌≤◌, ℕ, zero, suc, Bool, true, false, not, ◌&&◌, ◌==◌, List, [], ◌∷◌, ◌++◌, Option, Some, None, length, slice_get, if◌then◌else◌, refl, sym, ap, ◌∙◌, arith}
 use Rattle.std.specs.Option.{is_some}
 use Rattle.std.proofs.lemmas.Bool.{eqb-true}
-use Rattle.lists.specs.Tests.{by_test}
+use Rattle.lists.specs.TestLaws.{by_test}
 use Rattle.c_unit.specs.declared.types.Integer.{Integer}
 use Rattle.c_unit.specs.declared.types.Scalar.{Scalar}
 use Rattle.c_unit.specs.declared.types.Scalar.TheVariants as scalars
@@ -22,7 +22,7 @@ use Rattle.c_rules.specs.Names.{Bound, Variable, Array, Function, Entry, Scope, 
 use Rattle.c_rules.specs.Expressions.{designates, type_of, faults_of, unsuited, an_integer, wanted_faults, condition_faults, target_type, target_faults}
 use Rattle.c_rules.specs.Calls.{Use, Dropped, Valued, is_defined, use_faults, function_faults, argument_faults, bound_faults, entry_faults, call_faults, value_faults}
 use Rattle.c_rules.specs.Statements.{twice_faults, too_many, initialiser_faults, array_faults, with_local, first_value_faults, shape_faults, locals_faults, updated, update_faults, effect_faults, Around, inside, in_loop_of, in_switch_of, around_after, scopes_after, return_faults, if_condition, if_effect, statement_faults, statements_faults}
-use Rattle.c_rules.specs.Typed.{apart, not_when, is_type, typed}
+use Rattle.c_rules.specs.TypedLaws.{apart, not_when, is_type, typed}
 use Rattle.c_rules.specs.Standing.{Suits, IsTarget, ArgumentsSuit, IsCall, IsValuedCall, ValueSuits, IfValued, EffectStands, IfDone, IfCondition, AreAtMost, ArrayStands, ShapeStands, LocalsStand, ReturnStands, StatementStands, StatementsStand}
 
 negated : (b : Bool) → not b ≡ false → b ≡ true

@@ -9,7 +9,7 @@ use Rattle.std.specs.Option.{is_some}
 use Rattle.std.specs.Str.{bytes_eq}
 use Rattle.std.proofs.lemmas.Bool.Decides.{nat_tests}
 use Rattle.std.proofs.lemmas.List.{length-drop}
-use Rattle.lists.specs.Tests.{by_test}
+use Rattle.lists.specs.TestLaws.{by_test}
 use Rattle.c_unit.specs.Units.{Word}
 use Rattle.c_rules.specs.Names.{Entry, Scope, named, or_further, look_up, text_at, with_name, innermost, is_declared}
 use Rattle.c_scopes.specs.Rows.{latest}

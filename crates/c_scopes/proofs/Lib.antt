@@ -5,3 +5,4 @@ mod CutLaws
 mod Shortened
 -- No lemmas of its own.
 pub mod Counting
+pub mod FirstFaultLemmas

@@ -18,8 +18,7 @@ use Rattle.c_tokens.specs.Tokens.{tokens_of}
 use Rattle.flow_base.specs.Places.{place_after}
 use Rattle.c_unit.specs.Tree.{ExternalTree}
 use Rattle.c_unit.specs.Units.{Word, word_of, UnitTree}
-use Rattle.c_grammar.specs.Tokens.{Fault, Room, most_functions, most_frames, most_elements}
-use Rattle.c_grammar.specs.Tokens.{Syntax, Number, OutOfProfile, Limit}
+use Rattle.c_grammar.specs.Tokens.{Fault, Room, most_functions, most_frames, most_elements, Syntax, Number, OutOfProfile, Limit}
 use Rattle.c_grammar.specs.Tokens as grammar
 use Rattle.c_grammar.specs.Units.{unit}
 use Rattle.c_reader.specs.Reading.{numbered}

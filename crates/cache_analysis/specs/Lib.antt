@@ -2,6 +2,4 @@
 pub mod CodeAccesses
 pub mod Sound
 pub mod SoundLaws
-pub mod Noted
 pub mod Analyses
-pub mod OneAnswer

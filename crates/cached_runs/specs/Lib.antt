@@ -1,4 +1,3 @@
 -- The files here, each after those that it cites.
 pub mod Answers
 pub mod CachedRuns
-pub mod CachedLaws

@@ -5,5 +5,6 @@ pub mod Outcome
 pub mod Log
 pub mod Roles
 pub mod Work
+pub mod WorkLaws
 pub mod Works
 pub mod Run

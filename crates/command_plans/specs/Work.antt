@@ -213,9 +213,3 @@ EndsSo w told before (Stopped outcome) after = w.steps.Stops told before outcome
 abbrev pub HasOneEnding : Work (List ℕ) → Files → Type 0
 HasOneEnding w files = (p q : Log) (x y : Ending) (m n : Log) → ending_unread x ≡ None → ending_unread y ≡ None
     → EndsSo w (Some files) p x m → EndsSo w (Some files) q y n → AreAlikeEndings x y × GrewAlike p m q n
-
-pub ends_one : (w : Work (List ℕ)) (files : Files) → HasOneEnding w files
-ends_one w files p q (Finished a) (Finished b) m n r s g h = w.one.gives files p q a b m n g h
-ends_one w files p q (Finished a) (Stopped y) m n r s g h = absurd (w.one.apart files p q a y m n s g h)
-ends_one w files p q (Stopped x) (Finished b) m n r s g h = absurd (w.one.apart files q p b x n m r h g)
-ends_one w files p q (Stopped x) (Stopped y) m n r s g h = w.one.stops files p q x y m n r s g h

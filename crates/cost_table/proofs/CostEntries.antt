@@ -4,9 +4,8 @@
 --   not_named, block_is, no_block   a block that an entry names, and one that is not there
 --   table_more    the table after one more entry
 use Rattle.std.proofs.Common.{◌≡◌, ◌<◌, ◌≤◌, ⊎_elim, ℕ, true, ◌&&◌, nat_eq, List, [], ◌∷◌, ◌++◌, length, Option, Some, None, unwrap_or, refl, ap, sym, ◌∙◌, subst, arith}
-use Rattle.std.specs.Prelude.{if◌then◌else◌}
+use Rattle.std.specs.Prelude.{if◌then◌else◌, codes}
 use Rattle.std.proofs.lemmas.Option.{none-some, same_Some, slice_get_past}
-use Rattle.std.specs.Prelude.{codes}
 use Rattle.toml.specs.Data.{Data, Members}
 use Rattle.alf_check.specs.CheckedPrograms.{NumberedProgram, blocks_at}
 use Rattle.cost_table.specs.declared.cost_entry.BlockCost.{BlockCost}

@@ -12,7 +12,7 @@ use Rattle.std.proofs.lemmas.Bool.Decides.{nat_tests}
 use Rattle.std.proofs.lemmas.List.{get_or-set_same, get_or-set_other, length-set, map-set}
 use Rattle.std.proofs.lemmas.Option.{get_or_from_slice_get, slice_get-get_or, slice_get-map, slice_get_within, unwrap_or-slice_get}
 use Rattle.toml.specs.Data.{Data}
-use Rattle.lists.specs.Tests.{by_test}
+use Rattle.lists.specs.TestLaws.{by_test}
 use Rattle.alf_check.specs.CheckedPrograms.{NumberedProgram, blocks_at}
 use Rattle.cost_table.specs.CostTables.{CostTable, HasRows, cost_at, row_at, with_cost}
 use Rattle.cost_table.specs.Costs.{cost_by, last_cost, told_cost}

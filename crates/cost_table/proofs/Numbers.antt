@@ -8,7 +8,7 @@ use Rattle.std.proofs.lemmas.Option.{same_Some, none-some}
 use Rattle.std.specs.Prelude.{ℤ}
 use lib.IntN.{negsuc}
 use lib.Signed.{◌<ℤ◌, ◌≤ℤ◌}
-use Rattle.lists.specs.Tests.{by_test}
+use Rattle.lists.specs.TestLaws.{by_test}
 use Rattle.cost_table.specs.Costs.{below}
 
 -- a number below the bound

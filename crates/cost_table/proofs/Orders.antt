@@ -2,7 +2,7 @@
 --   below_or_not   a number is below another or not
 use Rattle.std.proofs.Common.{◌<◌, ◌≤◌, ◌⊎◌, inl, inr, ℕ, ltb, arith}
 use Rattle.std.proofs.lemmas.Bool.Decides.{nat_tests}
-use Rattle.lists.specs.Tests.{by_test}
+use Rattle.lists.specs.TestLaws.{by_test}
 
 -- a number is below another or not
 pub below_or_not : (x y : ℕ) → (x < y) ⊎ (y ≤ x)

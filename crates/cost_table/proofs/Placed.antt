@@ -10,7 +10,7 @@ use Rattle.std.proofs.Common.{◌≡◌, ◌<◌, ◌≤◌, ◌+◌, ◌*◌, �
 use Rattle.std.specs.Prelude.{max}
 use Rattle.std.proofs.lemmas.Option.{slice_get_within}
 use Rattle.std.proofs.lemmas.List.Elements.{All-contains, Contains-append_cases, Contains-append_left, Contains-append_right}
-use Rattle.lists.specs.Members.{contained, all_members}
+use Rattle.lists.specs.MemberLaws.{contained, all_members}
 use Rattle.alf_check.specs.declared.rows.InputRow.{InputRow}
 use Rattle.alf_check.specs.CheckedPrograms.{NumberedProgram}
 use Rattle.alf_check.specs.Inputs.{KeepsInput, KeepInputs, ShareNoByte}

@@ -7,7 +7,7 @@
 --   taken_from           each byte of the cells is one of a row
 use Rattle.std.proofs.Common.{◌≡◌, ◌<◌, ◌≤◌, ◌+◌, ◌*◌, ◌/◌, ◌-◌, ⊎_elim, ℕ, zero, suc, List, ◌∷◌, Contains, refl, ap, subst, arith}
 use Rattle.std.proofs.Math.Nat.{suc-mul}
-use Rattle.lists.specs.Members.{no_member, first_member, further_member, first_or_further}
+use Rattle.lists.specs.MemberLaws.{no_member, first_member, further_member, first_or_further}
 use Rattle.alf_check.specs.declared.rows.InputRow.{InputRow}
 use Rattle.cost_table.specs.Inputs.{after, rows_from}
 use Rattle.cost_table.specs.Marks.{IsTaken}

@@ -13,11 +13,10 @@
 --   input_entries members        the entries, if only the key `input` stands at the top, with an array of tables
 --   MeansInputs bytes program rows      the file means these rows
 --   RefusesInputs bytes program fault   the file is refused for this fault
-use Rattle.std.specs.Prelude.{◌≡◌, ◌≤◌, ◌+◌, ◌*◌, ◌/◌, ◌^◌, ◌-◌, ℕ, zero, suc, ℤ, pos, Bool, true, ◌&&◌, ◌||◌, List, [], ◌∷◌, All, Option, Some, None, codes, is_none, slice_get, if◌then◌else◌}
+use Rattle.std.specs.Prelude.{◌≡◌, ◌≤◌, ◌+◌, ◌*◌, ◌/◌, ◌^◌, ◌-◌, ℕ, zero, suc, ℤ, pos, Bool, true, ◌&&◌, ◌||◌, List, [], ◌∷◌, All, Option, Some, None, codes, is_none, slice_get, if◌then◌else◌, nat_eq}
 use Rattle.std.specs.Option.{option_and_then, option_map_or}
 use Rattle.std.specs.List.{flat_map, list_any}
 use Rattle.std.specs.Str.{bytes_eq}
-use Rattle.std.specs.Prelude.{nat_eq}
 use lib.IntN.{◌-ℤ◌, neg_ℤ, negsuc}
 use lib.Signed.{◌<ℤ◌, ◌≤ℤ◌}
 use Rattle.toml.specs.Data.{Data, Members, as_table}

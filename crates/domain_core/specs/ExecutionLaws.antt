@@ -1,21 +1,13 @@
 -- Executions and iteration numbers along the trace are those of the run.
 --   found_execution, execution_found   the executions found are the longest stretches in the scope
---   trace_walk          a trace is a walk from node 0, read backwards
---   execution_starts    an execution starts at the header
---   turns_mean          the iteration number of a scope is the number of its headers in the open execution
 --   length-turns_of     there is one number for each scope
-use Rattle.std.proofs.Common.{◌≡◌, ℕ, zero, suc, ◌+◌, ◌<◌, cond, List, [], ◌∷◌, ◌++◌, length, get_or, reverse, Contains, refl, sym, ap, ◌∙◌, subst, arith, inl, inr}
-use Rattle.std.proofs.lemmas.Bool.{cases_Bool}
-use Rattle.std.proofs.lemmas.List.{length-replicate, get_or-replicate, append_assoc, reverse-append, reverse-reverse}
-use Rattle.std.proofs.lemmas.List.Elements.{Contains-push}
-use Rattle.graph_walks.specs.Walks.{Walk, stays, goes_on}
-use Rattle.domain_core.specs.Reducible.{IsEdge}
-use Rattle.domain_core.specs.Outlines.{Shape, Holds, is_held, header_of, IsOutline}
-use Rattle.domain_core.specs.OutlineLaws.{held_is, is_holder, holder_low}
-use Rattle.domain_core.specs.Stretches.{IsStretch, Passes, FirstIsNot}
-use Rattle.domain_core.specs.Traces.{IsTrace}
+use Rattle.std.proofs.Common.{◌≡◌, ℕ, suc, ◌+◌, List, [], ◌∷◌, length, reverse, Contains, refl, ap, ◌∙◌, subst}
+use Rattle.std.proofs.lemmas.List.{length-replicate, reverse-reverse}
+use Rattle.domain_core.specs.Outlines.{Shape, Holds, is_held, IsOutline}
+use Rattle.domain_core.specs.OutlineLaws.{held_is, is_holder}
+use Rattle.domain_core.specs.Stretches.{IsStretch, Passes}
 use Rattle.domain_core.specs.StretchLaws.{found_stretch, stretch_found, stretch_turned, stretch_same}
-use Rattle.domain_core.specs.Executions.{IsExecution, executions, open_execution, header_count, turn_after, turns_after, turns_of}
+use Rattle.domain_core.specs.Executions.{IsExecution, executions, turns_after, turns_of}
 
 module _ (o : Shape) (ok : IsOutline o) (t : ℕ) where
   -- an execution that is found is one of the run
@@ -31,36 +23,6 @@ module _ (o : Shape) (ok : IsOutline o) (t : ℕ) where
       let back : IsStretch (λ n. Holds o t n) past e = subst (λ (xs : List ℕ). IsStretch (λ n. Holds o t n) past xs) (reverse-reverse e) (subst (λ (xs : List ℕ). IsStretch (λ n. Holds o t n) xs (reverse (reverse e))) (reverse-reverse past) turned) in
       stretch_found (λ n. is_held o t n) past e (stretch_same (λ n. Holds o t n) (Passes (λ n. is_held o t n)) (λ n. is_holder o ok t n) (λ n. held_is o ok t n) past e back)
 
--- ---- traces
-
--- what is older in a trace is a trace
-trace_rest : (o : Shape) (xs : List ℕ) (n : ℕ) (ys : List ℕ) → IsTrace o (xs ++ n ∷ ys) → IsTrace o (n ∷ ys)
-trace_rest o [] n ys tr = tr
-trace_rest o (x ∷ []) n ys tr = tr.2
-trace_rest o (x ∷ y ∷ xs) n ys tr = trace_rest o (y ∷ xs) n ys tr.2
-
--- a trace is a walk from node 0, read backwards
-pub trace_walk : (o : Shape) (n : ℕ) (past : List ℕ) → IsTrace o (n ∷ past) → Walk (IsEdge o.edges) 0 n (reverse (n ∷ past))
-trace_walk o n [] e = subst (λ (k : ℕ). Walk (IsEdge o.edges) 0 k (k ∷ [])) (sym e) stays
-trace_walk o n (m ∷ past) tr = subst (λ (xs : List ℕ). Walk (IsEdge o.edges) 0 n xs) (sym (reverse-append (n ∷ []) (m ∷ past))) (goes_on (trace_walk o m past tr.2) tr.0)
-
--- an execution starts at the header: here it is written newest first
-pub execution_starts : (o : Shape) → IsOutline o → (t : ℕ) (past front : List ℕ) (h : ℕ) → IsTrace o past → IsStretch (λ n. Holds o t n) past (front ++ h ∷ []) → h ≡ header_of o.scopes t
-execution_starts o ok t past front h tr s =
-    let whole : past ≡ (s.earlier ++ front) ++ h ∷ s.later =
-    s.is ∙ ap (λ (xs : List ℕ). s.earlier ++ xs) (append_assoc front (h ∷ []) s.later) ∙ sym (append_assoc s.earlier front (h ∷ s.later)) in
-    by_later s.later s.ends (trace_rest o (s.earlier ++ front) h s.later (subst (λ (xs : List ℕ). IsTrace o xs) whole tr))
-  where
-    held : Holds o t h
-    held = s.all h (Contains-push front h)
-
-    by_later : (later : List ℕ) → FirstIsNot (λ n. Holds o t n) later → IsTrace o (h ∷ later) → h ≡ header_of o.scopes t
-    by_later [] ends e =
-        let alone : t ≡ 0 = ok.first_alone t (subst (λ (n : ℕ). Holds o t n) e held) in
-        e ∙ sym (ap (λ (s : ℕ). header_of o.scopes s) alone ∙ ok.first_scope.0)
-    by_later (m ∷ rest) ends step =
-        elim (ok.entered m h t step.0 step.1 (holder_low o ok t h step.1 held) held) [ inl e ↦ e | inr inner ↦ absurd (ends m rest refl inner) ]
-
 -- ---- iteration numbers
 
 length-turns_after : (o : Shape) (n t : ℕ) (turns : List ℕ) → length (turns_after o n t turns) ≡ length turns
@@ -71,21 +33,3 @@ length-turns_after o n t (turn ∷ turns) = ap suc (length-turns_after o n (t + 
 pub length-turns_of : (o : Shape) (trace : List ℕ) → length (turns_of o trace) ≡ length o.scopes
 length-turns_of o [] = length-replicate (length o.scopes) 0
 length-turns_of o (n ∷ past) = length-turns_after o n 0 (turns_of o past) ∙ length-turns_of o past
-
-turns_after-at : (o : Shape) (n s k m : ℕ) (turns : List ℕ) → m ≡ s + k → k < length turns → get_or (turns_after o n s turns) k 0 ≡ turn_after o n m (get_or turns k 0)
-turns_after-at o n s k m [] at within = absurd (omega arith)
-turns_after-at o n s zero m (turn ∷ turns) at within = let same : m ≡ s = omega arith in rw same refl
-turns_after-at o n s (suc k) m (turn ∷ turns) at within = turns_after-at o n (s + 1) k m turns (omega arith) (omega arith)
-
-one_more : (o : Shape) (t n turn : ℕ) (rest : List ℕ) → turn ≡ header_count o t rest → turn_after o n t turn ≡ header_count o t (cond (is_held o t n) (n ∷ rest) [])
-one_more o t n turn rest same =
-    elim (cases_Bool (is_held o t n)) [
-      | inl held ↦ rw (held, same) refl
-      | inr out ↦ rw out refl
-    ]
-
--- the iteration number of a scope is the number of its headers in the open execution
-pub turns_mean : (o : Shape) (t : ℕ) (trace : List ℕ) → t < length o.scopes → get_or (turns_of o trace) t 0 ≡ header_count o t (open_execution o t trace)
-turns_mean o t [] within = get_or-replicate (length o.scopes) t 0 0 within
-turns_mean o t (n ∷ past) within =
-    turns_after-at o n 0 t t (turns_of o past) (omega arith) (let len = length-turns_of o past in omega arith) ∙ one_more o t n _ (open_execution o t past) (turns_mean o t past within)

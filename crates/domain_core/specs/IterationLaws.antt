@@ -4,8 +4,8 @@ use Rattle.std.proofs.Common.{◌≡◌, ◌&&◌, not, ℕ, Bool, true, false, 
 use Rattle.std.proofs.lemmas.Bool.{eqb-true, eq-eqb, ne_eqb}
 use Rattle.std.proofs.lemmas.List.{append_assoc, reverse-append, reverse-reverse}
 use Rattle.std.proofs.lemmas.List.Elements.{Contains-append_left, Contains-append_right, Contains-append_cases}
-use Rattle.lists.specs.Members.{no_member, first_member, further_member}
-use Rattle.lists.specs.Tests.{by_test}
+use Rattle.lists.specs.MemberLaws.{no_member, first_member, further_member}
+use Rattle.lists.specs.TestLaws.{by_test}
 use Rattle.graph_walks.specs.ListLaws.{contains_cases}
 use Rattle.domain_core.specs.Outlines.{Shape, Holds, is_held, header_of, IsOutline}
 use Rattle.domain_core.specs.OutlineLaws.{held_is, is_holder, of_reverse}

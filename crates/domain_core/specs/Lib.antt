@@ -6,8 +6,8 @@ pub mod ScopeLaws
 pub mod Outlines
 pub mod OutlineLaws
 pub mod OutlineOf
-pub mod OutlineMade
-pub mod ScopeOrder
+pub mod OutlineMadeLaws
+pub mod ScopeOrderLaws
 pub mod Stretches
 pub mod Traces
 pub mod Orders
@@ -19,9 +19,6 @@ pub mod Recordings
 pub mod StretchLaws
 pub mod Executions
 pub mod ExecutionLaws
-pub mod WordSetLaws
-pub mod MachineLaws
-pub mod RecordingLaws
 pub mod FaultLaws
 pub mod Parts
 pub mod PartLaws

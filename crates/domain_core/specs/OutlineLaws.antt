@@ -1,10 +1,8 @@
 -- What follows for every outline.
 --   leads_on            parents lead on
---   scopes_nested       of two scopes that hold a node, parents lead from one to the other
 --   own_smallest        the own scope of a node lies in each scope that holds the node
 --   holder_low          what holds a node is a scope of the outline
 --   header_dominates    the header of a scope lies on every walk to a node of it
---   forward_rises       an edge to a node goes to a greater rank, unless it is a back edge
 --   chain_of            each scope has a chain of scopes around it, chain_one one alone, and chain_short no longer than there are scopes
 --   chain_holds, held_leads   the chain has exactly the scopes to which parents lead
 --   member_found, found_member   what is in a list is found there, and nothing else
@@ -12,18 +10,18 @@
 --   chain_is            the first scopes of a chain, as many as there are scopes, are all of it
 --   held_is, is_holder  the test for Holds is right
 --   around_is           the scopes around a node are those that hold it
-use Rattle.std.proofs.Common.{◌≡◌, ◌≢◌, ◌<◌, ◌≤◌, ◌==◌, ◌||◌, ℕ, zero, suc, Bool, true, false, List, [], ◌∷◌, ◌++◌, ◌⊎◌, ◌↔◌, inl, inr, Some, None, Contains, length, get_or, reverse, refl, ap, sym, ◌∙◌, subst, arith}
+use Rattle.std.proofs.Common.{◌≡◌, ◌≢◌, ◌<◌, ◌≤◌, ◌==◌, ◌||◌, ℕ, zero, suc, Bool, true, false, List, [], ◌∷◌, ◌++◌, ◌↔◌, inl, inr, Some, None, Contains, length, get_or, reverse, refl, ap, sym, ◌∙◌, subst, arith}
 use Rattle.std.specs.List.{list_any, IsDistinct, AllByRecursion}
-use Rattle.std.proofs.lemmas.Bool.{cases_lt, ne_eqb, eqb-true, eq-eqb}
+use Rattle.std.proofs.lemmas.Bool.{ne_eqb, eqb-true, eq-eqb}
 use Rattle.std.proofs.lemmas.List.{reverse-append, reverse-reverse}
 use Rattle.std.proofs.lemmas.List.Elements.{Contains-append_left, Contains-push}
 use Rattle.std.proofs.lemmas.Map.Steps.{length-le_from_distinct_below}
-use Rattle.lists.specs.Members.{no_member, first_member, further_member}
-use Rattle.lists.specs.Tests.{by_test}
+use Rattle.lists.specs.MemberLaws.{no_member, first_member, further_member}
+use Rattle.lists.specs.TestLaws.{by_test}
 use Rattle.graph_walks.specs.Walks.{Walk, stays, goes_on}
 use Rattle.graph_walks.specs.ListLaws.{contains_cases}
 use Rattle.domain_core.specs.declared.outline.ScopeRow.{ScopeRow}
-use Rattle.domain_core.specs.Reducible.{IsEdge, Dominates, IsForwardEdge}
+use Rattle.domain_core.specs.Reducible.{IsEdge, Dominates}
 use Rattle.domain_core.specs.Outlines.{Shape, LeadsTo, here, up, Holds, IsChain, outermost, inner, scopes_from, scopes_around, is_held, parent_of, header_of, IsOutline}
 
 -- ---- parents
@@ -33,13 +31,6 @@ module _ (scopes : List ScopeRow) where
   pub leads_on : (s t r : ℕ) → LeadsTo scopes s r → LeadsTo scopes t s → LeadsTo scopes t r
   leads_on s t r here more = more
   leads_on s t r (up {s = x} {p = p} e way) more = up e (leads_on s t p way more)
-
-  -- of two scopes to which parents lead from one, they lead from one to the other
-  pub leads_compare : (s t r : ℕ) → LeadsTo scopes s r → LeadsTo scopes t r → LeadsTo scopes t s ⊎ LeadsTo scopes s t
-  leads_compare s t r here other = inl other
-  leads_compare s t r (up {s = x} {p = p} e way) here = inr (up e way)
-  leads_compare s t r (up {s = x} {p = p} e way) (up {s = y} {p = q} f other) =
-      let same : q ≡ p = (let both : Some q ≡ Some p = sym f ∙ e in cc) in leads_compare s t p way (subst (λ (n : ℕ). LeadsTo scopes t n) same other)
 
   -- to what parents lead is on the chain
   pub chain_holds : (s t : ℕ) (chain : List ℕ) → IsChain scopes s chain → LeadsTo scopes t s → Contains chain t
@@ -151,10 +142,6 @@ module _ (o : Shape) (ok : IsOutline o) where
   pub holder_low : (t n : ℕ) → n < length o.own → Holds o t n → t < length o.scopes
   holder_low t n low held = lead_low t (get_or o.own n 0) held (ok.scopes_within n low)
 
-  -- of two scopes that hold a node, parents lead from one to the other
-  pub scopes_nested : (s t n : ℕ) → Holds o s n → Holds o t n → LeadsTo o.scopes t s ⊎ LeadsTo o.scopes s t
-  scopes_nested s t n in_s in_t = leads_compare o.scopes s t (get_or o.own n 0) in_s in_t
-
   -- where parents lead from one scope to another, the first lies in the second
   pub lies_in : (s t m : ℕ) → LeadsTo o.scopes t s → Holds o s m → Holds o t m
   lies_in s t m way held = leads_on o.scopes s t (get_or o.own m 0) held way
@@ -176,16 +163,6 @@ module _ (o : Shape) (ok : IsOutline o) where
   -- so the header lies on every walk to it
   pub header_dominates : (t n : ℕ) → n < length o.own → Holds o t n → Dominates (IsEdge o.edges) (header_of o.scopes t) n
   header_dominates t n low held path walk = walk_enters t n path walk low held
-
-  -- an edge to a node goes to a greater rank, unless it is a back edge
-  pub forward_rises : (u v : ℕ) → IsForwardEdge (IsEdge o.edges) u v → v < length o.own → get_or o.ranks u 0 < get_or o.ranks v 0
-  forward_rises u v (edge, forward) low =
-      elim (cases_lt (get_or o.ranks u 0) (get_or o.ranks v 0)) [
-        | inl rise ↦ rise
-        | inr other ↦
-            let loop = ok.rises u v edge low (omega arith) in
-            absurd (forward (subst (λ (h : ℕ). Dominates (IsEdge o.edges) h u) loop.2 (header_dominates loop.0 u (ok.edges_within u v edge).0 loop.4)))
-      ]
 
   -- each scope has a chain of scopes around it
   pub chain_of : (s : ℕ) → s < length o.scopes → (chain : List ℕ) × IsChain o.scopes s chain

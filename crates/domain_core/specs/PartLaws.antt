@@ -1,8 +1,8 @@
 -- The parts that a walk along the trace finds are those of the definition.
 --   found_part, part_found   the parts found are those of the trace
 use Rattle.std.proofs.Common.{◌≡◌, ◌≢◌, ℕ, Bool, true, false, List, [], ◌∷◌, ◌++◌, inl, inr, Contains, refl, ap, sym, ◌∙◌, subst}
-use Rattle.lists.specs.Members.{no_member, first_member, further_member}
-use Rattle.lists.specs.Tests.{by_test}
+use Rattle.lists.specs.MemberLaws.{no_member, first_member, further_member}
+use Rattle.lists.specs.TestLaws.{by_test}
 use Rattle.graph_walks.specs.ListLaws.{contains_cases}
 use Rattle.domain_core.specs.Stretches.{Passes, AreAll, LastIsNot, with_closed}
 use Rattle.domain_core.specs.StretchLaws.{either_closed, further_closed, first_closed, last_more, last_less, last_one, last_none}

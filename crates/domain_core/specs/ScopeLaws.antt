@@ -9,7 +9,7 @@
 use Rattle.std.proofs.Common.{◌≡◌, ◌≢◌, ◌<◌, ℕ, zero, suc, List, [], ◌∷◌, ◌++◌, ◌⊎◌, inl, inr, Option, Some, None, Contains, length, get_or, refl, ap, sym, ◌∙◌, subst, arith}
 use Rattle.std.proofs.lemmas.List.{append_assoc}
 use Rattle.std.proofs.lemmas.List.Elements.{Contains-append_left, Contains-append_right, Contains-push, Contains-push_cases}
-use Rattle.lists.specs.Members.{no_member, first_member, further_member}
+use Rattle.lists.specs.MemberLaws.{no_member, first_member, further_member}
 use Rattle.graph_walks.specs.Walks.{Walk, stays, goes_on}
 use Rattle.graph_walks.specs.ListLaws.{same_or_not, contains_cases, cut_at}
 use Rattle.graph_walks.specs.WalkLaws.{walk_cons, walk_ends, split}

@@ -6,8 +6,8 @@
 --   stretch_same                 two properties that say the same have the same stretches
 use Rattle.std.proofs.Common.{◌≡◌, ◌≢◌, ℕ, Bool, true, false, List, [], ◌∷◌, ◌++◌, ◌⊎◌, inl, inr, Contains, reverse, cond, refl, ap, sym, ◌∙◌, subst}
 use Rattle.std.proofs.lemmas.List.{append_assoc, reverse-append, reverse-reverse}
-use Rattle.lists.specs.Members.{no_member, first_member, further_member}
-use Rattle.lists.specs.Tests.{by_test}
+use Rattle.lists.specs.MemberLaws.{no_member, first_member, further_member}
+use Rattle.lists.specs.TestLaws.{by_test}
 use Rattle.graph_walks.specs.ListLaws.{contains_cases}
 use Rattle.domain_core.specs.OutlineLaws.{of_reverse}
 use Rattle.domain_core.specs.Stretches.{Passes, AreAll, LastIsNot, FirstIsNot, IsStretch, open_stretch, with_closed, closed_stretches, stretches}

@@ -7,7 +7,8 @@ use Rattle.flow_facts.specs.declared.fact.Fact.{Fact}
 use Rattle.ipet_rows.specs.Columns.{columns_of}
 use Rattle.ipet_rows.specs.Uses.{IsEnded, steps_of, column_counts, run_cost}
 use Rattle.ipet_rows.specs.Shaped.{FitOutline}
-use Rattle.ipet_rows.specs.Feasible.{MeetFacts, feasible, worth_cost}
+use Rattle.ipet_rows.specs.Feasible.{MeetFacts}
+use Rattle.ipet_rows.specs.FeasibleLaws.{feasible, worth_cost}
 use Rattle.ipet_rows.specs.Bounds.{BoundsAll}
 use Rattle.dual_check.specs.Openings.{costs_of, system_of}
 

@@ -3,3 +3,4 @@
 pub mod Charts
 pub mod ChartLaws
 pub mod Silence
+pub mod SilenceLaws

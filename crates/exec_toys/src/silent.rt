@@ -15,7 +15,8 @@ impl Model for Silent {
 }
 
 impl Lattice for Silent {
-    ghost use Rattle.exec_toys.specs.Silence.{silent_order, silent_is_order};
+    ghost use Rattle.exec_toys.specs.Silence.{silent_order};
+    ghost use Rattle.exec_toys.specs.SilenceLaws.{silent_is_order};
 
     ghost order = { silent_order };
 
@@ -31,7 +32,8 @@ impl Lattice for Silent {
 }
 
 impl Recorder for Silent {
-    ghost use Rattle.exec_toys.specs.Silence.{silent_recording, silent_is_recording};
+    ghost use Rattle.exec_toys.specs.Silence.{silent_recording};
+    ghost use Rattle.exec_toys.specs.SilenceLaws.{silent_is_recording};
 
     type Book = Silent;
 

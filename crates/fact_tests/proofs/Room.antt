@@ -13,7 +13,7 @@ use Rattle.ipet_rows.specs.Sums.{total}
 use Rattle.dual_check.specs.Openings.{costs_of}
 use Rattle.simplex_rules.specs.OutlineOpenings.{IsLimited}
 use Rattle.path_lp.specs.Bounding.{opening_sum}
-use Rattle.path_lp.specs.OpeningCosts.{openings_within}
+use Rattle.path_lp.specs.OpeningCostLaws.{openings_within}
 use Rattle.fact_tests.specs.Low.{IsLow, AreCheap}
 
 -- ---- the sum

@@ -12,10 +12,13 @@ use Rattle.std.proofs.lemmas.Bool.{leb-true, eqb-true}
 use Rattle.std.proofs.lemmas.List.Elements.{All-head, All-nil, All-cons, All-append}
 use Rattle.std.proofs.lemmas.List.Quantifiers.{all_pairs_push}
 use Rattle.grammar.specs.Form.{bound, and_then}
-use Rattle.grammar.specs.Exact.{ok_is, ok_no_err}
+use Rattle.grammar.specs.Exact.{ok_no_err}
+use Rattle.grammar.specs.ExactLaws.{ok_is}
 use Rattle.grammar.specs.Each.{Each}
-use Rattle.grammar.specs.Keeping.{Any, ◌>>-◌, done, stays, keeps, weakened, one_passes, judged_stays, refused_stays, row_stays, maybe_stays}
+use Rattle.grammar.specs.Keeping.{Any}
+use Rattle.grammar.specs.KeepingLaws.{◌>>-◌, done, stays, keeps, weakened, one_passes, judged_stays, refused_stays, row_stays, maybe_stays}
 use Rattle.grammar.specs.Keeping
+use Rattle.grammar.specs.KeepingLaws
 use Rattle.grammar.specs.Chain.{InTurn, grow}
 use Rattle.domain_core.specs.declared.outline.ScopeRow.{ScopeRow}
 use Rattle.flow_facts.specs.declared.fact.Fact.{Fact}
@@ -156,13 +159,13 @@ push_few : {A : Type 0} (xs : List A) (x : A) → IsNumber (length xs) → lengt
 push_few xs x h = omega (arith, h, length-append xs (x ∷ []))
 
 nodes_stay : Stays (grow node_begins next_node []) NodesFit
-nodes_stay = grow_stays node_begins next_node NodesFit (λ done q. stays (λ room. node_stays (length done) >>- λ x h. Keeping.done ((push_few done x h.0, push_all NodeIsWritable done x q.1 h.1), refl))) [] (omega arith, All-nil NodeIsWritable)
+nodes_stay = grow_stays node_begins next_node NodesFit (λ done q. stays (λ room. node_stays (length done) >>- λ x h. KeepingLaws.done ((push_few done x h.0, push_all NodeIsWritable done x q.1 h.1), refl))) [] (omega arith, All-nil NodeIsWritable)
 
 abbrev ScopesFit : List ScopeRow → Type 0
 ScopesFit xs = (length xs ≤ 2 ^ 32) × All ScopeIsWritable xs
 
 scopes_stay : Stays (grow scope_begins next_scope []) ScopesFit
-scopes_stay = grow_stays scope_begins next_scope ScopesFit (λ done q. stays (λ room. scope_stays (length done) >>- λ x h. Keeping.done ((push_few done x h.0, push_all ScopeIsWritable done x q.1 h.1), refl))) [] (omega arith, All-nil ScopeIsWritable)
+scopes_stay = grow_stays scope_begins next_scope ScopesFit (λ done q. stays (λ room. scope_stays (length done) >>- λ x h. KeepingLaws.done ((push_few done x h.0, push_all ScopeIsWritable done x q.1 h.1), refl))) [] (omega arith, All-nil ScopeIsWritable)
 
 -- ---- facts
 
@@ -294,7 +297,7 @@ FactsFit form fs = All (FactIsWritable form) fs × AllPairs IsBefore fs
 
 facts_stay : (form : ℕ) → Stays (grow fact_begins (next_fact form) []) (FactsFit form)
 facts_stay form = grow_stays fact_begins (next_fact form) (FactsFit form)
-    (λ done q. stays (λ room. fact_stays form (last_of done) >>- λ f h. Keeping.done ((push_all (FactIsWritable form) done f q.0 h.0, all_pairs_push IsBefore done f q.1 (all_before done f q.1 h.1)), refl)))
+    (λ done q. stays (λ room. fact_stays form (last_of done) >>- λ f h. KeepingLaws.done ((push_all (FactIsWritable form) done f q.0 h.0, all_pairs_push IsBefore done f q.1 (all_before done f q.1 h.1)), refl)))
     [] (All-nil (FactIsWritable form), λ i j d lt within. absurd (omega (arith, within)))
 
 -- ---- bounds and certificates

@@ -3,10 +3,11 @@ use Rattle.std.proofs.Common.{◌≡◌, ℕ, zero, suc, ◌^◌, ◌<◌, ◌-�
 use Rattle.std.specs.Prelude.{◌==◌, decimal, neg_ℤ}
 use Rattle.std.specs.Fmt.{signed_decimal}
 use Rattle.std.proofs.lemmas.Bool.{eqb-true, eq-eqb}
-use Rattle.lists.specs.Tests.{by_test}
+use Rattle.lists.specs.TestLaws.{by_test}
 use Rattle.flow_base.specs.Digits.{number_of}
 use Rattle.grammar.specs.Form.{and_then}
-use Rattle.grammar.specs.Exact.{ok_is, ok_no_err}
+use Rattle.grammar.specs.Exact.{ok_no_err}
+use Rattle.grammar.specs.ExactLaws.{ok_is}
 use Rattle.fact_words.specs.DigitLaws.{decimal_of}
 use Rattle.fact_words.specs.Numbers.{Fault, Syntax, Number, is_numeral, has_zeros, number_within, is_below, after_minus, negative, whole_within}
 

@@ -2,7 +2,7 @@
 use Rattle.std.proofs.Common.{◌≡◌, ℕ, suc, Bool, true, false, List, [], ◌∷◌, ◌++◌, length, drop, refl, sym, ap, subst, ◌∙◌, arith, append-nil}
 use Rattle.std.specs.Prelude.{◌==◌}
 use Rattle.std.specs.List.{flat_map}
-use Rattle.lists.specs.Tests.{by_test}
+use Rattle.lists.specs.TestLaws.{by_test}
 use Rattle.flow_facts.specs.Reports.{Reported}
 use Rattle.fact_words.specs.Laws.{EachTextIsItsTokens}
 use Rattle.fact_words.specs.Tokens.{Lexeme, ends_word, is_quoted_after, with_byte, tokens_from, tokens_of}

@@ -2,10 +2,9 @@
 use Rattle.std.proofs.Common.{◌≡◌, ◌<◌, ◌≤◌, ◌+◌, ◌-◌, ◌^◌, ℕ, zero, suc, ℤ, pos, negsuc, Bool, true, false, cond, ltb, leb, List, [], ◌∷◌, ◌++◌, length, All, Ok, Option, Some, None, inl, inr, ◌⊎◌, refl, sym, ap, subst, ◌∙◌, arith, append_assoc, append-nil, length-append, codes}
 use Rattle.std.specs.Prelude.{◌==◌, decimal, IfSome}
 use Rattle.std.specs.Fmt.{signed_decimal}
-use Rattle.std.specs.List.{list_all, flat_map}
+use Rattle.std.specs.List.{list_all, flat_map, AllPairs}
 use Rattle.std.specs.Str.{bytes_eq}
 use Rattle.std.specs.Char.{is_ascii_digit}
-use Rattle.std.specs.List.{AllPairs}
 use Rattle.std.specs.Ordering.{nat_cmp, ordering_then}
 use Rattle.std.specs.Cmp.Lexicographic.{slice_cmp}
 use Rattle.std.specs.declared.cmp.Ordering.{Ordering}
@@ -15,9 +14,10 @@ use Rattle.std.proofs.lemmas.Slice.Eq.{bytes_eq-Decides}
 use Rattle.std.proofs.lemmas.List.Elements.{All-head, All-tail}
 use Rattle.std.proofs.lemmas.List.Folds.{list_all-append}
 use Rattle.grammar.specs.Form.{bound}
-use Rattle.grammar.specs.Exact.{ok_is}
+use Rattle.grammar.specs.ExactLaws.{ok_is}
 use Rattle.grammar.specs.Rule.{maybe}
-use Rattle.grammar.specs.Writing.{Printing, tokens, place, never, Writes, reads_spells, ◌then◌, until, as_value, grouped, same_row}
+use Rattle.grammar.specs.Writing.{Printing, tokens, place, never, Writes}
+use Rattle.grammar.specs.WritingLaws.{reads_spells, ◌then◌, until, as_value, grouped, same_row}
 use Rattle.grammar.specs.Chain.{InTurn, grow}
 use Rattle.alf_ops.specs.declared.history.RunFault.{RunFault}
 use Rattle.alf_ops.specs.declared.history.RunFault.TheVariants as causes
@@ -32,7 +32,7 @@ use Rattle.flow_facts.specs.declared.report.BoundWord.{BoundWord}
 use Rattle.flow_facts.specs.declared.report.BoundWord.TheVariants.{Least, Stopped}
 use Rattle.flow_facts.specs.Reports.{NamedNode, Certificate, Reported}
 use Rattle.flow_facts.specs.Writable.{IsNumber, IsNodeName, kind_place, numbers_of, IsBefore, NodeIsWritable, ScopeIsWritable, EventIsWritable, FactIsWritable, IsLong, IsScale, CertificateIsWritable, IsWritable}
-use Rattle.lists.specs.Tests.{by_test}
+use Rattle.lists.specs.TestLaws.{by_test}
 use Rattle.fact_words.specs.Tokens.{Lexeme, tokens_of}
 use Rattle.fact_words.specs.Laws.{EachPrintedTextIsCut}
 use Rattle.fact_words.specs.Printed.{Mark, is_word, is_mark, token_before, tokens_before}

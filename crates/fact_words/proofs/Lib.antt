@@ -6,3 +6,4 @@ pub mod Printed
 pub mod Printing
 -- The parts of names.
 pub mod NameParts
+pub mod DigitLemmas

@@ -1,5 +1,5 @@
 -- Digits, and the numbers that they write.
-use Rattle.std.proofs.Common.{◌≡◌, ℕ, ℤ, pos, negsuc, zero, suc, ◌+◌, ◌-◌, ◌*◌, ◌/◌, ◌%◌, ◌^◌, ◌≤◌, ◌<◌, ◌&&◌, Bool, true, false, not, ltb, leb, List, [], ◌∷◌, ◌++◌, length, Ok, Err, Result, cond, refl, ap, subst, ◌∙◌, arith, length-append, append_assoc, append-nil}
+use Rattle.std.proofs.Common.{◌≡◌, ℕ, ℤ, pos, negsuc, zero, suc, ◌+◌, ◌-◌, ◌*◌, ◌/◌, ◌%◌, ◌^◌, ◌≤◌, ◌<◌, ◌&&◌, Bool, true, false, not, ltb, leb, List, [], ◌∷◌, ◌++◌, length, Ok, Err, Result, cond, refl, subst, ◌∙◌, arith, length-append, append_assoc, append-nil}
 use Rattle.std.specs.Prelude.{◌==◌, decimal, neg_ℤ}
 use Rattle.std.specs.Fmt.{signed_decimal}
 use Rattle.std.specs.List.{list_all}
@@ -7,20 +7,14 @@ use Rattle.std.specs.Char.{is_ascii_digit}
 use Rattle.std.proofs.lemmas.Bool.{le-leb, leb-true, ne_eqb, eqb-true}
 use Rattle.std.proofs.lemmas.Fmt.{decimal_by_steps_wide, decimal_step_wide}
 use Rattle.std.proofs.lemmas.List.Folds.{list_all-append}
-use Rattle.lists.specs.Tests.{by_test}
-use Rattle.flow_base.specs.Digits.{prefix_digits, number_after, number_of}
+use Rattle.lists.specs.TestLaws.{by_test}
+use Rattle.flow_base.specs.Digits.{number_after, number_of}
 use Rattle.grammar.specs.Form.{and_then}
-use Rattle.grammar.specs.Exact.{ok_is, ok_no_err}
+use Rattle.grammar.specs.Exact.{ok_no_err}
+use Rattle.grammar.specs.ExactLaws.{ok_is}
 use Rattle.flow_facts.specs.Writable.{IsLong}
 use Rattle.fact_words.specs.Printed.{goes_through, is_word}
 use Rattle.fact_words.specs.Numbers.{Fault, Syntax, Number, is_numeral, has_zeros, number_within, is_below, after_minus, negative, whole_within}
-
--- all of them are the longest list of digits
-pub all_digits : (ds : List ℕ) → list_all is_ascii_digit ds ≡ true → prefix_digits ds ≡ ds
-all_digits [] h = refl
-all_digits (d ∷ ds) h = by_test (is_ascii_digit d)
-    (λ t. let more : list_all is_ascii_digit ds ≡ true = rw t at h in rw t (ap (λ (xs : List ℕ). d ∷ xs) (all_digits ds more)))
-    (λ t. absurd (let k : false ≡ true = rw t at h in cc))
 
 -- ---- a number's digits
 

@@ -8,7 +8,7 @@ use Rattle.std.proofs.lemmas.Bool.{le-leb, leb-true, ne_eqb, eqb-true}
 use Rattle.std.proofs.lemmas.Bool.Decides.{nat_tests}
 use Rattle.std.proofs.lemmas.Slice.Eq.{bytes_eq-Decides}
 use Rattle.std.proofs.lemmas.List.Elements.{All-head, All-tail, All-nil, All-cons}
-use Rattle.lists.specs.Tests.{by_test}
+use Rattle.lists.specs.TestLaws.{by_test}
 use Rattle.flow_base.specs.Digits.{number_of}
 use Rattle.flow_facts.specs.Writable.{IsNumber, IsNameByte, IsName, quoted, IsPathName, of_root, of_call, IsNodeName, of_entry, of_block}
 use Rattle.fact_words.specs.Printed.{goes_through, is_word}

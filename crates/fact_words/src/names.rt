@@ -37,7 +37,7 @@ fn is_name(part: &[u8]) -> bool
 }
 
 // Whether these digits are the number of a block.
-#[tactic(auto, using(crate::specs::DigitLaws::all_digits))]
+#[tactic(auto, using(crate::proofs::DigitLemmas::all_digits))]
 fn is_block(part: &[u8]) -> bool
     ensures { result ≡ is_block part.now }
 {

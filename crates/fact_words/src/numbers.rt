@@ -40,7 +40,7 @@ pub fn has_zeros(text: &[u8]) -> bool
 }
 
 /// The number of a word of at most so much, where so many bytes are left.
-#[tactic(auto, unfolding(crate::specs::Numbers::number_within), using(crate::specs::DigitLaws::all_digits))]
+#[tactic(auto, unfolding(crate::specs::Numbers::number_within), using(crate::proofs::DigitLemmas::all_digits))]
 pub fn number_within(text: &[u8], most: u128, left: usize) -> Result<u128, Departure>
     ensures exact { Answers result (number_within most text.now left) }
     ensures within { IfOk result (λ n. n ≤ most) }

@@ -7,7 +7,7 @@ use Rattle.std.specs.List.{AllZip}
 use Rattle.alf_ops.specs.declared.operator.Op.{Op}
 use Rattle.alf_ops.specs.Table.{operand_sizes}
 use Rattle.flat_domain.specs.FlatLaws.{both}
-use Rattle.flat_domain.specs.OperatorSizes.{few_operands}
+use Rattle.flat_domain.specs.OperatorSizeLaws.{few_operands}
 use Rattle.flat_domain.specs.Fits.{sizes_fit}
 
 pub few : {D : Type 0} (bits_of : D → ℕ) (op : Op) (sizes : List ℕ) (args : List D) → AllZip (λ s d. bits_of d ≡ s) (operand_sizes op sizes) args → length args ≤ 3

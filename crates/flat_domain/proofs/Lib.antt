@@ -2,3 +2,5 @@
 mod Operands
 mod Fitting
 mod Written
+pub mod FlatLemmas
+pub mod OperatorSizeLemmas

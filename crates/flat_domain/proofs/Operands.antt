@@ -8,8 +8,9 @@ use Rattle.alf_ops.specs.Table.{operand_sizes}
 use Rattle.alf_ops.specs.Words.{EachFits}
 use Rattle.domain_core.specs.WordSets.{HaveSizes}
 use Rattle.flat_domain.specs.Flats.{FlatSet, sizes_fit, IsFlat, word_at, flat_sets}
-use Rattle.flat_domain.specs.FlatLaws.{one_fits, both}
-use Rattle.flat_domain.specs.OperatorSizes.{few_operands}
+use Rattle.flat_domain.specs.FlatLaws.{both}
+use Rattle.flat_domain.proofs.FlatLemmas.{one_fits}
+use Rattle.flat_domain.specs.OperatorSizeLaws.{few_operands}
 
 pub few : (op : Op) (sizes : List ℕ) (args : List FlatSet) → HaveSizes flat_sets (operand_sizes op sizes) args → length args ≤ 3
 few op sizes args sized = omega (arith, few_operands op sizes, AllZip-long (λ s d. d.size ≡ s) (operand_sizes op sizes) args sized)

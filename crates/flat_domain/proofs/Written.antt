@@ -2,7 +2,7 @@
 use Rattle.std.proofs.Common.{ℕ, List, length, ◌<◌, ◌≤◌, IsSome}
 use Rattle.std.specs.Prelude.{◌==◌, ◌&&◌, nat_le, nat_lt, slice_index}
 use Rattle.std.proofs.lemmas.Bool.{false≢true, leb-true, ltb-true}
-use Rattle.lists.specs.Tests.{by_test}
+use Rattle.lists.specs.TestLaws.{by_test}
 use Rattle.alf_ops.specs.declared.operator.Op.TheVariants.{Select}
 use Rattle.alf_ops.specs.Layouts.{is_size, is_written_so}
 use Rattle.alf_ops.specs.Table.{result_size, layout_of}

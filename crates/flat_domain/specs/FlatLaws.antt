@@ -6,8 +6,8 @@ use Rattle.std.specs.Prelude.{◌==◌, ◌&&◌, slice_index}
 use Rattle.std.proofs.lemmas.Bool.{eqb-true, ltb-true, lt-ltb, false≢true}
 use Rattle.std.proofs.lemmas.Nat.{pow_below}
 use Rattle.std.proofs.lemmas.Option.{same_Some, none-some}
-use Rattle.lists.specs.Tests.{by_test}
-use Rattle.lists.specs.Members.{first_member, further_member}
+use Rattle.lists.specs.TestLaws.{by_test}
+use Rattle.lists.specs.MemberLaws.{first_member, further_member}
 use Rattle.domain_core.specs.Orders.{IsOrder}
 use Rattle.alf_ops.specs.declared.operator.Op.{Op}
 use Rattle.alf_ops.specs.Table.{result_size, size_of_result}
@@ -16,7 +16,7 @@ use Rattle.domain_core.specs.declared.relation.Rel.{Rel}
 use Rattle.domain_core.specs.Relations.{Related, operator_of}
 use Rattle.domain_core.specs.WordSets.{IsOnly, IsOfSize, HaveWords, HaveOneWord, AreKept, Gives, GivesOnly, GivesSize, IsApplied, IsAssumed, IsKeptWord, IsWordSets}
 use Rattle.flat_domain.specs.Flats.{FlatSet, IsFlat, Fits, IsWord, Covers, allows, has_word, one, common, joined, word_at, known, may_be_zero, is_zero, must_divide, given, applied, may_relate, assumed, only, flat_order, flat_sets}
-use Rattle.flat_domain.specs.OperatorSizes.{word_below, result_is_size}
+use Rattle.flat_domain.specs.OperatorSizeLaws.{word_below, result_is_size}
 
 common_left : (a b : Option ℕ) (x : ℕ) → IsWord a x → IsWord (common a b) x
 common_left None b x h = tt
@@ -54,9 +54,6 @@ only_one d x e small = record { is = (rw e refl, small); one = λ y h. is_same d
     is_same : (w : Option ℕ) → w ≡ Some x → (y : ℕ) → IsWord w y → y ≡ x
     is_same None e y h = cc
     is_same (Some v) e y h = let same : v ≡ x = cc in h ∙ same
-
-pub one_fits : (d : FlatSet) (x : ℕ) → d.word ≡ Some x → IsFlat d → x < 2 ^ d.size
-one_fits d x e flat = rw e at flat.fits
 
 -- Joins.
 

@@ -1,6 +1,6 @@
 -- The files of this folder.
 -- The files here, each after those that it cites.
 pub mod Flats
-pub mod OperatorSizes
+pub mod OperatorSizeLaws
 pub mod FlatLaws
 pub mod Fits

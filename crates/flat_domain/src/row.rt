@@ -16,7 +16,7 @@ pub fn divides(op: Op) -> bool
 }
 
 /// How many bits the operator's result has.
-#[tactic(auto, using(crate::specs::OperatorSizes::result_is_size))]
+#[tactic(auto, using(crate::specs::OperatorSizeLaws::result_is_size))]
 pub fn size_of(op: Op, sizes: &[u32]) -> u32
     requires { IsSome (result_size op sizes.now) }
     ensures value { result ≡ size_of_result op sizes.now }

@@ -8,7 +8,7 @@ use Rattle.std.specs.List.{list_all}
 use Rattle.std.proofs.lemmas.Bool.{leb-true, le-leb, and_parts, and_from, not-true, not_from_false, both_ways, false_from_ne_true}
 use Rattle.std.proofs.lemmas.List.{reverse-append, reverse-reverse}
 use Rattle.std.proofs.lemmas.List.Sums.{AllPass-from_list_all, list_all-from_AllPass, sum_by-cons, sum_by-append}
-use Rattle.lists.specs.Members.{all_members}
+use Rattle.lists.specs.MemberLaws.{all_members}
 use Rattle.domain_core.specs.Outlines.{Shape, is_held, IsOutline}
 use Rattle.domain_core.specs.OutlineLaws.{in_reverse, member_found, found_member}
 use Rattle.domain_core.specs.Stretches.{with_closed}

@@ -1,17 +1,12 @@
 -- The order of facts.
---   before_further    what stands before a fact stands before what that stands before
 --   never_itself      no fact stands before itself
 --   one_before        of two facts one stands before the other, or they are one
---   ascends_more      facts ascend with one more where it stands after the last
-use Rattle.std.proofs.Common.{◌≡◌, ◌<◌, ◌-◌, ◌==◌, ℕ, List, [], ◌∷◌, ◌++◌, ◌⊎◌, inl, inr, cond, length, get_or, refl, ap, sym, ◌∙◌, subst, arith}
-use Rattle.std.specs.Prelude.{AllPairs}
+use Rattle.std.proofs.Common.{◌≡◌, ◌==◌, ℕ, List, [], ◌∷◌, ◌⊎◌, inl, inr, cond, refl, ap, sym, ◌∙◌}
 use Rattle.std.specs.Cmp.Lexicographic.{slice_cmp, nat_list_cmp_total}
 use Rattle.std.specs.Ordering.{nat_cmp, ordering_reverse}
 use Rattle.std.specs.declared.cmp.Ordering.{Ordering}
 use Rattle.std.specs.declared.cmp.Ordering.TheVariants.{Less, Equal, Greater}
-use Rattle.std.proofs.lemmas.List.Quantifiers.{all_pairs_push}
 use Rattle.std.proofs.lemmas.Map.Lookups.{exact_bytes}
-use Rattle.std.proofs.lemmas.Bool.{cases_eq}
 use Rattle.alf_ops.specs.declared.history.RunFault.{RunFault}
 use Rattle.alf_ops.specs.declared.history.RunFault.TheVariants.{Divide, Uninit, Mixed, Bounds, Dead as DeadFrame, Kind, Pointers}
 use Rattle.flow_facts.specs.declared.fact.Fact.{Fact}
@@ -21,10 +16,6 @@ use Rattle.flow_facts.specs.Writable.{IsBefore, kind_place, fault_code, numbers_
 -- what a fact is ordered by
 abbrev pub key_of : Fact → List ℕ
 key_of f = kind_place f ∷ numbers_of f
-
--- what stands before a fact stands before what that stands before
-pub before_further : (f g h : Fact) → IsBefore f g → IsBefore g h → IsBefore f h
-before_further f g h = nat_list_cmp_total.trans (key_of f) (key_of g) (key_of h)
 
 -- no fact stands before itself
 pub never_itself : (f : Fact) → IsBefore f f → ⊥
@@ -72,15 +63,3 @@ one_before f g = by (slice_cmp nat_cmp (key_of f) (key_of g)) refl
     by Less is = inr (inl is)
     by Equal is = inl (one_key f g (exact_bytes (key_of f) (key_of g) is))
     by Greater is = inr (inr (nat_list_cmp_total.antisymm (key_of g) (key_of f) ∙ ap ordering_reverse is))
-
--- facts ascend with one more where it stands after the last
-pub ascends_more : (facts : List Fact) (f : Fact) → AllPairs IsBefore facts → ((d : Fact) → 0 < length facts → IsBefore (get_or facts (length facts - 1) d) f) → AllPairs IsBefore (facts ++ f ∷ [])
-ascends_more facts f all last = all_pairs_push IsBefore facts f all each
-  where
-    each : (k : ℕ) (d : Fact) → k < length facts → IsBefore (get_or facts k d) f
-    each k d low =
-        let last_is = last d (omega arith) in
-        elim (cases_eq k (length facts - 1)) [
-          | inl is ↦ subst (λ (i : ℕ). IsBefore (get_or facts i d) f) (sym is) last_is
-          | inr other ↦ before_further (get_or facts k d) (get_or facts (length facts - 1) d) f (all k (length facts - 1) d (omega arith) (omega arith)) last_is
-        ]

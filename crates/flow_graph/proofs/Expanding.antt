@@ -11,7 +11,7 @@ use Rattle.std.proofs.lemmas.Cmp.{ranked, by_ranked}
 use Rattle.std.proofs.lemmas.Bool.{cases_lt}
 use Rattle.std.proofs.lemmas.List.Elements.{All-contains}
 use Rattle.std.proofs.lemmas.Option.{same_Some, slice_get-get_or, slice_get_within, get_or_from_slice_get, slice_get-map}
-use Rattle.lists.specs.Members.{placed}
+use Rattle.lists.specs.MemberLaws.{placed}
 use Rattle.graph_walks.specs.Walks.{Reaches, stays, goes_on}
 use Rattle.alf_check.specs.CheckedPrograms.{NumberedProgram, BlockEnding, Fall, Jump, Switch, Call, Return}
 use Rattle.alf_check.specs.Kept.{IsKept}

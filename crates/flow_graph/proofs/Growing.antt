@@ -13,7 +13,7 @@ use Rattle.std.proofs.lemmas.List.{take-append-drop, take-map, drop-map, map-app
 use Rattle.std.proofs.lemmas.List.Edits.{length-insert, get_or-insert_below, get_or-insert_at, get_or-insert_above}
 use Rattle.std.proofs.lemmas.List.Elements.{Contains-append_left, Contains-append_right, Contains-append_cases, Contains-push, Contains-push_cases, All-cons, All-contains}
 use Rattle.std.proofs.lemmas.List.Kept.{AllPairs-cons}
-use Rattle.lists.specs.Members.{first_member, further_member, first_or_further, all_members}
+use Rattle.lists.specs.MemberLaws.{first_member, further_member, first_or_further, all_members}
 use Rattle.graph_walks.specs.ListLaws.{same_default}
 use Rattle.flow_graph.specs.Nodes.{Node}
 use Rattle.flow_graph.specs.Numbering.{IsBefore, most_nodes}

@@ -13,3 +13,4 @@ pub mod PathFunctions
 pub mod Expanding
 pub mod Naming
 pub mod GraphNames
+pub mod EdgeLemmas

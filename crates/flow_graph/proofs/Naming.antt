@@ -9,7 +9,7 @@ use Rattle.std.proofs.lemmas.Fmt.{decimal_by_steps, decimal_injective}
 use Rattle.std.proofs.lemmas.List.{append_assoc, append_cancel_left, append-nil, reverse-append, reverse-reverse}
 use Rattle.std.proofs.lemmas.List.Elements.{All-nil, All-cons, All-head, All-tail, All-append, All-contains}
 use Rattle.std.proofs.lemmas.Option.{same_Some}
-use Rattle.lists.specs.Members.{contained, placed}
+use Rattle.lists.specs.MemberLaws.{contained, placed}
 use Rattle.alf_program.specs.Tree.{Function, WholeProgram}
 use Rattle.alf_program.specs.Writable.{IsName, FunctionIsWritable}
 use Rattle.alf_check.specs.CheckedPrograms.{NumberedProgram, NumberedFunction, Call, blocks_at}

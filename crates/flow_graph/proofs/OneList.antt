@@ -3,7 +3,7 @@
 --   no_longer  a list without repeats is no longer than one that has its members
 use Rattle.std.proofs.Common.{◌≡◌, ◌≢◌, ◌≤◌, suc, List, [], ◌∷◌, ◌++◌, length, length-append, Contains, AllPairs, inl, inr, refl, ap, sym, ◌∙◌, subst, arith}
 use Rattle.std.proofs.lemmas.List.Elements.{Contains-append_left, Contains-append_right, Contains-append_cases, All-contains}
-use Rattle.lists.specs.Members.{no_member, first_member, further_member, first_or_further}
+use Rattle.lists.specs.MemberLaws.{no_member, first_member, further_member, first_or_further}
 
 module _ {X : Type 0} (R : X → X → Type 0) (x : X) (xs : List X) (pairs : AllPairs R (x ∷ xs)) where
   head_pairs : (y : X) → Contains xs y → R x y

@@ -5,7 +5,7 @@ use Rattle.std.proofs.Common.{◌≡◌, ◌<◌, ◌≤◌, ◌+◌, ℕ, List,
 use Rattle.std.proofs.lemmas.List.{length-map}
 use Rattle.std.proofs.lemmas.List.Elements.{All-nil, All-cons}
 use Rattle.std.proofs.lemmas.List.Kept.{AllPairs-cons}
-use Rattle.lists.specs.Images.{some_image}
+use Rattle.lists.specs.ImageLaws.{some_image}
 use Rattle.alf_check.specs.CheckedPrograms.{NumberedBlock, NumberedFunction, NumberedProgram, Call, blocks_at}
 use Rattle.alf_check.specs.Kept.{IsKept, called_in, block_calls}
 use Rattle.alf_check.specs.KeptLaws.{call_falls}

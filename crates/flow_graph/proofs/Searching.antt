@@ -10,7 +10,7 @@ use Rattle.std.proofs.lemmas.List.{take_more, take-append-drop}
 use Rattle.std.proofs.lemmas.Option.{same_Some}
 use Rattle.std.proofs.Math.Seq.{take-length}
 use Rattle.std.proofs.lemmas.List.Elements.{Contains-append_left, Contains-push, Contains-push_cases, All-contains}
-use Rattle.lists.specs.Members.{no_member, all_members}
+use Rattle.lists.specs.MemberLaws.{no_member, all_members}
 use Rattle.alf_check.specs.CheckedPrograms.{NumberedProgram}
 use Rattle.flow_base.specs.declared.place.Which.{Which}
 use Rattle.flow_base.specs.declared.place.Which.TheVariants as which

@@ -7,8 +7,8 @@ use Rattle.std.proofs.Common.{◌≡◌, ◌<◌, ◌≤◌, ◌↔◌, ℕ, Lis
 use Rattle.std.specs.Option.{option_map}
 use Rattle.std.proofs.Math.ListN.{drop_of_length-le}
 use Rattle.std.proofs.lemmas.List.{length-map, get_or-map}
-use Rattle.lists.specs.Members.{first_member, further_member, first_or_further, no_member}
-use Rattle.lists.specs.Images.{mapped, image}
+use Rattle.lists.specs.MemberLaws.{first_member, further_member, first_or_further, no_member}
+use Rattle.lists.specs.ImageLaws.{mapped, image}
 use Rattle.alf_check.specs.CheckedPrograms.{NumberedProgram, NumberedBlock, BlockEnding, blocks_at}
 use Rattle.flow_graph.specs.Nodes.{Node, Goal, IsTarget, ending_at, function_at, EndLeads, Leads, block_node}
 use Rattle.flow_graph.specs.Numbering.{block_rank}

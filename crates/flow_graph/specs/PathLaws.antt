@@ -8,7 +8,7 @@ use Rattle.std.proofs.Common.{◌≡◌, ◌<◌, ℕ, zero, suc, List, [], ◌�
 use Rattle.std.specs.Option.{option_map, option_map_or}
 use Rattle.std.proofs.lemmas.Option.{same_Some}
 use Rattle.std.proofs.lemmas.List.Elements.{All-contains}
-use Rattle.lists.specs.Images.{mapped}
+use Rattle.lists.specs.ImageLaws.{mapped}
 use Rattle.alf_program.specs.Tree.{NumberedExpression}
 use Rattle.alf_check.specs.CheckedPrograms.{NumberedProgram, NumberedBlock, NumberedFunction, BlockEnding, Fall, Jump, Switch, Call, Return, blocks_at}
 use Rattle.alf_check.specs.Kept.{IsKept, KeepsEnding, TargetKeeps}

@@ -9,12 +9,13 @@ use Rattle.std.specs.Prelude.{slice_get}
 use Rattle.std.specs.List.{list_any}
 use Rattle.std.proofs.lemmas.Bool.{eqb-true}
 use Rattle.std.proofs.lemmas.List.{append_assoc, append-nil}
-use Rattle.lists.specs.Tests.{by_test}
+use Rattle.lists.specs.TestLaws.{by_test}
 use Rattle.domain_core.specs.declared.outline.NodeRow.{NodeRow}
 use Rattle.domain_core.specs.Outlines.{Outlined, shape_of, Shape, Holds, parent_of, scopes_from, is_held, IsOutline}
 use Rattle.domain_core.specs.OutlineLaws.{leads_on, held_is, is_holder}
 use Rattle.recorder_rules.specs.TallyRules.{is_left}
-use Rattle.flow_recorders.specs.Climbs.{own_at, own_low, from_last, from_more, either_test, leads_any, any_joined}
+use Rattle.flow_recorders.proofs.ClimbLemmas.{either_test, leads_any}
+use Rattle.flow_recorders.specs.ClimbLaws.{own_at, own_low, from_last, from_more, any_joined}
 
 -- among more, what was not there is the new one
 pub out_more : (o : Shape) (to : ℕ) (left : List ℕ) (s : ℕ) → (Holds o s to → ⊥) → IsOutline o → ((t : ℕ) → list_any (λ n. t == n) left ≡ true → is_held o t to ≡ false) → (t : ℕ) → list_any (λ n. t == n) (left ++ s ∷ []) ≡ true → is_held o t to ≡ false

@@ -7,12 +7,14 @@
 use Rattle.std.proofs.Common.{◌≡◌, ◌<◌, ◌≤◌, ◌==◌, ◌||◌, ℕ, List, [], ◌∷◌, ◌++◌, Option, None, Some, Bool, true, false, length, ◌-◌, get_or, refl, sym, ap, ◌∙◌, subst, arith}
 use Rattle.std.specs.List.{list_any}
 use Rattle.std.proofs.lemmas.Bool.{eqb-true, eq-eqb}
-use Rattle.lists.specs.Tests.{by_test}
+use Rattle.lists.specs.TestLaws.{by_test}
 use Rattle.domain_core.specs.declared.outline.ScopeRow.{ScopeRow}
 use Rattle.domain_core.specs.Outlines.{Outlined, shape_of, Shape, LeadsTo, here, up, IsChain, outermost, inner, parent_of, scopes_from, is_held, IsOutline}
 use Rattle.domain_core.specs.OutlineLaws.{leads_on, chain_one, chain_of, held_is}
 use Rattle.recorder_rules.specs.TallyRules.{is_at, is_left}
-use Rattle.flow_recorders.specs.Climbs.{near, either_test, any_joined}
+use Rattle.flow_recorders.specs.Climbs.{near}
+use Rattle.flow_recorders.proofs.ClimbLemmas.{either_test}
+use Rattle.flow_recorders.specs.ClimbLaws.{any_joined}
 use Rattle.flow_recorders.proofs.LeftScopes.{at_holder}
 
 -- a scope around another has no longer a chain

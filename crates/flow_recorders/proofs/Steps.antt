@@ -1,6 +1,7 @@
 -- Turns of the loops over spans.
 use Rattle.std.proofs.Common.{◌≡◌, ℕ, ◌+◌, List, [], ◌∷◌, ◌++◌, get_or, sym, ap, ◌∙◌, add-one}
-use Rattle.recorder_rules.specs.Generated.{generated, generated-suc}
+use Rattle.recorder_rules.specs.Generated.{generated}
+use Rattle.recorder_rules.specs.GeneratedLaws.{generated-suc}
 use Rattle.recorder_rules.specs.Spans.{span_of}
 
 -- the spans around those of both, one more

@@ -5,10 +5,10 @@
 --   ledger_of              a book of an outline is one of the counts of that outline
 use Rattle.std.proofs.Common.{◌≡◌, ◌<◌, ◌≤◌, ◌==◌, ℕ, List, [], ◌∷◌, Option, None, Some, Bool, true, false, cond, length, get_or, reverse, refl, sym, ap, ◌∙◌, subst, arith}
 use Rattle.std.specs.List.{list_any}
-use Rattle.lists.specs.Tests.{by_test}
+use Rattle.lists.specs.TestLaws.{by_test}
 use Rattle.domain_core.specs.Outlines.{Shape, scopes_from, scopes_around}
 use Rattle.domain_core.specs.OutlineLaws.{member_found, found_member, in_reverse, of_reverse}
-use Rattle.recorder_rules.specs.Generated.{generated_is}
+use Rattle.recorder_rules.specs.GeneratedLaws.{generated_is}
 use Rattle.recorder_rules.specs.Spans.{one_more, greatest}
 use Rattle.recorder_rules.specs.SpanLaws.{below_greatest, greatest_least}
 use Rattle.recorder_rules.specs.TotalRules.{span_at, spread_at}

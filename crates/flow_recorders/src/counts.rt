@@ -13,8 +13,9 @@ use std::alloc::{AllocError, Global};
 pub struct OtherNodes;
 
 impl Counted for OtherNodes {
-    ghost use Rattle.recorder_rules.specs.LoopRules.{count_tally, count_is_recording};
-    ghost use Rattle.flow_recorders.specs.TallyKeys.{count_keys};
+    ghost use Rattle.recorder_rules.specs.LoopRules.{count_tally};
+    ghost use Rattle.recorder_rules.specs.LoopRuleLaws.{count_is_recording};
+    ghost use Rattle.flow_recorders.specs.TallyKeyLaws.{count_keys};
 
     ghost tally = { count_tally };
 

@@ -13,8 +13,9 @@ use std::alloc::{AllocError, Global};
 pub struct EachHeader;
 
 impl Counted for EachHeader {
-    ghost use Rattle.recorder_rules.specs.LoopRules.{loop_tally, loop_is_recording};
-    ghost use Rattle.flow_recorders.specs.TallyKeys.{loop_keys};
+    ghost use Rattle.recorder_rules.specs.LoopRules.{loop_tally};
+    ghost use Rattle.recorder_rules.specs.LoopRuleLaws.{loop_is_recording};
+    ghost use Rattle.flow_recorders.specs.TallyKeyLaws.{loop_keys};
 
     ghost tally = { loop_tally };
 

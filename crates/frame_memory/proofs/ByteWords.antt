@@ -19,8 +19,9 @@ use Rattle.memory_rules.specs.AbstractSets.{above_byte, abstract_sets}
 use Rattle.memory_rules.specs.AbstractSetLaws.{abstract_is_sets}
 use Rattle.memory_rules.specs.Frames.{AbstractByte, FrameMem, values_in, and_values, concatenated}
 use Rattle.memory_rules.specs.Covers.{FrameSized}
-use Rattle.memory_rules.specs.Gathered.{WordSized, words_sized}
-use Rattle.frame_memory.specs.ByteLaws.{offsets_more}
+use Rattle.memory_rules.specs.Gathered.{WordSized}
+use Rattle.memory_rules.specs.GatheredLaws.{words_sized}
+use Rattle.frame_memory.proofs.ByteLaws.{offsets_more}
 use Rattle.frame_memory.specs.LoadedResults.{word_in, words_of, HaveSize}
 
 -- a byte may be put below a word

@@ -6,7 +6,7 @@ use Rattle.std.specs.Option.{option_map}
 use Rattle.std.proofs.Common.{◌≡◌, ◌≢◌, ◌∙◌, ap, subst, sym, inl, inr, ℕ, suc, zero, List, [], ◌∷◌, map, Option, Some, None, refl, arith, ◌+◌, ◌<◌, ◌≤◌, length}
 use Rattle.std.proofs.lemmas.Bool.{cases_lt, eqb-true, eq-eqb, false≢true}
 use Rattle.std.proofs.lemmas.Option.{none-some, same_Some, slice_get-map}
-use Rattle.lists.specs.Tests.{by_test}
+use Rattle.lists.specs.TestLaws.{by_test}
 use Rattle.alf_ops.specs.Histories.{offsets}
 use Rattle.memory_pages.specs.Slots.{HeldSlot, table, cell_of}
 use Rattle.memory_rules.specs.Covers.{FrameSized}

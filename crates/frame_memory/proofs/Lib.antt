@@ -4,7 +4,9 @@ mod Steps
 mod Stores
 mod Changes
 mod Sizes
+pub mod ByteLaws
 pub mod ByteWords
+pub mod LoadLemmas
 pub mod Results
 mod SlotJoins
 mod FrameSteps

@@ -17,11 +17,13 @@ use Rattle.memory_rules.specs.AbstractSetLaws.{abstract_is_sets}
 use Rattle.memory_rules.specs.Frames.{Cell, FrameMem, value_result, results, load_results, kept_or, not_kept, stands, taken}
 use Rattle.memory_rules.specs.Covers.{FrameSized, IsCellSize}
 use Rattle.memory_rules.specs.Memories.{faults_of}
-use Rattle.memory_rules.specs.Gathered.{EachSized, results_sized}
+use Rattle.memory_rules.specs.Gathered.{EachSized}
+use Rattle.memory_rules.specs.GatheredLaws.{results_sized}
 use Rattle.memory_model.specs.HeldFrames.{is_cell_size}
 use Rattle.frame_memory.specs.declared.loaded.Loaded.{Loaded}
 use Rattle.frame_memory.specs.LoadedResults.{onto, told}
-use Rattle.frame_memory.specs.LoadLaws.{onto_sized, faults_told}
+use Rattle.frame_memory.specs.LoadLaws.{faults_told}
+use Rattle.frame_memory.proofs.LoadLemmas.{onto_sized}
 
 is_size : (size : ℕ) → is_cell_size size ≡ true → IsCellSize size
 is_size size is =

@@ -11,7 +11,7 @@ use Rattle.memory_rules.specs.Frames.{Cell, FrameMem, stands}
 use Rattle.memory_rules.specs.AbstractSets.{abstract_sets}
 use Rattle.memory_rules.specs.AbstractSetLaws.{abstract_is_sets}
 use Rattle.memory_rules.specs.Covers.{FrameSized}
-use Rattle.memory_rules.specs.Updates.{stands_sized}
+use Rattle.memory_rules.specs.UpdateLaws.{stands_sized}
 use Rattle.memory_model.specs.HeldFrames.{is_cell_size}
 use Rattle.frame_memory.proofs.SlotFrames.{cell_bounds}
 

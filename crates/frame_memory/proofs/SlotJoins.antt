@@ -6,15 +6,15 @@
 use Rattle.std.specs.Prelude.{slice_get, if◌then◌else◌, ◌==◌, nat_lt, ◌||◌, is_some}
 use Rattle.std.proofs.Common.{Bool, ◌≡◌, ◌≢◌, ◌∙◌, ap, subst, sym, inl, inr, ℕ, suc, true, false, List, [], ◌∷◌, Option, Some, None, IfSome, refl, arith, ◌*◌, ◌%◌, ◌<◌, ◌≤◌}
 use Rattle.std.proofs.lemmas.Bool.{cases_eq, and_parts, eqb-true, eq-eqb, ltb-true, ltb-false, leb-true, lt-ltb, le-ltb, le-leb, and_from, false≢true}
-use Rattle.lists.specs.Tests.{by_test}
+use Rattle.lists.specs.TestLaws.{by_test}
 use Rattle.domain_core.specs.WordSets.{IsOfSize}
 use Rattle.strided_rules.specs.Strides.{Stride, joined as joined_words}
 use Rattle.strided_rules.specs.Domains.{stride_sets}
 use Rattle.pointer_rules.specs.AbstractValues.{AbstractValue, joined}
 use Rattle.pointer_rules.specs.Covering.{IsValue}
 use Rattle.pointer_rules.specs.ApplyLaws.{alike}
-use Rattle.memory_rules.specs.SelfStrides.{stride_self}
-use Rattle.memory_rules.specs.SelfValues.{value_self}
+use Rattle.memory_rules.specs.SelfStrideLaws.{stride_self}
+use Rattle.memory_rules.specs.SelfValueLaws.{value_self}
 use Rattle.memory_pages.specs.declared.byte.Byte.{Byte}
 use Rattle.memory_pages.specs.declared.held.Held.{Held}
 use Rattle.memory_pages.specs.Slots.{HeldSlot, table, cell_of}

@@ -4,8 +4,8 @@
 use Rattle.std.specs.Prelude.{slice_get, ◌==◌, nat_lt, if◌then◌else◌}
 use Rattle.std.proofs.Common.{Bool, ◌≡◌, ◌≢◌, ◌⊎◌, inl, inr, sym, subst, ◌∙◌, ℕ, true, false, List, Option, Some, None, refl, arith, ◌+◌, ◌-◌, ◌*◌, ◌/◌, ◌<◌, ◌≤◌}
 use Rattle.std.proofs.lemmas.Bool.{and_parts, and_from, eqb-true, eq-eqb, ltb-true, ltb-false, lt-ltb, le-ltb, false≢true}
-use Rattle.lists.specs.Tests.{by_test}
-use Rattle.alf_ops.specs.Tables.{in_cell, below_cell, above_cell}
+use Rattle.lists.specs.TestLaws.{by_test}
+use Rattle.alf_ops.specs.TableLaws.{in_cell, below_cell, above_cell}
 use Rattle.strided_rules.specs.Strides.{Stride}
 use Rattle.pointer_rules.specs.AbstractValues.{AbstractValue}
 use Rattle.memory_pages.specs.Slots.{HeldSlot}

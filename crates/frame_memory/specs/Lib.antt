@@ -1,6 +1,5 @@
 -- The files of this folder.
 pub mod StandingCells
-pub mod ByteLaws
 pub mod Places
 -- The files here, each after those that it cites.
 pub mod LoadedResults

@@ -1,8 +1,7 @@
 -- Laws of loads that are joined onto what was loaded before.
 --   onto_more       results one after the other
---   onto_sized      the value keeps its size
 --   faults_told     exactly the faults that were there or are among these are told
-use Rattle.std.specs.Prelude.{IfSome, Contains, ◌↔◌, slice_get}
+use Rattle.std.specs.Prelude.{Contains, ◌↔◌, slice_get}
 use Rattle.std.proofs.Common.{◌≡◌, ◌≢◌, ◌⊎◌, inl, inr, sym, subst, ◌∙◌, ap, ℕ, suc, true, List, [], ◌∷◌, ◌++◌, Option, Some, Result, Ok, Err, refl, arith}
 use Rattle.std.proofs.lemmas.Bool.{cases_eq}
 use Rattle.std.proofs.lemmas.Option.{same_Some}
@@ -12,14 +11,10 @@ use Rattle.domain_core.specs.declared.fault_set.FaultSet.{FaultSet}
 use Rattle.domain_core.specs.FaultSets.{has_fault, with_fault}
 use Rattle.domain_core.specs.FaultLaws.{is_new, is_kept}
 use Rattle.pointer_rules.specs.AbstractValues.{AbstractValue, joined}
-use Rattle.pointer_rules.specs.Covering.{IsValue}
 use Rattle.memory_rules.specs.AbstractSets.{abstract_sets}
-use Rattle.memory_rules.specs.AbstractSetLaws.{abstract_is_sets}
 use Rattle.memory_rules.specs.Frames.{either}
 use Rattle.memory_rules.specs.Memories.{joined_values, faults_of}
-use Rattle.memory_rules.specs.Gathered.{EachSized}
-use Rattle.memory_rules.specs.Above.{either_alike}
-use Rattle.memory_rules.specs.MemoryCovering.{contains_none, contains_first, contains_cases}
+use Rattle.memory_rules.specs.MemoryCoveringLaws.{contains_none, contains_first, contains_cases}
 use Rattle.frame_memory.specs.declared.loaded.Loaded.{Loaded}
 use Rattle.frame_memory.specs.LoadedResults.{with_faults, onto}
 
@@ -40,15 +35,6 @@ faults_more set (Err fault ∷ xs) ys = faults_more (with_fault set fault) xs ys
 -- results one after the other
 pub onto_more : (before : Loaded) (xs ys : List (Result AbstractValue RunFault)) → onto before (xs ++ ys) ≡ onto (onto before xs) ys
 onto_more before xs ys = λ i. record { value = values_more before.value xs ys i; faults = faults_more before.faults xs ys i }
-
--- the value keeps its size
-pub onto_sized : (size : ℕ) (value : Option AbstractValue) (results : List (Result AbstractValue RunFault)) → IfSome value (IsValue size)
-    → EachSized abstract_sets size results → IfSome (joined_values abstract_sets value results) (IsValue size)
-onto_sized size value [] sized each = sized
-onto_sized size value (Ok set ∷ results) sized each =
-    onto_sized size (either joined value (Some set)) results
-    (either_alike joined (IsValue size) (IsValue size) (λ x y. abstract_is_sets.joined_sized x y size) value (Some set) sized each.0) each.1
-onto_sized size value (Err fault ∷ results) sized each = onto_sized size value results sized each
 
 -- ---- faults
 

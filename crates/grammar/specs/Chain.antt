@@ -4,7 +4,8 @@
 --   grow goes_on p x                 the same as a rule
 use Rattle.std.proofs.Common.{◌≡◌, ℕ, zero, suc, ◌≤◌, ◌<◌, Bool, true, false, cond, Result, Ok, Err, refl, ap, subst, arith}
 use Rattle.grammar.specs.Form.{At, Form, and_then, left}
-use Rattle.grammar.specs.Exact.{IsExact, Says, ok_no_err, ok_is}
+use Rattle.grammar.specs.Exact.{IsExact, Says, ok_no_err}
+use Rattle.grammar.specs.ExactLaws.{ok_is}
 use Rattle.grammar.specs.Rule.{Rule}
 
 module _ {T R F A : Type 0} (goes_on : A → At T R → Bool) (p : A → Form T R F A) where

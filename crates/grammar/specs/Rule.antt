@@ -3,7 +3,8 @@
 --   token, judge, refuse, value, weaken, spend, ◌>>=◌, ◌>>◌, many, maybe, exactly    how rules are put together
 use Rattle.std.specs.Prelude.{ℕ, ◌||◌, List, Bool, true, false, Result, Option}
 use Rattle.grammar.specs.Form.{At, Form, one, judged, made, refused, bound, spent, row, at_most_one, exactly_form}
-use Rattle.grammar.specs.Exact.{IsExact, one_exact, judged_exact, made_exact, refused_exact, bound_exact, spent_exact, row_exact, maybe_exact, weaker, exactly_exact}
+use Rattle.grammar.specs.Exact.{IsExact}
+use Rattle.grammar.specs.ExactLaws.{one_exact, judged_exact, made_exact, refused_exact, bound_exact, spent_exact, row_exact, maybe_exact, weaker, exactly_exact}
 
 pub record Rule (T R F : Type 0) (some : Bool) (A : Type 0) : Type 1 where
   pub form : Form T R F A

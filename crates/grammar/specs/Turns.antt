@@ -1,7 +1,7 @@
 -- Parts of a chain, read one after the other as a loop does.
 --   ChainSoFar goes_on p x y rest start   from start on, where the chain begins with x, y was made, and the rest is to come
-use Rattle.std.proofs.Common.{◌≡◌, ℕ, zero, suc, ◌<◌, Bool, true, false, Ok, Err, Option, Some, None, refl, sym, arith}
-use Rattle.grammar.specs.Form.{At, left, Fails}
+use Rattle.std.proofs.Common.{◌≡◌, ℕ, ◌<◌, Bool, true}
+use Rattle.grammar.specs.Form.{At, left}
 use Rattle.grammar.specs.Rule.{Rule}
 use Rattle.grammar.specs.Chain.{in_turn, grow}
 
@@ -10,34 +10,3 @@ module _ {T R F A : Type 0} (goes_on : A → At T R → Bool) (p : A → Rule T 
     pub turns : ℕ
     pub enough : left rest < turns
     pub goes : in_turn goes_on (λ y. (p y).form) turns y rest ≡ (grow goes_on p x).form.reading start
-
-  pub chain_starts : (x : A) (start : At T R) → ChainSoFar x x start start
-  chain_starts x start = record { turns = suc (left start); enough = omega arith; goes = refl }
-
-  pub chain_goes_on : (x y : A) (rest start : At T R) (z : A) (next : At T R) → goes_on y rest ≡ true → (p y).form.reading rest ≡ Ok (z, next) → ChainSoFar x y rest start → ChainSoFar x z next start
-  chain_goes_on x y rest start z next o e so = at_turns so.turns so.enough so.goes
-    where
-      at_turns : (turns : ℕ) → left rest < turns → in_turn goes_on (λ y. (p y).form) turns y rest ≡ (grow goes_on p x).form.reading start → ChainSoFar x z next start
-      at_turns zero enough goes = absurd (omega arith)
-      at_turns (suc n) enough goes =
-          let less : left next < left rest = (p y).exact.shrinks rest (z, next) e in
-          record { turns = n; enough = omega arith; goes = rw (o, e) at goes }
-
-  chain_errs : (x y : A) (rest start : At T R) (f : F) → goes_on y rest ≡ true → (p y).form.reading rest ≡ Err f → ChainSoFar x y rest start → (grow goes_on p x).form.reading start ≡ Err f
-  chain_errs x y rest start f o e so = at_turns so.turns so.enough so.goes
-    where
-      at_turns : (turns : ℕ) → left rest < turns → in_turn goes_on (λ y. (p y).form) turns y rest ≡ (grow goes_on p x).form.reading start → (grow goes_on p x).form.reading start ≡ Err f
-      at_turns zero enough goes = absurd (omega arith)
-      at_turns (suc n) enough goes = sym (rw (o, e) at goes)
-
-  -- so too where memory may have run out
-  pub chain_fails : (x y : A) (rest start : At T R) (fault : Option F) → goes_on y rest ≡ true → Fails fault ((p y).form.reading rest) → ChainSoFar x y rest start → Fails fault ((grow goes_on p x).form.reading start)
-  chain_fails x y rest start None o e so = tt
-  chain_fails x y rest start (Some f) o e so = chain_errs x y rest start f o e so
-
-  pub chain_ends : (x y : A) (rest start : At T R) → goes_on y rest ≡ false → ChainSoFar x y rest start → (grow goes_on p x).form.reading start ≡ Ok (y, rest)
-  chain_ends x y rest start o so = at_turns so.turns so.enough so.goes
-    where
-      at_turns : (turns : ℕ) → left rest < turns → in_turn goes_on (λ y. (p y).form) turns y rest ≡ (grow goes_on p x).form.reading start → (grow goes_on p x).form.reading start ≡ Ok (y, rest)
-      at_turns zero enough goes = absurd (omega arith)
-      at_turns (suc n) enough goes = sym (rw o at goes)

@@ -5,11 +5,12 @@ use Rattle.std.proofs.lemmas.Bool.{cases_lt}
 use Rattle.std.proofs.lemmas.List.{same_from_push, append_assoc, length-replicate}
 use Rattle.std.proofs.lemmas.List.Elements.{Contains-append_left, Contains-push, Contains-push_cases, Contains-get_or}
 use Rattle.std.proofs.lemmas.List.Sums.{count_by-le-length}
-use Rattle.lists.specs.Members.{no_member}
+use Rattle.lists.specs.MemberLaws.{no_member}
 use Rattle.graph_walks.specs.Walks.{Walk, stays, goes_on, IsDistinct}
 use Rattle.graph_walks.specs.Tables.{HasEdge, IsClosed}
 use Rattle.graph_walks.specs.MarkedNodes.{IsMarked, marked_count, ReachesPast, IsBarred}
-use Rattle.graph_walks.specs.ListLaws.{same_or_not, contains_cases, distinct_one, distinct_push, distinct_front, same_default}
+use Rattle.graph_walks.specs.ListLaws.{same_or_not, contains_cases, distinct_push, distinct_front, same_default}
+use Rattle.graph_walks.proofs.ListLemmas.{distinct_one}
 use Rattle.graph_walks.specs.WalkLaws.{split}
 use Rattle.graph_walks.specs.MarkedNodeLaws.{by_mark, both, marked_low, marked_kept, marked_either, marked_new, marked_set}
 use Rattle.graph_walks.specs.Searching.{IsFresh, IsSpread, IsMet, GoesOn, GoesBack, IsSearch}

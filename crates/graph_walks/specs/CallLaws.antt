@@ -1,10 +1,9 @@
 -- Who calls, and what ranks promise.
-use Rattle.std.proofs.Common.{◌<◌, ◌≤◌, ℕ, List, [], length, get_or, Contains, inl, inr, subst, arith}
+use Rattle.std.proofs.Common.{◌<◌, ℕ, List, [], length, Contains, inl, inr, subst}
 use Rattle.std.proofs.lemmas.Bool.{cases_lt}
 use Rattle.std.proofs.lemmas.List.{get_or_past}
-use Rattle.lists.specs.Members.{no_member}
-use Rattle.graph_walks.specs.Walks.{Walk, stays, goes_on}
-use Rattle.graph_walks.specs.Calls.{Calls, IsRanked, RanksRuleOutCycles}
+use Rattle.lists.specs.MemberLaws.{no_member}
+use Rattle.graph_walks.specs.Calls.{Calls}
 
 -- a function that calls is one of them
 pub caller_low : (calls : List (List ℕ)) (f g : ℕ) → Calls calls f g → f < length calls
@@ -13,13 +12,3 @@ caller_low calls f g call =
       | inl low ↦ low
       | inr past ↦ no_member g (subst (λ (xs : List ℕ). Contains xs g) (get_or_past calls f [] past) call)
     ]
-
--- ranks do not rise along calls
-pub ranks_fall : (calls : List (List ℕ)) (ranks : List ℕ) → IsRanked calls ranks → (f g : ℕ) (path : List ℕ) → Walk (Calls calls) f g path → get_or ranks g 0 ≤ get_or ranks f 0
-ranks_fall calls ranks r f g path stays = omega arith
-ranks_fall calls ranks r f g path (goes_on {u = u} {v = v} {path = before} way call) =
-    let low = ranks_fall calls ranks r f u before way in let lower = r.falls u v call in omega arith
-
--- so no function is on a cycle
-pub ranks_rule_out : RanksRuleOutCycles
-ranks_rule_out calls ranks r f way = let low = ranks_fall calls ranks r f way.last way.path way.walk in let lower = r.falls way.last f way.call in omega arith

@@ -1,12 +1,10 @@
 -- Elements of lists, and lists without repeats.
-use Rattle.std.proofs.Common.{◌≡◌, ◌≢◌, ◌<◌, ℕ, zero, suc, List, [], ◌∷◌, ◌++◌, ◌⊎◌, inl, inr, Contains, Some, None, ◌+◌, ◌-◌, get_or, slice_get, length, length-append, refl, ap, sym, ◌∙◌, subst, arith}
+use Rattle.std.proofs.Common.{◌≡◌, ◌≢◌, ◌<◌, ℕ, zero, suc, List, [], ◌∷◌, ◌++◌, ◌⊎◌, inl, inr, Contains, get_or, length, length-append, refl, ap, sym, ◌∙◌, subst, arith}
 use Rattle.std.proofs.lemmas.Bool.{cases_lt}
-use Rattle.std.proofs.Math.Seq.{get_or-append_seam}
-use Rattle.std.proofs.lemmas.Option.{get_or_from_slice_get, slice_get-get_or}
 use Rattle.std.proofs.lemmas.List.{get_or_append_left}
 use Rattle.std.proofs.lemmas.List.Elements.{Contains-get_or}
 use Rattle.std.proofs.lemmas.List.Quantifiers.{all_pairs_push}
-use Rattle.lists.specs.Members.{no_member, first_or_further}
+use Rattle.lists.specs.MemberLaws.{no_member, first_or_further}
 use Rattle.graph_walks.specs.Walks.{IsDistinct}
 
 -- two numbers are the same or not
@@ -22,23 +20,6 @@ pub last_cases : (x : ℕ) (xs : List ℕ) → (front : List ℕ) × (last : ℕ
 last_cases x [] = ([], x, refl)
 last_cases x (y ∷ xs) = let r = last_cases y xs in (x ∷ r.0, r.1, ap (λ (ys : List ℕ). x ∷ ys) r.2)
 
--- the last element of a list stands after the others
-pub last_is : (xs : List ℕ) (x : ℕ) → slice_get xs (length xs - 1) ≡ Some x → (front : List ℕ) × (xs ≡ front ++ x ∷ [])
-last_is [] x e = absurd (cc)
-last_is (y ∷ xs) x e =
-    let r = last_cases y xs in
-    let long : length (y ∷ xs) ≡ length r.0 + 1 = ap length r.2 ∙ length-append r.0 (r.1 ∷ []) in
-    let place : length (y ∷ xs) - 1 ≡ length r.0 = omega arith in
-    let there : get_or (y ∷ xs) (length r.0) x ≡ x = get_or_from_slice_get (y ∷ xs) (length r.0) x x (ap (λ (k : ℕ). slice_get (y ∷ xs) k) (sym place) ∙ e) in
-    let last : get_or (r.0 ++ r.1 ∷ []) (length r.0) x ≡ r.1 = get_or-append_seam r.0 r.1 [] x in
-    let same : r.1 ≡ x = sym last ∙ ap (λ (ys : List ℕ). get_or ys (length r.0) x) (sym r.2) ∙ there in
-    (r.0, r.2 ∙ ap (λ (n : ℕ). r.0 ++ n ∷ []) same)
-
--- a list without a last element is empty
-pub last_none : (xs : List ℕ) → slice_get xs (length xs - 1) ≡ None → xs ≡ []
-last_none [] e = refl
-last_none (y ∷ xs) e = let there = slice_get-get_or (y ∷ xs) (length (y ∷ xs) - 1) y (omega arith) in absurd (cc)
-
 -- an element cuts a list in two
 pub cut_at : (xs : List ℕ) (x : ℕ) → Contains xs x → (front rest : List ℕ) × (xs ≡ front ++ x ∷ rest)
 cut_at [] x h = no_member x h
@@ -52,10 +33,6 @@ pub same_default : {X : Type 0} (xs : List X) (k : ℕ) (d e : X) → k < length
 same_default [] k d e low = absurd (omega arith)
 same_default (x ∷ xs) zero d e low = refl
 same_default (x ∷ xs) (suc k) d e low = same_default xs k d e (omega arith)
-
--- a list of one has no repeats
-pub distinct_one : (x : ℕ) → IsDistinct (x ∷ [])
-distinct_one x i j d before inside = absurd (omega arith)
 
 -- nor has one with a further element that is not among it
 pub distinct_push : (xs : List ℕ) (y : ℕ) → IsDistinct xs → (Contains xs y → ⊥) → IsDistinct (xs ++ y ∷ [])

@@ -4,16 +4,13 @@
 --   marked_kept      one more mark keeps the others, marked_new is one, and marked_either marks no other
 --   none_marked      where marks are made, none is marked
 --   marked_most      where marks are kept no fewer are marked, marked_more more where there is a new one, and marked_some not 0 where there is one
---   barred_or_not    where each walk is barred, none goes past the marks
 --   barred_by_one    where one node alone is marked, it lies on each walk that is barred
---   spread_closed    marks that are closed under edges stay closed where marks spread
-use Rattle.std.proofs.Common.{◌≡◌, ◌<◌, ◌≤◌, ℕ, zero, suc, Bool, true, false, cond, List, [], ◌∷◌, ◌++◌, ◌⊎◌, inl, inr, Contains, get_or, set, replicate, length, length-set, refl, ap, sym, ◌∙◌, subst, arith}
+use Rattle.std.proofs.Common.{◌≡◌, ◌<◌, ◌≤◌, ℕ, zero, suc, Bool, true, false, cond, List, [], ◌∷◌, ◌⊎◌, inl, inr, Contains, get_or, set, replicate, length, length-set, refl, ap, sym, ◌∙◌, subst, arith}
 use Rattle.std.proofs.lemmas.List.{get_or-set_same}
-use Rattle.std.proofs.lemmas.List.Elements.{Contains-push_cases}
 use Rattle.std.proofs.lemmas.List.Sums.{sum_by-cons}
-use Rattle.lists.specs.Tests.{by_test}
+use Rattle.lists.specs.TestLaws.{by_test}
 use Rattle.graph_walks.specs.Walks.{Walk, goes_on}
-use Rattle.graph_walks.specs.MarkedNodes.{IsMarked, KeepsMarks, marked_count, ReachesPast, IsBarred}
+use Rattle.graph_walks.specs.MarkedNodes.{IsMarked, KeepsMarks, marked_count, IsBarred}
 
 -- a node is marked or not
 pub by_mark : {A : Type 0} (marks : List Bool) (n : ℕ) → (IsMarked marks n → A) → ((IsMarked marks n → ⊥) → A) → A
@@ -60,11 +57,11 @@ none_marked (suc count) zero h = let e : false ≡ true = h in cc
 none_marked (suc count) (suc n) h = none_marked count n h
 
 -- a first mark counts one
-counted : (marks : List Bool) → marked_count (true ∷ marks) ≡ suc (marked_count marks)
+pub counted : (marks : List Bool) → marked_count (true ∷ marks) ≡ suc (marked_count marks)
 counted marks = let sum = sum_by-cons (λ (mark : Bool). cond mark 1 0) true marks in omega arith
 
 -- and a first node without one none
-uncounted : (marks : List Bool) → marked_count (false ∷ marks) ≡ marked_count marks
+pub uncounted : (marks : List Bool) → marked_count (false ∷ marks) ≡ marked_count marks
 uncounted marks = let sum = sum_by-cons (λ (mark : Bool). cond mark 1 0) false marks in omega arith
 
 -- where marks are kept, no fewer are marked
@@ -96,38 +93,8 @@ marked_more old new m long kept clear is =
     in
     omega arith
 
--- where one is marked, the count is not 0
-pub marked_some : (marks : List Bool) (n : ℕ) → IsMarked marks n → 0 < marked_count marks
-marked_some [] n is = absurd (let e : false ≡ true = is in cc)
-marked_some (true ∷ marks) n is = omega (arith, counted marks)
-marked_some (false ∷ marks) zero is = absurd (let e : false ≡ true = is in cc)
-marked_some (false ∷ marks) (suc n) is = let some = marked_some marks n is in omega (arith, uncounted marks)
-
--- where each walk is barred, none goes past the marks
-pub barred_or_not : (Leads : ℕ → ℕ → Type 0) (marks : List Bool) (a b : ℕ) → IsBarred Leads marks a b → ReachesPast Leads marks a b → ⊥
-barred_or_not Leads marks a b bars way = let met = bars way.path way.walk in way.avoids met.0 met.1 met.2
-
 -- where one node alone is marked, it lies on each walk that is barred
 pub barred_by_one : (Leads : ℕ → ℕ → Type 0) (marks : List Bool) (a b h : ℕ) → ((n : ℕ) → IsMarked marks n → n ≡ h) → IsBarred Leads marks a b
     → (path : List ℕ) → Walk Leads a b path → Contains path h
 barred_by_one Leads marks a b h only bars path walk =
     let met = bars path walk in subst (λ (n : ℕ). Contains path n) (only met.0 met.2) met.1
-
--- a way past the marks goes on by an edge to a node without one
-pub past_on : (Leads : ℕ → ℕ → Type 0) (marks : List Bool) (a b c : ℕ) → ReachesPast Leads marks a b → Leads b c → (IsMarked marks c → ⊥) → ReachesPast Leads marks a c
-past_on Leads marks a b c way edge clear = record {
-  path = way.path ++ c ∷ [];
-  walk = goes_on way.walk edge;
-  avoids =
-      λ n there is. elim (Contains-push_cases way.path c n there) [ inl earlier ↦ way.avoids n earlier is | inr e ↦ clear (subst (λ (k : ℕ). IsMarked marks k) (sym e) is) ];
-}
-
--- marks that are closed under edges stay closed where marks spread
-pub spread_closed : (Leads : ℕ → ℕ → Type 0) (old new : List Bool) (from : ℕ) → KeepsMarks old new
-    → ((n : ℕ) → IsMarked new n → IsMarked old n ⊎ ReachesPast Leads old from n) → ((n : ℕ) → ReachesPast Leads old from n → IsMarked new n)
-    → ((u v : ℕ) → Leads u v → IsMarked old u → IsMarked old v) → (u v : ℕ) → Leads u v → IsMarked new u → IsMarked new v
-spread_closed Leads old new from kept reached all closed u v edge is =
-    elim (reached u is) [
-      | inl before ↦ kept v (closed u v edge before)
-      | inr way ↦ by_mark old v (λ was. kept v was) (λ clear. all v (past_on Leads old from u v way edge clear))
-    ]

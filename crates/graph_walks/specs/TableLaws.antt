@@ -1,24 +1,14 @@
 -- The rows of the code's table.
 --   rows_long     as many as the code's table has
---   rows_closed   where each row lies below their count, each node has a row
 --   row_is        a row of the code is the table's, row_edge an edge leads to each node of it, and row_low each node of it has a row
-use Rattle.std.proofs.Common.{◌≡◌, ◌<◌, ℕ, List, [], Vec, Global, get_or, length, Contains, All, inl, inr, ap, sym, ◌∙◌, subst, arith}
-use Rattle.std.proofs.lemmas.Bool.{cases_lt}
-use Rattle.std.proofs.lemmas.List.{length-map, get_or-map, get_or_past}
-use Rattle.std.proofs.lemmas.List.Elements.{Contains-get_or, All-contains}
-use Rattle.lists.specs.Members.{no_member}
+use Rattle.std.proofs.Common.{◌≡◌, ◌<◌, ℕ, List, [], Vec, Global, get_or, length, Contains, ap, sym, ◌∙◌, subst, arith}
+use Rattle.std.proofs.lemmas.List.{length-map, get_or-map}
+use Rattle.std.proofs.lemmas.List.Elements.{Contains-get_or}
 use Rattle.graph_walks.specs.Tables.{HasEdge, IsClosed, rows_of}
 
 -- as many as the code's table has
 pub rows_long : (rows : List (Vec ℕ Global)) → length (rows_of rows) ≡ length rows
 rows_long rows = length-map rows (λ (x : Vec ℕ Global). x.items)
-
--- where each of its rows lies below their count, each node has a row
-pub rows_closed : (rows : List (Vec ℕ Global)) → ((u : ℕ) → u < length rows → All (λ n. n < length rows) (get_or (rows_of rows) u [])) → IsClosed (rows_of rows)
-rows_closed rows each u v edge = elim (cases_lt u (length rows)) [
-  | inl low ↦ let inside = All-contains (λ n. n < length rows) (get_or (rows_of rows) u []) v (each u low) edge in let long = rows_long rows in omega arith
-  | inr past ↦ let long = rows_long rows in no_member v (subst (λ (row : List ℕ). Contains row v) (get_or_past (rows_of rows) u [] (omega arith)) edge)
-]
 
 module _ (rows : List (Vec ℕ Global)) (n : ℕ) (v : Vec ℕ Global) (row : List ℕ) (inside : n < length rows) (is_v : v ≡ get_or rows n v) (is_row : row ≡ v.items) where
   -- a row of the code is the table's

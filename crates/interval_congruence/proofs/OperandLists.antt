@@ -7,7 +7,7 @@ use Rattle.std.proofs.Common.{◌≡◌, ℕ, zero, suc, List, [], ◌∷◌, ma
 use Rattle.std.specs.Prelude.{slice_get}
 use Rattle.alf_ops.specs.Words.{EachFits}
 use Rattle.domain_core.specs.WordSets.{HaveSizes}
-use Rattle.flat_domain.specs.OperatorSizes.{word_below}
+use Rattle.flat_domain.specs.OperatorSizeLaws.{word_below}
 use Rattle.strided_rules.specs.Strides.{Stride, one_word}
 use Rattle.strided_rules.specs.Members.{word_of}
 use Rattle.strided_rules.specs.Domains.{operand, stride_sets}

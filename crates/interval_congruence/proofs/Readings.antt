@@ -7,7 +7,7 @@ use Rattle.alf_ops.specs.TwosComplement.{signed}
 use Rattle.whole_numbers.specs.MultipleLaws.{divides_same, divides_difference}
 use Rattle.progressions.specs.Progressions.{full}
 use Rattle.progressions.specs.ProgressionLaws.{halves}
-use Rattle.flat_domain.specs.OperatorSizes.{word_below}
+use Rattle.flat_domain.specs.OperatorSizeLaws.{word_below}
 use Rattle.strided_rules.specs.Strides.{Stride, IsStride}
 use Rattle.strided_rules.specs.Members.{word_of}
 use Rattle.strided_rules.specs.PlacedLaws.{from_word, signed_range, by_distance}

@@ -48,7 +48,7 @@ fn words(args: &[Strided]) -> [u64; 3]
 }
 
 /// What the operator gives at words.
-#[tactic(auto, using(flat_domain::specs::OperatorSizes::result_is_size))]
+#[tactic(auto, using(flat_domain::specs::OperatorSizeLaws::result_is_size))]
 fn known(op: Op, sizes: &[u32], words: &[u64]) -> Applied<Strided>
     requires typed { IsSome (result_size op sizes.now) }
     requires fitting { EachFits (operand_sizes op sizes.now) words.now }

@@ -205,7 +205,7 @@ impl Strided {
     }
 
     /// The word of its low end.
-    #[tactic(auto, using(flat_domain::specs::OperatorSizes::word_below))]
+    #[tactic(auto, using(flat_domain::specs::OperatorSizeLaws::word_below))]
     pub fn word(self) -> u64
         ensures value { result ≡ word_of self }
         ensures fits { result < 2 ^ self.size }

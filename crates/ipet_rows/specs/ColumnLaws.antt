@@ -6,9 +6,9 @@ use Rattle.std.specs.Prelude.{filter}
 use Rattle.std.specs.List.{range_with_len}
 use Rattle.std.proofs.lemmas.List.Elements.{Contains-append_left, Contains-append_right, Contains-append_cases}
 use Rattle.std.proofs.lemmas.Bool.{cases_eq}
-use Rattle.lists.specs.Members.{no_member, first_member, further_member}
-use Rattle.lists.specs.Images.{mapped, image}
-use Rattle.lists.specs.Tests.{by_test}
+use Rattle.lists.specs.MemberLaws.{no_member, first_member, further_member}
+use Rattle.lists.specs.ImageLaws.{mapped, image}
+use Rattle.lists.specs.TestLaws.{by_test}
 use Rattle.graph_walks.specs.ListLaws.{contains_cases}
 use Rattle.domain_core.specs.Outlines.{Shape, IsOutline}
 use Rattle.domain_core.specs.Traces.{IsTrace}

@@ -2,9 +2,8 @@
 use Rattle.std.proofs.Common.{◌≡◌, ℕ, ℤ, zero, suc, ◌+◌, ◌<◌, ◌≤◌, arith, refl, Option, Some, None, ⊎_elim, true, false, add-one}
 use Rattle.std.specs.Prelude.{◌+ℤ◌, ◌&&◌}
 use Rattle.std.proofs.lemmas.Bool.{cases_Bool, cases_eq}
-use Rattle.ipet_rows.specs.Firsts.{fits}
+use Rattle.ipet_rows.specs.Firsts.{fits, first}
 use Rattle.ipet_rows.specs.Sums.{total}
-use Rattle.ipet_rows.specs.Firsts.{first}
 use Rattle.ipet_rows.specs.Verdicts.{first_wide, wide_at, summed}
 
 -- an answer that came stays the first

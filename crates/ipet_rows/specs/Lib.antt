@@ -11,11 +11,14 @@ pub mod UseLaws
 pub mod FlowLaws
 pub mod ColumnLaws
 pub mod ExecutionSums
+pub mod ExecutionSumLaws
 pub mod Shaped
 pub mod PathRowLaws
 pub mod OnceLaws
 pub mod IterationSums
+pub mod IterationSumLaws
 pub mod Feasible
+pub mod FeasibleLaws
 pub mod PathSparseLaws
 pub mod Worked
 pub mod Firsts
@@ -24,7 +27,7 @@ pub mod Duals
 pub mod Verdicts
 pub mod Bounds
 pub mod SumLaws
-pub mod Duality
+pub mod DualityLaws
 pub mod FirstLaws
 pub mod DualRowLaws
 pub mod PointLaws

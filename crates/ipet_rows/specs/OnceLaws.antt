@@ -5,7 +5,7 @@
 --   once             so it does not come back before the header
 use Rattle.std.proofs.Common.{◌≡◌, ◌≢◌, ◌<◌, ◌≤◌, ℕ, List, [], ◌∷◌, ◌++◌, ◌⊎◌, inl, inr, Contains, length, get_or, refl, ap, sym, ◌∙◌, subst, arith}
 use Rattle.std.proofs.lemmas.Bool.{cases_eq, cases_lt}
-use Rattle.lists.specs.Members.{no_member, first_member, further_member}
+use Rattle.lists.specs.MemberLaws.{no_member, first_member, further_member}
 use Rattle.graph_walks.specs.Walks.{Walk, stays}
 use Rattle.graph_walks.specs.ListLaws.{contains_cases}
 use Rattle.domain_core.specs.Reducible.{IsEdge, Dominates}

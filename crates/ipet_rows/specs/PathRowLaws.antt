@@ -8,8 +8,8 @@ use Rattle.std.specs.Prelude.{◌+ℤ◌, ◌-ℤ◌, ◌*ℤ◌, ◌≤ℤ◌}
 use Rattle.std.specs.List.{range_with_len}
 use Rattle.std.proofs.lemmas.Int.{ints}
 use Rattle.std.proofs.lemmas.List.Elements.{All-nil, All-cons, All-head, All-tail}
-use Rattle.lists.specs.Members.{no_member}
-use Rattle.lists.specs.Images.{all_images}
+use Rattle.lists.specs.MemberLaws.{no_member}
+use Rattle.lists.specs.ImageLaws.{all_images}
 use Rattle.graph_walks.specs.ListLaws.{contains_cases}
 use Rattle.domain_core.specs.declared.scope_kind.ScopeKind.TheVariants.{Call, Loop as LoopScope}
 use Rattle.domain_core.specs.Outlines.{Shape, IsOutline, Holds, LeadsTo, here, header_of, kind_of}
@@ -27,7 +27,7 @@ use Rattle.ipet_rows.specs.Uses.{steps_of, uses, number_at, column_counts}
 use Rattle.ipet_rows.specs.Shaped.{FitsOutline}
 use Rattle.ipet_rows.specs.UseLaws.{AreApart, weigh, weighted, all_uses, row_value}
 use Rattle.ipet_rows.specs.FlowLaws.{left, flow_is, weigh_minus}
-use Rattle.ipet_rows.specs.ExecutionSums.{places_turned, most_met, least_met}
+use Rattle.ipet_rows.specs.ExecutionSumLaws.{places_turned, most_met, least_met}
 
 -- the steps meet the row
 abbrev pub IsMet : List Column → Weighing → Type 0

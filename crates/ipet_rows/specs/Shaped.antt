@@ -1,10 +1,9 @@
 -- Facts that fit an outline.
 --   FitsOutline o fact   what the fact names is there and of the kind that it speaks of
 --   FitOutline o facts   so of all facts
-use Rattle.std.specs.Prelude.{◌≡◌, ◌≢◌, ◌<◌, List, length, All}
+use Rattle.std.specs.Prelude.{◌≡◌, ◌≢◌, ◌<◌, List, length, All, slice_index}
 use Rattle.domain_core.specs.declared.scope_kind.ScopeKind.TheVariants.{Loop as LoopScope}
 use Rattle.domain_core.specs.Outlines.{Shape, header_of, kind_of}
-use Rattle.std.specs.Prelude.{slice_index}
 use Rattle.flow_facts.specs.declared.fact.Fact.{Fact}
 use Rattle.flow_facts.specs.declared.fact.Fact.TheVariants.{Loop, Count, Dead, Total, Pair, Alarm}
 

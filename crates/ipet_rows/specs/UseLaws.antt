@@ -10,8 +10,8 @@ use Rattle.std.specs.Prelude.{◌+ℤ◌, ◌*ℤ◌, int_le}
 use Rattle.std.proofs.lemmas.Bool.{eqb-true, eq-eqb, and_parts, false_from_ne_true}
 use Rattle.std.proofs.lemmas.Int.{ints}
 use Rattle.std.proofs.lemmas.List.Sums.{sum_by-cons}
-use Rattle.lists.specs.Members.{no_member, first_member, further_member, first_or_further}
-use Rattle.lists.specs.Tests.{by_test}
+use Rattle.lists.specs.MemberLaws.{no_member, first_member, further_member, first_or_further}
+use Rattle.lists.specs.TestLaws.{by_test}
 use Rattle.whole_numbers.specs.MultipleLaws.{sum_times}
 use Rattle.ipet_rows.specs.Sums.{value_at}
 use Rattle.ipet_rows.specs.Columns.{Column}

@@ -4,10 +4,9 @@ use Rattle.std.specs.Prelude.{◌+ℤ◌, ◌-ℤ◌, ◌*ℤ◌, ◌≤ℤ◌, 
 use Rattle.std.specs.Int.{int_div_euclid, int_rem_euclid, int_max}
 use Rattle.std.proofs.lemmas.Int.{ints, clamps}
 use Rattle.std.proofs.lemmas.Bool.{cases_Bool, cases_eq, leb-true}
-use Rattle.ipet_rows.specs.Firsts.{fits}
+use Rattle.ipet_rows.specs.Firsts.{fits, entry, first, or_else}
 use Rattle.whole_numbers.specs.DivisionLaws.{quotient_and_rest, rest_range}
 use Rattle.whole_numbers.specs.MultipleLaws.{sum_times, times_times}
-use Rattle.ipet_rows.specs.Firsts.{entry, first, or_else}
 use Rattle.ipet_rows.specs.Programs.{Program, IsProgram, row_at, cost_at}
 use Rattle.ipet_rows.specs.Points.{MeetsAll, worth}
 use Rattle.ipet_rows.specs.Fractions.{part_of, whole_of}
@@ -17,7 +16,7 @@ use Rattle.ipet_rows.specs.Bounds.{BoundsAll, OnHolds}
 use Rattle.ipet_rows.specs.declared.verdict.Verdict.{Verdict}
 use Rattle.ipet_rows.specs.declared.verdict.Verdict.TheVariants.{Holds, Negative, Wide, Column, Bound}
 use Rattle.ipet_rows.specs.PointLaws.{whole_above, point_meets_all}
-use Rattle.ipet_rows.specs.Duality.{weak_duality, times_rising}
+use Rattle.ipet_rows.specs.DualityLaws.{weak_duality, times_rising}
 use Rattle.ipet_rows.specs.SumLaws.{times_difference, swap_first}
 
 by_test : {A : Type 0} (v : Bool) → (v ≡ true → A) → (v ≡ false → A) → A

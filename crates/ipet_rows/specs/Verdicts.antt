@@ -3,9 +3,8 @@
 --   verdict p d y b    what the test of the multipliers answers
 use Rattle.std.specs.Prelude.{ℕ, ℤ, pos, ◌*ℤ◌, ◌+ℤ◌, Bool, ◌&&◌, ◌||◌, nat_le, int_le, List, length, Option, None, Some, if◌then◌else◌, unsigned_abs}
 use Rattle.std.specs.Int.{int_div_euclid, int_max}
-use Rattle.ipet_rows.specs.Firsts.{fits}
+use Rattle.ipet_rows.specs.Firsts.{fits, entry, first, or_else}
 use Rattle.ipet_rows.specs.Sums.{total, coefficient}
-use Rattle.ipet_rows.specs.Firsts.{entry, first, or_else}
 use Rattle.ipet_rows.specs.Programs.{Program, row_at, cost_at}
 use Rattle.ipet_rows.specs.Duals.{column_part, column_sum, right_part, dual_sum}
 use Rattle.ipet_rows.specs.declared.verdict.Verdict.{Verdict}

@@ -3,7 +3,7 @@
 --   named_among     what the items from a block on name is named among all
 use Rattle.std.proofs.Common.{◌≡◌, ◌⊎◌, ℕ, zero, suc, List, [], ◌∷◌, ◌++◌, map, Contains, Some, None, Result, Ok, Err, Bool, true, false, refl, inl, inr, subst}
 use Rattle.std.specs.Prelude.{◌==◌, if◌then◌else◌}
-use Rattle.lists.specs.Members.{first_member, further_member}
+use Rattle.lists.specs.MemberLaws.{first_member, further_member}
 use Rattle.alf_ops.specs.declared.history.Value.{Value}
 use Rattle.alf_ops.specs.declared.history.Value.TheVariants.{Int, Ptr}
 use Rattle.alf_ops.specs.declared.history.RunFault.{RunFault}

@@ -2,9 +2,11 @@
 pub mod Lines
 pub mod LineLaws
 pub mod PartLines
+pub mod PartLineLaws
 pub mod Lru
 pub mod Sure
 pub mod Covered
+pub mod CoveredLaws
 pub mod RowLaws
 pub mod Traced
 pub mod LruLaws

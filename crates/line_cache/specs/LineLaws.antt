@@ -10,7 +10,7 @@ use Rattle.std.proofs.Math.Nat.{mul-le-mul_left, div-mul-le_self}
 use Rattle.std.proofs.lemmas.Bool.{eqb-false}
 use Rattle.std.proofs.lemmas.Nat.{le-div, div_below}
 use Rattle.std.proofs.lemmas.List.Elements.{All-get_or}
-use Rattle.lists.specs.Tests.{by_test}
+use Rattle.lists.specs.TestLaws.{by_test}
 use Rattle.domain_core.specs.Outlines.{Outlined, CostsFit}
 use Rattle.line_cache.specs.declared.shape.Shape.{Shape}
 use Rattle.line_cache.specs.Lines.{IsShape, IsPart, HasNoSize, first_line, end_line, line_pairs, notes_of, first_of, end_of, IsNoted}

@@ -1,5 +1,5 @@
 -- The files of this folder.
-pub mod Finding
-pub mod Images
-pub mod Members
-pub mod Tests
+pub mod FindingLaws
+pub mod ImageLaws
+pub mod MemberLaws
+pub mod TestLaws

@@ -10,10 +10,11 @@ use Rattle.c_unit.specs.Units.{UnitTree}
 use Rattle.c_meaning.specs.Objects.{program_of, globals_in}
 use Rattle.c_lowered.specs.Frames.{global_frames}
 use Rattle.c_lowered.specs.Programs.{lowered}
-use Rattle.lowering_layout.specs.Lists.{EachOf, each_at}
+use Rattle.lowering_layout.specs.Lists.{EachOf}
+use Rattle.lowering_layout.specs.ListLaws.{each_at}
 use Rattle.lowering_layout.specs.Spelled.{HasNames}
 use Rattle.lowering_layout.specs.PartFrames.{IsFrameOf, of_object, of_result}
-use Rattle.lowering_layout.specs.Places.{frame_at}
+use Rattle.lowering_layout.specs.PlaceLaws.{frame_at}
 use Rattle.lowering_layout.specs.Views.{globals_part}
 use Rattle.lowering_values.specs.Frames.{frame_number}
 use Rattle.lowering_layout.proofs.Objects.{number_is}

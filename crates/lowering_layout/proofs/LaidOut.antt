@@ -33,10 +33,11 @@ use Rattle.c_lowered.specs.Frames.{parameter_frames, global_frames, element_word
 use Rattle.c_lowered.specs.Frames as frames
 use Rattle.c_lowered.specs.Programs.{lowered_function, lowered_from, lowered}
 use Rattle.lowering_values.specs.EmbeddingLaws.{EventsAgree}
-use Rattle.lowering_layout.specs.Lists.{EachOf, each_when, each_both, each_joined, each_parts, each_at}
+use Rattle.lowering_layout.specs.Lists.{EachOf}
+use Rattle.lowering_layout.specs.ListLaws.{each_when, each_both, each_joined, each_parts, each_at}
 use Rattle.lowering_layout.specs.Spelled.{HasNames}
 use Rattle.lowering_layout.specs.PartFrames.{HasFrame}
-use Rattle.lowering_layout.specs.Places.{object_found, each_of_places}
+use Rattle.lowering_layout.specs.PlaceLaws.{object_found, each_of_places}
 use Rattle.lowering_layout.specs.Views.{globals_part}
 use Rattle.lowering_values.specs.Frames.{frame_number, is_object_frame, Agrees}
 use Rattle.lowering_values.specs.Agreement.{ElementsAgree, IsLaidOut, parameter_frame, declared_frame}

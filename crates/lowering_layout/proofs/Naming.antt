@@ -5,8 +5,8 @@ use Rattle.std.specs.List.{list_any, range_with_len}
 use Rattle.std.proofs.Common.{◌≡◌, ◌⊎◌, ◌<◌, ◌≤◌, ◌+◌, ℕ, zero, suc, Bool, false, List, [], map, length, Contains, Option, Some, None, refl, sym, ap, ◌∙◌, subst, arith, ⊎_elim}
 use Rattle.std.proofs.lemmas.Option.{none-some, same_Some, slice_get_within}
 use Rattle.std.proofs.lemmas.Bool.{ne_eqb, leb-true}
-use Rattle.lists.specs.Tests.{by_test}
-use Rattle.lists.specs.Members.{placed as member_at}
+use Rattle.lists.specs.TestLaws.{by_test}
+use Rattle.lists.specs.MemberLaws.{placed as member_at}
 use Rattle.alf_program.specs.Tree.{Allocation}
 use Rattle.alf_faults.specs.Places.{frame_place}
 use Rattle.alf_check.specs.declared.rows.FrameRow.{FrameRow}
@@ -19,12 +19,15 @@ use Rattle.c_meaning.specs.Objects.{Object, Function, Program, program_of, objec
 use Rattle.c_lowered.specs.Names.{name_at, call_name}
 use Rattle.c_lowered.specs.Frames.{parameter_frames, all_frames_in, global_frames}
 use Rattle.c_lowered.specs.Programs.{lowered_function, lowered}
-use Rattle.lowering_layout.specs.Lists.{EachOf, each_when, each_both, each_joined, each_at}
+use Rattle.lowering_layout.specs.Lists.{EachOf}
+use Rattle.lowering_layout.specs.ListLaws.{each_when, each_both, each_joined, each_at}
 use Rattle.lowering_layout.specs.Spelled.{HasNames}
 use Rattle.lowering_layout.specs.PartFrames.{HasFrame}
-use Rattle.lowering_layout.specs.Places.{frame_at, call_is_no_object}
-use Rattle.lowering_layout.specs.Checked.{all_owned, parameters_owned, IsGlobal, globals_global}
-use Rattle.lowering_layout.specs.Views.{globals_part, view_of}
+use Rattle.lowering_layout.specs.PlaceLaws.{frame_at, call_is_no_object}
+use Rattle.lowering_layout.specs.Checked.{IsGlobal}
+use Rattle.lowering_layout.specs.CheckedLaws.{all_owned, parameters_owned, globals_global}
+use Rattle.lowering_layout.specs.Views.{globals_part}
+use Rattle.lowering_layout.specs.ViewLaws.{view_of}
 use Rattle.lowering_values.specs.Frames.{frame_number, is_object_frame, Sees, IsResultFrame, IsNaming}
 use Rattle.lowering_layout.proofs.Rows.{one_number, global_at, arg_at, decl_at, placed_at, not_placed}
 use Rattle.lowering_layout.proofs.Objects.{by_object, past, lowered_at, from_functions, row_of, number_is, apart}

@@ -5,8 +5,8 @@ use Rattle.std.specs.List.{list_any, range_with_len}
 use Rattle.std.proofs.Common.{◌≡◌, ◌<◌, ◌≤◌, ◌+◌, ℕ, zero, suc, Bool, true, false, List, [], ◌∷◌, ◌++◌, map, length, Option, Some, None, refl, sym, ap, ◌∙◌, subst, arith, ltb, ltb-true, ltb-false}
 use Rattle.std.proofs.lemmas.Option.{none-some, same_Some, slice_get-map, slice_get_within, slice_get_past}
 use Rattle.std.proofs.lemmas.Bool.{eq-eqb, le-leb}
-use Rattle.lists.specs.Tests.{by_test}
-use Rattle.lists.specs.Members.{placed as member_at}
+use Rattle.lists.specs.TestLaws.{by_test}
+use Rattle.lists.specs.MemberLaws.{placed as member_at}
 use Rattle.alf_ops.specs.declared.history.FrameShape.{FrameShape}
 use Rattle.alf_check.specs.declared.rows.FrameRow.{FrameRow}
 use Rattle.alf_check.specs.Numbers.{row_for, frame_rows, first_frame}
@@ -18,12 +18,16 @@ use Rattle.c_meaning.specs.Objects.{Object, Function, Program, program_of, objec
 use Rattle.c_lowered.specs.Names.{name_at, frame_of}
 use Rattle.c_lowered.specs.Frames.{parameter_frames, all_frames_in, global_frames}
 use Rattle.c_lowered.specs.Programs.{lowered_function, lowered_from, lowered}
-use Rattle.lowering_layout.specs.Lists.{EachOf, Apart, each_when, each_both, each_joined, each_parts, each_at}
+use Rattle.lowering_layout.specs.Lists.{EachOf, Apart}
+use Rattle.lowering_layout.specs.ListLaws.{each_when, each_both, each_joined, each_parts, each_at}
 use Rattle.lowering_layout.specs.Spelled.{HasNames}
 use Rattle.lowering_layout.specs.PartFrames.{HasFrame}
-use Rattle.lowering_layout.specs.Places.{frame_at, names_differ_at}
-use Rattle.lowering_layout.specs.Checked.{all_owned, parameters_owned, IsGlobal, globals_global}
-use Rattle.lowering_layout.specs.Views.{globals_part, view_of, all_frames_apart}
+use Rattle.lowering_layout.specs.PlaceLaws.{frame_at, names_differ_at}
+use Rattle.lowering_layout.specs.Checked.{IsGlobal}
+use Rattle.lowering_layout.specs.CheckedLaws.{all_owned, parameters_owned, globals_global}
+use Rattle.lowering_layout.specs.Views.{globals_part}
+use Rattle.lowering_layout.proofs.ViewLemmas.{all_frames_apart}
+use Rattle.lowering_layout.specs.ViewLaws.{view_of}
 use Rattle.lowering_values.specs.Frames.{row_number, frame_number, is_object_frame, frames_of, FramesStand}
 use Rattle.lowering_layout.proofs.Rows.{RowsDiffer, rows_apart, one_number, found_row, global_at, arg_at, decl_at}
 

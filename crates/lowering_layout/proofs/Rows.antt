@@ -6,15 +6,17 @@ use Rattle.std.proofs.Common.{◌≡◌, ◌≢◌, ◌≤◌, ◌+◌, ℕ, zer
 use Rattle.std.proofs.lemmas.Option.{none-some, same_Some}
 use Rattle.std.proofs.lemmas.Bool.{and_parts, and_from, eqb-true, eq-eqb}
 use Rattle.std.proofs.lemmas.Slice.Eq.{bytes_eq-Decides}
-use Rattle.lists.specs.Tests.{by_test}
-use Rattle.lists.specs.Members.{placed as member_at}
+use Rattle.lists.specs.TestLaws.{by_test}
+use Rattle.lists.specs.MemberLaws.{placed as member_at}
 use Rattle.alf_program.specs.Tree.{Allocation, Function, WholeProgram}
 use Rattle.alf_program.specs.Writable.{own_frames, frames_of}
 use Rattle.alf_faults.specs.Places.{frame_place}
 use Rattle.alf_check.specs.declared.rows.FrameRow.{FrameRow}
 use Rattle.alf_check.specs.Numbers.{row_for, rows_of, rows_from, frame_rows, frames_before, first_frame}
 use Rattle.c_lowered.specs.Names.{same_owner}
-use Rattle.lowering_layout.specs.Lists.{Apart, each_of_image, apart_at}
+use Rattle.lowering_layout.specs.Lists.{Apart}
+use Rattle.lowering_layout.proofs.ListLemmas.{each_of_image}
+use Rattle.lowering_layout.specs.ListLaws.{apart_at}
 use Rattle.lowering_layout.specs.PartFrames.{DifferInName}
 use Rattle.lowering_values.specs.Frames.{is_row_of, row_number}
 

@@ -10,7 +10,7 @@ use Rattle.std.specs.List.{list_any}
 use Rattle.std.proofs.lemmas.Bool.{false≢true}
 use Rattle.std.proofs.lemmas.Option.{none-some, same_Some, slice_get-get_or}
 use Rattle.std.proofs.lemmas.Slice.Eq.{bytes_eq-Decides}
-use Rattle.lists.specs.Members.{no_member, first_member, further_member, first_or_further}
+use Rattle.lists.specs.MemberLaws.{no_member, first_member, further_member, first_or_further}
 use Rattle.graph_walks.specs.Calls.{IsRanked}
 use Rattle.alf_faults.specs.Places.{function_place}
 use Rattle.alf_check.specs.Numbers.{func_number}

@@ -3,7 +3,7 @@
 --   condition_run            a condition leads to `held` where it holds and to `failed` where it does not
 use Rattle.std.proofs.Common.{◌≡◌, ◌<◌, ◌≤◌, ℕ, suc, ◌+◌, ◌^◌, List, [], ◌∷◌, Option, Some, None, Result, Ok, Err, Bool, true, false, not, refl, sym, ap, subst, arith}
 use Rattle.std.specs.Prelude.{◌==◌}
-use Rattle.lists.specs.Tests.{by_test}
+use Rattle.lists.specs.TestLaws.{by_test}
 use Rattle.alf_ops.specs.declared.history.Value.{Value}
 use Rattle.alf_ops.specs.declared.history.Value.TheVariants as values
 use Rattle.alf_ops.specs.declared.history.RunFault.{RunFault}
@@ -26,7 +26,9 @@ use Rattle.c_lowered.specs.Values.{is_true, test_of, value_of}
 use Rattle.c_lowered.specs.Conditions.{Within, label, label_item, condition_labels, condition_items}
 use Rattle.c_lowered.specs.Statements.{condition_if, labels_if}
 use Rattle.lowering_simulation.specs.Counts.{count}
-use Rattle.lowering_simulation.specs.Places.{Stands, tail, leads, after_condition}
+use Rattle.lowering_simulation.specs.Places.{Stands}
+use Rattle.lowering_simulation.proofs.PlaceLemmas.{leads}
+use Rattle.lowering_simulation.specs.PlaceLaws.{tail, after_condition}
 use Rattle.lowering_simulation.specs.Leaves.{as_bit, value_in, TestAgrees, ConditionAgrees, IfAgrees}
 use Rattle.lowering_simulation.proofs.Comes.{functions_of, Here, standing, Tests, on_from}
 

@@ -21,8 +21,9 @@ use Rattle.c_lowered.specs.Statements.{labels_in_all}
 use Rattle.c_lowered.specs.Programs.{last_return, nowhere, function_items}
 use Rattle.lowering_values.specs.Embedding.{embedded_value}
 use Rattle.lowering_simulation.specs.Counts.{count}
-use Rattle.lowering_simulation.specs.Labels.{label_stands_once}
-use Rattle.lowering_simulation.specs.Places.{stands_all, Stands}
+use Rattle.lowering_simulation.proofs.LabelLemmas.{label_stands_once}
+use Rattle.lowering_simulation.specs.Places.{Stands}
+use Rattle.lowering_simulation.specs.PlaceLaws.{stands_all}
 use Rattle.lowering_simulation.specs.Leaves.{ResultFits}
 use Rattle.lowering_simulation.specs.Functions.{Apart, FunctionsDo}
 use Rattle.lowering_simulation.proofs.Comes.{functions_of, IsBelow, CallReaches, Reaches, on_from}

@@ -30,7 +30,7 @@ use Rattle.c_lowered.specs.Effects.{result_value}
 use Rattle.c_lowered.specs.Frames.{result_frames, value_frames}
 use Rattle.lowering_values.specs.Embedding.{embedded_value}
 use Rattle.lowering_layout.specs.Lists.{EachOf}
-use Rattle.lowering_layout.specs.Declared.{found_entry}
+use Rattle.lowering_layout.specs.DeclaredLaws.{found_entry}
 use Rattle.lowering_values.specs.Frames.{frame_number, frames_of, FramesStand, IsNaming, frames_in_body}
 use Rattle.lowering_values.specs.Agreement.{Gives, FitsValued}
 use Rattle.lowering_simulation.specs.Leaves.{ResultsDo, CallDoes, ValueDoes}

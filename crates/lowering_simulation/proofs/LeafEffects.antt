@@ -34,7 +34,8 @@ use Rattle.c_lowered.specs.Effects as lowered_effects
 use Rattle.c_lowered.specs.Effects.{assign, first_element}
 use Rattle.c_lowered.specs.Statements.{return_item}
 use Rattle.c_lowered.specs.Frames.{effect_frames, last_frames, first_frames, shape_frames, locals_frames}
-use Rattle.lowering_layout.specs.Lists.{EachOf, each_parts}
+use Rattle.lowering_layout.specs.Lists.{EachOf}
+use Rattle.lowering_layout.specs.ListLaws.{each_parts}
 use Rattle.lowering_values.specs.Frames.{frame_number, FramesStand, IsNaming, Sees}
 use Rattle.lowering_values.specs.Agreement.{Gives, FitsValued, IsPlain}
 use Rattle.lowering_simulation.specs.Leaves.{ResultFits, ItemDoes, EffectDoes, IfDoes, FirstDoes, ElementsDo, ArrayDoes, ShapeDoes, LocalsDo, ReturnDoes}

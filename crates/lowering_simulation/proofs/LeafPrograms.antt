@@ -2,8 +2,8 @@
 use Rattle.std.proofs.Common.{◌≡◌, ◌<◌, ℕ, ◌+◌, Bool, true, false, List, [], ◌∷◌, map, length, slice_get, Contains, Option, Some, if◌then◌else◌, refl, sym, ap, ◌∙◌, subst, arith, ne_eqb, eq-eqb}
 use Rattle.std.specs.Prelude.{slice_index, ◌==◌}
 use Rattle.std.specs.Option.{option_map_or}
-use Rattle.lists.specs.Tests.{by_test}
-use Rattle.lists.specs.Members.{contained}
+use Rattle.lists.specs.TestLaws.{by_test}
+use Rattle.lists.specs.MemberLaws.{contained}
 use Rattle.alf_ops.specs.declared.history.Value.{Value}
 use Rattle.alf_ops.specs.declared.history.RunEvent.{RunEvent}
 use Rattle.alf_ops.specs.declared.history.RunEvent.TheVariants.{Enter, Leave, Store}
@@ -23,7 +23,8 @@ use Rattle.item_runs.specs.CheckedItems.{no_numbers, with_items, EachFollowsItem
 use Rattle.c_unit.specs.Units.{UnitTree}
 use Rattle.c_rules.specs.Names.{text_at}
 use Rattle.c_rules.specs.Programs.{IsProgram}
-use Rattle.c_rules.specs.UnitsStand.{UnitStands, unit_stands}
+use Rattle.c_rules.specs.UnitsStand.{UnitStands}
+use Rattle.c_rules.specs.UnitsStandLaws.{unit_stands}
 use Rattle.c_rules.specs.Recursion.{called_in}
 use Rattle.c_meaning.specs.Objects.{Function, program_of, function_at}
 use Rattle.c_meaning.specs.Programs as meaning
@@ -32,7 +33,7 @@ use Rattle.c_lowered.specs.Frames.{all_frames_in}
 use Rattle.c_lowered.specs.Programs.{lowered_function, function_items, lowered}
 use Rattle.lowering_values.specs.Embedding.{embedded_value}
 use Rattle.lowering_layout.specs.Spelled.{HasNames}
-use Rattle.lowering_layout.specs.Places.{each_of_places}
+use Rattle.lowering_layout.specs.PlaceLaws.{each_of_places}
 use Rattle.lowering_values.specs.Frames.{frame_number, is_object_frame}
 use Rattle.lowering_values.specs.Agreement.{AreCells}
 use Rattle.lowering_simulation.specs.Leaves.{StatementsDo}

@@ -12,7 +12,8 @@ use Rattle.c_rules.specs.Standing.{IsCondition, IfCondition, StatementStands, St
 use Rattle.c_meaning.specs.Objects.{Object, program_of, function_at, locals_in, all_locals_in}
 use Rattle.c_lowered.specs.Statements as lowered
 use Rattle.c_lowered.specs.Frames.{last_frames, frames_in, all_frames_in}
-use Rattle.lowering_layout.specs.Lists.{EachOf, each_parts}
+use Rattle.lowering_layout.specs.Lists.{EachOf}
+use Rattle.lowering_layout.specs.ListLaws.{each_parts}
 use Rattle.lowering_values.specs.Frames.{frame_number, FramesStand, IsNaming}
 use Rattle.lowering_simulation.specs.Leaves.{IfAgrees, StatementDoes, StatementsDo}
 use Rattle.lowering_simulation.specs.Plain.{IfIsPlain, StatementIsPlain, StatementsArePlain}

@@ -16,3 +16,6 @@ mod LeafStatements
 mod LeafPrograms
 mod Placed
 mod Inputs
+pub mod DistinctLemmas
+pub mod LabelLemmas
+pub mod PlaceLemmas

@@ -26,7 +26,8 @@ use Rattle.c_lowered.specs.Conditions.{Within, label, jump, label_item, conditio
 use Rattle.c_lowered.specs.Statements.{Around, labels_if, is_case, cases_in, labels_in, labels_in_all, calls_if, calls_in, condition_if, effect_if, targets_in, default_in, switch_type, switch_item, if_case, loop_items, Body, items_of, all_items_of, body_items}
 use Rattle.lowering_values.specs.Embedding.{embedded_result}
 use Rattle.lowering_simulation.specs.Counts.{count}
-use Rattle.lowering_simulation.specs.Places.{Stands, tail, after_condition, after_condition_if, after_effect_if, after_case, after_items, after_body}
+use Rattle.lowering_simulation.specs.Places.{Stands}
+use Rattle.lowering_simulation.specs.PlaceLaws.{tail, after_condition, after_condition_if, after_effect_if, after_case, after_items, after_body}
 use Rattle.lowering_simulation.specs.Leaves.{ConditionAgrees, IfAgrees, IfDoes, StatementDoes, StatementsDo}
 use Rattle.lowering_simulation.proofs.Comes.{IsBelow, Here, Reaches, functions_of, standing, on_from, later_reaches, fewer, sequence, choice, stays, switch_then}
 use Rattle.lowering_simulation.proofs.Conditions.{to_label, at_label, condition_run, condition_if_run}

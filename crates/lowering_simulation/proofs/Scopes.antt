@@ -21,11 +21,13 @@ use Rattle.c_rules.specs.Standing.{StatementsStand}
 use Rattle.c_rules.specs.UnitsStand.{ExternalsStand, UnitStands}
 use Rattle.c_meaning.specs.Objects as meaning
 use Rattle.c_meaning.specs.Objects.{Object, program_of, objects_of, object_at, functions_in, functions_of, parameter_object, local_object, locals_in, all_locals_in, global_object, globals_declared, globals_in, owned_in}
-use Rattle.lowering_layout.specs.Lists.{EachOf, each_parts}
-use Rattle.lowering_layout.specs.Checked.{all_owned}
+use Rattle.lowering_layout.specs.Lists.{EachOf}
+use Rattle.lowering_layout.specs.ListLaws.{each_parts}
+use Rattle.lowering_layout.specs.CheckedLaws.{all_owned}
 use Rattle.lowering_layout.specs.Spelled.{HasNames}
-use Rattle.lowering_layout.specs.Places.{each_of_places, object_found}
-use Rattle.lowering_layout.specs.Declared.{EachEntry, EachScope, EntryAgrees, found_entry, entries_agree}
+use Rattle.lowering_layout.specs.PlaceLaws.{each_of_places, object_found}
+use Rattle.lowering_layout.specs.Declared.{EachEntry, EachScope, EntryAgrees}
+use Rattle.lowering_layout.specs.DeclaredLaws.{found_entry, entries_agree}
 use Rattle.lowering_values.specs.Frames.{Sees, ScopesSee}
 
 -- the function sees the object of the entry

@@ -1,9 +1,10 @@
 -- The files of this folder.
 pub mod Counts
-pub mod ByOperator
-pub mod Distinct
-pub mod Labels
+pub mod ByOperatorLaws
+pub mod DistinctLaws
+pub mod LabelLaws
 pub mod Places
+pub mod PlaceLaws
 pub mod Leaves
 pub mod Functions
 pub mod Outcomes

@@ -3,7 +3,7 @@ use Rattle.std.specs.Prelude.{nat_le, if◌then◌else◌}
 use Rattle.std.specs.Int.{is_in_range}
 use Rattle.std.proofs.Common.{◌≡◌, ℕ, ◌^◌, ◌<◌, ◌≤◌, ◌==◌, ◌&&◌, ◌||◌, not, Bool, true, false, List, [], ◌∷◌, Option, Some, None, refl, sym, ap, ◌∙◌, arith}
 use Rattle.std.proofs.lemmas.Bool.{leb-true, eqb-true}
-use Rattle.lists.specs.Tests.{by_test}
+use Rattle.lists.specs.TestLaws.{by_test}
 use Rattle.c_tokens.specs.declared.worth.Worth.{Worth}
 use Rattle.c_tokens.specs.declared.worth.Worth.TheVariants as worth
 use Rattle.c_tokens.specs.Worth.{most_int, most_unsigned, unsigned_worth, plain_worth, judge, zero_worth, number_from, number_worth, plain_character, escaped_character, character_worth}

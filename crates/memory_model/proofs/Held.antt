@@ -2,7 +2,7 @@
 use Rattle.std.specs.Prelude.{slice_get, slice_set, if◌then◌else◌, ◌==◌}
 use Rattle.std.proofs.Common.{◌≡◌, ◌≢◌, inl, inr, sym, ◌∙◌, ap, ℕ, suc, zero, true, false, List, [], ◌∷◌, map, replicate, Option, Some, None, refl, arith, ◌+◌, ◌/◌, ◌<◌, ◌≤◌, length}
 use Rattle.std.proofs.lemmas.Bool.{cases_lt, eqb-true, eq-eqb, false≢true}
-use Rattle.lists.specs.Tests.{by_test}
+use Rattle.lists.specs.TestLaws.{by_test}
 use Rattle.alf_ops.specs.declared.history.FrameShape.{FrameShape}
 use Rattle.alf_ops.specs.Histories.{is_owner, offsets}
 use Rattle.memory_pages.specs.Slots.{HeldSlot, bare}

@@ -1,7 +1,7 @@
 -- Abstract memories are a lattice.
 use Rattle.memory_rules.specs.AbstractSets.{abstract_sets}
 use Rattle.memory_rules.specs.AbstractSetLaws.{abstract_is_sets}
-use Rattle.memory_rules.specs.MemoryProofs.{join_covers}
+use Rattle.memory_rules.specs.MemoryProofLaws.{join_covers}
 use Rattle.memory_model.specs.MemoryOrders.{MemoriesAreALattice}
 
 pub memories_are : MemoriesAreALattice

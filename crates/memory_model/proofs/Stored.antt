@@ -5,9 +5,9 @@ use Rattle.std.specs.Prelude.{slice_get, if◌then◌else◌}
 use Rattle.std.specs.Option.{option_map}
 use Rattle.std.proofs.Common.{Bool, ◌≡◌, inl, inr, sym, subst, ◌∙◌, ap, ℕ, suc, zero, true, false, List, [], ◌∷◌, Option, Some, None, refl, arith, ◌+◌, ◌/◌, ◌%◌, ◌<◌, ◌≤◌, length}
 use Rattle.std.proofs.lemmas.Bool.{cases_eq, and_parts, eqb-true, ltb-true, leb-true, false≢true}
-use Rattle.lists.specs.Tests.{by_test}
+use Rattle.lists.specs.TestLaws.{by_test}
 use Rattle.alf_ops.specs.Histories.{is_byte_of}
-use Rattle.alf_ops.specs.Tables.{above_cell}
+use Rattle.alf_ops.specs.TableLaws.{above_cell}
 use Rattle.pointer_rules.specs.AbstractValues.{AbstractValue}
 use Rattle.memory_pages.specs.declared.byte.Byte.{Byte}
 use Rattle.memory_pages.specs.declared.held.Held.{Held}

@@ -9,7 +9,7 @@
 use Rattle.std.specs.Prelude.{slice_get}
 use Rattle.std.proofs.Common.{Bool, ◌≡◌, ◌∙◌, ap, subst, sym, inl, inr, ℕ, suc, zero, true, false, List, [], ◌∷◌, map, Option, Some, None, refl, arith, ◌+◌, ◌%◌, ◌<◌, ◌≤◌, length}
 use Rattle.std.proofs.lemmas.Bool.{cases_eq, cases_lt, and_parts, eqb-true, ltb-true, leb-true}
-use Rattle.lists.specs.Tests.{by_test}
+use Rattle.lists.specs.TestLaws.{by_test}
 use Rattle.alf_ops.specs.declared.history.FrameShape.{FrameShape}
 use Rattle.alf_ops.specs.Histories.{offsets}
 use Rattle.alf_check.specs.CheckedPrograms.{CheckedParts}
@@ -26,7 +26,7 @@ use Rattle.pointer_rules.specs.AbstractValues.{AbstractValue}
 use Rattle.memory_model.specs.KeptMemories.{MemoryParts, memory_in, rows_of, functions_of, bytes_in, canonical, IsMemory}
 use Rattle.memory_model.specs.Made.{slot_at, slots_of, frames_from, made}
 use Rattle.memory_model.specs.Within.{bytes_at, IsFrameWithin, IsWithin}
-use Rattle.memory_model.specs.ReadOff.{get_in, get_out, get_past, length_off, read_off, each_same}
+use Rattle.memory_model.specs.ReadOffLaws.{get_in, get_out, get_past, length_off, read_off, each_same}
 
 -- ---- slots
 

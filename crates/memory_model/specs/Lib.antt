@@ -8,6 +8,7 @@ pub mod KeptMemories
 pub mod Made
 pub mod Within
 pub mod KeptMemoryWords
-pub mod ReadOff
+pub mod ReadOffLaws
 pub mod KeptMemoryLaws
 pub mod SeenOrders
+pub mod SeenOrderLaws

@@ -1,2 +1,4 @@
 -- The files of this folder.
 mod WorkedRows
+pub mod CellLemmas
+pub mod MemoryProofLemmas

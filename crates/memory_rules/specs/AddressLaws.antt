@@ -6,8 +6,8 @@ use Rattle.std.specs.Prelude.{slice_get, IsSomeAnd, Contains, ◌==◌, ◌&&◌
 use Rattle.std.proofs.Common.{◌≡◌, ◌≢◌, inl, inr, sym, subst, ◌∙◌, ap, ℕ, zero, suc, Bool, true, false, List, [], ◌∷◌, Option, Some, None, Result, Ok, Err, refl, arith, ◌+◌, ◌*◌, ◌<◌, ◌≤◌, ◌/◌}
 use Rattle.std.proofs.lemmas.Bool.{and_parts, and_from, eqb-true, eqb-false, leb-true}
 use Rattle.std.proofs.lemmas.List.Elements.{Contains-append_left, Contains-append_right, Contains-append_cases}
-use Rattle.lists.specs.Tests.{by_test}
-use Rattle.lists.specs.Members.{first_member, further_member, first_or_further, no_member}
+use Rattle.lists.specs.TestLaws.{by_test}
+use Rattle.lists.specs.MemberLaws.{first_member, further_member, first_or_further, no_member}
 use Rattle.alf_ops.specs.declared.history.Value.{Value}
 use Rattle.alf_ops.specs.declared.history.Value.TheVariants.{Int, Ptr}
 use Rattle.alf_ops.specs.declared.history.RunFault.{RunFault}
@@ -25,7 +25,7 @@ use Rattle.memory_rules.specs.Covers.{IsCellSize}
 use Rattle.memory_rules.specs.Memories.{Mem, is_on, joined_values, faults_of, Gathers, MemCovers, IsPlaced}
 use Rattle.memory_rules.specs.AbstractSets.{abstract_sets}
 use Rattle.memory_rules.specs.AbstractSetLaws.{abstract_is_sets}
-use Rattle.memory_rules.specs.MemoryProofs.{store_covers, loads_cover, loads_gather}
+use Rattle.memory_rules.specs.MemoryProofLaws.{store_covers, loads_cover, loads_gather}
 use Rattle.memory_rules.specs.Addresses.{cells_at, cells_in, cells_of, IsAddressFault, load_at, stored_at, TellsLoad, LoadsAt, StoresAt, FaultsAt}
 
 -- ---- the offsets of a frame

@@ -6,7 +6,7 @@
 use Rattle.std.proofs.Common.{◌≡◌, ◌+◌, ℕ, zero, suc, List, [], ◌∷◌, map, length, Option, Some, None, slice_get, slice_index_or, refl, ap, sym, ◌∙◌, arith}
 use Rattle.std.specs.Option.{option_map, option_map_or}
 use Rattle.std.specs.Str.{bytes_eq}
-use Rattle.lists.specs.Tests.{by_test}
+use Rattle.lists.specs.TestLaws.{by_test}
 use Rattle.c_unit.specs.Tree.{ExternalTree, Declaration, Definition}
 use Rattle.c_unit.specs.Units.{Word, UnitTree}
 use Rattle.c_rules.specs.Names.{text_at}

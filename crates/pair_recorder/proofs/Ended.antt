@@ -8,8 +8,8 @@ use Rattle.std.specs.List.{list_any}
 use Rattle.std.proofs.lemmas.Bool.{eq-eqb, ne_eqb}
 use Rattle.domain_core.specs.declared.outline.NodeRow.{NodeRow}
 use Rattle.domain_core.specs.Outlines.{Outlined, shape_of, header_of, parent_of, scopes_from}
-use Rattle.recorder_rules.specs.EndedNodes.{or_thrice, any_with}
-use Rattle.flow_recorders.specs.Climbs.{own_at, from_last, from_more, any_joined}
+use Rattle.recorder_rules.specs.EndedNodeLaws.{or_thrice, any_with}
+use Rattle.flow_recorders.specs.ClimbLaws.{own_at, from_last, from_more, any_joined}
 
 last_only : (x g : Bool) → g ≡ true → (x || false) ≡ (x && g)
 last_only true g is = sym is

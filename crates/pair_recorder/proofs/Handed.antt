@@ -10,15 +10,16 @@ use Rattle.std.proofs.lemmas.List.{length-map}
 use Rattle.std.proofs.lemmas.Nat.{and_le_r}
 use Rattle.domain_core.specs.declared.outline.NodeRow.{NodeRow}
 use Rattle.domain_core.specs.Outlines.{Outlined, shape_of}
-use Rattle.recorder_rules.specs.Generated.{length-generated}
+use Rattle.recorder_rules.specs.GeneratedLaws.{length-generated}
 use Rattle.recorder_rules.specs.TotalLaws.{past_end}
-use Rattle.recorder_rules.specs.Tables.{cell, cell-tabled, length-tabled}
+use Rattle.recorder_rules.specs.Tables.{cell}
+use Rattle.recorder_rules.specs.TableLaws.{cell-tabled, length-tabled}
 use Rattle.recorder_rules.specs.PairRules.{Sightings, PairBook, together, pair_recording}
 use Rattle.recorder_rules.specs.BitWords.{words_for, is_marked, AreInRange, AreRows}
 use Rattle.recorder_rules.specs.Seen.{sightings, pair_book}
-use Rattle.recorder_rules.specs.Ranges.{ranged, ranged_over}
-use Rattle.recorder_rules.specs.Rows.{row_low}
-use Rattle.recorder_rules.specs.PairBits.{finished_book}
+use Rattle.recorder_rules.specs.RangeLaws.{ranged, ranged_over}
+use Rattle.recorder_rules.specs.RowLaws.{row_low}
+use Rattle.recorder_rules.specs.PairBitLaws.{finished_book}
 
 -- the scope in a node's row is its own
 pub own_at : (nodes : List NodeRow) (n : ℕ) (row : NodeRow) → slice_get nodes n ≡ Some row → get_or (map (λ (r : NodeRow). r.scope) nodes) n 0 ≡ row.scope

@@ -16,7 +16,7 @@ use Rattle.flow_facts.specs.declared.report.BoundWord.{BoundWord}
 use Rattle.ipet_rows.specs.Programs.{Row, Program, IsProgram}
 use Rattle.ipet_rows.specs.Points.{worth}
 use Rattle.ipet_rows.specs.Duals.{IsDual, dual_sum}
-use Rattle.ipet_rows.specs.Duality.{weak_duality}
+use Rattle.ipet_rows.specs.DualityLaws.{weak_duality}
 use Rattle.ipet_rows.specs.Verdicts.{floor_of}
 use Rattle.ipet_rows.specs.Fractions.{part_of, whole_of}
 use Rattle.ipet_rows.specs.PointLaws.{whole_above}
@@ -31,7 +31,7 @@ use Rattle.path_lp.specs.declared.solved.SolveEnd.TheVariants.{Wide}
 use Rattle.path_lp.specs.Handing.{IsHanded}
 use Rattle.path_lp.specs.Solving.{HoldFrom, OnLeast, IsOptimal, opening_worth}
 use Rattle.path_lp.specs.Bounding.{word_at, duals_of, told_duals, opening_sum, AreHeld, IsGreatest}
-use Rattle.path_lp.specs.OpeningCosts.{openings_above}
+use Rattle.path_lp.proofs.OpeningCostLemmas.{openings_above}
 use Rattle.path_lp.proofs.Floors.{floor_most, floor_same, rising_over}
 
 -- ---- multipliers

@@ -9,9 +9,9 @@ use Rattle.std.proofs.lemmas.Int.{ints, clamps}
 use Rattle.whole_numbers.specs.MultipleLaws.{times_times}
 use Rattle.whole_numbers.specs.DivisionLaws.{quotient_and_rest, rest_range, quotient_is, quotient_rises}
 use Rattle.ipet_rows.specs.Verdicts.{floor_of}
-use Rattle.ipet_rows.specs.Duality.{times_rising}
+use Rattle.ipet_rows.specs.DualityLaws.{times_rising}
 use Rattle.ipet_rows.specs.SumLaws.{times_sum, times_difference, swap_first}
-use Rattle.simplex_rules.specs.Mixing.{cancel_above, cancel_at_least}
+use Rattle.simplex_rules.specs.MixingLaws.{cancel_above, cancel_at_least}
 
 -- ---- a quotient and a number
 

@@ -3,7 +3,7 @@ use Rattle.std.proofs.Common.{◌≡◌, ℕ, ℤ, pos, zero, suc, ◌+◌, ◌-
 use Rattle.std.specs.Prelude.{◌*ℤ◌, ◌≤ℤ◌, ◌==◌}
 use Rattle.std.proofs.lemmas.Int.{ints}
 use Rattle.std.proofs.lemmas.Bool.{eq-eqb, ne_eqb}
-use Rattle.lists.specs.Tests.{by_test}
+use Rattle.lists.specs.TestLaws.{by_test}
 use Rattle.whole_numbers.specs.MultipleLaws.{times_times}
 use Rattle.ipet_rows.specs.Programs.{Program}
 use Rattle.ipet_rows.specs.Firsts.{entry}
@@ -11,11 +11,12 @@ use Rattle.ipet_rows.specs.Fractions.{AreFractions}
 use Rattle.ipet_rows.specs.SumLaws.{swap_first}
 use Rattle.simplex_rules.specs.Tableaus.{Held, Tableau, held_at, number_at}
 use Rattle.simplex_rules.specs.PivotRule.{leaving}
-use Rattle.simplex_rules.specs.Choices.{IsLeaving, leaving_is}
+use Rattle.simplex_rules.specs.Choices.{IsLeaving}
+use Rattle.simplex_rules.specs.ChoiceLaws.{leaving_is}
 use Rattle.simplex_rules.specs.Promise.{own_of, basic_whole, basic_number, basic_point}
 use Rattle.simplex_rules.specs.ReadOff.{AreParts, IsReadOff}
 use Rattle.simplex_tableau.specs.Sparse.{Seen}
-use Rattle.simplex_tableau.specs.RowSteps.{drop_more}
+use Rattle.simplex_tableau.specs.RowStepLaws.{drop_more}
 use Rattle.path_lp.specs.Stepping.{Stands}
 use Rattle.path_lp.specs.Fractions.{fraction_of, fractions}
 

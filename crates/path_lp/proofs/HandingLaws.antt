@@ -8,12 +8,12 @@ use Rattle.ipet_rows.specs.Programs.{Row, Program, IsWithin, row_at}
 use Rattle.ipet_rows.specs.Firsts.{entry}
 use Rattle.simplex_rules.specs.Lines.{spread}
 use Rattle.simplex_rules.specs.Tableaus.{next_slack, multiplier, multipliers, slacks_from, width_of, width_from}
-use Rattle.simplex_rules.specs.FirstTableau.{beyond, spread_is}
-use Rattle.simplex_rules.specs.HandedOut.{width_above}
+use Rattle.simplex_rules.specs.FirstTableauLaws.{beyond, spread_is}
+use Rattle.simplex_rules.specs.HandedOutLaws.{width_above}
 use Rattle.simplex_tableau.specs.Sparse.{Seen, IsKept}
 use Rattle.simplex_tableau.specs.Choosing.{dropped}
-use Rattle.simplex_tableau.specs.TermsFrom.{dropped_rises, dropped_same}
-use Rattle.simplex_tableau.specs.RowSteps.{row_next, drop_more, slack_below, next_past}
+use Rattle.simplex_tableau.specs.TermsFromLaws.{dropped_rises, dropped_same}
+use Rattle.simplex_tableau.specs.RowStepLaws.{row_next, drop_more, slack_below, next_past}
 use Rattle.path_lp.specs.Handing.{multiplier_by, multipliers_by, IsHanded}
 use Rattle.path_lp.specs.Stepping.{Stands}
 

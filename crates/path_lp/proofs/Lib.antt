@@ -6,3 +6,4 @@ pub mod RunLaws
 pub mod Floors
 pub mod BoundLaws
 pub mod RightLaws
+pub mod OpeningCostLemmas

@@ -24,14 +24,14 @@ use Rattle.ipet_rows.specs.Shaped.{FitOutline}
 use Rattle.ipet_rows.specs.Feasible.{MeetFacts}
 use Rattle.ipet_rows.specs.Firsts.{entry}
 use Rattle.ipet_rows.specs.Duals.{IsDual, dual_sum}
-use Rattle.ipet_rows.specs.Duality.{weak_duality, times_rising}
+use Rattle.ipet_rows.specs.DualityLaws.{weak_duality, times_rising}
 use Rattle.ipet_rows.specs.SumLaws.{times_difference, swap_first}
 use Rattle.ipet_rows.specs.Verdicts.{floor_of}
 use Rattle.ipet_rows.specs.Fractions.{AreFractions, part_of, whole_of}
 use Rattle.ipet_rows.specs.PointLaws.{whole_above, point_meets_all}
 use Rattle.ipet_rows.specs.Bounds.{BoundsAll}
 use Rattle.dual_check.specs.Openings.{costs_of, system_of}
-use Rattle.simplex_rules.specs.Mixing.{cancel_above}
+use Rattle.simplex_rules.specs.MixingLaws.{cancel_above}
 use Rattle.simplex_rules.specs.Tableaus.{Tableau}
 use Rattle.simplex_rules.specs.PivotRule.{RunEnd, TooWide, Ended, opening_at}
 use Rattle.simplex_rules.specs.Promise.{Answers, basic_point, point_whole, handed}
@@ -39,7 +39,7 @@ use Rattle.simplex_rules.specs.OpeningPlaces.{OpensRows, ended}
 use Rattle.simplex_rules.specs.ReadOff.{AreParts, IsReadOff, IsLeastPoint}
 use Rattle.path_lp.specs.Bounding.{word_of, told_path_bound, opening_sum, IsGreatest}
 use Rattle.path_lp.specs.Holding.{IsRight}
-use Rattle.path_lp.specs.OpeningCosts.{openings_above}
+use Rattle.path_lp.proofs.OpeningCostLemmas.{openings_above}
 use Rattle.path_lp.proofs.Floors.{floor_most}
 use Rattle.path_lp.proofs.BoundLaws.{greatest_of}
 

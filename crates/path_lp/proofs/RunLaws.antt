@@ -1,7 +1,7 @@
 -- The run of the rule, turn by turn, and what the solver tells of it.
 use Rattle.std.proofs.Common.{◌≡◌, ℕ, ℤ, zero, suc, ◌+◌, ◌-◌, ◌<◌, ◌≤◌, arith, refl, sym, ap, ◌∙◌, subst, List, Option, Some, None}
 use Rattle.std.specs.Prelude.{◌*ℤ◌, ◌≤ℤ◌, if◌then◌else◌}
-use Rattle.lists.specs.Tests.{by_test}
+use Rattle.lists.specs.TestLaws.{by_test}
 use Rattle.ipet_rows.specs.Programs.{Program}
 use Rattle.ipet_rows.specs.Firsts.{entry}
 use Rattle.ipet_rows.specs.Duals.{IsDual, dual_sum}

@@ -4,15 +4,17 @@ use Rattle.std.specs.Prelude.{◌<ℤ◌, ◌||◌, if◌then◌else◌}
 use Rattle.std.proofs.lemmas.Int.{ints}
 use Rattle.std.proofs.lemmas.Bool.{or_left, or_right, or_from}
 use Rattle.std.proofs.lemmas.Option.{none-some, same_Some}
-use Rattle.lists.specs.Tests.{by_test}
+use Rattle.lists.specs.TestLaws.{by_test}
 use Rattle.ipet_rows.specs.Programs.{Row, Program}
 use Rattle.ipet_rows.specs.Firsts.{entry}
 use Rattle.ipet_rows.specs.Verdicts.{verdict}
 use Rattle.simplex_rules.specs.Lines.{times_line}
 use Rattle.simplex_rules.specs.Tableaus.{Tableau, held_at, number_at, next_slack, multipliers, slacks_from}
 use Rattle.simplex_rules.specs.PivotRule.{entering, entering_wide, pivot_wide, handed_wide, is_wide, line_wide, rows_wide, cleared_wide, pivoted, variables_of}
-use Rattle.simplex_rules.specs.Choices.{IsEntering, EnteringIs, entering_is}
-use Rattle.simplex_rules.specs.Runs.{IsRight, right_pivot}
+use Rattle.simplex_rules.specs.Choices.{IsEntering, EnteringIs}
+use Rattle.simplex_rules.specs.ChoiceLaws.{entering_is}
+use Rattle.simplex_rules.specs.Runs.{IsRight}
+use Rattle.simplex_rules.specs.RunLaws.{right_pivot}
 use Rattle.simplex_rules.specs.Promise.{handed}
 use Rattle.simplex_tableau.specs.Sparse.{Seen}
 use Rattle.simplex_tableau.specs.Stepped.{CanPivot, step_wide, IsPivoted}

@@ -4,7 +4,7 @@
 use Rattle.std.proofs.Common.{ℕ, List, [], ◌∷◌, map, take, All, Contains}
 use Rattle.std.specs.List.{flat_map}
 use Rattle.std.proofs.lemmas.List.Elements.{All-nil, All-cons, All-append, All-take}
-use Rattle.lists.specs.Images.{all_images, all_joined}
+use Rattle.lists.specs.ImageLaws.{all_images, all_joined}
 use Rattle.domain_core.specs.Outlines.{Shape, header_of}
 use Rattle.flow_facts.specs.declared.fact.Fact.{Fact}
 use Rattle.flow_facts.specs.declared.fact.Fact.TheVariants.{Loop, Count, Dead, Total, Pair, Alarm}

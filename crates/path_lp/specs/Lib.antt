@@ -6,4 +6,5 @@ pub mod Solving
 pub mod Bounding
 pub mod GroupLaws
 pub mod OpeningCosts
+pub mod OpeningCostLaws
 pub mod Holding

@@ -12,7 +12,7 @@ use std::alloc::{AllocError, Global};
 use whole_numbers::Whole;
 
 /// The number at the place, whose terms begin not long before it.
-#[tactic(auto, using(simplex_tableau::specs::TermsFrom::cost_is))]
+#[tactic(auto, using(simplex_tableau::specs::TermsFromLaws::cost_is))]
 fn number_from(terms: &[(u32, Whole)], place: u32) -> i128
     requires { IsAscending terms.now }
     ensures { result ≡ coefficient terms.now place }

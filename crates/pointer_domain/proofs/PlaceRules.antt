@@ -4,7 +4,7 @@
 use Rattle.std.proofs.Common.{◌≡◌, ℕ, true, List, [], ◌∷◌, map, take, length, Option, None, Some, IsSome, ◌≤◌, arith, refl, ◌∙◌}
 use Rattle.std.proofs.lemmas.Slice.Zip.{AllZip-long}
 use Rattle.std.proofs.lemmas.List.{length-map}
-use Rattle.flat_domain.specs.OperatorSizes.{few_operands}
+use Rattle.flat_domain.specs.OperatorSizeLaws.{few_operands}
 use Rattle.std.specs.Prelude.{IfSome, ◌||◌, slice_index}
 use Rattle.alf_ops.specs.declared.operator.Op.{Op}
 use Rattle.alf_ops.specs.declared.operator.Op.TheVariants.{Add, Sub, If}

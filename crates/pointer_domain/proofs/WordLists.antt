@@ -10,7 +10,7 @@ use Rattle.std.proofs.lemmas.Slice.Zip.{AllZip-long}
 use Rattle.alf_ops.specs.declared.operator.Op.{Op}
 use Rattle.alf_ops.specs.Table.{operand_sizes}
 use Rattle.domain_core.specs.WordSets.{HaveSizes}
-use Rattle.flat_domain.specs.OperatorSizes.{few_operands}
+use Rattle.flat_domain.specs.OperatorSizeLaws.{few_operands}
 use Rattle.strided_rules.specs.Strides.{Stride}
 use Rattle.strided_rules.specs.Domains.{stride_sets, applied as applied_words}
 use Rattle.pointer_rules.specs.AbstractValues.{AbstractValue, HasSize, Words, alone, alternatives, numbers_of}

@@ -17,7 +17,7 @@ use Rattle.alf_ops.specs.Table.{result_size, size_of_result, operand_sizes}
 use Rattle.alf_ops.specs.Values.{bits_of}
 use Rattle.alf_ops.specs.Pointers.{outcome}
 use Rattle.domain_core.specs.FaultLaws.{is_united}
-use Rattle.lists.specs.Tests.{by_test}
+use Rattle.lists.specs.TestLaws.{by_test}
 use Rattle.strided_rules.specs.Strides.{Stride, IsStride, joined as joined_words, Covers as CoversWord}
 use Rattle.strided_rules.specs.MemberLaws.{some_word}
 use Rattle.strided_rules.specs.StrideLaws.{stride_is_sets}

@@ -16,8 +16,8 @@ use Rattle.alf_ops.specs.Values.{is_pointer, bits_of}
 use Rattle.alf_ops.specs.Pointers.{add_rule, subtract_rule, applied as applied_at, at_words as words_at, by_rule as rule_at, outcome, operand_at}
 use Rattle.domain_core.specs.declared.applied.Applied.{Applied}
 use Rattle.domain_core.specs.WordSets.{IsOnly, IsOfSize, IsApplied, HaveSizes, AreKept, HaveWords, HaveOneWord}
-use Rattle.lists.specs.Tests.{by_test}
-use Rattle.lists.specs.Members.{no_member, first_or_further}
+use Rattle.lists.specs.TestLaws.{by_test}
+use Rattle.lists.specs.MemberLaws.{no_member, first_or_further}
 use Rattle.strided_rules.specs.Strides.{Stride, IsStride, Covers as CoversWord}
 use Rattle.strided_rules.specs.Domains.{stride_sets, applied as applied_words}
 use Rattle.strided_rules.specs.StrideLaws.{stride_is_sets}

@@ -15,7 +15,7 @@ use Rattle.alf_ops.specs.Pointers.{add_rule, subtract_rule, equality_rule, order
 use Rattle.domain_core.specs.FaultSets.{no_faults}
 use Rattle.domain_core.specs.FaultLaws.{is_new}
 use Rattle.domain_core.specs.WordSets.{IsOnly, IsOfSize}
-use Rattle.lists.specs.Tests.{by_test}
+use Rattle.lists.specs.TestLaws.{by_test}
 use Rattle.strided_rules.specs.Strides.{Stride, one_word, Covers as CoversWord}
 use Rattle.strided_rules.specs.Members.{has}
 use Rattle.strided_rules.specs.MemberLaws.{has_tells}

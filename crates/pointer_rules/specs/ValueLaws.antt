@@ -7,7 +7,7 @@ use Rattle.std.proofs.lemmas.Bool.{eqb-true, eqb-false, eq-eqb, ltb-true, ltb-fa
 use Rattle.alf_ops.specs.declared.history.Value.{Value}
 use Rattle.alf_ops.specs.declared.history.Value.TheVariants.{Int, Ptr}
 use Rattle.domain_core.specs.Orders.{IsOrder}
-use Rattle.lists.specs.Tests.{by_test}
+use Rattle.lists.specs.TestLaws.{by_test}
 use Rattle.strided_rules.specs.Strides.{Stride, IsStride, joined as joined_words, Covers as CoversWord}
 use Rattle.strided_rules.specs.Domains.{AreAlike as AreAlikeWords}
 use Rattle.strided_rules.specs.DomainLaws.{stride_is_order}

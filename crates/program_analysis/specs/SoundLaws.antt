@@ -3,11 +3,10 @@
 --   RunsSo program graph n history trace fault   a run from the point has the nodes of the trace and ends so
 --   passes_runs      a run of the system that ends is one of the program
 --   SoundForSystemIsSound   the law: a report that is sound for the system of the machine is sound for the program
---   sound_of         why
 use Rattle.std.specs.Prelude.{slice_index}
 use Rattle.std.specs.List.{fold}
 use Rattle.std.specs.Option.{option_map}
-use Rattle.std.proofs.Common.{◌≡◌, ◌<◌, ◌≤◌, ◌+◌, ℕ, suc, List, [], ◌∷◌, map, length, Option, None, Some, refl, sym, ap, subst, ◌∙◌}
+use Rattle.std.proofs.Common.{◌≡◌, ◌<◌, ◌+◌, ℕ, suc, List, [], ◌∷◌, map, length, Option, None, Some, refl, ap, ◌∙◌}
 use Rattle.std.proofs.lemmas.Option.{slice_get-get_or, slice_get-map, get_or_from_slice_get}
 use Rattle.alf_ops.specs.declared.history.RunEvent.{RunEvent}
 use Rattle.alf_ops.specs.declared.history.RunFault.{RunFault}
@@ -23,18 +22,15 @@ use Rattle.alf_runs.specs.Runs.{after, trace, cost_of}
 use Rattle.alf_interp.specs.Traces.{Runs, IsNodeAt, AreNumbersOf}
 use Rattle.cost_table.specs.CostTables.{CostTable}
 use Rattle.domain_core.specs.Outlines.{Outlined, shape_of}
-use Rattle.flow_facts.specs.declared.fact.Fact.{Fact}
 use Rattle.flow_facts.specs.Reports.{Reported}
 use Rattle.ipet_rows.specs.Uses.{run_cost}
-use Rattle.transfer_rules.specs.Points.{run_system, moment_at, points}
-use Rattle.transfer_rules.specs.PointLaws.{Promises}
+use Rattle.transfer_rules.specs.Points.{run_system, moment_at}
 use Rattle.abstract_step.specs.Steppers.{StepperParts, stepped_by}
 use Rattle.report_soundness.specs.ReportTold.{costs_of}
 use Rattle.worklist_rules.specs.EndedRuns.{EndsWith, Passes, stops, moves}
-use Rattle.report_soundness.specs.Runs.{HasAlarm as HasFaultAlarm, IsSound as IsSoundSystem}
+use Rattle.report_soundness.specs.Runs.{IsSound as IsSoundSystem}
 use Rattle.program_machines.specs.NodeCosts.{node_cost, HasCosts}
-use Rattle.program_machines.specs.ProgramRunLaws.{program_run, stands_there}
-use Rattle.program_analysis.specs.Sound.{HasAlarm, IsSound}
+use Rattle.program_analysis.specs.Sound.{IsSound}
 
 -- the outcome is this fault, or outputs
 abbrev pub IsOutcomeOf : Option RunFault → Outcome → Type 0
@@ -107,34 +103,8 @@ same_cost program graph costs o trace run priced numbers =
 
 -- ---- soundness
 
-alarm_of : (facts : List Fact) (trace : List ℕ) (fault : Option RunFault) (outcome : Outcome) → IsOutcomeOf fault outcome → HasFaultAlarm facts trace fault → HasAlarm trace outcome facts
-alarm_of facts trace None outcome (outputs, is) alarm = subst (λ (end : Outcome). HasAlarm trace end facts) (sym is) tt
-alarm_of facts trace (Some fault) outcome is alarm = subst (λ (end : Outcome). HasAlarm trace end facts) (sym is) alarm
-
--- why the report is sound
-pub sound_of : Promises → (program : NumberedProgram) (graph : GraphParts) (rows : List InputRow) (o : Outlined) (costs : CostTable) (report : Reported)
-    → IsKept program → IsGraph program graph → HasCosts program graph costs o → IsSoundSystem (run_system program graph rows) o report
-    → IsSound program graph rows (shape_of o) costs report
-sound_of promises program graph rows o costs report keeps is priced sound start from =
-    let run = sound.ends (points program graph start) (program_run promises program graph keeps is rows start from) in
-    let right = sound.right run.start run.trace run.fault run.starts run.passes in
-    let so = passes_runs program graph rows run.passes in
-    let begins : start ≡ moment_at graph 0 run.start = stands_there promises program graph keeps is rows start from 0 0 run.start run.here in
-    let runs : Runs program graph.nodes start run.trace so.outcome = subst (λ (m : Moment). Runs program graph.nodes m run.trace so.outcome) (sym begins) so.runs in
-    record {
-      trace = run.trace;
-      outcome = so.outcome;
-      runs = runs;
-      facts = right.facts;
-      alarm = alarm_of report.facts run.trace run.fault so.outcome so.is right.alarm;
-      bound = subst (λ (cost : ℕ). cost ≤ report.count_bound) (same_cost program graph costs o run.trace runs.run priced runs.numbers) right.bound;
-    }
-
 -- the law
 abbrev pub SoundForSystemIsSound : Type 0
 SoundForSystemIsSound = (parts : StepperParts) (o : Outlined) (costs : CostTable) (report : Reported) → IsKept (seen parts.checked) → IsGraph (seen parts.checked) parts.graph
     → HasCosts (seen parts.checked) parts.graph costs o → IsSoundSystem (stepped_by parts).system o report
     → IsSound (seen parts.checked) parts.graph parts.rows (shape_of o) costs report
-
-pub sound_for : Promises → SoundForSystemIsSound
-sound_for promises parts o costs report keeps is priced sound = sound_of promises (seen parts.checked) parts.graph parts.rows o costs report keeps is priced sound

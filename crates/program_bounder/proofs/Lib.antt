@@ -2,3 +2,4 @@
 pub mod Made
 pub mod Finding
 pub mod Suiting
+pub mod InputRowLemmas

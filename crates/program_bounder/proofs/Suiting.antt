@@ -14,7 +14,7 @@ use Rattle.program_analysis.specs.AnalysisLaws.{names_of}
 use Rattle.program_analysis.specs.Bounds.{most_turns}
 use Rattle.program_bounder.specs.declared.bounder.PathBounder.{PathBounder}
 use Rattle.program_bounder.specs.InputRows.{range_of, ranges_of}
-use Rattle.program_bounder.specs.InputRowLaws.{own_ranges}
+use Rattle.program_bounder.proofs.InputRowLemmas.{own_ranges}
 use Rattle.program_bounder.specs.PathBounding.{Promises, given_program, Suits}
 
 pub suits_own : (b : PathBounder) → Promises → IsKept (seen b.checked) → IsGraph (seen b.checked) b.graph → KeepInputs (seen b.checked) b.rows.items → IsOutline (shape_of b.outline)

@@ -1,18 +1,13 @@
 -- Laws of rows with other ranges.
 --   narrower         rows with narrower ranges keep the rules of inputs
---   own_ranges       rows with their own ranges are the rows
---   are_ranges       the ranges of rows that keep the rules are ranges
 --   inside_within    an input inside an area is inside the ranges of the rows with it
 --   words_same, stored_same, starts_same   the words of an input, what is stored and where a run starts rest on no range
 --   lone_rows        rows with the ranges of a point have one number each
-use Rattle.std.proofs.Common.{◌≡◌, ◌==◌, ◌≤◌, ◌-◌, ◌^◌, ℕ, true, suc, List, [], ◌∷◌, length, All, refl, ap, ◌∙◌, arith, rules}
+use Rattle.std.proofs.Common.{◌≡◌, ℕ, suc, List, [], ◌∷◌, length, All, refl, ap, ◌∙◌, arith}
 use Rattle.std.specs.Prelude.{ℤ, AllPairs}
 use Rattle.std.proofs.lemmas.Int.{ints}
-use Rattle.std.proofs.Math.Pow.{pow_mono}
 use Rattle.std.proofs.lemmas.List.Elements.{All-nil, All-cons, All-head, All-tail}
 use Rattle.std.proofs.lemmas.List.Kept.{AllPairs-cons}
-use Rattle.lists.specs.Tests.{by_test}
-use Rattle.alf_faults.specs.Sizes.{is_export_size}
 use Rattle.alf_ops.specs.TwosComplement.{word}
 use Rattle.alf_ops.specs.declared.history.Value.TheVariants.{Int}
 use Rattle.alf_ops.specs.declared.history.RunEvent.{RunEvent}
@@ -26,8 +21,8 @@ use Rattle.alf_runs.specs.Entering.{with_inits, entered}
 use Rattle.alf_runs.specs.Starts.{with_inputs, start, AreWithin, words_of}
 use Rattle.program_machines.specs.Starts.{AreLone}
 use Rattle.worst_inputs.specs.declared.area.Range.{Range}
-use Rattle.worst_inputs.specs.Areas.{Area, IsInside, IsRange, IsPoint, IsPartOf, IsPart}
-use Rattle.program_bounder.specs.InputRows.{range_of, ranges_of, with_range, with_ranges}
+use Rattle.worst_inputs.specs.Areas.{Area, IsInside, IsPoint, IsPartOf, IsPart}
+use Rattle.program_bounder.specs.InputRows.{with_range, with_ranges}
 
 -- ---- rows with narrower ranges keep the rules
 
@@ -87,11 +82,6 @@ narrower program rows area part is keeps = record { each = each_narrower program
 
 -- ---- what a run knows of ranges
 
--- rows with their own ranges
-pub own_ranges : (rows : List InputRow) → with_ranges rows (ranges_of rows) ≡ rows
-own_ranges [] = refl
-own_ranges (row ∷ rows) = ap (λ (rs : List InputRow). row ∷ rs) (own_ranges rows)
-
 -- a number for each row, inside its range
 pub inside_within : (rows : List InputRow) (area : Area) (input : List ℤ) → length area ≡ length rows → IsInside area input → AreWithin (with_ranges rows area) input
 inside_within [] [] [] e inside = tt
@@ -129,32 +119,3 @@ lone_rows (row ∷ rows) [] point = All-nil (λ (row : InputRow). row.low ≡ ro
 lone_rows (row ∷ rows) (range ∷ area) point =
     All-cons (λ (r : InputRow). r.low ≡ r.high) (with_range row range) (with_ranges rows area)
     (All-head (λ (r : Range). r.low ≡ r.high) range area point) (lone_rows rows area (All-tail (λ (r : Range). r.low ≡ r.high) range area point))
-
--- ---- ranges
-
--- a cell of an input has at most 64 bits
-export_low : (n : ℕ) → is_export_size n ≡ true → n ≤ 64
-export_low n h =
-    by_test (n == 8)
-    (λ e. let is : n ≡ 8 = search rules in omega arith)
-    (λ a. by_test (n == 16)
-    (λ e. let is : n ≡ 16 = search rules in omega arith)
-    (λ b. by_test (n == 32)
-    (λ e. let is : n ≡ 32 = search rules in omega arith)
-    (λ c. let last : (n == 64) ≡ true = rw (a, b, c) at h in let is : n ≡ 64 = search rules in omega arith)))
-
--- the range of a row that keeps the rules is a range
-is_range : (program : NumberedProgram) (row : InputRow) → KeepsInput program row → IsRange (range_of row)
-is_range program row keeps =
-    let size = export_low row.size keeps.sized in
-    let half : 2 ^ (row.size - 1) ≤ 2 ^ 64 = pow_mono {i = row.size - 1} {j = 64} (omega arith) in
-    let whole : 2 ^ row.size ≤ 2 ^ 64 = pow_mono {i = row.size} {j = 64} size in
-    let l = keeps.least in
-    let m = keeps.most in
-    record { ordered = keeps.ordered; least = omega (arith, ints); most = omega (arith, ints) }
-
-pub are_ranges : (program : NumberedProgram) (rows : List InputRow) → All (KeepsInput program) rows → All IsRange (ranges_of rows)
-are_ranges program [] all = All-nil IsRange
-are_ranges program (row ∷ rows) all =
-    All-cons IsRange (range_of row) (ranges_of rows)
-    (is_range program row (All-head (KeepsInput program) row rows all)) (are_ranges program rows (All-tail (KeepsInput program) row rows all))

@@ -6,4 +6,5 @@ pub mod PathBounding
 -- laws
 pub mod InputRowLaws
 pub mod FoundBounds
+pub mod FoundBoundLaws
 pub mod PathBoundingLaws

@@ -13,7 +13,8 @@ use Rattle.flow_facts.specs.declared.report.BoundWord.{BoundWord}
 use Rattle.flow_facts.specs.Reports.{Reported}
 use Rattle.report_soundness.specs.Bounded.{IsOf, HasPathBound}
 use Rattle.program_machines.specs.NodeCosts.{node_cost}
-use Rattle.program_machines.specs.Starts.{AreLone, lone_start, alone}
+use Rattle.program_machines.specs.Starts.{AreLone, lone_start}
+use Rattle.program_machines.specs.StartLaws.{alone}
 use Rattle.program_analysis.specs.Answers.{Answer, Told, Unbounded}
 use Rattle.program_analysis.specs.BoundedAnalyses.{IsBoundedAnalysis}
 use Rattle.worst_inputs.specs.declared.bounder.Bounded.{Bounded}
@@ -26,7 +27,7 @@ use Rattle.program_bounder.specs.InputCosts.{RunsCost}
 use Rattle.program_bounder.specs.PathBounds.{HasPathBoundAt, path_answers}
 use Rattle.program_bounder.specs.PathBounding.{given_program, Suits, path_bounding}
 use Rattle.program_bounder.specs.InputRowLaws.{narrower, inside_within, starts_same, lone_rows}
-use Rattle.program_bounder.specs.FoundBounds.{found_bounds, lone_costs}
+use Rattle.program_bounder.specs.FoundBoundLaws.{found_bounds, lone_costs}
 
 -- a part has as many ranges
 as_many : (area part : Area) → IsPart area part → length part ≡ length area

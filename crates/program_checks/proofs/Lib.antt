@@ -1,0 +1,5 @@
+-- The files of this folder.
+pub mod AlikeCheckLaws
+pub mod CheckingLaws
+pub mod SoundLaws
+pub mod TwinCheckLaws

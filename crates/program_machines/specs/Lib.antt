@@ -4,3 +4,4 @@ pub mod Rankings
 pub mod ProgramRuns
 pub mod ProgramRunLaws
 pub mod Starts
+pub mod StartLaws

@@ -5,7 +5,6 @@
 --   moved_has, moved_is, moved_part_has      a progression and a number added
 --   unsigned_has, signed_has                 the pieces have the numbers of the range that some number of p is modulo 2 to the size
 --   unsigned_are, signed_are                 and lie in the range
---   from_least_small, up_to_small, between_small   parts of a small progression are small
 use Rattle.std.proofs.Common.{◌≡◌, ◌≢◌, ℕ, ℤ, pos, neg_ℤ, ◌≤◌, arith, inl, inr, Option, Some, None, ⊎_elim, ◌↔◌}
 use Rattle.std.specs.Prelude.{◌+ℤ◌, ◌-ℤ◌, ◌≤ℤ◌, ◌<ℤ◌, int_le, int_lt, ◌⊎◌}
 use Rattle.std.specs.Int.{int_rem_euclid}
@@ -17,8 +16,7 @@ use Rattle.progressions.specs.declared.ends.Progression.{Progression}
 use Rattle.progressions.specs.Progressions.{Has, IsProgression, IsPlaced, HasSome, IfProgression, full, half}
 use Rattle.progressions.specs.Images.{moved}
 use Rattle.progressions.specs.Parts.{from_least, up_to, between, part_up_to, risen, sunk, without_first, without_last, moved_part, unsigned_pieces, signed_pieces, SomeHas, IfPiece, ArePieces}
-use Rattle.progressions.specs.Limits.{IsSmall, IfSmall}
-use Rattle.progressions.specs.ProgressionLaws.{is_from_to, has_from_to, from_to_aligned, has_lo, has_hi, step_positive, step_width, halves}
+use Rattle.progressions.specs.ProgressionLaws.{is_from_to, has_from_to, from_to_aligned, has_lo, has_hi, step_positive, halves}
 
 -- A number added.
 
@@ -295,24 +293,3 @@ signed_are w p positive placed =
       second = within (neg_ℤ (half w)) (half w -ℤ pos 1) (moved_part (neg_ℤ (full w)) (from_least (half w) p)) (moved_part_is (neg_ℤ (full w)) (from_least (half w) p) (from_least_is (half w) p is)) (λ n h. signed_range w p n positive placed (inr (inl h)));
       third = tt;
     }
-
--- Parts of a small progression are small.
-
-part_small : (p q : Progression) → IsSmall p → IsProgression q → p.lo ≤ℤ q.lo → q.hi ≤ℤ p.hi → IsSmall q
-part_small p q small is low high =
-    let s = step_width q is in
-    record { low = omega (arith, ints, small.low, low); high = omega (arith, ints, small.high, high); order = is.order; rising = is.rising; near = omega (arith, ints, s, small.low, small.high, low, high) }
-
--- a part that has no other numbers
-small_of : (p : Progression) (o : Option Progression) → IsSmall p → IfProgression o → ((n : ℤ) → HasSome o n → Has p n) → IfSmall o
-small_of p None small is inside = tt
-small_of p (Some q) small is inside = part_small p q small is (inside q.lo (has_lo q is)).least (inside q.hi (has_hi q is)).most
-
-pub from_least_small : (least : ℤ) (p : Progression) → IsProgression p → IsSmall p → IfSmall (from_least least p)
-from_least_small least p is small = small_of p (from_least least p) small (from_least_is least p is) (λ n h. ((from_least_has least p n is).0 h).0)
-
-pub up_to_small : (greatest : ℤ) (p : Progression) → IsProgression p → IsSmall p → IfSmall (up_to greatest p)
-up_to_small greatest p is small = small_of p (up_to greatest p) small (up_to_is greatest p is) (λ n h. ((up_to_has greatest p n is).0 h).0)
-
-pub between_small : (least greatest : ℤ) (p : Progression) → IsProgression p → IsSmall p → IfSmall (between least greatest p)
-between_small least greatest p is small = small_of p (between least greatest p) small (between_is least greatest p is) (λ n h. ((between_has least greatest p n is).0 h).0)

@@ -44,7 +44,7 @@ impl Progression {
     }
 
     /// The numbers from `least` to `greatest`, if there is one.
-    #[tactic(auto, using(crate::specs::PartLaws::from_least_is, crate::specs::PartLaws::from_least_small))]
+    #[tactic(auto, using(crate::specs::PartLaws::from_least_is, crate::proofs::PartLemmas::from_least_small))]
     pub fn between(&self, least: Whole, greatest: Whole) -> Option<Progression>
         requires progression { IsProgression self.now }
         requires small { IsSmall self.now }

@@ -5,11 +5,11 @@
 --   total_bounds       what a book of totals has of a node bounds its visits in the run
 --   loop_least, loop_most, count_least, count_most   of one run alone the least and the greatest are those of two executions
 use Rattle.std.proofs.Common.{◌≡◌, ◌<◌, ◌+◌, ℕ, List, [], ◌∷◌, Option, None, Some, Bool, true, cond, length, reverse, Contains, refl, sym, ap, ◌∙◌, subst, arith}
-use Rattle.lists.specs.Images.{image, mapped}
+use Rattle.lists.specs.ImageLaws.{image, mapped}
 use Rattle.domain_core.specs.Outlines.{Outlined, Shape, shape_of, header_of, IsOutline}
 use Rattle.domain_core.specs.Executions.{IsExecution, executions, header_count, is_header}
 use Rattle.domain_core.specs.ExecutionLaws.{found_execution, execution_found}
-use Rattle.recorder_rules.specs.Generated.{length-generated, at-generated}
+use Rattle.recorder_rules.specs.GeneratedLaws.{length-generated, at-generated}
 use Rattle.recorder_rules.specs.Spans.{visits, IsWithin, IsWider}
 use Rattle.recorder_rules.specs.SpanLaws.{spread_has, spread_attained}
 use Rattle.recorder_rules.specs.TotalRules.{spread_at, total_recording}

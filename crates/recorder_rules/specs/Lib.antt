@@ -1,5 +1,6 @@
 -- The files of this folder.
 pub mod Generated
+pub mod GeneratedLaws
 pub mod Spans
 pub mod SpanLaws
 pub mod TotalRules
@@ -7,18 +8,24 @@ pub mod TotalLaws
 pub mod TallyRules
 pub mod TallyLaws
 pub mod LoopRules
+pub mod LoopRuleLaws
 pub mod BookLaws
 pub mod Tables
+pub mod TableLaws
 pub mod PairRules
 pub mod PairSteps
+pub mod PairStepLaws
 pub mod PairLaws
 pub mod PairBookLaws
 pub mod BitWords
 pub mod Seen
-pub mod Ranges
-pub mod Bits
+pub mod RangeLaws
+pub mod BitLaws
 pub mod Walks
-pub mod Rows
+pub mod WalkLaws
+pub mod RowLaws
 pub mod EndedNodes
+pub mod EndedNodeLaws
 pub mod StepBits
-pub mod PairBits
+pub mod StepBitLaws
+pub mod PairBitLaws

@@ -5,7 +5,7 @@
 use Rattle.std.proofs.Common.{◌≡◌, ℕ, ◌<◌, List, [], ◌∷◌, length, reverse, Contains, true, false, ◌==◌, inl, inr, sym, ap, ◌∙◌, subst}
 use Rattle.std.proofs.lemmas.Bool.{or_cases, or_left, or_right, and_parts, eqb-true, eq-eqb}
 use Rattle.std.proofs.lemmas.List.{reverse-reverse}
-use Rattle.lists.specs.Members.{no_member, first_member, further_member, first_or_further}
+use Rattle.lists.specs.MemberLaws.{no_member, first_member, further_member, first_or_further}
 use Rattle.domain_core.specs.Outlines.{Outlined, Shape, shape_of, IsOutline}
 use Rattle.domain_core.specs.OutlineLaws.{in_reverse}
 use Rattle.domain_core.specs.Executions.{IsIteration, iterations}
@@ -13,7 +13,7 @@ use Rattle.domain_core.specs.IterationLaws.{found_iteration, iteration_found}
 use Rattle.recorder_rules.specs.LoopRules.{own_of}
 use Rattle.recorder_rules.specs.Tables.{cell}
 use Rattle.recorder_rules.specs.PairRules.{has, follows, any_follows, PairBook, is_shared, whole, together, AreExactPairs, pair_recording}
-use Rattle.recorder_rules.specs.PairSteps.{follows_has, follows_later, has_follows}
+use Rattle.recorder_rules.specs.PairStepLaws.{follows_has, follows_later, has_follows}
 use Rattle.recorder_rules.specs.PairLaws.{same_own}
 
 -- the test for a member is right

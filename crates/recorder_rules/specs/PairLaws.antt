@@ -4,7 +4,7 @@
 --   pair_is_recording   all laws
 use Rattle.std.proofs.Common.{◌≡◌, ◌≢◌, ℕ, ◌<◌, List, [], ◌∷◌, length, Bool, true, false, not, ◌&&◌, ◌||◌, ◌==◌, cond, inl, inr, refl, sym, ap, ◌∙◌, subst, arith}
 use Rattle.std.proofs.lemmas.Bool.{or_cases, or_left, or_right, and_parts, and_from, eqb-true, eq-eqb}
-use Rattle.lists.specs.Tests.{by_test}
+use Rattle.lists.specs.TestLaws.{by_test}
 use Rattle.domain_core.specs.Orders.{IsOrder}
 use Rattle.domain_core.specs.Outlines.{Shape, shape_of, is_held, header_of, IsOutline, here}
 use Rattle.domain_core.specs.OutlineLaws.{held_is, is_holder, holder_low}
@@ -12,11 +12,13 @@ use Rattle.domain_core.specs.Traces.{IsTrace}
 use Rattle.domain_core.specs.Parts.{further}
 use Rattle.domain_core.specs.Executions.{is_header, goes_on_at, open_iteration}
 use Rattle.domain_core.specs.Recordings.{IsRecording}
-use Rattle.recorder_rules.specs.Generated.{generated, length-generated}
+use Rattle.recorder_rules.specs.Generated.{generated}
+use Rattle.recorder_rules.specs.GeneratedLaws.{length-generated}
 use Rattle.recorder_rules.specs.LoopRules.{own_of}
-use Rattle.recorder_rules.specs.Tables.{truth, cell, tabled, truth-generated, cell-tabled, length-tabled}
+use Rattle.recorder_rules.specs.Tables.{truth, cell, tabled}
+use Rattle.recorder_rules.specs.TableLaws.{truth-generated, cell-tabled, length-tabled}
 use Rattle.recorder_rules.specs.PairRules.{has, follows, any_follows, Sightings, PairBook, is_shared, ends, is_over, seen_after, pair_after, book_after, book_ended, current, over, ArePaired, AreCollected, AreSharpPairs, AreExactPairs, pair_order, pair_recording}
-use Rattle.recorder_rules.specs.PairSteps.{follows_has, seen_step, pair_step, over_step, all_over}
+use Rattle.recorder_rules.specs.PairStepLaws.{follows_has, seen_step, pair_step, over_step, all_over}
 
 -- ---- the order
 

@@ -1,8 +1,9 @@
 -- What follows for spans of counts.
 use Rattle.std.proofs.Common.{◌≡◌, ◌≢◌, ℕ, zero, suc, ◌+◌, ◌<◌, ◌≤◌, min, max, List, [], ◌∷◌, length, get_or, Option, Some, None, Contains, ◌⊎◌, inl, inr, refl, sym, ap, ◌∙◌, subst, arith, eq-eqb}
 use Rattle.std.proofs.lemmas.Bool.{ne_eqb, cases_eq, cases_lt}
-use Rattle.lists.specs.Members.{no_member, first_member, further_member, first_or_further}
-use Rattle.recorder_rules.specs.Generated.{generated, length-generated, at-generated}
+use Rattle.lists.specs.MemberLaws.{no_member, first_member, further_member, first_or_further}
+use Rattle.recorder_rules.specs.Generated.{generated}
+use Rattle.recorder_rules.specs.GeneratedLaws.{length-generated, at-generated}
 use Rattle.recorder_rules.specs.Spans.{visits, IsWithin, IsInside, span_of, collected, IsWider, spread_of, AllInside, greatest}
 
 -- ---- numbers
@@ -99,15 +100,6 @@ spread_attained (c ∷ counts) s is = by_rest (λ t rest. spread_attained counts
           subst (λ (n : ℕ). Contains (c ∷ counts) n) (ap (λ (p : ℕ × ℕ). p.0) same) (least t.0 more.0 (le_or_more t.0 c)),
           subst (λ (n : ℕ). Contains (c ∷ counts) n) (ap (λ (p : ℕ × ℕ). p.1) same) (most t.1 more.1 (le_or_more t.1 c)),
         )
-
--- nothing is spread only where there is no count
-pub spread_none : (counts : List ℕ) → spread_of counts ≡ None → counts ≡ []
-spread_none [] is = refl
-spread_none (c ∷ counts) is = absurd (some (spread_of counts) is)
-  where
-    some : (t : Option (ℕ × ℕ)) → collected t (c, c) ≡ None → ⊥
-    some None bad = let nothing : Option (ℕ × ℕ) = None in let e : Some (c, c) ≡ nothing = bad in cc
-    some (Some t) bad = let nothing : Option (ℕ × ℕ) = None in let e : Some (span_of t (c, c)) ≡ nothing = bad in cc
 
 -- ---- lists of spans
 

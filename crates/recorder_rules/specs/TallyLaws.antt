@@ -6,12 +6,13 @@
 use Rattle.std.proofs.Common.{◌≡◌, ◌≢◌, ℕ, ◌+◌, ◌<◌, ◌≤◌, List, [], ◌∷◌, length, get_or, map, Option, Some, None, Bool, true, false, not, ◌&&◌, ◌==◌, cond, inl, inr, refl, sym, ap, ◌∙◌, subst, arith}
 use Rattle.std.proofs.lemmas.List.{get_or-replicate, length-replicate}
 use Rattle.std.proofs.lemmas.Bool.{eqb-true}
-use Rattle.lists.specs.Tests.{by_test}
+use Rattle.lists.specs.TestLaws.{by_test}
 use Rattle.domain_core.specs.Outlines.{Outlined, Shape, shape_of, is_held, IsOutline}
 use Rattle.domain_core.specs.Stretches.{with_closed}
 use Rattle.domain_core.specs.Executions.{open_execution, closed_executions}
 use Rattle.domain_core.specs.Recordings.{IsRecording}
-use Rattle.recorder_rules.specs.Generated.{generated, length-generated, at-generated}
+use Rattle.recorder_rules.specs.Generated.{generated}
+use Rattle.recorder_rules.specs.GeneratedLaws.{length-generated, at-generated}
 use Rattle.recorder_rules.specs.Spans.{visits, IsWithin, collected, IsWider, spread_of, span_of, greatest}
 use Rattle.recorder_rules.specs.SpanLaws.{low_or_over, wider_itself, wider_farther, collected_wider, collected_each, below_greatest, greatest_least}
 use Rattle.recorder_rules.specs.TotalRules.{span_at, spread_at, span_order, AllWider}

@@ -6,7 +6,7 @@ use Rattle.domain_core.specs.Orders.{IsOrder}
 use Rattle.domain_core.specs.declared.outline.NodeRow.{NodeRow}
 use Rattle.domain_core.specs.Outlines.{Outlined, shape_of}
 use Rattle.domain_core.specs.Recordings.{IsRecording}
-use Rattle.recorder_rules.specs.Generated.{length-generated, at-generated}
+use Rattle.recorder_rules.specs.GeneratedLaws.{length-generated, at-generated}
 use Rattle.recorder_rules.specs.Spans.{visits, IsWithin, one_more, span_of, collected, IsWider, AllInside, greatest}
 use Rattle.recorder_rules.specs.SpanLaws.{same_or_not, low_or_over, visits-here, visits-other, wider_itself, wider_farther, collected_wider, collected_each, inside_itself, inside_farther, spans_of, left_inside, right_inside, below_greatest, greatest_least}
 use Rattle.recorder_rules.specs.TotalRules.{span_at, spread_at, span_order, AllWider, all_collected, total_recording}

@@ -7,8 +7,8 @@ use Rattle.std.proofs.Common.{◌≡◌, ◌<◌, ◌+◌, ℕ, List, [], ◌∷
 use Rattle.std.specs.Prelude.{slice_get}
 use Rattle.std.specs.Option.{option_map}
 use Rattle.std.proofs.lemmas.Option.{none-some, same_Some, slice_get-map, get_or_from_slice_get}
-use Rattle.lists.specs.Members.{contained}
-use Rattle.lists.specs.Images.{mapped_at}
+use Rattle.lists.specs.MemberLaws.{contained}
+use Rattle.lists.specs.ImageLaws.{mapped_at}
 use Rattle.domain_core.specs.declared.event.Event.{Event}
 use Rattle.domain_core.specs.declared.outline.NodeRow.{NodeRow}
 use Rattle.domain_core.specs.Orders.{Order}

@@ -3,3 +3,4 @@ pub mod Steps
 pub mod Events
 pub mod MarkLaws
 pub mod Answering
+pub mod TestLaws

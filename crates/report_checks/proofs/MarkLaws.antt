@@ -14,8 +14,8 @@ use Rattle.std.proofs.lemmas.List.Elements.{All-head, All-tail, All-contains, Al
 use Rattle.std.proofs.lemmas.List.Sums.{sum_by-cons}
 use Rattle.std.proofs.lemmas.Grind.{common_steps}
 use Rattle.graph_walks.specs.ListLaws.{same_or_not}
-use Rattle.lists.specs.Members.{all_members}
-use Rattle.lists.specs.Tests.{by_test}
+use Rattle.lists.specs.MemberLaws.{all_members}
+use Rattle.lists.specs.TestLaws.{by_test}
 use Rattle.domain_core.specs.Outlines.{Outlined, shape_of}
 use Rattle.alf_ops.specs.declared.history.RunFault.{RunFault}
 use Rattle.alf_ops.specs.declared.history.RunFault.TheVariants.{Divide}

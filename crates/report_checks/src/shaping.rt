@@ -113,7 +113,7 @@ fn fits(outline: &Outline, fact: &Fact) -> bool
 }
 
 // Whether it is so of all facts.
-#[tactic(auto, using(crate::specs::Tests::fits_is, crate::specs::Tests::is_fit))]
+#[tactic(auto, using(crate::proofs::TestLaws::fits_is, crate::proofs::TestLaws::is_fit))]
 fn all_fit(outline: &Outline, facts: &[Fact]) -> bool
     ensures { IsTrue result ↔ All (λ f. FitsOutline (shape_of outline.now) f) facts.now }
 {

@@ -12,8 +12,8 @@ use Rattle.std.proofs.lemmas.Nat.{mul-le}
 use Rattle.std.proofs.lemmas.Option.{same_Some}
 use Rattle.std.proofs.lemmas.List.Folds.{list_any_at}
 use Rattle.std.proofs.lemmas.List.Sums.{sum_by-cons}
-use Rattle.lists.specs.Members.{no_member, first_member, further_member, first_or_further}
-use Rattle.lists.specs.Tests.{by_test}
+use Rattle.lists.specs.MemberLaws.{no_member, first_member, further_member, first_or_further}
+use Rattle.lists.specs.TestLaws.{by_test}
 use Rattle.alf_ops.specs.declared.history.RunFault.{RunFault}
 use Rattle.domain_core.specs.declared.event.Event.{Event}
 use Rattle.domain_core.specs.declared.fault_set.FaultSet.{FaultSet}

@@ -19,7 +19,8 @@ use Rattle.flow_facts.specs.Reports.{Reported}
 use Rattle.ipet_rows.specs.Columns.{is_alarm_at, has_alarm, columns_of}
 use Rattle.ipet_rows.specs.Uses.{EndsAt, IsEnded, steps_of, column_counts, run_cost}
 use Rattle.ipet_rows.specs.Shaped.{FitOutline}
-use Rattle.ipet_rows.specs.Feasible.{MeetFacts, feasible, worth_cost}
+use Rattle.ipet_rows.specs.Feasible.{MeetFacts}
+use Rattle.ipet_rows.specs.FeasibleLaws.{feasible, worth_cost}
 use Rattle.ipet_rows.specs.Bounds.{BoundsAll}
 use Rattle.report_soundness.specs.ReportTold.{costs_of}
 use Rattle.worklist_rules.specs.EndedRuns.{Passes, stops, moves}

@@ -10,8 +10,8 @@ use Rattle.std.specs.declared.cmp.Ordering.TheVariants.{Less, Equal, Greater}
 use Rattle.std.proofs.lemmas.Bool.{lt-ltb, le-ltb, eq-eqb}
 use Rattle.std.proofs.lemmas.List.Elements.{Contains-append_cases}
 use Rattle.std.proofs.lemmas.List.Kept.{AllPairs-cons}
-use Rattle.lists.specs.Members.{no_member, first_member, further_member, first_or_further, all_members}
-use Rattle.lists.specs.Images.{from_joined}
+use Rattle.lists.specs.MemberLaws.{no_member, first_member, further_member, first_or_further, all_members}
+use Rattle.lists.specs.ImageLaws.{from_joined}
 use Rattle.alf_ops.specs.declared.history.RunFault.{RunFault}
 use Rattle.domain_core.specs.declared.fault_set.FaultSet.{FaultSet}
 use Rattle.domain_core.specs.FaultSets.{has_fault}

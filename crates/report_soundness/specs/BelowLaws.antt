@@ -6,7 +6,7 @@
 use Rattle.std.proofs.Common.{◌≡◌, ◌<◌, ◌≤◌, ◌+◌, ◌==◌, ℕ, zero, suc, List, [], ◌∷◌, Option, Some, None, Bool, true, false, cond, Contains, inl, inr, refl, sym, ap, subst, arith}
 use Rattle.std.proofs.lemmas.Bool.{eq-eqb, ne_eqb}
 use Rattle.std.proofs.lemmas.List.Elements.{Contains-append_left, Contains-append_right, Contains-append_cases}
-use Rattle.lists.specs.Members.{no_member, first_member, first_or_further}
+use Rattle.lists.specs.MemberLaws.{no_member, first_member, first_or_further}
 use Rattle.graph_walks.specs.ListLaws.{same_or_not}
 use Rattle.flow_facts.specs.declared.fact.Fact.{Fact}
 use Rattle.report_soundness.specs.ReportTold.{below, sum_below, span_lines}

@@ -1,25 +1,22 @@
 -- The facts that an exploration tells have what a path bound asks for.
---   told_about     each is about the outline
 --   told_fit       and fits it
 --   told_limited   of each node some fact says how often a run leaves it at most, where totals were collected
 --   told_within    the sum over the openings is at most the count bound
 --   summed_totals  where a run was collected, each node has a total
-use Rattle.std.proofs.Common.{◌≡◌, ◌≢◌, ◌<◌, ◌*◌, ◌==◌, ◌&&◌, not, ℕ, zero, suc, pos, Bool, true, false}
-use Rattle.std.proofs.Common.{List, length, All, Option, Some, None, inl, inr, refl, ap, sym, ◌∙◌, subst, arith}
+use Rattle.std.proofs.Common.{◌≡◌, ◌≢◌, ◌<◌, ◌*◌, ◌==◌, ◌&&◌, not, ℕ, zero, suc, pos, Bool, true, false, List, length, Option, Some, None, inl, inr, refl, ap, sym, ◌∙◌, subst, arith}
 use Rattle.std.specs.Prelude.{◌≤ℤ◌, slice_index}
 use Rattle.std.specs.Option.{option_map_or}
 use Rattle.std.proofs.lemmas.Bool.{eq-eqb}
 use Rattle.std.proofs.lemmas.Int.{ints}
 use Rattle.std.proofs.lemmas.List.{length-map}
-use Rattle.lists.specs.Members.{all_members}
-use Rattle.lists.specs.Tests.{by_test}
+use Rattle.lists.specs.MemberLaws.{all_members}
+use Rattle.lists.specs.TestLaws.{by_test}
 use Rattle.domain_core.specs.declared.outline.NodeRow.{NodeRow}
 use Rattle.domain_core.specs.declared.scope_kind.ScopeKind.{ScopeKind}
 use Rattle.domain_core.specs.declared.scope_kind.ScopeKind.TheVariants.{Call, Loop as LoopScope}
 use Rattle.domain_core.specs.Outlines.{Outlined, shape_of, header_of, kind_of}
 use Rattle.flow_facts.specs.declared.fact.Fact.{Fact}
 use Rattle.flow_facts.specs.declared.fact.Fact.TheVariants.{Loop, Count, Dead, Total, Pair, Alarm}
-use Rattle.flow_facts.specs.Facts.{IsAbout}
 use Rattle.ipet_rows.specs.Sums.{total}
 use Rattle.ipet_rows.specs.Shaped.{FitsOutline, FitOutline}
 use Rattle.recorder_rules.specs.Spans.{visits, IsWider}
@@ -31,7 +28,8 @@ use Rattle.report_soundness.specs.ReportTold.{Found, is_stepped, sum_below, told
 use Rattle.report_soundness.specs.Lines.{IsLine}
 use Rattle.report_soundness.specs.LineLaws.{told_line, line_told}
 use Rattle.path_lp.specs.Bounding.{opening_sum}
-use Rattle.path_lp.specs.OpeningCosts.{AreWithin, openings_within}
+use Rattle.path_lp.specs.OpeningCosts.{AreWithin}
+use Rattle.path_lp.specs.OpeningCostLaws.{openings_within}
 use Rattle.report_soundness.specs.BoundTold.{IsTotalOf, HaveTotals}
 
 -- ---- shapes
@@ -52,7 +50,7 @@ module _ (o : Outlined) (found : Found) where
   same_length : length (shape_of o).own ≡ length o.nodes
   same_length = length-map o.nodes (λ (row : NodeRow). row.scope)
 
-  low : (n : ℕ) → n < length o.nodes → n < length (shape_of o).own
+  pub low : (n : ℕ) → n < length o.nodes → n < length (shape_of o).own
   low n below = let same = same_length in omega (arith, below, same)
 
   line_fits : (fact : Fact) → IsLine o found fact → FitsOutline (shape_of o) fact
@@ -69,18 +67,6 @@ module _ (o : Outlined) (found : Found) where
       (is.0, pair.ordered, low b pair.apart.second, pair.apart.own, pair.apart.other_own, pair.no_header.0, pair.no_header.1)
   line_fits (Alarm n fault) is = low n is.0
 
-  about : (fact : Fact) → IsLine o found fact → IsAbout (shape_of o) fact
-  about (Loop s least most) is = is.1.there
-  about (Count s n least most) (within, stepped, counted, span) = (within, low n span.there)
-  about (Dead n) is = low n is.0
-  about (Total n least most) is = low n is.1.there
-  about (Pair s a b) is = (is.0, low a is.1.apart.first, low b is.1.apart.second)
-  about (Alarm n fault) is = low n is.0
-
-  -- each is about the outline
-  pub told_about : All (λ f. IsAbout (shape_of o) f) (told_facts o found)
-  told_about = all_members (λ f. IsAbout (shape_of o) f) (told_facts o found) (λ fact there. about fact (told_line o found fact there))
-
   -- and fits it
   pub told_fit : FitOutline (shape_of o) (told_facts o found)
   told_fit = all_members (λ f. FitsOutline (shape_of o) f) (told_facts o found) (λ fact there. line_fits fact (told_line o found fact there))
@@ -95,7 +81,7 @@ module _ (o : Outlined) (found : Found) where
       inr (told.low, told.high, line_told o found (Total n told.low told.high) (stepped, record { there = below; span = told.span })))
       (λ clear. inl (line_told o found (Dead n) (below, clear)))
 
-  within : AreWithin (greatest_total found) (told_facts o found)
+  pub within : AreWithin (greatest_total found) (told_facts o found)
   within n least most there =
       let is = told_line o found (Total n least most) there in
       let same : greatest_total found n ≡ most = rw is.0 (ap (λ (t : Option (ℕ × ℕ)). option_map_or (λ span. span.1) t 0) is.1.span) in

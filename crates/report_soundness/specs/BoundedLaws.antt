@@ -1,15 +1,13 @@
 -- What the report with a path bound has of the given one.
---   facts_about, facts_limited, openings_fit   what is asked of facts for a path bound
+--   facts_limited   what is asked of facts for a path bound
 --   bound_most         what is at most the sum over the openings is at most the count bound
 --   bounded_sound      each run that the report is sound for costs at most the path bound
 --   sound_runs         a run of the system ends where the report is sound
 --   kept_totals        where no place is left and some run ends, of each node that was stepped some total was collected
---   kept_told          and the report is a told one
 --   events_totals, events_told   so it is of each pool that events led to
---   met_at_bound, run_at_bound   where some run costs the count bound, the path bound is the count bound
---   lone_bound         where the given report tells one run exactly, both are the run's cost
-use Rattle.std.proofs.Common.{◌≡◌, ◌≤◌, ◌<◌, ◌^◌, ℕ, pos, Bool, List, [], ◌∷◌, Option, None, Some, length, All, reverse, refl, sym, subst, arith}
-use Rattle.std.specs.Prelude.{◌≤ℤ◌, ◌<ℤ◌}
+--   run_at_bound   where some run costs the count bound, the path bound is the count bound
+use Rattle.std.proofs.Common.{◌≡◌, ◌≤◌, ℕ, pos, List, [], ◌∷◌, Option, None, Some, length, refl, sym, subst, arith}
+use Rattle.std.specs.Prelude.{◌≤ℤ◌}
 use Rattle.std.proofs.lemmas.Int.{ints}
 use Rattle.alf_ops.specs.declared.history.RunFault.{RunFault}
 use Rattle.domain_core.specs.declared.event.Event.{Event}
@@ -17,11 +15,9 @@ use Rattle.domain_core.specs.Orders.{Order, IsOrder}
 use Rattle.domain_core.specs.Outlines.{Outlined, IsOutline, shape_of}
 use Rattle.domain_core.specs.Machines.{System, Machine, IsMachine, IsAlong}
 use Rattle.flow_facts.specs.declared.report.BoundWord.{BoundWord}
-use Rattle.flow_facts.specs.Facts.{IsAbout}
 use Rattle.flow_facts.specs.Reports.{Reported}
-use Rattle.ipet_rows.specs.Uses.{IsEnded, run_cost}
+use Rattle.ipet_rows.specs.Uses.{run_cost}
 use Rattle.ipet_rows.specs.Shaped.{FitOutline}
-use Rattle.ipet_rows.specs.Feasible.{MeetFacts}
 use Rattle.simplex_rules.specs.OutlineOpenings.{AreLimited}
 use Rattle.worklist_rules.specs.Pools.{Pooled}
 use Rattle.worklist_rules.specs.Events.{opened, HappenAll}
@@ -32,19 +28,15 @@ use Rattle.report_soundness.specs.ReportTold.{FourRecorders, FourBooks, four_ord
 use Rattle.worklist_rules.specs.EndedRuns.{Passes}
 use Rattle.worklist_rules.specs.SummedLaws.{each_is_summed}
 use Rattle.report_soundness.specs.Runs.{IsSound}
-use Rattle.report_soundness.specs.Exact.{LoneRun}
 use Rattle.report_soundness.specs.EventLaws.{four_kept, events_one_on}
 use Rattle.report_soundness.specs.BoundTold.{HaveTotals}
-use Rattle.report_soundness.specs.BoundToldLaws.{told_about, told_fit, told_limited, told_within, summed_totals}
+use Rattle.report_soundness.specs.BoundToldLaws.{told_fit, told_limited, told_within, summed_totals}
 use Rattle.report_soundness.specs.RunLaws.{bound_above}
 use Rattle.report_soundness.specs.Bounded.{IsTold, HasRun, with_path_bound, bounded, with_count_bound, IsOf, HasPathBound, IsPathSound, IsPathBounded, IsWithinCount}
 
 -- ---- told reports
 
 module _ (o : Outlined) (report : Reported) (is : IsTold o report) where
-  pub facts_about : All (λ f. IsAbout (shape_of o) f) report.facts
-  facts_about = subst (λ (r : Reported). All (λ f. IsAbout (shape_of o) f) r.facts) (sym is.told) (told_about o is.found)
-
   pub facts_fit : FitOutline (shape_of o) report.facts
   facts_fit = subst (λ (r : Reported). FitOutline (shape_of o) r.facts) (sym is.told) (told_fit o is.found)
 
@@ -54,9 +46,6 @@ module _ (o : Outlined) (report : Reported) (is : IsTold o report) where
   -- the sum over the openings is at most the count bound
   pub openings_low : opening_sum o report.facts ≤ℤ pos report.count_bound
   openings_low = subst (λ (r : Reported). opening_sum o r.facts ≤ℤ pos r.count_bound) (sym is.told) (told_within o is.found)
-
-  pub openings_fit : report.count_bound < 2 ^ 64 → opening_sum o report.facts <ℤ pos (2 ^ 64)
-  openings_fit low = let most = openings_low in omega (arith, ints, most, low)
 
   -- so is what is at most that sum
   pub bound_most : (v : ℕ) → pos v ≤ℤ opening_sum o report.facts → v ≤ report.count_bound
@@ -95,11 +84,6 @@ kept_totals machine w kept empty run =
     summed_totals w.outline (found_of w) (is.last ∷ is.past)
     (record { totals = is.summed.0.0; loops = is.summed.0.1; counts = is.summed.1.0; pairs = is.summed.1.1 })
 
--- and the report is a told one
-pub kept_told : {S T C : Type 0} (machine : S → Machine T C) (w : Pooled S T FourRecorders FourBooks) → IsKept machine four_recording w → w.spots ≡ []
-    → HasRun (machine w.stepper).system → IsTold w.outline (told_report w.outline (found_of w))
-kept_told machine w kept empty run = record { found = found_of w; told = refl; totals = kept_totals machine w kept empty run }
-
 -- so it is of each pool that events led to
 pub events_totals : {S T C : Type 0} (machine : S → Machine T C) (states : Order T) (events : List Event) (stepper : S) (o : Outlined)
     (w : Pooled S T FourRecorders FourBooks) → IsOrder T states
@@ -122,14 +106,6 @@ events_told machine states events stepper o w states_laws machine_laws stepper_k
 
 -- ---- the count bound
 
--- where some run that meets the facts costs the count bound, what no such run passes and is at most the count bound is the count bound
-pub met_at_bound : (o : Outlined) (report : Reported) (v : ℕ) → IsAbove o report.facts v → v ≤ report.count_bound → FitOutline (shape_of o) report.facts
-    → (fault : Bool) (k : ℕ) (past : List ℕ) → IsEnded (shape_of o) report.facts fault (k ∷ past) → MeetFacts (shape_of o) (reverse (k ∷ past)) report.facts
-    → run_cost (costs_of o) (k ∷ past) ≡ report.count_bound → v ≡ report.count_bound
-met_at_bound o report v above within fit fault k past run met cost =
-    let low = above.runs fault k past run fit met in
-    omega (arith, low, within, cost)
-
 on_bound : (P Q R : ℕ × BoundWord → Type 0) (t : Option (ℕ × BoundWord)) → ((b : ℕ × BoundWord) → P b → Q b → R b) → IsOf P t → IsOf Q t → IsOf R t
 on_bound P Q R None each first second = absurd first
 on_bound P Q R (Some b) each first second = each b first second
@@ -141,25 +117,3 @@ pub run_at_bound : {C : Type 0} (system : System C) (o : Outlined) (report : Rep
 run_at_bound system o report sound within c trace fault starts passes cost =
     on_bound (λ b. IsSound system o (with_count_bound report b.0)) (λ b. b.0 ≤ report.count_bound) (λ b. b.0 ≡ report.count_bound) report.path_bound
     (λ b holds most. let low = (holds.right c trace fault starts passes).bound in omega (arith, low, most, cost)) sound within
-
--- where the given report tells one run exactly, so does this one
-still_lone : {C : Type 0} (system : System C) (o : Outlined) (given : Reported) (b : ℕ × BoundWord) (trace : List ℕ)
-    → LoneRun system o given trace → LoneRun system o (with_path_bound given b) trace
-still_lone system o given b trace run =
-    let is = run.exact in
-    record {
-      start = run.start;
-      starts = run.starts;
-      fault = run.fault;
-      passes = run.passes;
-      exact = record { totals = is.totals; deads = is.deads; loops = is.loops; counts = is.counts; pairs = is.pairs; alarms = is.alarms; bound = is.bound };
-    }
-
--- and both bounds are the run's cost
-pub lone_bound : {C : Type 0} (system : System C) (o : Outlined) (given report : Reported) (n : ℕ) (trace : List ℕ)
-    → report ≡ bounded o given n → IsPathSound system o report → IsWithinCount report
-    → LoneRun system o given trace → HasPathBound (λ b. b.0 ≡ run_cost (costs_of o) trace) report
-lone_bound system o given report n trace told sound within alone =
-    let run = subst (λ (r : Reported). LoneRun system o r trace) (sym told) (still_lone system o given (told_path_bound o given.facts n) trace alone) in
-    subst (λ (v : ℕ). HasPathBound (λ b. b.0 ≡ v) report) run.exact.bound
-    (run_at_bound system o report sound within run.start trace run.fault run.starts run.passes (sym run.exact.bound))

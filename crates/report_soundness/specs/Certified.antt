@@ -2,13 +2,11 @@
 --   told_certificate o facts events n   the events, with the multipliers of the path bound of the facts after n pivots at most
 --   with_certificate report cert        the report with this certificate
 --   printed_as certify report cert      so where a certificate is wanted, and else the report itself
---   certificate_writable                where some text spells the report, and the certificate's numbers fit, some text spells it with the certificate
 use Rattle.std.specs.Prelude.{ℕ, Bool, true, false, List, Some}
 use Rattle.domain_core.specs.declared.event.Event.{Event}
 use Rattle.domain_core.specs.Outlines.{Outlined}
 use Rattle.flow_facts.specs.declared.fact.Fact.{Fact}
 use Rattle.flow_facts.specs.Reports.{Certificate, Reported}
-use Rattle.flow_facts.specs.Writable.{CertificateIsWritable, IsWritable}
 use Rattle.path_lp.specs.Bounding.{told_duals}
 
 -- the events, with the multipliers of the path bound of the facts after n pivots at most
@@ -31,18 +29,3 @@ with_certificate report cert = record {
 abbrev pub printed_as : Bool → Reported → Certificate → Reported
 printed_as true report cert = with_certificate report cert
 printed_as false report cert = report
-
--- where some text spells the report, and the certificate's numbers fit, some text spells it with the certificate
-pub certificate_writable : (report : Reported) (cert : Certificate) → IsWritable report → CertificateIsWritable cert → IsWritable (with_certificate report cert)
-certificate_writable report cert is fits = record {
-  form = is.form;
-  few_nodes = is.few_nodes;
-  nodes = is.nodes;
-  few_scopes = is.few_scopes;
-  scopes = is.scopes;
-  facts = is.facts;
-  ascends = is.ascends;
-  count_bound = is.count_bound;
-  path_bound = is.path_bound;
-  certificate = fits;
-}

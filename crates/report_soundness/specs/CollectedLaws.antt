@@ -6,7 +6,7 @@
 --   collected_sound  where no place is left, a report that holds so is sound
 use Rattle.std.proofs.Common.{◌≡◌, ◌<◌, ◌≤◌, ℕ, List, [], ◌∷◌, Option, Some, None, true, length, reverse, All, Contains, sym, ◌∙◌, subst, arith}
 use Rattle.std.proofs.lemmas.List.{reverse-append, length-map}
-use Rattle.lists.specs.Members.{no_member, first_member, first_or_further}
+use Rattle.lists.specs.MemberLaws.{no_member, first_member, first_or_further}
 use Rattle.alf_ops.specs.declared.history.RunFault.{RunFault}
 use Rattle.domain_core.specs.FaultSets.{has_fault}
 use Rattle.domain_core.specs.Outlines.{Outlined, Shape, shape_of, IsOutline}

@@ -12,7 +12,8 @@ use Rattle.domain_core.specs.Machines.{Machine, IsMachine, IsAlong}
 use Rattle.domain_core.specs.Recordings.{IsRecording, IsSuited}
 use Rattle.recorder_rules.specs.TotalRules.{span_order, total_recording}
 use Rattle.recorder_rules.specs.TotalLaws.{span_is_order, total_is_recording}
-use Rattle.recorder_rules.specs.LoopRules.{loop_recording, count_recording, loop_is_recording, count_is_recording}
+use Rattle.recorder_rules.specs.LoopRules.{loop_recording, count_recording}
+use Rattle.recorder_rules.specs.LoopRuleLaws.{loop_is_recording, count_is_recording}
 use Rattle.recorder_rules.specs.PairRules.{pair_order, pair_recording}
 use Rattle.recorder_rules.specs.PairLaws.{pair_is_order, pair_is_recording}
 use Rattle.flow_recorders.specs.BothRules.{both_order, both_recording}

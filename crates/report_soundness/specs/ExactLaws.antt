@@ -7,8 +7,8 @@ use Rattle.std.specs.Option.{option_map_or}
 use Rattle.std.proofs.lemmas.Bool.{eq-eqb}
 use Rattle.std.proofs.lemmas.Option.{same_Some}
 use Rattle.std.proofs.lemmas.List.{reverse-append, reverse-reverse, length-map}
-use Rattle.lists.specs.Members.{no_member, first_member, first_or_further}
-use Rattle.lists.specs.Tests.{by_test}
+use Rattle.lists.specs.MemberLaws.{no_member, first_member, first_or_further}
+use Rattle.lists.specs.TestLaws.{by_test}
 use Rattle.alf_ops.specs.declared.history.RunFault.{RunFault}
 use Rattle.domain_core.specs.FaultSets.{has_fault}
 use Rattle.domain_core.specs.Outlines.{Outlined, Shape, shape_of, IsOutline, header_of, kind_of}
@@ -18,10 +18,9 @@ use Rattle.domain_core.specs.Traces.{IsTrace}
 use Rattle.flow_facts.specs.declared.fact.Fact.TheVariants.{Loop, Count, Dead, Total, Pair, Alarm}
 use Rattle.flow_facts.specs.Facts.{places}
 use Rattle.ipet_rows.specs.Uses.{run_cost}
-use Rattle.recorder_rules.specs.Spans.{visits, IsWider}
+use Rattle.recorder_rules.specs.Spans.{visits, IsWider, spread_of}
 use Rattle.recorder_rules.specs.SpanLaws.{wider_itself}
 use Rattle.recorder_rules.specs.TotalRules.{spread_at, total_recording}
-use Rattle.recorder_rules.specs.Spans.{spread_of}
 use Rattle.recorder_rules.specs.TallyRules.{Tally, all_counts, IsSummed, IsExactTally}
 use Rattle.recorder_rules.specs.LoopRules.{is_loop, own_of, loop_tally, count_tally, loop_recording, count_recording}
 use Rattle.recorder_rules.specs.BookLaws.{header_visits, loop_bounds, count_bounds, loop_least, loop_most, count_least, count_most}

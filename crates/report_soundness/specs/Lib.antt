@@ -13,9 +13,6 @@ pub mod CollectedLaws
 pub mod SoundLaws
 pub mod EventLaws
 pub mod Numbers
-pub mod NumberLaws
-pub mod WritableLaws
-pub mod AgreeLaws
 pub mod Exact
 pub mod PointLaws
 pub mod ExactLaws
@@ -25,4 +22,5 @@ pub mod BoundToldLaws
 pub mod RunLaws
 pub mod Bounded
 pub mod Certified
+pub mod CertifiedLaws
 pub mod BoundedLaws

@@ -1,13 +1,12 @@
 -- The facts of a report are its lines.
 --   line_told     each fact that it is to tell is there
 --   told_line     and no other
---   told_lines    each once, in the order of lines
 use Rattle.std.proofs.Common.{◌≡◌, ◌≢◌, ◌<◌, ◌==◌, ◌&&◌, not, ℕ, List, [], ◌∷◌, ◌++◌, Bool, true, false, length, Contains, inl, inr, refl, sym, ◌∙◌, subst, arith}
 use Rattle.std.specs.Prelude.{nat_lt}
 use Rattle.std.proofs.lemmas.Bool.{lt-ltb, ltb-true, eq-eqb, eqb-true, ne_eqb, and_parts}
 use Rattle.std.proofs.lemmas.List.Elements.{Contains-append_left, Contains-append_right, Contains-append_cases}
-use Rattle.lists.specs.Members.{first_member}
-use Rattle.lists.specs.Images.{joined, from_joined}
+use Rattle.lists.specs.MemberLaws.{first_member}
+use Rattle.lists.specs.ImageLaws.{joined, from_joined}
 use Rattle.alf_ops.specs.declared.history.RunFault.{RunFault}
 use Rattle.alf_ops.specs.declared.history.RunFault.TheVariants.{Divide, Uninit, Mixed, Bounds, Dead as DeadFrame, Kind, Pointers}
 use Rattle.domain_core.specs.FaultSets.{has_fault}
@@ -19,9 +18,8 @@ use Rattle.recorder_rules.specs.LoopRules.{is_loop, own_of, is_counted}
 use Rattle.recorder_rules.specs.PairRules.{together}
 use Rattle.worklist_rules.specs.Pools.{alarm_at}
 use Rattle.report_soundness.specs.ReportTold.{Found, is_stepped, below, span_lines, loop_lines, count_line, count_lines, dead_lines, total_lines, may_pair, pair_line, pairs_with, pair_lines, all_faults, alarm_line, alarm_lines, told_facts}
-use Rattle.report_soundness.specs.Lines.{IsPair, IsLine, AreLines}
+use Rattle.report_soundness.specs.Lines.{IsPair, IsLine}
 use Rattle.report_soundness.specs.BelowLaws.{in_if, from_if, in_unless, from_unless, only_member, in_below, from_below, in_span, from_span}
-use Rattle.report_soundness.specs.AscentLaws.{told_ascend}
 
 both_true : (a b : Bool) → a ≡ true → b ≡ true → (a && b) ≡ true
 both_true true b first second = second
@@ -231,7 +229,3 @@ module _ (o : Outlined) (found : Found) where
       (in_below (alarm_lines found) (length o.nodes) n (Alarm n fault) is.0
       (joined (alarm_line (alarm_at found.alarms n) n) all_faults fault (Alarm n fault) (among_faults fault)
       (in_if (has_fault (alarm_at found.alarms n) fault) (Alarm n fault ∷ []) (Alarm n fault) is.1 (first_member (Alarm n fault) [])))))
-
-  -- each once, in the order of lines
-  pub told_lines : AreLines o found (told_facts o found)
-  told_lines = record { each = λ fact. (told_line fact, line_told fact); ascend = told_ascend o found }

@@ -1,12 +1,10 @@
 -- Which lines a report tells, whatever their order.
 --   IsLine o found fact   the report of what was collected tells the fact
---   AreLines o found facts   these are the facts that it tells, each once, in the order of lines
-use Rattle.std.specs.Prelude.{◌≡◌, ◌≢◌, ◌<◌, ◌↔◌, ℕ, true, false, List, length, Contains, AllPairs}
+use Rattle.std.specs.Prelude.{◌≡◌, ◌≢◌, ◌<◌, ℕ, true, false, length}
 use Rattle.domain_core.specs.FaultSets.{has_fault}
 use Rattle.domain_core.specs.Outlines.{Outlined, header_of, kind_of}
 use Rattle.flow_facts.specs.declared.fact.Fact.{Fact}
 use Rattle.flow_facts.specs.declared.fact.Fact.TheVariants.{Loop, Count, Dead, Total, Pair, Alarm}
-use Rattle.flow_facts.specs.Writable.{IsBefore}
 use Rattle.recorder_rules.specs.LoopRules.{is_loop}
 use Rattle.report_soundness.specs.BookTold.{IsSpan, IsCountedIn, AreApart}
 use Rattle.worklist_rules.specs.Pools.{alarm_at}
@@ -29,8 +27,3 @@ IsLine o found (Dead n) = (n < length o.nodes) × (is_stepped found n ≡ false)
 IsLine o found (Total n low high) = (is_stepped found n ≡ true) × IsSpan found.books.totals (length o.nodes) n low high
 IsLine o found (Pair s a b) = (s < length o.scopes) × IsPair o found s a b
 IsLine o found (Alarm n fault) = (n < length o.nodes) × (has_fault (alarm_at found.alarms n) fault ≡ true)
-
--- these are the facts that it tells, each once, in the order of lines
-pub record AreLines (o : Outlined) (found : Found) (facts : List Fact) : Type 0 where
-  pub each : (fact : Fact) → Contains facts fact ↔ IsLine o found fact
-  pub ascend : AllPairs IsBefore facts

@@ -1,13 +1,10 @@
 -- How great the numbers of books are, after so many steps.
 --   IsOrderly k span       the least is not greater than the greatest, and that not than k
 --   IsOrderlySpread k t    so it is, if something was collected
---   OrderlyRecorders k r   so are all spans of the recorders of totals, loops and counts
---   OrderlyBooks k b       and all that was collected in their books
 --   AreOrderly k books     and all that an exploration collected of them
 use Rattle.std.specs.Prelude.{◌≤◌, ℕ, Option, Some, None}
-use Rattle.recorder_rules.specs.TotalRules.{span_at, spread_at}
+use Rattle.recorder_rules.specs.TotalRules.{spread_at}
 use Rattle.report_soundness.specs.BookTold.{Books}
-use Rattle.report_soundness.specs.ReportTold.{FourRecorders, FourBooks, books_of}
 
 -- the least is not greater than the greatest, and that not than k
 abbrev pub IsOrderly : ℕ → ℕ × ℕ → Type 0
@@ -17,16 +14,8 @@ abbrev pub IsOrderlySpread : ℕ → Option (ℕ × ℕ) → Type 0
 IsOrderlySpread k None = Unit {0}
 IsOrderlySpread k (Some span) = IsOrderly k span
 
-pub record OrderlyRecorders (k : ℕ) (r : FourRecorders) : Type 0 where
-  pub totals : (i : ℕ) → IsOrderly k (span_at r.first.first i)
-  pub loops : (i : ℕ) → IsOrderly k (span_at r.first.second i)
-  pub counts : (i : ℕ) → IsOrderly k (span_at r.second.first i)
-
 -- all that was collected
 pub record AreOrderly (k : ℕ) (books : Books) : Type 0 where
   pub totals : (i : ℕ) → IsOrderlySpread k (spread_at books.totals i)
   pub loops : (i : ℕ) → IsOrderlySpread k (spread_at books.loops.spreads i)
   pub counts : (i : ℕ) → IsOrderlySpread k (spread_at books.counts.spreads i)
-
-abbrev pub OrderlyBooks : ℕ → FourBooks → Type 0
-OrderlyBooks k b = AreOrderly k (books_of b)

@@ -1,12 +1,9 @@
 -- Each run of a system costs at most the path bound of a sound report.
 --   IsAboveRuns system o v   each run that ends costs at most this value
 --   bound_above              so it is of a value that no run that meets the facts passes
---   bound_within             what is at most the sum over the openings is at most the count bound
---   bound_exact              and where the report tells one run exactly, it is the run's cost
-use Rattle.std.proofs.Common.{◌≡◌, ◌≤◌, ℕ, pos, Bool, true, false, List, [], ◌∷◌, ◌++◌, Option, Some, None, All, Contains, reverse, refl, sym, ap, ◌∙◌, subst, arith}
-use Rattle.std.specs.Prelude.{◌≤ℤ◌, slice_index}
+use Rattle.std.proofs.Common.{◌≡◌, ◌≤◌, ℕ, Bool, true, false, List, [], ◌∷◌, ◌++◌, Option, Some, None, All, Contains, reverse, refl, sym, ap, ◌∙◌, subst, arith}
+use Rattle.std.specs.Prelude.{slice_index}
 use Rattle.std.proofs.lemmas.Bool.{eq-eqb}
-use Rattle.std.proofs.lemmas.Int.{ints}
 use Rattle.std.proofs.lemmas.List.{reverse-append}
 use Rattle.std.proofs.lemmas.List.Folds.{list_any_at}
 use Rattle.std.proofs.lemmas.List.Sorted.{sum_by-IsPermutation, IsPermutation-reverse}
@@ -21,13 +18,11 @@ use Rattle.flow_facts.specs.Reports.{Reported}
 use Rattle.ipet_rows.specs.Columns.{is_alarm_at, has_alarm}
 use Rattle.ipet_rows.specs.Uses.{EndsAt, run_cost}
 use Rattle.ipet_rows.specs.Shaped.{FitOutline}
-use Rattle.report_soundness.specs.ReportTold.{Found, costs_of, told_facts, count_bound, told_report}
-use Rattle.report_soundness.specs.Exact.{LoneRun}
+use Rattle.report_soundness.specs.ReportTold.{costs_of}
 use Rattle.worklist_rules.specs.EndedRuns.{Passes, stops, moves}
 use Rattle.worklist_rules.specs.SummedLaws.{in_order}
 use Rattle.report_soundness.specs.Runs.{HasAlarm, IsSound}
-use Rattle.path_lp.specs.Bounding.{IsAbove, opening_sum}
-use Rattle.report_soundness.specs.BoundToldLaws.{told_within}
+use Rattle.path_lp.specs.Bounding.{IsAbove}
 
 -- each run that ends costs at most this value
 abbrev pub IsAboveRuns : {C : Type 0} → System C → Outlined → ℕ → Type 0
@@ -81,19 +76,3 @@ pub bound_above : {T C : Type 0} (m : Machine T C) (o : Outlined) (report : Repo
 bound_above m o report v along sound fit above = λ c trace fault starts passes.
     let right = sound.right c trace fault starts passes in
     follow m o along report.facts fit v above [] refl passes right.facts right.alarm
-
--- ---- the count bound
-
--- what is at most the sum over the openings is at most the count bound
-pub bound_within : (o : Outlined) (found : Found) (v : ℕ) → pos v ≤ℤ opening_sum o (told_facts o found) → v ≤ count_bound o found
-bound_within o found v most = let within = told_within o found in omega (arith, ints, most, within)
-
--- and where the report tells one run exactly, it is the run's cost
-pub bound_exact : {C : Type 0} (system : System C) (o : Outlined) (found : Found) (trace : List ℕ) (v : ℕ)
-    → LoneRun system o (told_report o found) trace → IsAboveRuns system o v
-    → pos v ≤ℤ opening_sum o (told_facts o found) → v ≡ run_cost (costs_of o) trace
-bound_exact system o found trace v run above most =
-    let low = above run.start trace run.fault run.starts run.passes in
-    let high = bound_within o found v most in
-    let cost = run.exact.bound in
-    omega (arith, low, high, cost)

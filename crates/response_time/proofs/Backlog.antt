@@ -5,7 +5,7 @@ use Rattle.std.proofs.lemmas.List.Elements.{All-head, All-tail, All-cons, All-ap
 use Rattle.std.proofs.lemmas.List.Sums.{sum_by-cons, sum_by-append}
 use Rattle.std.specs.Bool.{nat_le, nat_eq}
 use Rattle.std.specs.List.{All, sum_by}
-use Rattle.lists.specs.Tests.{by_test}
+use Rattle.lists.specs.TestLaws.{by_test}
 use Rattle.cost_table.specs.declared.task_set.Task.{Task}
 use Rattle.cost_table.specs.Tasks.{priority_of}
 use Rattle.response_time.specs.Schedules.{Job, State, IsRun, after_a_unit}

@@ -6,7 +6,7 @@ use Rattle.std.proofs.lemmas.List.Sums.{sum_by-cons}
 use Rattle.std.proofs.lemmas.Option.{slice_get_within, get_or_from_slice_get}
 use Rattle.std.specs.Bool.{nat_le, nat_lt}
 use Rattle.std.specs.List.{sum_by}
-use Rattle.lists.specs.Tests.{by_test}
+use Rattle.lists.specs.TestLaws.{by_test}
 use Rattle.cost_table.specs.declared.task_set.Task.{Task}
 use Rattle.cost_table.specs.Tasks.{IsInRange, AreTasks, IsTask, priority_of}
 

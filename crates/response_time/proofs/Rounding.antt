@@ -6,7 +6,7 @@ use Rattle.std.proofs.lemmas.Grind.{div_ceil_times}
 use Rattle.std.proofs.lemmas.List.Sums.{sum_by-le-sum_by}
 use Rattle.std.specs.Bool.{nat_lt}
 use Rattle.std.specs.Int.{div_ceil}
-use Rattle.lists.specs.Tests.{by_test}
+use Rattle.lists.specs.TestLaws.{by_test}
 use Rattle.cost_table.specs.declared.task_set.Task.{Task}
 use Rattle.response_time.specs.Responses.{interference, demand}
 

@@ -8,14 +8,14 @@ use Rattle.std.specs.Prelude.{nat_lt}
 use Rattle.std.proofs.lemmas.Bool.{le-ltb, ltb-false, or_parts}
 use Rattle.std.proofs.lemmas.List.{reverse-reverse}
 use Rattle.std.proofs.lemmas.Option.{none-some, same_Some}
-use Rattle.lists.specs.Tests.{by_test}
+use Rattle.lists.specs.TestLaws.{by_test}
 use Rattle.domain_core.specs.Outlines.{Outlined, IsOutline, shape_of, header_of}
 use Rattle.domain_core.specs.Executions.{IsExecution, IsIteration, header_count}
 use Rattle.flow_facts.specs.declared.fact.Fact.{Fact}
 use Rattle.flow_facts.specs.declared.fact.Fact.TheVariants.{Loop, Count, Dead, Total, Pair, Alarm}
 use Rattle.flow_facts.specs.Facts.{places, IsBetween, Meets}
 use Rattle.ipet_rows.specs.Shaped.{FitsOutline}
-use Rattle.recorder_rules.specs.Generated.{length-generated}
+use Rattle.recorder_rules.specs.GeneratedLaws.{length-generated}
 use Rattle.recorder_rules.specs.Spans.{visits, IsWithin}
 use Rattle.recorder_rules.specs.TotalRules.{spread_at}
 use Rattle.recorder_rules.specs.LoopRules.{own_of, is_counted, counted_scope}

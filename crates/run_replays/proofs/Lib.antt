@@ -4,3 +4,4 @@ pub mod BookRuns
 pub mod Telling
 pub mod Allowing
 pub mod Held
+pub mod OneReplayLaws

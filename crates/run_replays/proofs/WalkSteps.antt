@@ -12,8 +12,8 @@ use Rattle.std.proofs.lemmas.Option.{slice_get_within, slice_get-map, get_or_fro
 use Rattle.std.proofs.lemmas.List.{reverse-append, length-reverse, length-map}
 use Rattle.std.proofs.lemmas.List.Sums.{sum_by_push}
 use Rattle.std.proofs.lemmas.Grind.{get_or-set_at}
-use Rattle.lists.specs.Members.{first_member}
-use Rattle.lists.specs.Tests.{by_test}
+use Rattle.lists.specs.MemberLaws.{first_member}
+use Rattle.lists.specs.TestLaws.{by_test}
 use Rattle.alf_ops.specs.declared.history.RunEvent.{RunEvent}
 use Rattle.alf_ops.specs.declared.history.RunFault.{RunFault}
 use Rattle.alf_check.specs.CheckedPrograms.{NumberedProgram, seen}
@@ -40,7 +40,7 @@ use Rattle.recorder_rules.specs.Spans.{visits}
 use Rattle.report_soundness.specs.BookToldLaws.{turned}
 use Rattle.report_soundness.specs.ReportTold.{costs_of}
 use Rattle.report_soundness.specs.CollectedLaws.{trace_low}
-use Rattle.run_replays.specs.OneReplay.{numbers_push}
+use Rattle.run_replays.proofs.OneReplayLaws.{numbers_push}
 use Rattle.run_replays.specs.Replays.{Reaches, fault_of}
 use Rattle.run_replays.specs.Walks.{AreAllowed, IsPassed, IsEntered, IsOver}
 

@@ -9,12 +9,11 @@ use Rattle.domain_core.specs.declared.scope_kind.ScopeKind.TheVariants.{Call, Lo
 use Rattle.domain_core.specs.declared.outline.NodeRow.{NodeRow}
 use Rattle.domain_core.specs.declared.outline.ScopeRow.{ScopeRow}
 use Rattle.domain_core.specs.Reducible.{Dominates, IsRanking}
-use Rattle.graph_walks.specs.ListLaws.{contains_cases}
-use Rattle.lists.specs.Members.{further_member, no_member}
+use Rattle.graph_walks.specs.ListLaws.{contains_cases, same_or_not}
+use Rattle.lists.specs.MemberLaws.{further_member, no_member}
 use Rattle.domain_core.specs.Scopes.{Plan, leads, path_at, IsPlan, InScope, IsHeader, IsSmallest}
-use Rattle.graph_walks.specs.ListLaws.{same_or_not}
 use Rattle.domain_core.specs.ScopeLaws.{one_kind, header_held, header_low}
-use Rattle.domain_core.specs.ScopeOrder.{header_lower, later_inside, latest_smallest}
+use Rattle.domain_core.specs.ScopeOrderLaws.{header_lower, later_inside, latest_smallest}
 use Rattle.domain_core.specs.Outlines.{no_scope, header_of, kind_of, parent_of}
 use Rattle.domain_core.specs.OutlineOf.{scope_holds, IsParent, IsOutlineOf}
 use Rattle.graph_walks.specs.Tables.{HasEdge}

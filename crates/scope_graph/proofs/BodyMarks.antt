@@ -3,7 +3,7 @@ use Rattle.std.proofs.Common.{◌≡◌, ◌≢◌, ◌<◌, ◌≤◌, ◌+◌,
 use Rattle.std.proofs.lemmas.Bool.{cases_lt}
 use Rattle.std.proofs.lemmas.List.{length-replicate, get_or_default}
 use Rattle.std.proofs.lemmas.List.Elements.{Contains-append_left, Contains-push, Contains-push_cases}
-use Rattle.lists.specs.Members.{no_member}
+use Rattle.lists.specs.MemberLaws.{no_member}
 use Rattle.graph_walks.specs.Walks.{Walk, stays, goes_on}
 use Rattle.graph_walks.specs.WalkLaws.{walk_cons, walk_ends}
 use Rattle.graph_walks.specs.ListLaws.{contains_cases}

@@ -7,12 +7,12 @@ use Rattle.graph_walks.specs.Walks.{Walk, stays, goes_on, IsDistinct}
 use Rattle.domain_core.specs.Reducible.{Dominates, IsBackEdge, IsCrossing, IsFalling}
 use Rattle.graph_walks.specs.WalkLaws.{walk_ends, split}
 use Rattle.graph_walks.specs.ListLaws.{contains_cases, distinct_push, distinct_front}
-use Rattle.lists.specs.Members.{first_member, further_member, no_member}
+use Rattle.lists.specs.MemberLaws.{first_member, further_member, no_member}
 use Rattle.graph_walks.specs.Tables.{HasEdge}
 use Rattle.graph_walks.specs.MarkedNodes.{IsMarked, IsBarred, IsPathPast}
 use Rattle.scope_graph.specs.Tables.{IsAround}
 use Rattle.scope_graph.specs.Descending.{IsLooked, IsSettled, IsDescent, IsVisited, IsChecked, IsBackList}
-use Rattle.lists.specs.Tests.{by_test}
+use Rattle.lists.specs.TestLaws.{by_test}
 use Rattle.graph_walks.specs.MarkedNodeLaws.{both, none_marked, marked_kept, marked_either, marked_new, barred_by_one}
 
 -- ---- what is noted and left stays so

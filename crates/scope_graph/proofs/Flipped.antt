@@ -1,10 +1,9 @@
 -- Edges read from their ends.
-use Rattle.std.proofs.Common.{◌≡◌, ℕ, List, [], ◌∷◌, inl, inr, map, Contains, ap}
+use Rattle.std.proofs.Common.{◌≡◌, ℕ, List, [], ◌∷◌, inl, inr, map, Contains, ap, subst, sym}
 use Rattle.domain_core.specs.Reducible.{IsEdge}
 use Rattle.graph_walks.specs.ListLaws.{contains_cases}
-use Rattle.lists.specs.Members.{first_member, further_member, no_member}
+use Rattle.lists.specs.MemberLaws.{first_member, further_member, no_member}
 use Rattle.scope_graph.specs.Assembled.{flip}
-use Rattle.std.proofs.Common.{subst, sym}
 
 -- an edge that is turned is one of the others
 pub flip_edge : (edges : List (ℕ × ℕ)) (u v : ℕ) → IsEdge (map flip edges) u v → IsEdge edges v u

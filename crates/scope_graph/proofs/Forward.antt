@@ -4,8 +4,8 @@
 --   forward_falls            numbers fall along them
 use Rattle.std.proofs.Common.{◌≡◌, ◌<◌, ℕ, Bool, true, false, ◌==◌, ◌&&◌, not, eq-eqb, List, [], ◌∷◌, inl, inr, map, filter, Contains, refl, ap, sym, ◌∙◌, subst}
 use Rattle.std.proofs.lemmas.Bool.{eqb-true, false≢true}
-use Rattle.lists.specs.Members.{no_member, first_member, further_member, first_or_further}
-use Rattle.lists.specs.Tests.{by_test}
+use Rattle.lists.specs.MemberLaws.{no_member, first_member, further_member, first_or_further}
+use Rattle.lists.specs.TestLaws.{by_test}
 use Rattle.domain_core.specs.Reducible.{IsEdge, IsForwardEdge, IsFalling}
 use Rattle.scope_graph.specs.Tables.{IsTable}
 use Rattle.scope_graph.specs.Assembled.{flip}

@@ -1,12 +1,11 @@
 -- Marks that are made one after the other.
 use Rattle.std.proofs.Common.{◌≡◌, ◌<◌, ◌+◌, ◌||◌, ℕ, Bool, true, false, List, [], ◌∷◌, ◌++◌, inl, inr, get_or, refl, sym, ◌∙◌, subst, arith}
-use Rattle.std.proofs.lemmas.Bool.{cases_lt}
+use Rattle.std.proofs.lemmas.Bool.{cases_lt, false≢true}
 use Rattle.std.proofs.lemmas.List.{get_or_append_left, get_or_push, length_push}
-use Rattle.std.proofs.lemmas.Bool.{false≢true}
 use Rattle.domain_core.specs.Scopes.{Plan, path_at, Extends, IsCalledFrom}
 use Rattle.scope_graph.specs.Members.{MarksExactly, IsCalled, IsTaken, Tells}
 use Rattle.graph_walks.specs.MarkedNodes.{IsMarked}
-use Rattle.lists.specs.Tests.{by_test}
+use Rattle.lists.specs.TestLaws.{by_test}
 use Rattle.graph_walks.specs.MarkedNodeLaws.{marked_low}
 
 -- none yet

@@ -4,8 +4,8 @@ use Rattle.std.specs.Prelude.{⊤}
 use Rattle.std.proofs.lemmas.Bool.{cases_lt}
 use Rattle.std.proofs.lemmas.List.{ext_get_or, get_or-map, length-map}
 use Rattle.std.proofs.lemmas.Option.{slice_get_within, slice_get-get_or, get_or_from_slice_get}
-use Rattle.lists.specs.Members.{contained, placed, no_member, first_member, further_member, first_or_further}
-use Rattle.lists.specs.Images.{mapped, image}
+use Rattle.lists.specs.MemberLaws.{contained, placed, no_member, first_member, further_member, first_or_further}
+use Rattle.lists.specs.ImageLaws.{mapped, image}
 use Rattle.graph_walks.specs.ListLaws.{same_or_not}
 use Rattle.domain_core.specs.declared.scope_kind.ScopeKind.{ScopeKind}
 use Rattle.domain_core.specs.declared.outline.ScopeRow.{ScopeRow}

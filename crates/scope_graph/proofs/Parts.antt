@@ -11,7 +11,7 @@ use Rattle.domain_core.specs.Reducible.{IsEdge, IsRanking}
 use Rattle.domain_core.specs.Scopes.{Place, leads, path_at, block_at, IsPlan, IsStep, inside, calls, returns_from}
 use Rattle.domain_core.specs.Outlines.{Outlined, IsOutline, shape_of}
 use Rattle.domain_core.specs.OutlineOf.{IsOutlineOf}
-use Rattle.domain_core.specs.OutlineMade.{outline_kept}
+use Rattle.domain_core.specs.OutlineMadeLaws.{outline_kept}
 use Rattle.graph_walks.specs.Walks.{Walk}
 use Rattle.graph_walks.specs.Tables.{HasEdge}
 use Rattle.flow_graph.specs.Nodes.{Node}

@@ -4,7 +4,7 @@ use Rattle.std.proofs.lemmas.Bool.{eqb-true, ne_eqb, cases_lt}
 use Rattle.std.proofs.lemmas.List.{get_or-set_same, get_or-set_other, get_or-replicate, length-replicate}
 use Rattle.domain_core.specs.Reducible.{IsForwardEdge, IsRanking}
 use Rattle.scope_graph.specs.Ranking.{missing, IsDue, IsStage, IsChoice}
-use Rattle.lists.specs.Tests.{by_test}
+use Rattle.lists.specs.TestLaws.{by_test}
 
 -- ---- how many have no rank
 

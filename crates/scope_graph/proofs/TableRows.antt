@@ -4,10 +4,10 @@ use Rattle.std.proofs.lemmas.Bool.{eqb-true, cases_lt}
 use Rattle.std.proofs.lemmas.List.{length-map, get_or_past}
 use Rattle.domain_core.specs.Reducible.{IsEdge}
 use Rattle.graph_walks.specs.ListLaws.{contains_cases}
-use Rattle.lists.specs.Members.{first_member, further_member, no_member}
+use Rattle.lists.specs.MemberLaws.{first_member, further_member, no_member}
 use Rattle.graph_walks.specs.Tables.{HasEdge, rows_of}
 use Rattle.scope_graph.specs.Tables.{IsTable, targets}
-use Rattle.lists.specs.Tests.{by_test}
+use Rattle.lists.specs.TestLaws.{by_test}
 
 -- a target is that of an edge
 target_edge : (edges : List (ℕ × ℕ)) (u v : ℕ) → Contains (targets edges u) v → IsEdge edges u v

@@ -1,25 +1,24 @@
 -- Rows and columns that open a program, as lines and places.
 --   opens_lines     the lines and places open the tableau
---   opening_worth   the sum over the openings in rows and columns
-use Rattle.std.proofs.Common.{◌≡◌, ◌<◌, ◌≤◌, ◌+◌, ℕ, zero, suc, ℤ, pos, Bool, true, false, List, [], ◌∷◌, length, refl, ap, sym, ◌∙◌, subst, arith}
-use Rattle.std.specs.Prelude.{neg_ℤ, ◌-ℤ◌, ◌*ℤ◌}
+use Rattle.std.proofs.Common.{◌≡◌, ◌<◌, ◌≤◌, ◌+◌, ℕ, zero, suc, pos, Bool, true, false, List, [], ◌∷◌, length, refl, ap, sym, ◌∙◌, subst, arith}
+use Rattle.std.specs.Prelude.{neg_ℤ}
 use Rattle.std.proofs.lemmas.Int.{ints}
-use Rattle.ipet_rows.specs.Sums.{total, coefficient}
+use Rattle.ipet_rows.specs.Sums.{coefficient}
 use Rattle.ipet_rows.specs.Programs.{Row, Program, row_at, cost_at}
-use Rattle.ipet_rows.specs.SumLaws.{total_same, term_elsewhere}
+use Rattle.ipet_rows.specs.SumLaws.{term_elsewhere}
 use Rattle.simplex_rules.specs.Tableaus.{Generator, slack_line, row_lines, next_slack, generators, cost_terms, slacks_from}
 use Rattle.simplex_rules.specs.PivotRule.{opening_at}
-use Rattle.simplex_rules.specs.Promise.{generator_at, lines_of, coefficient_at, cost_of, IsCovered, Opens, opening_sum}
-use Rattle.simplex_rules.specs.FirstLines.{slack_line_column, slack_line_right, cost_terms_here}
+use Rattle.simplex_rules.specs.Promise.{generator_at, lines_of, coefficient_at, cost_of, IsCovered, Opens}
+use Rattle.simplex_rules.specs.FirstLineLaws.{slack_line_column, cost_terms_here}
 use Rattle.simplex_rules.specs.OpeningPlaces.{next_line, line_place, opening_places, OpensRows}
 
 -- ---- the line of a row
 
 -- it is the row with a slack of its own
-record IsSlackLine (r : Row) (s : ℕ) (g : Generator) : Type 0 where
-  slack : ℕ
-  low : s ≤ slack
-  is : g ≡ slack_line r.right r.terms slack
+pub record IsSlackLine (r : Row) (s : ℕ) (g : Generator) : Type 0 where
+  pub slack : ℕ
+  pub low : s ≤ slack
+  pub is : g ≡ slack_line r.right r.terms slack
 
 later_line : (b : Bool) (r : Row) (s k : ℕ) (more : List Generator) → generator_at (row_lines b r s more) (next_line b k) ≡ generator_at more k
 later_line true r s k more = refl
@@ -33,7 +32,7 @@ slack_rises : (b : Bool) (s : ℕ) → s ≤ next_slack b s
 slack_rises true s = omega arith
 slack_rises false s = omega arith
 
-line_is : (rs : List Row) (s k : ℕ) → k < length rs → IsSlackLine (row_at rs k) s (generator_at (generators rs s) (line_place rs k))
+pub line_is : (rs : List Row) (s k : ℕ) → k < length rs → IsSlackLine (row_at rs k) s (generator_at (generators rs s) (line_place rs k))
 line_is [] s k below = absurd (omega arith)
 line_is (r ∷ rs) s zero below = record { slack = s; low = omega arith; is = first_line r.equation r s (generators rs (next_slack r.equation s)) }
 line_is (r ∷ rs) s (suc k) below =
@@ -62,12 +61,6 @@ line_column p k e below within =
     let low = l.low in
     ap (λ (g : Generator). coefficient g.1 (suc (suc e))) l.is ∙ slack_line_column (row_at p.rows k).right (row_at p.rows k).terms l.slack e (omega (arith, low, within))
 
-line_right : (p : Program) (k : ℕ) → k < length p.rows → coefficient_at p (line_place p.rows k) 0 ≡ (row_at p.rows k).right
-line_right p k below =
-    let l = line_is p.rows (slacks_from p) k below in
-    let low = l.low in
-    ap (λ (g : Generator). coefficient g.1 0) l.is ∙ slack_line_right (row_at p.rows k).right (row_at p.rows k).terms l.slack (omega (arith, low))
-
 -- what a column costs
 pub cost_there : (p : Program) (e : ℕ) → cost_of p (suc (suc e)) ≡ neg_ℤ (pos (cost_at p.costs e))
 cost_there p e =
@@ -77,7 +70,7 @@ cost_there p e =
 
 -- ---- the openings
 
-places_length : (rows : List Row) (os : List (ℕ × ℕ)) → length (opening_places rows os) ≡ length os
+pub places_length : (rows : List Row) (os : List (ℕ × ℕ)) → length (opening_places rows os) ≡ length os
 places_length rows [] = refl
 places_length rows (o ∷ os) = ap suc (places_length rows os)
 
@@ -87,19 +80,19 @@ place_at rows (o ∷ os) zero below = refl
 place_at rows (o ∷ os) (suc i) below = place_at rows os i (omega arith)
 
 module _ (p : Program) (os : List (ℕ × ℕ)) (o : OpensRows p os) where
-  abbrev places : List (ℕ × ℕ)
+  abbrev pub places : List (ℕ × ℕ)
   places = opening_places p.rows os
 
-  abbrev row_of : (i : ℕ) → ℕ
+  abbrev pub row_of : (i : ℕ) → ℕ
   row_of i = (opening_at os i).0
 
-  abbrev column_of : (i : ℕ) → ℕ
+  abbrev pub column_of : (i : ℕ) → ℕ
   column_of i = (opening_at os i).1
 
-  line_at : (i : ℕ) → i < length os → (opening_at places i).0 ≡ line_place p.rows (row_of i)
+  pub line_at : (i : ℕ) → i < length os → (opening_at places i).0 ≡ line_place p.rows (row_of i)
   line_at i below = ap (λ (x : ℕ × ℕ). x.0) (place_at p.rows os i below)
 
-  variable_at : (i : ℕ) → i < length os → (opening_at places i).1 ≡ suc (suc (column_of i))
+  pub variable_at : (i : ℕ) → i < length os → (opening_at places i).1 ≡ suc (suc (column_of i))
   variable_at i below = ap (λ (x : ℕ × ℕ). x.1) (place_at p.rows os i below)
 
   within : (i : ℕ) → i < length places → i < length os
@@ -141,14 +134,3 @@ module _ (p : Program) (os : List (ℕ × ℕ)) (o : OpensRows p os) where
     apart = λ i k below other apart. at_opening i k (within i below) (within k other) ∙ o.apart i k (within i below) (within k other) apart;
     covers = cover_at;
   }
-
-  -- the sum over the openings, in rows and columns
-  pub opening_worth : opening_sum p (opening_places p.rows os) ≡ total (length os) (λ i. pos (cost_at p.costs (opening_at os i).1) *ℤ (row_at p.rows (opening_at os i).0).right)
-  opening_worth =
-      let f : ℕ → ℤ = λ i. (pos 0 -ℤ cost_of p (opening_at places i).1) *ℤ coefficient_at p (opening_at places i).0 0 in
-      let g : ℕ → ℤ = λ i. pos (cost_at p.costs (column_of i)) *ℤ (row_at p.rows (row_of i)).right in
-      let each_one : (i : ℕ) → i < length os → f i ≡ g i = λ i below.
-      let price : pos 0 -ℤ cost_of p (opening_at places i).1 ≡ pos (cost_at p.costs (column_of i)) = (let c = ap (λ (j : ℕ). cost_of p j) (variable_at i below) ∙ cost_there p (column_of i) in omega (arith, ints, c)) in
-      let right : coefficient_at p (opening_at places i).0 0 ≡ (row_at p.rows (row_of i)).right = ap (λ (k : ℕ). coefficient_at p k 0) (line_at i below) ∙ line_right p (row_of i) (o.rows i below) in
-      ap (λ (z : ℤ). z *ℤ coefficient_at p (opening_at places i).0 0) price ∙ ap (λ (z : ℤ). pos (cost_at p.costs (column_of i)) *ℤ z) right in
-      ap (λ (n : ℕ). total n f) (places_length p.rows os) ∙ total_same (length os) f g each_one

@@ -3,8 +3,8 @@
 --   handed p t           the multipliers that the tableau hands out
 --   Opens p os           the openings are rows that share no column and have each column
 --   Answers p x          the multipliers are a dual point; at `Least` the point meets the rows; the two values are one
-use Rattle.std.specs.Prelude.{◌≡◌, ℕ, zero, suc, ℤ, pos, neg_ℤ, ◌-ℤ◌, ◌*ℤ◌, ◌≤ℤ◌, ◌<◌, ◌≤◌, ◌==◌, if◌then◌else◌, List, [], ◌∷◌, length}
-use Rattle.ipet_rows.specs.Sums.{total, coefficient}
+use Rattle.std.specs.Prelude.{◌≡◌, ℕ, zero, suc, ℤ, pos, neg_ℤ, ◌*ℤ◌, ◌≤ℤ◌, ◌<◌, ◌≤◌, ◌==◌, if◌then◌else◌, List, [], ◌∷◌, length}
+use Rattle.ipet_rows.specs.Sums.{coefficient}
 use Rattle.ipet_rows.specs.Programs.{Program}
 use Rattle.ipet_rows.specs.Points.{MeetsAll, worth}
 use Rattle.ipet_rows.specs.Firsts.{entry}
@@ -90,7 +90,3 @@ pub record Answers (p : Program) (x : Ended) : Type 0 where
   pub above : pos 1 ≤ℤ point_whole x.tableau
   pub meets : x.end ≡ Least → MeetsAll p (basic_point x.tableau) (point_whole x.tableau)
   pub equal : entry x.tableau.objective 1 *ℤ worth p (basic_point x.tableau) ≡ dual_sum p (handed p x.tableau) *ℤ point_whole x.tableau
-
--- the sum over the openings of cost times right side
-abbrev pub opening_sum : Program → List (ℕ × ℕ) → ℤ
-opening_sum p os = total (length os) (λ i. (pos 0 -ℤ cost_of p (opening_at os i).1) *ℤ coefficient_at p (opening_at os i).0 0)

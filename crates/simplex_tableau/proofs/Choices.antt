@@ -2,17 +2,18 @@
 use Rattle.std.proofs.Common.{◌≡◌, ℕ, ℤ, pos, zero, suc, ◌<◌, ◌≤◌, ◌-◌, arith, refl, sym, ap, ◌∙◌, subst, List, [], ◌∷◌, Option, Some, None, ⊎_elim, Bool, true, false}
 use Rattle.std.specs.Prelude.{◌*ℤ◌, neg_ℤ, int_lt, not, ◌&&◌, ◌||◌, if◌then◌else◌}
 use Rattle.std.proofs.lemmas.Bool.{cases_eq, or_left, or_right, or_from}
-use Rattle.lists.specs.Tests.{by_test}
+use Rattle.lists.specs.TestLaws.{by_test}
 use Rattle.ipet_rows.specs.Sums.{coefficient, StartsAbove, IsAscending}
 use Rattle.ipet_rows.specs.Programs.{IsWithin}
 use Rattle.ipet_rows.specs.Firsts.{fits, entry}
 use Rattle.ipet_rows.specs.DualRowLaws.{found_here, found_later}
 use Rattle.simplex_rules.specs.Lines.{spread}
 use Rattle.simplex_rules.specs.PivotRule.{entering, entering_with, entering_wide, choice_wide}
-use Rattle.simplex_rules.specs.FirstTableau.{spread_is, within_more}
+use Rattle.simplex_rules.specs.FirstTableauLaws.{spread_is, within_more}
 use Rattle.simplex_tableau.specs.Merging.{IsFrom}
 use Rattle.simplex_tableau.specs.TermLaws.{nothing_before}
-use Rattle.simplex_tableau.specs.TermsFrom.{dropped_rises, dropped_from, dropped_within, dropped_same, cost_is}
+use Rattle.simplex_tableau.proofs.TermsFromLemmas.{dropped_within}
+use Rattle.simplex_tableau.specs.TermsFromLaws.{dropped_rises, dropped_from, dropped_same, cost_is}
 use Rattle.simplex_tableau.specs.Choosing.{Chosen, lesser, chosen_among, chosen_with, dropped, number_first, and_on, candidate, choose, place_in, place_chosen, entering_answer}
 
 -- ---- terms after the first

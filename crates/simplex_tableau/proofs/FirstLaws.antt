@@ -3,7 +3,7 @@ use Rattle.std.proofs.Common.{◌≡◌, ℕ, ℤ, pos, neg_ℤ, zero, suc, ◌+
 use Rattle.std.specs.Prelude.{◌+ℤ◌, ◌≤ℤ◌}
 use Rattle.std.proofs.lemmas.Int.{ints}
 use Rattle.std.proofs.lemmas.Bool.{cases_eq}
-use Rattle.lists.specs.Tests.{by_test}
+use Rattle.lists.specs.TestLaws.{by_test}
 use Rattle.whole_numbers.specs.Numbers.{Divides}
 use Rattle.whole_numbers.specs.DivisionLaws.{divides_at_most}
 use Rattle.ipet_rows.specs.Rows.{vanishes}
@@ -15,11 +15,11 @@ use Rattle.ipet_rows.specs.DualRowLaws.{found_here, found_later}
 use Rattle.dual_check.specs.Terms.{term_if}
 use Rattle.simplex_rules.specs.Lines.{spread, line_gcd}
 use Rattle.simplex_rules.specs.Tableaus.{Held, Tableau, Generator, placed, turned, slack_line, next_slack, row_lines, generators, width_from, cost_terms, objective_line, slacks_from, width_of, held_of}
-use Rattle.simplex_rules.specs.FirstTableau.{beyond, within_more, spread_is}
-use Rattle.simplex_rules.specs.HandedOut.{width_above}
+use Rattle.simplex_rules.specs.FirstTableauLaws.{beyond, within_more, spread_is}
+use Rattle.simplex_rules.specs.HandedOutLaws.{width_above}
 use Rattle.dual_check.specs.Small.{IsUpTo}
-use Rattle.simplex_rules.specs.Steps.{divisor_above, line_gcd_least, line_gcd_divides}
-use Rattle.simplex_tableau.specs.TermLaws.{turned_within}
+use Rattle.simplex_rules.specs.StepLaws.{divisor_above, line_gcd_least, line_gcd_divides}
+use Rattle.simplex_tableau.proofs.TermLemmas.{turned_within}
 use Rattle.simplex_tableau.specs.Sparse.{HeldTerms, shown_rows, seen, IsKept, AreKept}
 use Rattle.simplex_tableau.specs.FirstTerms.{first_terms, slack_held, row_held, first_rows, some_costs, first_costs, AreSmall}
 use Rattle.simplex_tableau.specs.Started.{IsFirst}

@@ -5,7 +5,7 @@ use Rattle.std.specs.Int.{int_div_euclid, w128}
 use Rattle.std.specs.Int.RustNames.{FitsSigned}
 use Rattle.std.proofs.lemmas.Int.{ints}
 use Rattle.std.proofs.lemmas.Bool.{and_right, cases_lt}
-use Rattle.lists.specs.Tests.{by_test}
+use Rattle.lists.specs.TestLaws.{by_test}
 use Rattle.whole_numbers.specs.Numbers.{gcd}
 use Rattle.whole_numbers.specs.GcdLaws.{gcd_first, gcd_fits_first}
 use Rattle.ipet_rows.specs.Rows.{vanishes}
@@ -14,15 +14,15 @@ use Rattle.ipet_rows.specs.Sums.{coefficient, IsAscending}
 use Rattle.ipet_rows.specs.Programs.{IsWithin}
 use Rattle.simplex_rules.specs.Lines.{spread, mixed, line_gcd, divided, reduced}
 use Rattle.simplex_rules.specs.PivotRule.{mixed_wide, cleared_wide}
-use Rattle.simplex_rules.specs.Mixing.{cancel_above, product_above}
-use Rattle.simplex_rules.specs.Steps.{exact, first_gcd_above}
-use Rattle.simplex_rules.specs.FirstTableau.{beyond, spread_is}
+use Rattle.simplex_rules.specs.MixingLaws.{cancel_above, product_above}
+use Rattle.simplex_rules.specs.StepLaws.{exact, first_gcd_above}
+use Rattle.simplex_rules.specs.FirstTableauLaws.{beyond, spread_is}
 use Rattle.simplex_tableau.specs.Merging.{narrow, IsMixture, IsTooWide}
 use Rattle.simplex_tableau.specs.Reducing.{gcd_from, divided_terms}
 use Rattle.simplex_tableau.specs.Shown.{IsFreed, IsFreedWide}
-use Rattle.simplex_tableau.specs.TermLaws.{divided_rises, divided_within}
-use Rattle.simplex_tableau.specs.DivisorLaws.{gcd_from_above, gcd_from_each, gcd_is_line, reduced_one}
-use Rattle.simplex_tableau.specs.StepLaws.{spread_divided, spread_mixed, mixed_narrow, mixed_wide_there, cleared_by, wide_by}
+use Rattle.simplex_tableau.proofs.TermLemmas.{divided_rises, divided_within}
+use Rattle.simplex_tableau.proofs.DivisorLaws.{gcd_from_above, gcd_from_each, gcd_is_line, reduced_one}
+use Rattle.simplex_tableau.proofs.StepLaws.{spread_divided, spread_mixed, mixed_narrow, mixed_wide_there, cleared_by, wide_by}
 use Rattle.simplex_tableau.proofs.MergeLaws.{nothing_narrow}
 
 -- ---- what the calls ask

@@ -1,14 +1,13 @@
 -- A row freed of a place, and rows.
-use Rattle.std.specs.Prelude.{slice_set}
+use Rattle.std.specs.Prelude.{slice_set, ◌<ℤ◌}
 use Rattle.std.proofs.Common.{◌≡◌, ℕ, ℤ, pos, zero, suc, ◌<◌, ◌+◌, arith, refl, sym, ap, ◌∙◌, subst, List, [], ◌∷◌, length, take, drop, ◌++◌, ⊎_elim, Bool, true, false}
-use Rattle.std.specs.Prelude.{◌<ℤ◌}
 use Rattle.std.proofs.lemmas.Int.{ints}
 use Rattle.std.proofs.lemmas.Bool.{cases_eq}
 use Rattle.ipet_rows.specs.Sums.{coefficient}
 use Rattle.simplex_rules.specs.Lines.{spread}
-use Rattle.simplex_rules.specs.FirstTableau.{spread_is}
+use Rattle.simplex_rules.specs.FirstTableauLaws.{spread_is}
 use Rattle.simplex_tableau.specs.Shown.{IsFreed, IsFreedWide}
-use Rattle.simplex_tableau.specs.StepLaws.{cleared_kept, wide_by}
+use Rattle.simplex_tableau.proofs.StepLaws.{cleared_kept, wide_by}
 use Rattle.simplex_tableau.specs.Sparse.{HeldTerms, terms_at}
 use Rattle.simplex_tableau.specs.Stepped.{IsStepped, IsStepWide, StepsRow, IsDone, StepsRows, IsReplaced}
 use Rattle.simplex_tableau.proofs.Shown.{set_count, set_there, set_other}

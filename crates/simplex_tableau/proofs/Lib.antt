@@ -12,3 +12,10 @@ pub mod Pivots
 pub mod FirstLaws
 pub mod NarrowSteps
 pub mod OpeningSteps
+pub mod DivisorLaws
+pub mod FittedLaws
+pub mod ReducingLaws
+pub mod RowStepLemmas
+pub mod StepLaws
+pub mod TermLemmas
+pub mod TermsFromLemmas

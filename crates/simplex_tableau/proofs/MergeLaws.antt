@@ -3,13 +3,13 @@ use Rattle.std.proofs.Common.{◌≡◌, ℕ, ℤ, pos, suc, ◌+◌, ◌<◌, �
 use Rattle.std.specs.Prelude.{◌+ℤ◌, ◌-ℤ◌, ◌*ℤ◌, nat_le}
 use Rattle.std.proofs.lemmas.Int.{ints}
 use Rattle.std.proofs.lemmas.Bool.{cases_eq, cases_lt, leb-true, leb-false, eq-eqb, ne_eqb}
-use Rattle.lists.specs.Tests.{by_test}
+use Rattle.lists.specs.TestLaws.{by_test}
 use Rattle.ipet_rows.specs.Rows.{vanishes}
 use Rattle.ipet_rows.specs.UseLaws.{vanish_is}
 use Rattle.ipet_rows.specs.Sums.{coefficient, coefficient_of, StartsAbove, IsAscending}
 use Rattle.ipet_rows.specs.Programs.{IsWithin}
 use Rattle.ipet_rows.specs.SumLaws.{term_here, term_elsewhere}
-use Rattle.simplex_rules.specs.FirstTableau.{beyond, within_more}
+use Rattle.simplex_rules.specs.FirstTableauLaws.{beyond, within_more}
 use Rattle.simplex_tableau.specs.Merging.{narrow, mixed_number, IsMixture, IsTooWide, head_number, after_of, next_of, with_number, IsFrom, IsMerging}
 
 -- Terms from a place on.

@@ -12,16 +12,17 @@ use Rattle.ipet_rows.specs.Rows.{vanishes}
 use Rattle.ipet_rows.specs.Sums.{total, coefficient, coefficient_of}
 use Rattle.ipet_rows.specs.Programs.{Row, Program, row_at, cost_at}
 use Rattle.ipet_rows.specs.Firsts.{fits, entry}
-use Rattle.ipet_rows.specs.Duality.{times_rising}
+use Rattle.ipet_rows.specs.DualityLaws.{times_rising}
 use Rattle.ipet_rows.specs.SumLaws.{term_here, term_elsewhere, times_neg, total_nothing}
 use Rattle.simplex_rules.specs.Tableaus.{Held, Tableau, Generator, held_at, placed, turned, slack_line, next_slack, row_lines, generators, cost_terms, slacks_from}
 use Rattle.simplex_rules.specs.PivotRule.{cleared_wide, mixed_wide, rows_wide, opening_at}
 use Rattle.simplex_rules.specs.Promise.{generator_at, coefficient_at, cost_of, Opens}
-use Rattle.simplex_rules.specs.FirstLines.{coefficient_placed, coefficient_placed_low, coefficient_turned}
+use Rattle.simplex_rules.specs.FirstLineLaws.{coefficient_placed, coefficient_placed_low, coefficient_turned}
 use Rattle.dual_check.specs.Small.{IsUpTo, IsSmall}
-use Rattle.simplex_rules.specs.PlainOpening.{IsPlain, freed_of, times_none}
+use Rattle.simplex_rules.specs.PlainOpening.{IsPlain, freed_of}
+use Rattle.simplex_rules.specs.PlainOpeningLaws.{times_none}
 use Rattle.simplex_tableau.specs.Stepped.{exchange_wide}
-use Rattle.simplex_rules.specs.Steps.{exact, divisor_above, first_gcd_above}
+use Rattle.simplex_rules.specs.StepLaws.{exact, divisor_above, first_gcd_above}
 
 -- ---- numbers that fit
 

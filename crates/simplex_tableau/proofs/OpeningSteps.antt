@@ -7,10 +7,10 @@ use Rattle.ipet_rows.specs.Programs.{Row, Program, IsProgram, row_at}
 use Rattle.simplex_rules.specs.Tableaus.{Tableau, held_at, number_at, all_lines, width_of, first_tableau}
 use Rattle.simplex_rules.specs.PivotRule.{opening_at, opened, pivoted}
 use Rattle.simplex_rules.specs.Pivoting.{IsSound}
-use Rattle.simplex_rules.specs.Opening.{opened_is}
+use Rattle.simplex_rules.specs.OpeningLaws.{opened_is}
 use Rattle.simplex_rules.specs.OpeningPlaces.{next_line, line_place, opening_places, OpensRows}
 use Rattle.simplex_rules.specs.OpeningPlaceLaws.{opens_lines}
-use Rattle.simplex_rules.specs.PlainOpening.{plain_opening}
+use Rattle.simplex_rules.specs.PlainOpeningLaws.{plain_opening}
 use Rattle.simplex_tableau.specs.Sparse.{Seen}
 use Rattle.simplex_tableau.specs.Stepped.{CanPivot, exchange_wide, IsOpened as IsPivotOpened}
 use Rattle.dual_check.specs.Small.{IsSmall}

@@ -9,10 +9,10 @@ use Rattle.ipet_rows.specs.Firsts.{entry}
 use Rattle.simplex_rules.specs.Lines.{spread, times_line, line_gcd, cleared}
 use Rattle.simplex_rules.specs.Tableaus.{Held, Tableau, held_at, number_at, basic_at}
 use Rattle.simplex_rules.specs.PivotRule.{exchanged, cleared_wide, rows_wide, line_wide}
-use Rattle.simplex_rules.specs.Steps.{entry_times}
-use Rattle.simplex_rules.specs.FirstTableau.{spread_is}
+use Rattle.simplex_rules.specs.StepLaws.{entry_times}
+use Rattle.simplex_rules.specs.FirstTableauLaws.{spread_is}
 use Rattle.simplex_tableau.specs.Shown.{IsTurned, IsTurnedWide}
-use Rattle.simplex_tableau.specs.DivisorLaws.{turned_gcd}
+use Rattle.simplex_tableau.proofs.DivisorLaws.{turned_gcd}
 use Rattle.simplex_tableau.specs.Sparse.{HeldTerms, terms_at, shown_rows, Seen, seen, IsKept, AreKept}
 use Rattle.simplex_tableau.specs.Stepped.{IsFreeable, IsStepped, IsStepWide, IsSomeWide, IsReplaced, exchange_wide, step_wide, IsExchanged, IsPivoted, IsOpened}
 use Rattle.simplex_tableau.proofs.Shown.{shown_count, number_shown, basic_shown}

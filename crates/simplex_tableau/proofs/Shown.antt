@@ -6,7 +6,7 @@ use Rattle.ipet_rows.specs.Programs.{IsWithin}
 use Rattle.ipet_rows.specs.Firsts.{entry}
 use Rattle.simplex_rules.specs.Lines.{spread}
 use Rattle.simplex_rules.specs.Tableaus.{Held, held_at}
-use Rattle.simplex_rules.specs.FirstTableau.{spread_is}
+use Rattle.simplex_rules.specs.FirstTableauLaws.{spread_is}
 use Rattle.simplex_tableau.specs.Sparse.{HeldTerms, terms_at, shown_rows, IsKept}
 
 pub shown_count : (w : ℕ) (rows : List HeldTerms) → length (shown_rows w rows) ≡ length rows

@@ -1,7 +1,7 @@
 -- A line turned: the terms that are made are those of the definition's line, and so is the test.
 use Rattle.std.proofs.Common.{◌≡◌, ℕ, ℤ, pos, neg_ℤ, suc, ◌<◌, ◌≤◌, arith, refl, sym, ap, ◌∙◌, List, [], ◌∷◌, Some, None, subst, true, false, Bool, ⊎_elim}
 use Rattle.std.proofs.lemmas.Bool.{and_parts, cases_eq, cases_lt}
-use Rattle.lists.specs.Tests.{by_test}
+use Rattle.lists.specs.TestLaws.{by_test}
 use Rattle.ipet_rows.specs.Sums.{coefficient, IsAscending}
 use Rattle.ipet_rows.specs.Programs.{IsWithin}
 use Rattle.ipet_rows.specs.Firsts.{fits}
@@ -10,12 +10,13 @@ use Rattle.dual_check.specs.Fitting.{fitting}
 use Rattle.simplex_rules.specs.Lines.{spread}
 use Rattle.simplex_rules.specs.Tableaus.{turned}
 use Rattle.simplex_rules.specs.PivotRule.{line_wide}
-use Rattle.simplex_rules.specs.FirstLines.{coefficient_turned}
-use Rattle.simplex_rules.specs.FirstTableau.{beyond}
+use Rattle.simplex_rules.specs.FirstLineLaws.{coefficient_turned}
+use Rattle.simplex_rules.specs.FirstTableauLaws.{beyond}
 use Rattle.simplex_tableau.specs.Turning.{turned_fits}
 use Rattle.simplex_tableau.specs.Shown.{IsTurned, IsTurnedWide}
-use Rattle.simplex_tableau.specs.TermLaws.{nothing_up_to, turned_rises, turned_within}
-use Rattle.simplex_tableau.specs.StepLaws.{spread_turned, line_narrow, line_wide_there}
+use Rattle.simplex_tableau.specs.TermLaws.{nothing_up_to}
+use Rattle.simplex_tableau.proofs.TermLemmas.{turned_rises, turned_within}
+use Rattle.simplex_tableau.proofs.StepLaws.{spread_turned, line_narrow, line_wide_there}
 
 -- ---- one term
 

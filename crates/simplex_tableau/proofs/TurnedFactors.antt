@@ -6,7 +6,7 @@ use Rattle.std.specs.Int.RustNames.{FitsSigned}
 use Rattle.std.proofs.lemmas.Int.{ints}
 use Rattle.std.proofs.lemmas.Bool.{le-ltb, cases_lt}
 use Rattle.ipet_rows.specs.SumLaws.{neg_times, times_neg}
-use Rattle.ipet_rows.specs.Duality.{times_rising}
+use Rattle.ipet_rows.specs.DualityLaws.{times_rising}
 use Rattle.dual_check.specs.Fitting.{fitting}
 
 pub turned_first : (a b : ℤ) → fitting (neg_ℤ a *ℤ b) ≡ fitting (a *ℤ neg_ℤ b)

@@ -1,17 +1,14 @@
 -- The files of this folder.
 -- The files here, each after those that it cites.
-pub mod Fitted
 pub mod Merging
 pub mod Reducing
 pub mod Turning
 pub mod Shown
 pub mod TermLaws
-pub mod DivisorLaws
-pub mod StepLaws
 pub mod Sparse
 pub mod Stepped
 pub mod Choosing
-pub mod TermsFrom
+pub mod TermsFromLaws
 pub mod FirstTerms
 pub mod Started
-pub mod RowSteps
+pub mod RowStepLaws

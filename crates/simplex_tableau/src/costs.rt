@@ -22,7 +22,7 @@ fn push_cost(out: &mut Vec<(u32, Whole)>, place: u32, cost: u32) -> Result<(), A
 }
 
 /// The objective, by terms.
-#[tactic(auto, using(crate::specs::RowSteps::costs_next, crate::specs::RowSteps::costs_end))]
+#[tactic(auto, using(crate::proofs::RowStepLemmas::costs_next, crate::proofs::RowStepLemmas::costs_end))]
 fn cost_terms(alloc: Global, rows: &Rows) -> Result<Vec<(u32, Whole)>, AllocError>
     requires { length rows.now.program.costs + 2 < 2 ^ 32 }
     ensures { IfOk result (λ out. out.items ≡ first_costs rows.now.program.costs) }

@@ -15,7 +15,7 @@ use dual_check::Rows;
 use std::alloc::{AllocError, Global};
 
 /// The rows' lines, with slacks from the one on.
-#[tactic(auto, using(crate::specs::RowSteps::rows_next, crate::specs::RowSteps::width_next, crate::specs::RowSteps::slack_below, crate::specs::RowSteps::rows_end, crate::specs::RowSteps::next_past))]
+#[tactic(auto, using(crate::proofs::RowStepLemmas::rows_next, crate::specs::RowStepLaws::width_next, crate::specs::RowStepLaws::slack_below, crate::proofs::RowStepLemmas::rows_end, crate::specs::RowStepLaws::next_past))]
 fn first_rows(alloc: Global, rows: &Rows, slacks: u32) -> Result<Vec<HeldLine>, AllocError>
     requires small { IsSmall rows.now.program }
     requires slacks { slacks ≡ slacks_from rows.now.program }
@@ -33,7 +33,7 @@ fn first_rows(alloc: Global, rows: &Rows, slacks: u32) -> Result<Vec<HeldLine>, 
 /// The tableau before the opening: each row is a line with its slack, an equation two, and the objective has
 /// minus the costs. Exactly where 32 bits do not number its places, memory is said to be wanting with no allocation
 /// refused.
-#[tactic(auto, using(crate::proofs::FirstLaws::first_kept, crate::proofs::FirstLaws::costs_kept, crate::proofs::FirstLaws::first_is, crate::specs::RowSteps::columns_below))]
+#[tactic(auto, using(crate::proofs::FirstLaws::first_kept, crate::proofs::FirstLaws::costs_kept, crate::proofs::FirstLaws::first_is, crate::proofs::RowStepLemmas::columns_below))]
 pub fn first_tableau(alloc: Global, rows: &Rows) -> Result<SparseTableau, AllocError>
     requires { IsSmall rows.now.program }
     ensures { IfOk result (λ tableau. IsFirst rows.now.program tableau) }

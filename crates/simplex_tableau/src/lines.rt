@@ -87,7 +87,7 @@ fn turned(alloc: Global, terms: &[(u32, i128)]) -> Result<Vec<(u32, i128)>, Allo
 }
 
 /// The line of an equation as an at-least row, with its slack.
-#[tactic(auto, using(crate::specs::TermLaws::turned_rises, crate::specs::TermLaws::turned_within))]
+#[tactic(auto, using(crate::proofs::TermLemmas::turned_rises, crate::proofs::TermLemmas::turned_within))]
 fn turned_line(
     alloc: Global,
     right: i128,

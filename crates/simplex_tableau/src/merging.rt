@@ -10,7 +10,7 @@ use std::alloc::{AllocError, Global};
 use whole_numbers::Whole;
 
 /// The product, where it fits.
-#[tactic(auto, using(crate::specs::Fitted::fitted, crate::specs::Fitted::not_fitted))]
+#[tactic(auto, using(crate::proofs::FittedLaws::fitted, crate::proofs::FittedLaws::not_fitted))]
 fn product(first: Whole, second: Whole) -> Option<Whole>
     ensures { result ≡ fitting (first *ℤ second) }
 {
@@ -21,7 +21,7 @@ fn product(first: Whole, second: Whole) -> Option<Whole>
 }
 
 /// The difference, where it fits.
-#[tactic(auto, using(crate::specs::Fitted::fitted, crate::specs::Fitted::not_fitted))]
+#[tactic(auto, using(crate::proofs::FittedLaws::fitted, crate::proofs::FittedLaws::not_fitted))]
 fn difference(first: Whole, second: Whole) -> Option<Whole>
     ensures { result ≡ fitting (first -ℤ second) }
 {

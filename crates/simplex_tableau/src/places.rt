@@ -18,7 +18,7 @@ fn next_place(equation: bool, slack: u32) -> Option<u32>
 }
 
 /// The place of the first slack, where 32 bits number it.
-#[tactic(auto, using(crate::specs::RowSteps::slacks_are))]
+#[tactic(auto, using(crate::proofs::RowStepLemmas::slacks_are))]
 pub fn first_slack(rows: &Rows) -> Option<u32>
     ensures slack { IfSome result (λ slack. slack ≡ slacks_from rows.now.program) }
     ensures past { IfNone result (2 ^ 32 ≤ slacks_from rows.now.program) }
@@ -27,7 +27,7 @@ pub fn first_slack(rows: &Rows) -> Option<u32>
 }
 
 /// The number of places, where 32 bits number them.
-#[tactic(auto, using(crate::specs::RowSteps::width_next, crate::specs::RowSteps::rows_end, crate::specs::RowSteps::slack_below, simplex_rules::specs::HandedOut::width_above))]
+#[tactic(auto, using(crate::specs::RowStepLaws::width_next, crate::proofs::RowStepLemmas::rows_end, crate::specs::RowStepLaws::slack_below, simplex_rules::specs::HandedOutLaws::width_above))]
 pub fn width(rows: &Rows) -> Option<u32>
     ensures width { IfSome result (λ width. width ≡ width_of rows.now.program) }
     ensures past { IfNone result (2 ^ 32 ≤ width_of rows.now.program) }

@@ -6,7 +6,7 @@ ghost use Rattle.dual_check.specs.Fitting.{fitting};
 use whole_numbers::Whole;
 
 /// The product, where it fits.
-#[tactic(auto, using(crate::specs::Fitted::fitted, crate::specs::Fitted::not_fitted))]
+#[tactic(auto, using(crate::proofs::FittedLaws::fitted, crate::proofs::FittedLaws::not_fitted))]
 fn product(first: Whole, second: Whole) -> Option<Whole>
     ensures { result ≡ fitting (first *ℤ second) }
 {

@@ -9,7 +9,7 @@ use std::alloc::{AllocError, Global};
 use whole_numbers::Whole;
 
 /// The number turned, where that fits.
-#[tactic(auto, using(crate::specs::Fitted::fitted, crate::specs::Fitted::not_fitted))]
+#[tactic(auto, using(crate::proofs::FittedLaws::fitted, crate::proofs::FittedLaws::not_fitted))]
 fn turned_number(number: Whole) -> Option<Whole>
     ensures { result ≡ fitting (neg_ℤ number) }
 {

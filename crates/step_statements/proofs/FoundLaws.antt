@@ -23,7 +23,7 @@ use Rattle.memory_rules.specs.AbstractSets.{abstract_sets}
 use Rattle.transfer_rules.specs.Remains.{Remains, all_left, with_faults, goes_on}
 use Rattle.transfer_rules.specs.Evaluating.{loaded, before, width_of}
 use Rattle.transfer_rules.specs.Doing.{where_possible, stored_by, stored_through, after_statement, after_statements}
-use Rattle.transfer_rules.specs.FaultForms.{loaded_faults, stored_faults}
+use Rattle.transfer_rules.specs.FaultFormLaws.{loaded_faults, stored_faults}
 use Rattle.step_statements.specs.Found.{done, found, two_operands, three_operands}
 
 or_false : (a : Bool) → (a || false) ≡ a

@@ -25,8 +25,9 @@ use Rattle.transfer_rules.specs.Remains.{Remains, all_left}
 use Rattle.transfer_rules.specs.Evaluating.{word_value, pointer_value, width_of}
 use Rattle.transfer_rules.specs.Doing.{stored_through}
 use Rattle.transfer_rules.specs.Filling.{filled}
-use Rattle.transfer_rules.specs.CellStores.{IsCellAt, stored_in_cell}
-use Rattle.transfer_rules.specs.Standing.{word_is}
+use Rattle.transfer_rules.specs.CellStores.{IsCellAt}
+use Rattle.transfer_rules.specs.CellStoreLaws.{stored_in_cell}
+use Rattle.transfer_rules.specs.StandingLaws.{word_is}
 use Rattle.transfer_rules.specs.EvaluatingLaws.{cell_size, word_size}
 use Rattle.transfer_rules.specs.DoingLaws.{width_is}
 use Rattle.step_statements.specs.Typed.{IsStorable}

@@ -5,8 +5,7 @@
 --   shifted, shifted_places   what is shifted of the rest is far from the limits
 use Rattle.std.proofs.Common.{◌≡◌, ℕ, ℤ, pos, neg_ℤ, ◌+◌, ◌-◌, ◌*◌, ◌<◌, ◌≤◌, ◌^◌, arith, refl, sym, ap, ◌∙◌, true, false}
 use Rattle.std.specs.Prelude.{◌+ℤ◌, ◌-ℤ◌, ◌*ℤ◌, ◌≤ℤ◌, ◌<ℤ◌, int_le, int_lt}
-use Rattle.std.specs.Int.{int_rem_euclid, int_div_euclid}
-use Rattle.std.specs.Int.{w128}
+use Rattle.std.specs.Int.{int_rem_euclid, int_div_euclid, w128}
 use Rattle.std.specs.Int.RustNames.{FitsSigned}
 use Rattle.std.proofs.lemmas.Int.{ints, fits_signed_from_abs}
 use Rattle.std.proofs.lemmas.Nat.{pow_pos, pow-add}

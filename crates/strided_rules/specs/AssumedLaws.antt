@@ -27,7 +27,7 @@ use Rattle.strided_rules.specs.Joins.{each, kept_value}
 use Rattle.strided_rules.specs.Members.{unsigned_of, signed_of, is_one, word_of, has, only, without, rest_of, is_same, without_end, greatest_of, least_of, unsigned_greatest, unsigned_least, signed_greatest, signed_least, unsigned_between, signed_between, assumed}
 use Rattle.strided_rules.specs.Domains.{stride_sets}
 use Rattle.strided_rules.specs.PlacedLaws.{word_itself, word_signed, signed_range, member_below, by_distance, from_word, one_placed}
-use Rattle.flat_domain.specs.OperatorSizes.{word_below}
+use Rattle.flat_domain.specs.OperatorSizeLaws.{word_below}
 use Rattle.strided_rules.specs.MemberLaws.{unsigned_some, signed_some, of_unsigned, of_signed, and_both, has_tells, one_word_alone, low_member, sharp_one, lone_only, one_only, rest_gives, rest_size, between_part, between_keeps, end_part, end_keeps, same_tells, greatest_above, least_below, signed_apart}
 
 -- ---- a value of one word: its pieces

@@ -8,7 +8,7 @@ use Rattle.std.proofs.lemmas.Int.{ints, clamps}
 use Rattle.std.proofs.lemmas.Nat.{pow_pos, div-add-mod'}
 use Rattle.std.proofs.lemmas.Bool.{ltb-true, ltb-false, leb-true, leb-false, eqb-true, eq-eqb, false≢true}
 use Rattle.std.proofs.lemmas.Option.{same_Some, none-some}
-use Rattle.lists.specs.Members.{first_member, further_member}
+use Rattle.lists.specs.MemberLaws.{first_member, further_member}
 use Rattle.whole_numbers.specs.MultipleLaws.{by_test, divides_same}
 use Rattle.alf_ops.specs.declared.operator.Op.{Op}
 use Rattle.alf_ops.specs.declared.operator.Op.TheVariants.{Neg, Not, Add, Sub, CAdd, CSub, UMul, SMul, UDiv, SDiv, UMod, SMod, LShift, RShift, RShiftA, And, Or, Xor, Eq, Neq, ULt, ULe, UGt, UGe, SLt, SLe, SGt, SGe, SExt, ZExt, Trunc, Select, Conc, If, RotL, RotR, UMin, UMax, SMin, SMax}
@@ -28,7 +28,7 @@ use Rattle.progressions.specs.Parts.{without_first, without_last, SomeHas, IfPie
 use Rattle.progressions.specs.PartLaws.{unsigned_has, without_first_has, without_last_has}
 use Rattle.progressions.specs.ProgressionLaws.{has_lo}
 use Rattle.progressions.specs.ImageLaws.{products_has, products_is, quotients_has, quotients_is}
-use Rattle.flat_domain.specs.OperatorSizes.{word_below, result_is_size}
+use Rattle.flat_domain.specs.OperatorSizeLaws.{word_below, result_is_size}
 use Rattle.strided_rules.specs.Strides.{Stride, IsStride, Covers, one_word}
 use Rattle.strided_rules.specs.Joins.{each, kept_value}
 use Rattle.strided_rules.specs.Rules.{above, ratios, toward_zero, rests, signed_rests, lesser, greater}
@@ -109,9 +109,6 @@ same_sizes m a b x y g h = g.size ∙ sym h.size
 
 fits_size : (m : ℕ) (a : Stride) (x : ℕ) → Good m a x → x < 2 ^ m
 fits_size m a x g = rw (← g.size) (member_below a.size a.numbers x g.covers)
-
-word_size : (m : ℕ) (a : Stride) (x : ℕ) → Good m a x → IsWordSize m
-word_size m a x g = rw (← g.size) g.kept.size
 
 not_below : (x y : ℕ) → nat_lt x y ≡ false → pos y ≤ℤ pos x
 not_below x y e = omega (arith, ints, ltb-false x y e)

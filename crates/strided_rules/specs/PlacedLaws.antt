@@ -20,7 +20,7 @@ use Rattle.progressions.specs.Progressions.{Has, IsProgression, IsPlaced, full, 
 use Rattle.progressions.specs.Images.{moved}
 use Rattle.progressions.specs.ProgressionLaws.{halves, is_lone, has_lone, hull_first, hull_second, is_hull}
 use Rattle.progressions.specs.PartLaws.{moved_is}
-use Rattle.flat_domain.specs.OperatorSizes.{word_below}
+use Rattle.flat_domain.specs.OperatorSizeLaws.{word_below}
 use Rattle.domain_core.specs.WordSets.{IsWordSize}
 use Rattle.strided_rules.specs.Strides.{IsMember, IsStride, Covers, centered, whole, norm, shorter, join, one_word, every_word}
 

@@ -10,7 +10,8 @@ use Rattle.program_analysis.specs.BoundedSound.{ClosedExplorationsHaveTotals}
 use Rattle.program_checks.specs.Checking.{HasOneCheck}
 use Rattle.command_plans.specs.Log.{Log, log_with}
 use Rattle.command_plans.specs.Outcome.{Ending, Finished, Stopped, AreAlikeEndings}
-use Rattle.command_plans.specs.Work.{EndsSo, ends_one}
+use Rattle.command_plans.specs.Work.{EndsSo}
+use Rattle.command_plans.specs.WorkLaws.{ends_one}
 use Rattle.command_files.specs.Laws.{FilesMeanTheirReport}
 use Rattle.command_files.specs.ReportFiles.{most_report_bytes, report_in}
 use Rattle.sweet_cli.specs.Words.{AnalyseWords, Command}

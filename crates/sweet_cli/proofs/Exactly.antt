@@ -25,7 +25,7 @@ use Rattle.report_soundness.specs.Certified.{printed_as}
 use Rattle.program_analysis.specs.TwinMachines.{IsProgramOf}
 use Rattle.program_analysis.specs.LoneAnalyses.{LoneAnalysisIsExact}
 use Rattle.program_analysis.specs.BoundedAnalyses.{IsBoundedReport, IsPrintedReport}
-use Rattle.program_analysis.specs.AlikeBounds.{bounded_of}
+use Rattle.program_analysis.specs.AlikeBoundLaws.{bounded_of}
 use Rattle.program_analysis.specs.BoundedSound.{LoneBoundsAgree}
 use Rattle.command_plans.specs.Outcome.{Outcome, Unbounded}
 use Rattle.answer_texts.specs.ScopeLines.{left_line}

@@ -16,10 +16,11 @@ use Rattle.program_machines.specs.NodeCosts.{HasCosts}
 use Rattle.program_analysis.specs.Pricing.{IsPricedAs}
 use Rattle.program_analysis.specs.Answers.{Answer, Told, Unbounded as LeftIn}
 use Rattle.program_analysis.specs.Analyses.{IsFound, IsLeft}
-use Rattle.report_soundness.specs.Certified.{printed_as, certificate_writable}
+use Rattle.report_soundness.specs.Certified.{printed_as}
+use Rattle.report_soundness.specs.CertifiedLaws.{certificate_writable}
 use Rattle.program_analysis.specs.ProgramAnalyses.{IsAnalysis}
 use Rattle.program_analysis.specs.BoundedAnalyses.{IsCertifiedWith, AreWritable, IsBoundedAnalysis, HasOneBoundedAnalysis, IsPrintedReport, HasOnePrintedReport}
-use Rattle.program_analysis.specs.AlikeBounds.{bounded_of}
+use Rattle.program_analysis.specs.AlikeBoundLaws.{bounded_of}
 use Rattle.command_plans.specs.Outcome.{Outcome, Unbounded, AreAlikeResults}
 use Rattle.command_plans.specs.Work.{IsOnly, alike}
 use Rattle.answer_texts.specs.ScopeLines.{left_line}

@@ -4,7 +4,8 @@ use Rattle.std.proofs.Common.{ℕ, List, Option, None, Some, IfSome, sym, subst}
 use Rattle.flow_base.specs.Outside.{Files}
 use Rattle.fact_text.specs.Language.{SpellsReport}
 use Rattle.fact_text.specs.Laws.{SpelledWhereWritable, ReportTextsSpell}
-use Rattle.report_forms.specs.Migrating.{migrated, migrated_writable}
+use Rattle.report_forms.specs.Migrating.{migrated}
+use Rattle.report_forms.specs.MigratingLaws.{migrated_writable}
 use Rattle.command_plans.specs.Log.{Log}
 use Rattle.command_files.specs.ReportFiles.{report_in}
 use Rattle.sweet_cli.specs.Migrate.{migrating, IsMigratedReport}

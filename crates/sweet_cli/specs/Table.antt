@@ -2,8 +2,7 @@
 --   task_for command    the task of a command
 --   task_of words       the task of the words of a command line
 use Rattle.std.specs.Prelude.{ℕ, List, Option, None, Some}
-use Rattle.sweet_cli.specs.Words.{Command, Analyse, Check, Replay, Lower, Print, Run, Generate, Migrate, Cache, Worst, Tasks}
-use Rattle.sweet_cli.specs.Words.{ProgramFile, Alf, C, command_of}
+use Rattle.sweet_cli.specs.Words.{Command, Analyse, Check, Replay, Lower, Print, Run, Generate, Migrate, Cache, Worst, Tasks, ProgramFile, Alf, C, command_of}
 use Rattle.sweet_cli.specs.Task.{Task, no_command}
 use Rattle.sweet_cli.specs.Analyse.{analyse}
 use Rattle.sweet_cli.specs.Check.{check}

@@ -1,12 +1,10 @@
 -- What `clap`'s walk over the words of one command comes to.
-use Rattle.std.specs.Prelude.{◌≡◌, ℕ, Bool, true, false, ◌&&◌, ◌+◌, List, [], ◌∷◌, ◌++◌, map, min, fold, Option, None, Some}
-use Rattle.std.specs.Prelude.{if◌then◌else◌, codes}
+use Rattle.std.specs.Prelude.{◌≡◌, ℕ, Bool, true, false, ◌&&◌, ◌+◌, List, [], ◌∷◌, ◌++◌, map, min, fold, Option, None, Some, if◌then◌else◌, codes}
 use Rattle.std.specs.Str.{bytes_eq}
 use Rattle.std.proofs.Common.{refl, sym, ap, ◌∙◌}
 use Rattle.clap.specs.Lexer.{usize_max}
 use Rattle.clap.specs.Kinds.{Kinds, or_else}
-use Rattle.clap.specs.Walk.{Rule, Row, Held, Waiting, idle, option, Walk, walked, settled, arg_by_id, arg_by_index, arg_by_long, arg_by_short}
-use Rattle.clap.specs.Walk.{with_values, without, pushed, is_pending, long_word, after_step}
+use Rattle.clap.specs.Walk.{Rule, Row, Held, Waiting, idle, option, Walk, walked, settled, arg_by_id, arg_by_index, arg_by_long, arg_by_short, with_values, without, pushed, is_pending, long_word, after_step}
 use Rattle.clap.specs.Walk as clap_walk
 use Rattle.clap.specs.Simple.{Shape, filled, with_index, new_shape}
 use Rattle.clap.specs.Faults.{walk_fault, turn_fault, settle_fault, repeat_fault, long_fault, step_fault}

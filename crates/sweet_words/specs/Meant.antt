@@ -15,8 +15,7 @@ use Rattle.sweet_words.specs.declared.command.WorstWords.{WorstWords as WorstVal
 use Rattle.sweet_words.specs.declared.command.Command.{Command as Value}
 use Rattle.sweet_words.specs.declared.command.Command.TheVariants as value
 use Rattle.sweet_words.specs.Files.{ProgramFile, Alf, C}
-use Rattle.sweet_words.specs.Commands.{AnalyseWords, CheckWords, ReplayWords, LowerWords, RunWords, CacheWords, WorstWords, Command}
-use Rattle.sweet_words.specs.Commands.{Analyse, Check, Replay, Lower, Print, Run, Generate, Migrate, Cache, Worst, Tasks}
+use Rattle.sweet_words.specs.Commands.{AnalyseWords, CheckWords, ReplayWords, LowerWords, RunWords, CacheWords, WorstWords, Command, Analyse, Check, Replay, Lower, Print, Run, Generate, Migrate, Cache, Worst, Tasks}
 
 abbrev pub file_meant : FileValue → ProgramFile
 file_meant (file.Alf name) = Alf name.now

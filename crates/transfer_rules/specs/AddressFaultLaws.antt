@@ -5,7 +5,7 @@ use Rattle.std.specs.Prelude.{slice_get, IsSomeAnd, IfSome, ◌==◌, ◌≤ℤ�
 use Rattle.std.proofs.Common.{◌≡◌, ◌⊎◌, inl, inr, ℕ, ℤ, pos, Bool, true, false, List, [], ◌∷◌, Option, Some, None, Result, Ok, Err, ◌<◌, ◌≤◌, ◌+◌, ◌*◌, ◌^◌, refl, sym, ap, subst, ◌∙◌, arith}
 use Rattle.std.proofs.lemmas.Int.{ints, clamps}
 use Rattle.std.proofs.lemmas.Bool.{eqb-true, eq-eqb, false≢true, leb-true, le-leb}
-use Rattle.lists.specs.Tests.{by_test}
+use Rattle.lists.specs.TestLaws.{by_test}
 use Rattle.whole_numbers.specs.Numbers.{Divides}
 use Rattle.whole_numbers.specs.MultipleLaws.{divides_same, divides_difference, divides_zero, divides_itself}
 use Rattle.alf_ops.specs.declared.history.Value.TheVariants.{Int, Ptr}

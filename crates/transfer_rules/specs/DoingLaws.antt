@@ -30,8 +30,8 @@ use Rattle.memory_rules.specs.Addresses.{cells_of, stored_at}
 use Rattle.memory_rules.specs.AbstractSets.{abstract_sets}
 use Rattle.memory_rules.specs.AbstractSetLaws.{abstract_is_sets}
 use Rattle.memory_rules.specs.AddressLaws.{stores_at, faults_at}
-use Rattle.memory_rules.specs.AddressSharp.{stores_only, faults_only}
-use Rattle.memory_rules.specs.MemoryProofs.{store_sized}
+use Rattle.memory_rules.specs.AddressSharpLaws.{stores_only, faults_only}
+use Rattle.memory_rules.specs.MemoryProofLaws.{store_sized}
 use Rattle.transfer_rules.specs.Remains.{Remains, goes_on}
 use Rattle.transfer_rules.specs.Evaluating.{words_width, width_of, value_at}
 use Rattle.transfer_rules.specs.Doing.{where_possible, stored_by, stored_through, after_statement, after_statements}

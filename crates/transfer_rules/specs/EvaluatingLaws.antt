@@ -6,7 +6,7 @@
 use Rattle.std.specs.Prelude.{IsSomeAnd, IfSome, if◌then◌else◌, IsSome}
 use Rattle.std.proofs.Common.{◌≡◌, ℕ, Bool, true, List, [], ◌∷◌, map, Option, Some, None, Result, Ok, Err, ◌<◌, ◌^◌, inl, inr, refl, sym, subst, arith}
 use Rattle.std.specs.List.{AllZip}
-use Rattle.lists.specs.Tests.{by_test}
+use Rattle.lists.specs.TestLaws.{by_test}
 use Rattle.alf_ops.specs.declared.operator.Op.{Op}
 use Rattle.alf_ops.specs.declared.history.Value.{Value}
 use Rattle.alf_ops.specs.declared.history.Value.TheVariants.{Int, Ptr}
@@ -30,19 +30,21 @@ use Rattle.memory_rules.specs.ValueSets.{OnlyCovers}
 use Rattle.memory_rules.specs.Covers.{IsCellSize as IsCell}
 use Rattle.memory_rules.specs.Memories.{Mem, joined_values, faults_of, MemSized}
 use Rattle.memory_rules.specs.Frames.{either as either_value}
-use Rattle.memory_rules.specs.Above.{either_alike}
+use Rattle.memory_rules.specs.AboveLaws.{either_alike}
 use Rattle.memory_rules.specs.Addresses.{cells_of, load_at, IsLoadFault, TellsLoad, TellsOnly}
 use Rattle.memory_rules.specs.AbstractSets.{abstract_sets}
 use Rattle.memory_rules.specs.AbstractSetLaws.{abstract_is_sets}
 use Rattle.memory_rules.specs.AddressLaws.{loads_at}
-use Rattle.memory_rules.specs.AddressSharp.{loads_only}
-use Rattle.memory_rules.specs.Gathered.{EachSized, all_results_sized}
+use Rattle.memory_rules.specs.AddressSharpLaws.{loads_only}
+use Rattle.memory_rules.specs.Gathered.{EachSized}
+use Rattle.memory_rules.specs.GatheredLaws.{all_results_sized}
 use Rattle.transfer_rules.specs.Remains.{Remains, all_left, goes_on}
 use Rattle.transfer_rules.specs.AddressFaults.{fault_set, address_faults}
 use Rattle.transfer_rules.specs.Evaluating.{word_value, pointer_value, loaded, remains_of, operated, before, value_at, values_at, arguments_at}
 use Rattle.transfer_rules.specs.RemainsLaws.{HasNone, HasOnly, LeftTold, Answers, IfLeft, no_fault, one_alone, in_either, in_first, in_second, in_set, from_set, all_told, left_on, fault_on, fault_stops, answers_on, keeps_on}
 use Rattle.transfer_rules.specs.AddressFaultLaws.{address_told, address_from}
-use Rattle.transfer_rules.specs.Standing.{Stands, ValueTold, AllTold, one_of, as_one, word_is, word_told, pointer_is, pointer_told}
+use Rattle.transfer_rules.specs.Standing.{Stands, ValueTold, AllTold}
+use Rattle.transfer_rules.specs.StandingLaws.{one_of, as_one, word_is, word_told, pointer_is, pointer_told}
 
 -- ---- sizes
 

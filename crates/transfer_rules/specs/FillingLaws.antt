@@ -12,7 +12,7 @@ use Rattle.std.proofs.Common.{◌≡◌, ℕ, true, List, [], ◌∷◌, Option,
 use Rattle.std.proofs.lemmas.Option.{slice_get-map, same_Some}
 use Rattle.std.proofs.lemmas.Bool.{le-leb, eq-eqb}
 use Rattle.std.proofs.lemmas.List.Elements.{All-head, All-tail, All-contains, Contains-append_left}
-use Rattle.lists.specs.Members.{first_member, further_member, first_or_further, no_member}
+use Rattle.lists.specs.MemberLaws.{first_member, further_member, first_or_further, no_member}
 use Rattle.alf_ops.specs.declared.history.Value.{Value}
 use Rattle.alf_ops.specs.declared.history.Value.TheVariants.{Int}
 use Rattle.alf_ops.specs.declared.history.FrameShape.{FrameShape}
@@ -36,10 +36,11 @@ use Rattle.memory_rules.specs.Covers.{IsCellSize as IsCell}
 use Rattle.memory_rules.specs.Memories.{Mem, entered, MemSized, IsPlaced}
 use Rattle.memory_rules.specs.AbstractSets.{abstract_sets}
 use Rattle.memory_rules.specs.AbstractSetLaws.{abstract_is_sets}
-use Rattle.memory_rules.specs.MemoryProofs.{store_covers, memory_stays_sharp, store_sized, enter_covers, sharp_enter, enter_sized}
+use Rattle.memory_rules.specs.MemoryProofLaws.{store_covers, memory_stays_sharp, store_sized, enter_covers, sharp_enter, enter_sized}
 use Rattle.transfer_rules.specs.Evaluating.{width_of, word_value}
 use Rattle.transfer_rules.specs.Filling.{filled, with_arguments, with_inits, entered_with}
-use Rattle.transfer_rules.specs.Standing.{Stands, ValueTold, AllTold, word_is, word_told}
+use Rattle.transfer_rules.specs.Standing.{Stands, ValueTold, AllTold}
+use Rattle.transfer_rules.specs.StandingLaws.{word_is, word_told}
 use Rattle.transfer_rules.specs.EvaluatingLaws.{cell_size, word_size, ArgumentIs}
 use Rattle.transfer_rules.specs.DoingLaws.{width_is, own_size, own_fits, Kept, unchanged, kept_on}
 

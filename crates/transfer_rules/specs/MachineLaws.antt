@@ -1,5 +1,4 @@
 -- The abstract machine of a program is a machine for the points of its runs.
---   memory_is_order              memories of a program are a lattice
 --   SuitsMemories program order  an order of memories by which joins and what is above may be told
 --   own_order_suits              the order of this crate is one
 --   is_machine                   the laws of a stepper
@@ -7,9 +6,9 @@
 use Rattle.std.specs.Prelude.{Contains, IfSome, ◌==◌}
 use Rattle.std.proofs.Common.{◌≡◌, ◌≢◌, ℕ, true, false, List, [], ◌∷◌, map, length, Option, Some, None, ◌<◌, refl, sym, ap, subst, ◌∙◌}
 use Rattle.std.proofs.lemmas.Bool.{eqb-true, eq-eqb, false≢true}
-use Rattle.lists.specs.Tests.{by_test}
-use Rattle.lists.specs.Members.{first_member, first_or_further, no_member}
-use Rattle.lists.specs.Images.{mapped, image}
+use Rattle.lists.specs.TestLaws.{by_test}
+use Rattle.lists.specs.MemberLaws.{first_member, first_or_further, no_member}
+use Rattle.lists.specs.ImageLaws.{mapped, image}
 use Rattle.alf_ops.specs.declared.history.RunFault.{RunFault}
 use Rattle.alf_ops.specs.declared.history.RunEvent.{RunEvent}
 use Rattle.alf_check.specs.declared.rows.InputRow.{InputRow}
@@ -24,14 +23,14 @@ use Rattle.transfer_rules.specs.NumberLaws.{numbered}
 use Rattle.transfer_rules.specs.Points.{GoesOn, EndsAt, FailsAt}
 use Rattle.transfer_rules.specs.PointLaws.{goes_along, ends_along}
 use Rattle.domain_core.specs.FaultSets.{has_fault, no_faults, with_fault}
-use Rattle.domain_core.specs.Orders.{Order, IsOrder}
+use Rattle.domain_core.specs.Orders.{Order}
 use Rattle.domain_core.specs.Machines.{IsMachine, IsAlong}
 use Rattle.domain_core.specs.Outlines.{Shape}
 use Rattle.domain_core.specs.Reducible.{IsEdge}
 use Rattle.memory_rules.specs.Memories.{Mem, both, entered, fresh}
 use Rattle.memory_rules.specs.AbstractSets.{abstract_sets}
 use Rattle.memory_rules.specs.AbstractSetLaws.{abstract_is_sets}
-use Rattle.memory_rules.specs.MemoryProofs.{join_covers, join_sized}
+use Rattle.memory_rules.specs.MemoryProofLaws.{join_sized}
 use Rattle.transfer_rules.specs.Filling.{first_memory}
 use Rattle.transfer_rules.specs.Stepping.{Goals, goals_left}
 use Rattle.transfer_rules.specs.Machines.{CoversHistory, SharpFor, RunsAlong, Fits, AreAlike, memory_order, goals_from, numbered_goal, KeepsMachine, run_machine}
@@ -49,26 +48,6 @@ sharp_covers : (program : NumberedProgram) (m : Mem abstract_sets) (history : Li
 sharp_covers program m history h = record {
   sound = h.sound;
   covers = record { active = h.sharp.active; frames = λ frame row found runs. (h.sharp.frames frame row found runs).covers };
-}
-
-join_left : (program : NumberedProgram) (a b : Mem abstract_sets) → AreAlike a b → (history : List RunEvent) → CoversHistory program a history → CoversHistory program (both abstract_sets a b) history
-join_left program a b alike history h = record {
-  sound = h.sound;
-  covers = (join_covers abstract_sets abstract_is_sets (frames_of program) a b history h.sound alike.first alike.second alike.runs).0 h.covers;
-}
-
-join_right : (program : NumberedProgram) (a b : Mem abstract_sets) → AreAlike a b → (history : List RunEvent) → CoversHistory program b history → CoversHistory program (both abstract_sets a b) history
-join_right program a b alike history h = record {
-  sound = h.sound;
-  covers = (join_covers abstract_sets abstract_is_sets (frames_of program) a b history h.sound alike.first alike.second alike.runs).1 h.covers;
-}
-
-pub memory_is_order : (program : NumberedProgram) → IsOrder (Mem abstract_sets) (memory_order program)
-memory_is_order program = record {
-  itself = λ a history h. h;
-  farther = λ a b c first second history h. second history (first history h);
-  left = join_left program;
-  right = join_right program;
 }
 
 -- an order of memories by which joins and what is above may be told

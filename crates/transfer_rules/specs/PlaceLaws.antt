@@ -11,8 +11,8 @@ use Rattle.std.proofs.Common.{◌≡◌, ℕ, ℤ, pos, Bool, true, false, List,
 use Rattle.std.proofs.lemmas.Nat.{pow-add}
 use Rattle.std.proofs.lemmas.Option.{none-some, same_Some}
 use Rattle.std.proofs.lemmas.Bool.{le-leb, leb-true, and_parts, false≢true}
-use Rattle.lists.specs.Tests.{by_test}
-use Rattle.lists.specs.Members.{no_member, first_or_further}
+use Rattle.lists.specs.TestLaws.{by_test}
+use Rattle.lists.specs.MemberLaws.{no_member, first_or_further}
 use Rattle.whole_numbers.specs.Numbers.{Divides}
 use Rattle.whole_numbers.specs.MultipleLaws.{divides_through}
 use Rattle.alf_ops.specs.declared.operator.Op.{Op}
@@ -43,9 +43,10 @@ use Rattle.memory_rules.specs.Covers.{IsCellSize as IsCell}
 use Rattle.memory_rules.specs.Memories.{Mem, MemSized, IsPlaced}
 use Rattle.memory_rules.specs.AbstractSets.{abstract_sets}
 use Rattle.memory_rules.specs.AbstractSetLaws.{abstract_is_sets}
-use Rattle.memory_rules.specs.MemoryProofs.{memory_pin_covers, memory_pin_sharp, memory_pin_sized}
+use Rattle.memory_rules.specs.MemoryProofLaws.{memory_pin_covers, memory_pin_sharp, memory_pin_sized}
 use Rattle.transfer_rules.specs.Refining.{Place, is_extension, cut, for_cell, pinned_to}
-use Rattle.transfer_rules.specs.Standing.{Stands, one_of}
+use Rattle.transfer_rules.specs.Standing.{Stands}
+use Rattle.transfer_rules.specs.StandingLaws.{one_of}
 use Rattle.transfer_rules.specs.EvaluatingLaws.{result_has}
 use Rattle.transfer_rules.specs.DoingLaws.{Kept}
 

@@ -5,7 +5,7 @@
 --   HasOneWay              each point has one next point, or it is an end, or it has one fault
 use Rattle.std.proofs.Common.{◌≡◌, ◌≢◌, inl, inr, ◌<◌, ℕ, zero, suc, List, length, None, Some, refl, ap, sym, subst, ◌∙◌}
 use Rattle.std.proofs.lemmas.Option.{get_or_from_slice_get, same_Some}
-use Rattle.lists.specs.Members.{placed}
+use Rattle.lists.specs.MemberLaws.{placed}
 use Rattle.alf_ops.specs.declared.history.RunEvent.{RunEvent}
 use Rattle.alf_ops.specs.declared.history.RunFault.{RunFault}
 use Rattle.alf_check.specs.declared.rows.InputRow.{InputRow}
@@ -202,6 +202,3 @@ module _ (promises : Promises) (program : NumberedProgram) (graph : GraphParts) 
 
     pub point_run : IsRun (run_system program graph rows) (points program graph moment)
     point_run = record { first = first_point; on = on }
-
-pub run_is_run : Promises → RunIsRun
-run_is_run promises program graph rows moment keeps is from = point_run promises program graph keeps is rows moment from

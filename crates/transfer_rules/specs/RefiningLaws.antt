@@ -7,7 +7,7 @@ use Rattle.std.specs.Prelude.{slice_index, IfSome, if◌then◌else◌}
 use Rattle.std.specs.Option.{option_and_then}
 use Rattle.std.proofs.Common.{◌≡◌, ℕ, List, [], ◌∷◌, Option, Some, None, Result, Ok, Err, refl, sym, ap, subst, ◌∙◌}
 use Rattle.std.proofs.lemmas.Option.{none-some, same_Some}
-use Rattle.lists.specs.Tests.{by_test}
+use Rattle.lists.specs.TestLaws.{by_test}
 use Rattle.alf_ops.specs.declared.operator.Op.{Op}
 use Rattle.alf_ops.specs.declared.history.Value.{Value}
 use Rattle.alf_ops.specs.declared.history.Value.TheVariants.{Int, Ptr}
@@ -42,7 +42,7 @@ use Rattle.transfer_rules.specs.Standing.{Stands, ValueTold}
 use Rattle.transfer_rules.specs.EvaluatingLaws.{value_sized, value_told}
 use Rattle.transfer_rules.specs.DoingLaws.{Kept, unchanged, kept_on}
 use Rattle.transfer_rules.specs.PlaceLaws.{PlaceFits, PlaceReads, pin_kept, pin_told}
-use Rattle.transfer_rules.specs.PlaceReading.{place_fits, place_reads}
+use Rattle.transfer_rules.specs.PlaceReadingLaws.{place_fits, place_reads}
 use Rattle.transfer_rules.specs.ComparisonLaws.{swapped_holds, rel_holds, relation_is, compared_sizes, compared_outcome}
 
 none_is : {A B : Type 0} (a : A) → None ≡ Some a → B

@@ -7,12 +7,11 @@
 --   Answers Sharp P r result             the one or the other, by the result of a run
 --   IfLeft P r                           P holds of what is left
 --   left_on, fault_on, fault_stops, answers_on, keeps_on   of what goes on
-use Rattle.std.specs.Prelude.{IfSome, ◌||◌}
+use Rattle.std.specs.Prelude.{IfSome, ◌||◌, Contains}
 use Rattle.std.proofs.Common.{◌≡◌, Bool, true, false, List, [], ◌∷◌, Option, None, Some, Result, Ok, Err, refl, sym, ap, ◌∙◌, inl, inr, ◌⊎◌, subst}
-use Rattle.std.specs.Prelude.{Contains}
 use Rattle.std.proofs.lemmas.Bool.{false≢true, or_left, or_right}
 use Rattle.std.proofs.lemmas.Option.{none-some}
-use Rattle.lists.specs.Members.{no_member, first_member, further_member, first_or_further}
+use Rattle.lists.specs.MemberLaws.{no_member, first_member, further_member, first_or_further}
 use Rattle.alf_ops.specs.declared.history.RunFault.{RunFault}
 use Rattle.alf_ops.specs.declared.history.RunFault.TheVariants.{Divide, Uninit, Mixed, Bounds, Dead, Kind, Pointers}
 use Rattle.domain_core.specs.declared.fault_set.FaultSet.{FaultSet}

@@ -11,7 +11,7 @@ use Rattle.std.proofs.lemmas.Int.{ints}
 use Rattle.std.proofs.lemmas.Option.{same_Some}
 use Rattle.std.proofs.lemmas.Bool.{eqb-true, false≢true}
 use Rattle.std.proofs.lemmas.List.Elements.{All-head, All-tail}
-use Rattle.lists.specs.Tests.{by_test}
+use Rattle.lists.specs.TestLaws.{by_test}
 use Rattle.alf_ops.specs.declared.history.Value.TheVariants.{Int}
 use Rattle.alf_ops.specs.declared.history.RunEvent.{RunEvent}
 use Rattle.alf_ops.specs.declared.history.RunEvent.TheVariants.{Store}
@@ -42,9 +42,10 @@ use Rattle.memory_rules.specs.Covers.{IsCellSize as IsCell}
 use Rattle.memory_rules.specs.Memories.{Mem, fresh, entered, MemSized}
 use Rattle.memory_rules.specs.AbstractSets.{abstract_sets}
 use Rattle.memory_rules.specs.AbstractSetLaws.{abstract_is_sets}
-use Rattle.memory_rules.specs.MemoryProofs.{start_sharp}
+use Rattle.memory_rules.specs.MemoryProofLaws.{start_sharp}
 use Rattle.transfer_rules.specs.Filling.{filled, with_inits, entered_with, range_of, with_inputs, first_memory}
-use Rattle.transfer_rules.specs.Standing.{Stands, ValueTold, one_of}
+use Rattle.transfer_rules.specs.Standing.{Stands, ValueTold}
+use Rattle.transfer_rules.specs.StandingLaws.{one_of}
 use Rattle.transfer_rules.specs.DoingLaws.{Kept, unchanged, kept_on}
 use Rattle.transfer_rules.specs.FillingLaws.{placed, filled_told, filled_kept, args_of, inits_told, inits_kept, entered_inits, entered_inits_kept}
 

@@ -7,7 +7,7 @@ use Rattle.std.specs.List.{AllZip}
 use Rattle.std.proofs.Common.{◌≡◌, ◌≢◌, ℕ, List, [], ◌∷◌, map, Option, Some, None, Result, Ok, Err, refl, sym, ap, subst, ◌∙◌}
 use Rattle.std.proofs.lemmas.Bool.{eq-eqb}
 use Rattle.std.proofs.lemmas.List.Elements.{All-contains}
-use Rattle.lists.specs.Members.{first_member}
+use Rattle.lists.specs.MemberLaws.{first_member}
 use Rattle.alf_ops.specs.declared.history.Value.{Value}
 use Rattle.alf_ops.specs.declared.history.Value.TheVariants.{Int, Ptr}
 use Rattle.alf_ops.specs.declared.history.RunFault.{RunFault}
@@ -41,13 +41,14 @@ use Rattle.memory_rules.specs.Covers.{IsCellSize as IsCell}
 use Rattle.memory_rules.specs.Memories.{Mem, left}
 use Rattle.memory_rules.specs.AbstractSets.{abstract_sets}
 use Rattle.memory_rules.specs.AbstractSetLaws.{abstract_is_sets}
-use Rattle.memory_rules.specs.MemoryProofs.{leave_covers, sharp_leave, leave_sized}
+use Rattle.memory_rules.specs.MemoryProofLaws.{leave_covers, sharp_leave, leave_sized}
 use Rattle.transfer_rules.specs.Remains.{Remains, goes_on}
 use Rattle.transfer_rules.specs.Evaluating.{pointer_value, value_at, arguments_at}
 use Rattle.transfer_rules.specs.Doing.{stored_through, after_statements}
 use Rattle.transfer_rules.specs.Filling.{entered_with}
 use Rattle.transfer_rules.specs.Stepping.{Goals, to_goal, arms, arms_of, pointer_fault, switched, result_to, back_to, leave_to, call_to, end_at, block_at, step_at}
-use Rattle.transfer_rules.specs.Standing.{Stands, ValueTold, AllTold, pointer_is, pointer_told}
+use Rattle.transfer_rules.specs.Standing.{Stands, ValueTold, AllTold}
+use Rattle.transfer_rules.specs.StandingLaws.{pointer_is, pointer_told}
 use Rattle.transfer_rules.specs.RemainsLaws.{HasNone, LeftTold, FaultTold, Answers, IfLeft, no_fault, one_alone, all_told, left_on, fault_on, fault_stops}
 use Rattle.transfer_rules.specs.EvaluatingLaws.{cell_size, value_sized, value_told, arguments_told, ArgumentIs, arguments_sized}
 use Rattle.transfer_rules.specs.DoingLaws.{store_told, statements_told}

@@ -9,9 +9,9 @@ use Rattle.std.proofs.Common.{◌≡◌, inr, ℕ, suc, length, Bool, true, fals
 use Rattle.std.proofs.lemmas.Option.{none-some, same_Some}
 use Rattle.std.proofs.lemmas.Bool.{eqb-true, eqb-false, false≢true}
 use Rattle.std.proofs.lemmas.List.Elements.{All-contains}
-use Rattle.lists.specs.Tests.{by_test}
-use Rattle.lists.specs.Members.{first_member, further_member, first_or_further}
-use Rattle.lists.specs.Images.{image}
+use Rattle.lists.specs.TestLaws.{by_test}
+use Rattle.lists.specs.MemberLaws.{first_member, further_member, first_or_further}
+use Rattle.lists.specs.ImageLaws.{image}
 use Rattle.graph_walks.specs.Walks.{IsDistinct}
 use Rattle.alf_program.specs.Tree.{NumberedExpression, Number, Address, Load, Apply}
 use Rattle.alf_check.specs.declared.rows.FrameRow.{FrameRow}
@@ -31,7 +31,7 @@ use Rattle.memory_rules.specs.Covers.{IsCellSize as IsCell}
 use Rattle.memory_rules.specs.Memories.{Mem, is_on, entered, left, MemSized}
 use Rattle.memory_rules.specs.AbstractSets.{abstract_sets}
 use Rattle.memory_rules.specs.AbstractSetLaws.{abstract_is_sets}
-use Rattle.memory_rules.specs.MemoryProofs.{leave_sized}
+use Rattle.memory_rules.specs.MemoryProofLaws.{leave_sized}
 use Rattle.transfer_rules.specs.Evaluating.{pointer_value, value_at, arguments_at}
 use Rattle.transfer_rules.specs.Doing.{stored_through, after_statements}
 use Rattle.transfer_rules.specs.Filling.{entered_with}
@@ -218,9 +218,6 @@ module _ (program : NumberedProgram) (keeps : IsKept program) where
 
   module _ (path : List ℕ) (b : ℕ) (calls : IsCallPath program path) (distinct : IsDistinct (functions_on program path)) (block : NumberedBlock)
       (at : slice_get (blocks_at program (function_at program path)) b ≡ Some block) where
-    low : function_at program path < length program.funcs
-    low = path_low program keeps path calls
-
     leads_by : (ending : BlockEnding) → block.ending ≡ ending → (goal : Goal) → EndLeads program path b (Some ending) goal → Leads program (block_node path b) goal
     leads_by ending is goal leads =
         let found : ending_at program (function_at program path) b ≡ Some ending = ap (option_map (λ (x : NumberedBlock). x.ending)) at ∙ ap Some is in

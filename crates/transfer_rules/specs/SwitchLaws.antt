@@ -9,8 +9,8 @@ use Rattle.std.proofs.Common.{◌≡◌, ◌≢◌, inl, ℕ, suc, length, Bool,
 use Rattle.std.proofs.lemmas.Option.{same_Some}
 use Rattle.std.proofs.lemmas.Bool.{eqb-true, eqb-false, eq-eqb, ne_eqb, false≢true}
 use Rattle.std.proofs.lemmas.List.Elements.{Contains-append_left, Contains-append_right}
-use Rattle.lists.specs.Tests.{by_test}
-use Rattle.lists.specs.Members.{first_member, further_member, first_or_further, no_member}
+use Rattle.lists.specs.TestLaws.{by_test}
+use Rattle.lists.specs.MemberLaws.{first_member, further_member, first_or_further, no_member}
 use Rattle.alf_ops.specs.declared.history.Value.TheVariants.{Int}
 use Rattle.alf_ops.specs.declared.history.FrameShape.{FrameShape}
 use Rattle.alf_ops.specs.declared.history.RunEvent.{RunEvent}

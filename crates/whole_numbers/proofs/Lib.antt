@@ -1,0 +1,3 @@
+-- The files of this folder.
+pub mod DivisionLemmas
+pub mod GcdLemmas

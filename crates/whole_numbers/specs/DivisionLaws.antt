@@ -4,13 +4,12 @@
 --   same_rest             numbers that differ by a multiple have one rest
 --   divides_at_most, no_rest   a divisor is at most a number above 0; a multiple has no rest
 --   quotient_is, quotient_rises, quotient_of_sum   the one quotient; its order; what a multiple adds
---   quotient_floor        the quotient is rounded down
 use Rattle.std.proofs.Common.{◌≡◌, ℕ, ℤ, pos, negsuc, neg_ℤ, zero, suc, ◌<◌, arith, refl, ◌↔◌}
 use Rattle.std.specs.Prelude.{◌+ℤ◌, ◌-ℤ◌, ◌*ℤ◌, ◌≤ℤ◌, ◌<ℤ◌, int_le}
 use Rattle.std.specs.Int.{int_rem_euclid, int_div_euclid}
 use Rattle.std.proofs.lemmas.Int.{ints}
 use Rattle.std.proofs.lemmas.Nat.{div-add-mod', mod_below}
-use Rattle.whole_numbers.specs.Numbers.{Divides, IsFloor}
+use Rattle.whole_numbers.specs.Numbers.{Divides}
 use Rattle.whole_numbers.specs.MultipleLaws.{by_test, sum_times, difference_times, divides_same, divides_difference, only_zero}
 use Rattle.whole_numbers.specs.ProductLaws.{times_rising}
 
@@ -112,15 +111,6 @@ not_negative (pos d) z positive m near = by_test (int_le (pos 0) z)
     (λ yes_. omega (arith, ints, yes_))
     (λ no_. let e : z ≡ pos 0 = only_zero d z m (omega (arith, ints, no_)) near in omega (arith, ints, e))
 not_negative (negsuc d) z positive m near = absurd (omega (arith, ints))
-
--- the quotient is rounded down
-pub quotient_floor : (z d : ℤ) → pos 0 <ℤ d → IsFloor (int_div_euclid z d) z d
-quotient_floor z (pos d) positive =
-    let above : 0 < d = omega (arith, ints) in
-    let e = quotient_and_rest z d above in
-    let r = rest_range z d above in
-    record { least = omega (arith, ints, e, r.0); most = omega (arith, ints, e, r.1, sum_times (int_div_euclid z (pos d)) (pos 1) (pos d)) }
-quotient_floor z (negsuc d) positive = absurd (omega (arith, ints))
 
 -- a number is a multiple exactly where it has no rest
 pub rest_tells : (z d : ℤ) → pos 0 <ℤ d → Divides d z ↔ (int_rem_euclid z d ≡ pos 0)

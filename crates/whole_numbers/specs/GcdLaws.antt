@@ -1,10 +1,9 @@
 -- The greatest common divisor.
 --   gcd_end, gcd_next     the steps of Euclid
 --   gcd_first, gcd_second, gcd_is_greatest   it divides both, and what divides both divides it
---   gcd_small             it is at most the sum of the sizes
 --   gcd_fits, gcd_fits_first   it fits 128 bits where both numbers are above the least one, or the first is so and not 0
 --   size_divides, by_sizes   divisibility is that of the sizes
-use Rattle.std.proofs.Common.{◌≡◌, ℕ, ℤ, pos, negsuc, zero, suc, ◌+◌, ◌<◌, ◌≤◌, ◌^◌, arith, refl, ap, ◌%◌, ◌/◌, ⊎_elim, ◌↔◌, ◌≢◌}
+use Rattle.std.proofs.Common.{◌≡◌, ℕ, ℤ, pos, negsuc, zero, suc, ◌<◌, ◌≤◌, ◌^◌, arith, refl, ap, ◌%◌, ◌/◌, ⊎_elim}
 use Rattle.std.specs.Prelude.{◌-ℤ◌, unsigned_abs}
 use Rattle.std.specs.Int.{IsGcd, ◌∣◌, w128}
 use Rattle.std.specs.Int.RustNames.{FitsSigned}
@@ -12,7 +11,7 @@ use Rattle.std.proofs.lemmas.Int.{ints, unsigned_abs-mul, fits_signed_from_abs}
 use Rattle.std.proofs.Math.IntN.{*ℤ_comm}
 use Rattle.std.proofs.Math.Nat.{dvd-mul_left}
 use Rattle.std.proofs.lemmas.Nat.{div-add-mod', mod_below}
-use Rattle.std.proofs.lemmas.Nat.Gcd.{IsGcd-from_zero, IsGcd-from_mod, same_from_IsGcd, mod-eq-zero_of_dvd, dvd_of_mod-eq-zero, le_of_dvd}
+use Rattle.std.proofs.lemmas.Nat.Gcd.{IsGcd-from_zero, IsGcd-from_mod, same_from_IsGcd, mod-eq-zero_of_dvd, le_of_dvd}
 use Rattle.std.proofs.lemmas.Bool.{cases_eq, ne_eqb}
 use Rattle.whole_numbers.specs.Numbers.{Divides, IsGreatestDivisor, gcd, gcd_nat, gcd_within}
 use Rattle.whole_numbers.specs.MultipleLaws.{difference_times}
@@ -50,12 +49,6 @@ gcd_first a b = by_size (gcd_nat (unsigned_abs a) (unsigned_abs b)) a (gcd_is (u
 pub gcd_second : (a b : ℤ) → Divides (gcd a b) b
 gcd_second a b = by_size (gcd_nat (unsigned_abs a) (unsigned_abs b)) b (gcd_is (unsigned_abs a) (unsigned_abs b)).1
 
--- a common divisor is at most the sum
-pub gcd_small : (a b : ℕ) → gcd_nat a b ≤ a + b
-gcd_small zero zero = omega (arith, gcd_end 0)
-gcd_small (suc a) b = omega (arith, le_of_dvd (let h : 0 < suc a = omega arith in h) (gcd_is (suc a) b).0)
-gcd_small zero (suc b) = omega (arith, le_of_dvd (let h : 0 < suc b = omega arith in h) (gcd_is zero (suc b)).1)
-
 -- The greatest common divisor of whole numbers.
 
 -- what divides a number divides it by sizes
@@ -90,14 +83,6 @@ gcd_below zero (suc b) p q = omega (arith, le_of_dvd (let h : 0 < suc b = omega 
 
 pub gcd_fits : (a b : ℤ) → unsigned_abs a < 2 ^ 127 → unsigned_abs b < 2 ^ 127 → FitsSigned w128 (gcd a b)
 gcd_fits a b p q = fits_signed_from_abs w128 (gcd a b) (gcd_below (unsigned_abs a) (unsigned_abs b) p q)
-
--- a number is a multiple of one other than 0 exactly where its size leaves no rest
-pub multiple_test : (z d : ℤ) → d ≢ pos 0 → (unsigned_abs z % unsigned_abs d ≡ 0) ↔ Divides d z
-multiple_test z d other = (λ e. by_sizes d z (dvd_of_mod-eq-zero (unsigned_abs d) e), λ m. mod-eq-zero_of_dvd (unsigned_abs d) (size_divides d z m))
-
--- and of 0 exactly where it is 0
-pub multiple_of_zero : (z : ℤ) → (z ≡ pos 0) ↔ Divides (pos 0) z
-multiple_of_zero z = (λ e. record { times = pos 0; is = omega (arith, ints, e) }, λ m. omega (arith, ints, m.is))
 
 -- that of three numbers fits too
 pub gcd_fits_three : (a b c : ℤ) → unsigned_abs a < 2 ^ 127 → unsigned_abs b < 2 ^ 127 → unsigned_abs c < 2 ^ 127 → FitsSigned w128 (gcd (gcd a b) c)

@@ -42,7 +42,7 @@ impl Whole {
     }
 
     /// It is a multiple of the other; of 0 that is 0 alone.
-    #[tactic(auto, using(crate::specs::GcdLaws::multiple_test, crate::specs::GcdLaws::multiple_of_zero))]
+    #[tactic(auto, using(crate::proofs::GcdLemmas::multiple_test, crate::proofs::GcdLemmas::multiple_of_zero))]
     pub fn is_multiple_of(self, divisor: Whole) -> bool
         ensures { IsTrue result ↔ Divides divisor self }
     {

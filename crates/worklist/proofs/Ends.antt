@@ -5,7 +5,7 @@ use Rattle.std.proofs.lemmas.Simd.{map-map}
 use Rattle.std.proofs.Math.Seq.{take-append_seam, drop-append_seam}
 use Rattle.worklist.specs.declared.entry.Entry.{Entry}
 use Rattle.worklist.specs.Least.{key_at, Precedes, IsFirstLeast}
-use Rattle.worklist.specs.LeastLaws.{least_one, least_right, least_left}
+use Rattle.worklist.proofs.LeastLemmas.{least_one, least_right, least_left}
 use Rattle.worklist.specs.Lines.{items_of, keys_of, line_of, AreLeast, AreFirst}
 
 -- a list turned round, each element mapped

@@ -5,7 +5,7 @@
 --   events_join   events one after another, and then others
 use Rattle.std.proofs.Common.{◌≡◌, List, [], ◌∷◌, length, refl, sym, subst, inl, inr, false, arith, slice_index}
 use Rattle.std.proofs.lemmas.List.{length-replicate, length-map}
-use Rattle.lists.specs.Members.{no_member, first_member}
+use Rattle.lists.specs.MemberLaws.{no_member, first_member}
 use Rattle.graph_walks.specs.ListLaws.{contains_cases}
 use Rattle.domain_core.specs.declared.event.Event.{Event}
 use Rattle.domain_core.specs.declared.event.Event.TheVariants.{Step, Merge}

@@ -3,13 +3,14 @@
 pub mod Positions
 pub mod PositionLaws
 pub mod Pools
-pub mod FaultTests
+pub mod FaultTestLaws
 pub mod Events
 pub mod Policies
 pub mod Runs
 pub mod Kept
-pub mod Places
+pub mod PlaceLaws
 pub mod Successors
+pub mod SuccessorLaws
 pub mod StepLaws
 pub mod MergeLaws
 pub mod EventLaws

@@ -3,7 +3,7 @@
 --   merge_kept   what every pool keeps holds after a merge
 use Rattle.std.proofs.Common.{◌≡◌, ℕ, ◌<◌, List, [], ◌∷◌, length, ◌⊎◌, inl, inr, sym, subst, ◌∙◌, arith, Contains, Some, slice_get, slice_set}
 use Rattle.std.proofs.lemmas.List.{length-map}
-use Rattle.lists.specs.Members.{contained}
+use Rattle.lists.specs.MemberLaws.{contained}
 use Rattle.domain_core.specs.Orders.{Order, IsOrder}
 use Rattle.domain_core.specs.Outlines.{Outlined, IsOutline, shape_of}
 use Rattle.domain_core.specs.Machines.{Machine, IsMachine}
@@ -13,7 +13,7 @@ use Rattle.worklist_rules.specs.Pools.{Spot, Pooled}
 use Rattle.worklist_rules.specs.Events.{met, merged_at}
 use Rattle.worklist_rules.specs.Runs.{IsHandled, waits, passed, Stands}
 use Rattle.worklist_rules.specs.Kept.{IsPlaced, IsKept}
-use Rattle.worklist_rules.specs.Places.{elsewhere, beside_set, from_set, later_as_before, stays_written, from_remove}
+use Rattle.worklist_rules.specs.PlaceLaws.{elsewhere, beside_set, from_set, later_as_before, stays_written, from_remove}
 
 -- places of one position stand at one node
 pub one_node : {T C R B : Type 0} (o : Outlined) (m : Machine T C) (z : Recording R B) (steps : ℕ) (a b : Spot T R) → IsOutline (shape_of o) → IsPlaced o m z steps a → IsPlaced o m z steps b → a.position ≡ b.position → a.node ≡ b.node

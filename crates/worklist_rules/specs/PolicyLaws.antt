@@ -10,7 +10,7 @@
 use Rattle.std.specs.Prelude.{remove}
 use Rattle.std.proofs.Common.{◌≡◌, ◌≢◌, ℕ, ◌<◌, ◌≤◌, ◌+◌, List, [], ◌∷◌, ◌++◌, ◌⊎◌, inl, inr, Some, slice_get, slice_set, Contains, refl, sym, subst, ap, ◌∙◌, arith}
 use Rattle.std.proofs.lemmas.Option.{same_Some}
-use Rattle.lists.specs.Members.{no_member}
+use Rattle.lists.specs.MemberLaws.{no_member}
 use Rattle.worklist.specs.Least.{IsNextSame}
 use Rattle.worklist.specs.LeastLaws.{least_unique, next_unique}
 use Rattle.domain_core.specs.declared.event.Event.{Event}
@@ -23,7 +23,7 @@ use Rattle.worklist_rules.specs.declared.policy.Policy.{Policy}
 use Rattle.worklist_rules.specs.Pools.{Spot, Pooled, positions_of}
 use Rattle.worklist_rules.specs.Events.{Happens, HappenAll, IsOneOn, stepped_at, met, merged_at}
 use Rattle.worklist_rules.specs.EventLaws.{event_one_on}
-use Rattle.worklist_rules.specs.Places.{stays_written}
+use Rattle.worklist_rules.specs.PlaceLaws.{stays_written}
 use Rattle.worklist_rules.specs.Policies.{IsMergePoint, IsChoice, merges, steps, IsPolicyRun}
 
 same_spot : {X : Type 0} (xs : List X) (i j : ℕ) (a b : X) → i ≡ j → slice_get xs i ≡ Some a → slice_get xs j ≡ Some b → a ≡ b

@@ -6,8 +6,8 @@
 use Rattle.std.proofs.Common.{◌≡◌, ℕ, zero, suc, ◌+◌, ◌<◌, ◌≤◌, true, false, ◌==◌, List, [], ◌∷◌, ◌++◌, inl, inr, reverse, length, get_or, slice_index, Contains, refl, ap, sym, ◌∙◌, subst, arith}
 use Rattle.std.proofs.lemmas.Bool.{cases_Bool, cases_lt, eqb-true, eq-eqb, ne_eqb}
 use Rattle.std.proofs.lemmas.List.{reverse-append, get_or-replicate}
-use Rattle.lists.specs.Members.{no_member, first_member, further_member}
-use Rattle.lists.specs.Tests.{by_test}
+use Rattle.lists.specs.MemberLaws.{no_member, first_member, further_member}
+use Rattle.lists.specs.TestLaws.{by_test}
 use Rattle.graph_walks.specs.ListLaws.{contains_cases}
 use Rattle.domain_core.specs.Outlines.{Shape, IsOutline, is_held, scopes_around}
 use Rattle.domain_core.specs.OutlineLaws.{held_is, is_holder, around_is, holder_low}

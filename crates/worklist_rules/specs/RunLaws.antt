@@ -2,7 +2,7 @@
 --   each_run           each run is waited for or is over
 --   each_run_is_over   where no place is left, each run is over
 use Rattle.std.proofs.Common.{◌≡◌, ℕ, suc, List, [], ◌∷◌, Option, Some, ◌⊎◌, inl, inr, refl, subst, Contains}
-use Rattle.lists.specs.Members.{no_member}
+use Rattle.lists.specs.MemberLaws.{no_member}
 use Rattle.domain_core.specs.Machines.{Machine}
 use Rattle.domain_core.specs.Recordings.{Recording}
 use Rattle.worklist_rules.specs.Pools.{Spot, Pooled}

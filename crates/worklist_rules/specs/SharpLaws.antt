@@ -5,7 +5,7 @@ use Rattle.std.proofs.Common.{◌≡◌, ◌≢◌, ℕ, zero, suc, ◌<◌, Lis
 use Rattle.std.proofs.lemmas.Bool.{eq-eqb, ne_eqb}
 use Rattle.std.proofs.lemmas.Option.{same_Some}
 use Rattle.std.proofs.lemmas.List.{length-map}
-use Rattle.lists.specs.Members.{first_member, further_member, contained}
+use Rattle.lists.specs.MemberLaws.{first_member, further_member, contained}
 use Rattle.alf_ops.specs.declared.history.RunFault.{RunFault}
 use Rattle.alf_ops.specs.declared.history.RunFault.TheVariants.{Divide, Uninit, Mixed, Bounds, Dead, Kind, Pointers}
 use Rattle.domain_core.specs.declared.event.Event.{Event}
@@ -24,7 +24,7 @@ use Rattle.worklist_rules.specs.Events.{opened, Happens, HappenAll, stepped_at, 
 use Rattle.domain_core.specs.SystemRuns.{IsRun, trace_to, with_node}
 use Rattle.worklist_rules.specs.Runs.{AllStepped}
 use Rattle.worklist_rules.specs.Kept.{IsPlaced, IsKept}
-use Rattle.worklist_rules.specs.Places.{still_set, now_set}
+use Rattle.worklist_rules.specs.PlaceLaws.{still_set, now_set}
 use Rattle.worklist_rules.specs.EventLaws.{event_kept}
 use Rattle.worklist_rules.specs.Sharp.{HasStepped, IsSharpAt, IsSharpOver, IsSharp}
 
@@ -132,20 +132,17 @@ module _ {S T C R B : Type 0} (machine : S → Machine T C) (states : Order T) (
 
   module _ (w : Pooled S T R B) (machine_laws : IsMachine T C states (machine w.stepper)) (laws : IsRecording R B recorders z) (kept : IsKept machine z w)
       (past : List ℕ) (n : ℕ) (c : C) (p : IsSharpAt (machine w.stepper) z w past n c) where
-    abbrev m : Machine T C
+    abbrev pub m : Machine T C
     m = machine w.stepper
 
     abbrev new : Pooled S T R B
     new = stepped_at machine z w 0 p.spot
 
-    placed : IsPlaced w.outline m z w.steps p.spot
+    pub placed : IsPlaced w.outline m z w.steps p.spot
     placed = kept.placed p.spot (contained w.spots 0 p.spot (ap (λ (xs : List (Spot T R)). slice_get xs 0) p.one))
 
     mine : IsOf z w.outline p.spot.recorder w.book
     mine = record { suited = kept.suited; recorder = placed.is_of; book = kept.book }
-
-    node_low : n < length w.outline.nodes
-    node_low = subst (λ (k : ℕ). k < length w.outline.nodes) p.node placed.in_range
 
     stepped_now : HasStepped new (n ∷ past)
     stepped_now = record {

@@ -5,7 +5,7 @@
 use Rattle.std.proofs.Common.{◌≡◌, ◌≢◌, ℕ, zero, suc, ◌+◌, ◌<◌, ◌≤◌, List, [], ◌∷◌, ◌++◌, length, inl, inr, refl, sym, subst, ap, ◌∙◌, Bool, true, ◌||◌, arith, Contains, Some, slice_get, slice_set, slice_index, get_or, length-set}
 use Rattle.std.proofs.lemmas.List.{length-map}
 use Rattle.std.proofs.lemmas.Bool.{cases_Bool}
-use Rattle.lists.specs.Members.{contained}
+use Rattle.lists.specs.MemberLaws.{contained}
 use Rattle.alf_ops.specs.declared.history.RunFault.{RunFault}
 use Rattle.domain_core.specs.declared.fault_set.FaultSet.{FaultSet}
 use Rattle.domain_core.specs.FaultSets.{has_fault, no_faults, either}
@@ -18,12 +18,13 @@ use Rattle.domain_core.specs.Recordings.{Recording, IsRecording, IsOf}
 use Rattle.worklist_rules.specs.Positions.{ranks_and_turns, turn_in, entered, moved_position}
 use Rattle.worklist_rules.specs.PositionLaws.{next_position, turns_rise}
 use Rattle.worklist_rules.specs.Pools.{Spot, Pooled, alarm_at, with_alarm, may_fault}
-use Rattle.worklist_rules.specs.FaultTests.{or_right, some_fault}
+use Rattle.worklist_rules.specs.FaultTestLaws.{or_right, some_fault}
 use Rattle.worklist_rules.specs.Events.{book_at_faults, spread_spots, stepped_at}
 use Rattle.worklist_rules.specs.Runs.{IsHandled, waits, passed, Stands}
 use Rattle.worklist_rules.specs.Kept.{IsPlaced, IsKept}
-use Rattle.worklist_rules.specs.Places.{elsewhere, in_room, from_room, still_set, now_set}
-use Rattle.worklist_rules.specs.Successors.{AreAlong, IsFrom, spread_of, spread_ends, spread_finds, spread_from}
+use Rattle.worklist_rules.specs.PlaceLaws.{elsewhere, in_room, from_room, still_set, now_set}
+use Rattle.worklist_rules.specs.Successors.{AreAlong, IsFrom}
+use Rattle.worklist_rules.specs.SuccessorLaws.{spread_of, spread_ends, spread_finds, spread_from}
 
 -- ---- faults
 

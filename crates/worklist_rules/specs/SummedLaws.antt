@@ -5,7 +5,7 @@
 use Rattle.std.proofs.Common.{◌≡◌, ℕ, zero, suc, ◌+◌, List, [], ◌∷◌, ◌++◌, Option, Some, None, reverse, Contains, ◌⊎◌, inl, inr, sym, ap, ◌∙◌, subst, arith}
 use Rattle.std.proofs.lemmas.List.{reverse-append, append_assoc}
 use Rattle.std.proofs.lemmas.Option.{none-some}
-use Rattle.lists.specs.Members.{no_member}
+use Rattle.lists.specs.MemberLaws.{no_member}
 use Rattle.alf_ops.specs.declared.history.RunFault.{RunFault}
 use Rattle.domain_core.specs.Outlines.{shape_of}
 use Rattle.domain_core.specs.Traces.{IsTrace}

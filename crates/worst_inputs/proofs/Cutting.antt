@@ -6,7 +6,7 @@ use Rattle.std.specs.Global.{Vec}
 use Rattle.std.proofs.lemmas.List.{take_more_set, drop-set-lt, drop_more, set_split, map-append, take-map, drop-map, length-map, get_or-map}
 use Rattle.std.proofs.lemmas.List.Elements.{All-contains, All-weaker}
 use Rattle.std.proofs.lemmas.Option.{slice_get_within, get_or_from_slice_get}
-use Rattle.lists.specs.Members.{contained}
+use Rattle.lists.specs.MemberLaws.{contained}
 use Rattle.worst_inputs.specs.declared.area.Range.{Range}
 use Rattle.worst_inputs.specs.declared.bounder.Bounded.TheVariants.{At, Left}
 use Rattle.worst_inputs.specs.Most.{IsFirstMost, IsFirstAt}

@@ -4,7 +4,7 @@ use Rattle.std.proofs.lemmas.Bool.{cases_lt}
 use Rattle.std.proofs.lemmas.List.{take_more, take_all, take-map}
 use Rattle.std.proofs.lemmas.List.Elements.{All-more, All-contains, All-map}
 use Rattle.std.proofs.lemmas.Option.{slice_get-get_or, slice_get-map}
-use Rattle.lists.specs.Members.{first_member, further_member}
+use Rattle.lists.specs.MemberLaws.{first_member, further_member}
 use Rattle.worst_inputs.specs.Most.{most_by, IsFirstAt}
 
 module _ {A : Type 0} (f : A → ℕ) where

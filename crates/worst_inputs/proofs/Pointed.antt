@@ -3,7 +3,7 @@ use Rattle.std.proofs.Common.{◌≡◌, ◌<◌, ◌≤◌, ◌+◌, ℕ, List,
 use Rattle.std.specs.Global.{Vec}
 use Rattle.std.proofs.lemmas.List.{take_all}
 use Rattle.std.proofs.lemmas.List.Elements.{All-more, All-contains}
-use Rattle.lists.specs.Images.{mapped, image}
+use Rattle.lists.specs.ImageLaws.{mapped, image}
 use Rattle.worst_inputs.specs.declared.area.Range.{Range}
 use Rattle.worst_inputs.specs.Areas.{IsPoint}
 use Rattle.worst_inputs.specs.Boxes.{Box, HasPoint}

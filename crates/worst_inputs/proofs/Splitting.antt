@@ -3,7 +3,7 @@ use Rattle.std.proofs.Common.{◌≡◌, ◌≤◌, ◌<◌, ℕ, List, [], ◌�
 use Rattle.std.specs.Prelude.{ℤ}
 use lib.Signed.{≤ℤ_refl}
 use Rattle.std.proofs.lemmas.List.Elements.{All-nil, All-cons, All-append, All-contains, All-head, All-tail, Contains-append_left, Contains-append_right, Contains-append_cases}
-use Rattle.lists.specs.Members.{first_member, further_member, first_or_further, all_members}
+use Rattle.lists.specs.MemberLaws.{first_member, further_member, first_or_further, all_members}
 use Rattle.worst_inputs.specs.declared.area.Range.{Range}
 use Rattle.worst_inputs.specs.declared.bounder.Bounded.TheVariants.{At}
 use Rattle.worst_inputs.specs.Most.{most_by}

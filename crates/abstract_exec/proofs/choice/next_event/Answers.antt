@@ -1,6 +1,6 @@
 -- What is left to show of `next_event`.
 use Rattle.std.proofs.Common.{◌≡◌, ℕ, true, false, get_or, ap, subst, refl, arith}
-use Rattle.lists.specs.Members.{contained}
+use Rattle.lists.specs.MemberLaws.{contained}
 use Rattle.worklist_rules.specs.Pools.{Spot}
 use Rattle.abstract_exec.proofs.Choosing.{chosen_step, chosen_alone, chosen_merge}
 use Rattle.abstract_exec.proofs.choice.next_event.Goals as goal

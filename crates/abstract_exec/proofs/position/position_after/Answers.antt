@@ -1,6 +1,6 @@
 -- What is left to show of `position_after`.
 use Rattle.std.proofs.Common.{rules, ◌≡◌, ℕ, length, List, Contains, ap, sym, ◌∙◌, subst}
-use Rattle.lists.specs.Members.{first_member, further_member}
+use Rattle.lists.specs.MemberLaws.{first_member, further_member}
 use Rattle.domain_core.specs.Outlines.{shape_of, scopes_around}
 use Rattle.worklist_rules.specs.Positions.{ranks_and_turns, entered, turn_in}
 use Rattle.abstract_exec.proofs.Placing.{around_low, begun, one_more, ended, rank_is}

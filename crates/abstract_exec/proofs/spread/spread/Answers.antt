@@ -1,7 +1,8 @@
 -- What is left to show of `spread`.
 use Rattle.std.proofs.Common.{rules, ◌≡◌, ◌++◌, ◌∷◌, [], ℕ, List, reverse, ap, sym, subst}
 use Rattle.worklist_rules.specs.Events.{spread_spots, spread_book}
-use Rattle.worklist_rules.specs.Successors.{AreAlong, along_first}
+use Rattle.worklist_rules.specs.Successors.{AreAlong}
+use Rattle.worklist_rules.specs.SuccessorLaws.{along_first}
 use Rattle.abstract_exec.proofs.Spreading.{turned_twice, turned_pop, begun, more_spots, more_book, book_of_after, others_along, one_along}
 use Rattle.abstract_exec.proofs.spread.spread.Goals as goal
 

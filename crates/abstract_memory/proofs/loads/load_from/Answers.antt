@@ -11,7 +11,8 @@ use Rattle.memory_rules.specs.Addresses.{load_at, IsLoadFault}
 use Rattle.memory_rules.specs.Memories.{joined_values}
 use Rattle.memory_model.specs.HeldMemories.{memory_of}
 use Rattle.abstract_memory.specs.Running.{runs_in}
-use Rattle.abstract_memory.specs.OnlyCells.{pointer_to, pointer_cell}
+use Rattle.abstract_memory.specs.OnlyCells.{pointer_to}
+use Rattle.abstract_memory.proofs.OnlyCellLaws.{pointer_cell}
 use Rattle.abstract_memory.proofs.loads.load_from.Goals as goal
 
 pub returns-then-has_cell-clause-value : goal.returns-then-has_cell-clause-value

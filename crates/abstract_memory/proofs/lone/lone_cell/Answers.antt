@@ -1,6 +1,6 @@
 use Rattle.alf_check.specs.Shapes.{shapes_of}
 use Rattle.abstract_memory.specs.Running.{runs_in}
-use Rattle.abstract_memory.specs.OnlyCells.{only_cell}
+use Rattle.abstract_memory.proofs.OnlyCellLaws.{only_cell}
 use Rattle.abstract_memory.proofs.lone.lone_cell.Goals as goal
 
 pub returns-then-has_cell : goal.returns-then-has_cell

@@ -5,7 +5,7 @@ use Rattle.memory_rules.specs.AbstractSets.{abstract_sets}
 use Rattle.memory_rules.specs.AbstractSetLaws.{abstract_is_sets}
 use Rattle.memory_rules.specs.Covers.{FrameSized}
 use Rattle.memory_rules.specs.Frames.{FrameMem, weak}
-use Rattle.memory_rules.specs.Updates.{weak_sized}
+use Rattle.memory_rules.specs.UpdateLaws.{weak_sized}
 use Rattle.memory_model.specs.HeldFrames.{frame_of}
 use Rattle.abstract_memory.proofs.Changing.{there, own_sized, set_changes_or}
 use Rattle.abstract_memory.proofs.stores.mix_in.Goals as goal

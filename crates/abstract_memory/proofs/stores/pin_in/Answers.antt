@@ -3,7 +3,7 @@ use Rattle.pointer_rules.specs.AbstractValues.{Words, alone}
 use Rattle.memory_rules.specs.AbstractSets.{abstract_sets}
 use Rattle.memory_rules.specs.AbstractSetLaws.{abstract_is_sets}
 use Rattle.memory_rules.specs.Frames.{FrameMem, pinned}
-use Rattle.memory_rules.specs.Updates.{pinned_sized}
+use Rattle.memory_rules.specs.UpdateLaws.{pinned_sized}
 use Rattle.memory_model.specs.HeldFrames.{frame_of}
 use Rattle.abstract_memory.proofs.Changing.{there, set_changes_or}
 use Rattle.abstract_memory.proofs.stores.pin_in.Goals as goal

@@ -2,7 +2,7 @@
 use Rattle.memory_rules.specs.AbstractSets.{abstract_sets}
 use Rattle.memory_rules.specs.AbstractSetLaws.{abstract_is_sets}
 use Rattle.memory_rules.specs.Frames.{FrameMem, strong}
-use Rattle.memory_rules.specs.Updates.{strong_sized}
+use Rattle.memory_rules.specs.UpdateLaws.{strong_sized}
 use Rattle.memory_model.specs.HeldFrames.{frame_of}
 use Rattle.abstract_memory.proofs.Changing.{there, set_changes_or}
 use Rattle.abstract_memory.proofs.stores.store_in.Goals as goal

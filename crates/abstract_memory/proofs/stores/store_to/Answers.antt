@@ -8,7 +8,8 @@ use Rattle.domain_core.specs.FaultSets.{has_fault}
 use Rattle.pointer_rules.specs.AbstractValues.{Places, alone}
 use Rattle.memory_rules.specs.Addresses.{cells_of, IsAddressFault}
 use Rattle.abstract_memory.specs.Running.{runs_in}
-use Rattle.abstract_memory.specs.OnlyCells.{pointer_to, pointer_cell}
+use Rattle.abstract_memory.specs.OnlyCells.{pointer_to}
+use Rattle.abstract_memory.proofs.OnlyCellLaws.{pointer_cell}
 use Rattle.abstract_memory.proofs.stores.store_to.Goals as goal
 
 pub returns-then-has_cell-clause-changes : goal.returns-then-has_cell-clause-changes

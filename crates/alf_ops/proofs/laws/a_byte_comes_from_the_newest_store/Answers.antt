@@ -1,4 +1,4 @@
-use Rattle.alf_ops.specs.Tables.{one_store}
+use Rattle.alf_ops.specs.TableLaws.{one_store}
 use Rattle.alf_ops.proofs.Origins.{comes_from_newest}
 use Rattle.alf_ops.proofs.laws.a_byte_comes_from_the_newest_store.Goals as goal
 

@@ -1,5 +1,5 @@
 use Rattle.std.proofs.Common.{◌*◌, ◌+◌, ◌^◌, ◌<◌, ◌≤◌, arith}
-use Rattle.alf_ops.specs.WordBytes.{wider, within_word}
+use Rattle.alf_ops.specs.WordByteLaws.{wider, within_word}
 use Rattle.alf_ops.proofs.loads.+read.Goals as goal
 
 pub returns-in-None-clause-small : goal.returns-in-None-clause-small

@@ -1,6 +1,6 @@
 -- What is left to show of `above`: the word is below 2 to its bits, which are 64 at most.
 use Rattle.std.proofs.Common.{◌+◌, ◌*◌, ◌^◌, ◌<◌, ◌≤◌, arith}
-use Rattle.alf_ops.specs.WordBytes.{wider, within_word}
+use Rattle.alf_ops.specs.WordByteLaws.{wider, within_word}
 use Rattle.alf_values.proofs.slots.above.Goals as goal
 
 pub returns-clause-small : goal.returns-clause-small

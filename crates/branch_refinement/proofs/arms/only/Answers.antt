@@ -1,6 +1,6 @@
 use Rattle.std.proofs.Common.{◌≡◌, ℕ, Option, refl, sym, subst}
 use Rattle.std.specs.Prelude.{IfSome}
-use Rattle.lists.specs.Tests.{by_test}
+use Rattle.lists.specs.TestLaws.{by_test}
 use Rattle.strided_rules.specs.Strides.{Stride}
 use Rattle.strided_rules.specs.Members.{has, only}
 use Rattle.branch_refinement.proofs.arms.only.Goals as goal

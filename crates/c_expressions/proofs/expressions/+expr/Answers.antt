@@ -1,6 +1,6 @@
 -- The loops over operators and indices: what was made so far, and that each part takes some of the text.
 use Rattle.std.proofs.Common.{sym, ◌∙◌}
-use Rattle.grammar.specs.Turns.{chain_goes_on, chain_fails}
+use Rattle.grammar.specs.TurnLaws.{chain_goes_on, chain_fails}
 use Rattle.c_unit.specs.Tree.{expression_of}
 use Rattle.c_grammar.specs.Expressions.{at_operation, operation, at_index, index, deeper_of}
 use Rattle.c_reader.specs.Reading.{position, fault_of}

@@ -3,7 +3,7 @@ use Rattle.std.proofs.Common.{List, ap, ◌∙◌}
 use Rattle.c_unit.specs.declared.external.Parameter.{Parameter}
 use Rattle.c_rules.specs.Units.{function_of}
 use Rattle.c_scopes.specs.Views.{declared_in, left}
-use Rattle.c_faults.specs.FileLaws.{head_left}
+use Rattle.c_faults.proofs.FileLemmas.{head_left}
 use Rattle.c_faults.proofs.declarators.check_declarator.Goals as goal
 
 pub returns-in_ok-leave-in-Function-clause-known : goal.returns-in_ok-leave-in-Function-clause-known

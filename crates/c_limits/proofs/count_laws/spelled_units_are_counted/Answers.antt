@@ -1,5 +1,5 @@
 -- What is left to show of `spelled_units_are_counted`.
-use Rattle.c_limits.specs.CountSpelled.{spelled_is_counted}
+use Rattle.c_limits.proofs.CountSpelledLaws.{spelled_is_counted}
 use Rattle.c_limits.proofs.count_laws.spelled_units_are_counted.Goals as goal
 
 pub returns : goal.returns

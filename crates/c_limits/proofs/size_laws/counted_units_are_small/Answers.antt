@@ -1,6 +1,6 @@
 -- What is left to show of `counted_units_are_small`.
 use Rattle.lowering_layout.specs.Texts.{IsIdentifier}
-use Rattle.c_limits.specs.Objects.{objects_small, blocks_shallow, functions_few}
+use Rattle.c_limits.specs.ObjectLaws.{objects_small, blocks_shallow, functions_few}
 use Rattle.c_limits.proofs.size_laws.counted_units_are_small.Goals as goal
 
 pub returns-clause-objects : goal.returns-clause-objects

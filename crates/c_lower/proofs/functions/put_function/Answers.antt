@@ -1,9 +1,8 @@
 -- A function more.
 use Rattle.std.proofs.Common.{List, [], ◌∷◌, ◌+◌, map, ap, sym, ◌∙◌, arith}
-use Rattle.c_unit.specs.Tree.{statement_of, statements_of}
+use Rattle.c_unit.specs.Tree.{statement_of, statements_of, Definition}
 use Rattle.c_rules.specs.Names.{Scope}
 use Rattle.c_rules.specs.Units.{external_after, with_parameters}
-use Rattle.c_unit.specs.Tree.{Definition}
 use Rattle.c_scopes.specs.Views.{Known}
 use Rattle.c_meaning.specs.Objects.{functions_in}
 use Rattle.c_lowered.specs.Programs.{lowered_function}

@@ -1,5 +1,5 @@
 -- What is left to show of `spelled_programs_have_the_outcome_of_their_unit`.
-use Rattle.c_rules.specs.UnitsStand.{unit_stands}
+use Rattle.c_rules.specs.UnitsStandLaws.{unit_stands}
 use Rattle.c_lower.specs.Lowering.{SpelledProgramsAreRight, SpelledStartsAreRight}
 use Rattle.c_lower.proofs.Plain.{unit_plain}
 use Rattle.c_lower.proofs.program_laws.spelled_programs_have_the_outcome_of_their_unit.Goals as goal

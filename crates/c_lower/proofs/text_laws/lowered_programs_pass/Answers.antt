@@ -1,7 +1,7 @@
 -- What is left to show of `lowered_programs_pass`.
-use Rattle.c_rules.specs.UnitsStand.{unit_stands}
-use Rattle.lowering_layout.specs.Checked.{program_has_names}
-use Rattle.c_lower.specs.Measured.{is_measured}
+use Rattle.c_rules.specs.UnitsStandLaws.{unit_stands}
+use Rattle.lowering_layout.specs.CheckedLaws.{program_has_names}
+use Rattle.c_lower.proofs.MeasuredLaws.{is_measured}
 use Rattle.c_lower.proofs.text_laws.lowered_programs_pass.Goals as goal
 
 pub returns-clause-written : goal.returns-clause-written

@@ -1,6 +1,6 @@
 -- What is left to show of `spelled_programs_have_few_numbers`.
 use Rattle.std.proofs.Common.{[]}
-use Rattle.c_rules.specs.UnitsStand.{unit_stands}
+use Rattle.c_rules.specs.UnitsStandLaws.{unit_stands}
 use Rattle.c_meaning.specs.Objects.{program_of}
 use Rattle.c_lower.proofs.Labels.{few_labels, few_numbers}
 use Rattle.c_lower.proofs.text_laws.spelled_programs_have_few_numbers.Goals as goal

@@ -1,5 +1,5 @@
 -- What is left to show of `no_call_is_too_deep`.
-use Rattle.c_meaning.specs.Depth.{ending_kept_within}
+use Rattle.c_meaning.proofs.DepthLaws.{ending_kept_within}
 use Rattle.c_meaning.proofs.laws.no_call_is_too_deep.Goals as goal
 
 pub returns : goal.returns

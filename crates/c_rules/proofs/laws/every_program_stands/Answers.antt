@@ -1,5 +1,5 @@
 -- What is left to show of `every_program_stands`.
-use Rattle.c_rules.specs.UnitsStand.{unit_stands}
+use Rattle.c_rules.specs.UnitsStandLaws.{unit_stands}
 use Rattle.c_rules.proofs.laws.every_program_stands.Goals as goal
 
 pub returns : goal.returns

@@ -1,7 +1,7 @@
 -- The loop over what stands in a block: what was read so far, and that each statement takes some of the text.
 use Rattle.std.proofs.Common.{◌≡◌, ◌++◌, ◌∷◌, [], map, sym, ◌∙◌}
 use Rattle.std.proofs.lemmas.List.{map_push}
-use Rattle.grammar.specs.Rows.{row_goes_on, row_fails, row_ends}
+use Rattle.grammar.specs.RowLaws.{row_goes_on, row_fails, row_ends}
 use Rattle.c_unit.specs.Tree.{statement_of}
 use Rattle.c_grammar.specs.Statements.{in_block, standing}
 use Rattle.c_reader.specs.Reading.{position, fault_of}

@@ -4,7 +4,7 @@ use Rattle.std.proofs.lemmas.List.{length-map}
 use Rattle.alf_check.specs.CheckedPrograms.{NumberedProgram, seen}
 use Rattle.domain_core.specs.Outlines.{shape_of}
 use Rattle.scope_graph.specs.Placing.{place_of}
-use Rattle.cache_analysis.specs.Noted.{code_is_noted}
+use Rattle.cache_analysis.proofs.NotedLaws.{code_is_noted}
 use Rattle.cache_analysis.proofs.exploring.explored.Goals as goal
 
 pub cached-requires-clause-noted : goal.cached-requires-clause-noted

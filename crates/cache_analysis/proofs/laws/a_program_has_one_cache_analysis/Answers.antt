@@ -1,5 +1,5 @@
 -- By the law.
-use Rattle.cache_analysis.specs.OneAnswer.{one_analysis}
+use Rattle.cache_analysis.proofs.OneAnswerLaws.{one_analysis}
 use Rattle.cache_analysis.proofs.laws.a_program_has_one_cache_analysis.Goals as goal
 
 pub returns : goal.returns

@@ -1,5 +1,5 @@
 -- By the law.
-use Rattle.cache_analysis.specs.SoundLaws.{sound_for}
+use Rattle.cache_analysis.proofs.SoundLemmas.{sound_for}
 use Rattle.cache_analysis.proofs.laws.sound_lines_are_sound_for_the_program.Goals as goal
 
 pub returns : goal.returns

@@ -3,7 +3,7 @@ use Rattle.std.proofs.Common.{◌∙◌, ℕ, List, All, sym, ap, subst}
 use Rattle.alf_check.specs.CheckedPrograms.{NumberedProgram, seen}
 use Rattle.domain_core.specs.Outlines.{Outlined}
 use Rattle.line_cache.specs.Lines.{IsPart, notes_of}
-use Rattle.cache_analysis.specs.Noted.{parts_fit}
+use Rattle.cache_analysis.proofs.NotedLaws.{parts_fit}
 use Rattle.cache_analysis.proofs.lines.set_lines.Goals as goal
 
 pub notes-requires-clause-parts : goal.notes-requires-clause-parts

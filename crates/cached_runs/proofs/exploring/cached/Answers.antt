@@ -1,6 +1,6 @@
 -- What is left to show of `cached`.
 use Rattle.cached_runs.specs.Answers.{lines_of}
-use Rattle.cached_runs.specs.CachedLaws.{closed_found, left_found}
+use Rattle.cached_runs.proofs.CachedLaws.{closed_found, left_found}
 use Rattle.cached_runs.proofs.exploring.cached.Goals as goal
 
 pub returns-in-Closed-clause-found : goal.returns-in-Closed-clause-found

@@ -1,5 +1,6 @@
 -- What is left to show of `an_outline_nests_its_scopes`.
-use Rattle.domain_core.specs.OutlineLaws.{scopes_nested, lies_in, own_smallest, around_is}
+use Rattle.domain_core.specs.OutlineLaws.{lies_in, own_smallest, around_is}
+use Rattle.domain_core.proofs.OutlineLemmas.{scopes_nested}
 use Rattle.domain_core.proofs.laws.an_outline_nests_its_scopes.Goals as goal
 
 pub returns-clause-nested : goal.returns-clause-nested

@@ -1,5 +1,5 @@
 -- What is left to show of `crossing_is_irreducible`.
-use Rattle.domain_core.specs.ReducibleLaws.{crossing_irreducible}
+use Rattle.domain_core.proofs.ReducibleLemmas.{crossing_irreducible}
 use Rattle.domain_core.specs.Reducible.{IsEdge}
 use Rattle.domain_core.proofs.laws.crossing_is_irreducible.Goals as goal
 

@@ -1,5 +1,5 @@
 -- What is left to show of `forward_edges_rise`.
-use Rattle.domain_core.specs.OutlineLaws.{forward_rises}
+use Rattle.domain_core.proofs.OutlineLemmas.{forward_rises}
 use Rattle.domain_core.proofs.laws.forward_edges_rise.Goals as goal
 
 pub returns : goal.returns

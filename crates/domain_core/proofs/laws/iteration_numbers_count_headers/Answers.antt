@@ -1,5 +1,5 @@
 -- What is left to show of `iteration_numbers_count_headers`.
-use Rattle.domain_core.specs.ExecutionLaws.{turns_mean}
+use Rattle.domain_core.proofs.ExecutionLemmas.{turns_mean}
 use Rattle.domain_core.proofs.laws.iteration_numbers_count_headers.Goals as goal
 
 pub returns : goal.returns

@@ -1,5 +1,5 @@
 -- What is left to show of `the_outline_of_a_graph_is_an_outline`.
-use Rattle.domain_core.specs.OutlineMade.{outline_kept, holds_is, is_held}
+use Rattle.domain_core.specs.OutlineMadeLaws.{outline_kept, holds_is, is_held}
 use Rattle.domain_core.proofs.laws.the_outline_of_a_graph_is_an_outline.Goals as goal
 
 pub returns-clause-kept : goal.returns-clause-kept

@@ -1,6 +1,6 @@
 use Rattle.std.proofs.Common.{◌≡◌, Some, length, arith}
 use Rattle.domain_core.specs.Outlines.{shape_of}
-use Rattle.recorder_rules.specs.Generated.{length-generated}
+use Rattle.recorder_rules.specs.GeneratedLaws.{length-generated}
 use Rattle.recorder_rules.specs.LoopRules.{loop_tally, count_tally, counted_scope}
 use Rattle.exec_tests.proofs.books.told.Goals as goal
 

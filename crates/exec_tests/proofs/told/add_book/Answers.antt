@@ -1,5 +1,5 @@
 use Rattle.std.proofs.Common.{◌≡◌, Some, length, arith}
-use Rattle.recorder_rules.specs.Generated.{length-generated}
+use Rattle.recorder_rules.specs.GeneratedLaws.{length-generated}
 use Rattle.recorder_rules.specs.LoopRules.{loop_tally}
 use Rattle.exec_tests.proofs.told.add_book.Goals as goal
 

@@ -1,5 +1,6 @@
 -- What is left to show of `lines_order_facts`.
-use Rattle.flow_facts.specs.OrderLaws.{before_further, never_itself, one_before}
+use Rattle.flow_facts.specs.OrderLaws.{never_itself, one_before}
+use Rattle.flow_facts.proofs.OrderLemmas.{before_further}
 use Rattle.flow_facts.proofs.laws.lines_order_facts.Goals as goal
 
 pub returns-clause-further : goal.returns-clause-further

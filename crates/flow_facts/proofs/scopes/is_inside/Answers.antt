@@ -1,7 +1,7 @@
 -- What is left to show of `is_inside`.
 use Rattle.std.proofs.Common.{◌∙◌, sym}
 use Rattle.std.proofs.lemmas.Bool.{false_from_ne_true, both_ways}
-use Rattle.lists.specs.Tests.{by_test}
+use Rattle.lists.specs.TestLaws.{by_test}
 use Rattle.domain_core.specs.Outlines.{shape_of, is_held}
 use Rattle.domain_core.specs.OutlineLaws.{held_is, is_holder}
 use Rattle.flow_facts.proofs.scopes.is_inside.Goals as goal

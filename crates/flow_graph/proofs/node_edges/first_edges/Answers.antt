@@ -1,5 +1,6 @@
 use Rattle.std.proofs.Common.{◌≡◌, ◌<◌, ◌+◌, ◌-◌, ℕ, subst, sym, ◌∙◌, arith, length-set}
-use Rattle.flow_graph.specs.EdgeLaws.{AreFirstFrom, one_before, source_low}
+use Rattle.flow_graph.specs.EdgeLaws.{AreFirstFrom}
+use Rattle.flow_graph.proofs.EdgeLemmas.{one_before, source_low}
 use Rattle.flow_graph.proofs.node_edges.first_edges.Goals as goal
 
 pub loop-edge-preserved : goal.loop-edge-preserved

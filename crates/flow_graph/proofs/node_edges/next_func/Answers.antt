@@ -1,7 +1,7 @@
 use Rattle.std.proofs.Common.{arith}
 use Rattle.std.proofs.lemmas.Option.{slice_get_within}
 use Rattle.flow_graph.specs.Nodes.{function_at}
-use Rattle.flow_graph.specs.EdgeLaws.{first_of, first_function}
+use Rattle.flow_graph.proofs.EdgeLemmas.{first_of, first_function}
 use Rattle.flow_graph.proofs.node_edges.next_func.Goals as goal
 
 pub returns-then-edge-edge_count : goal.returns-then-edge-edge_count

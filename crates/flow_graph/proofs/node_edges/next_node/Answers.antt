@@ -3,7 +3,7 @@ use Rattle.std.proofs.lemmas.Bool.{false≢true}
 use Rattle.std.proofs.lemmas.Option.{same_Some, slice_get_within}
 use Rattle.flow_graph.specs.Nodes.{Node}
 use Rattle.flow_graph.specs.Edges.{IsNodeWith}
-use Rattle.flow_graph.specs.EdgeLaws.{first_of, further_on, same_goal}
+use Rattle.flow_graph.proofs.EdgeLemmas.{first_of, further_on, same_goal}
 use Rattle.flow_graph.proofs.node_edges.next_node.Goals as goal
 use Rattle.flow_graph.proofs.node_edges.next_node.Goals.{else-from-node-via-then-from-node+else-has_block, else-from-node-via-else-from-node}
 

@@ -1,7 +1,7 @@
 -- What is left to show of `left_scopes`.
 use Rattle.std.proofs.Common.{◌≡◌, true, false, refl, arith}
 use Rattle.flow_recorders.proofs.LeftScopes.{begin_low, begin_whole, begin_out, at_holder, out_pushed, at_top, whole_pushed}
-use Rattle.flow_recorders.specs.Climbs.{parent_at}
+use Rattle.flow_recorders.specs.ClimbLaws.{parent_at}
 use Rattle.flow_recorders.proofs.leaving.left_by_walks.Goals as goal
 
 pub loop-step-init : goal.loop-step-init

@@ -1,7 +1,7 @@
 -- What is left to show of `left_nearby`.
 use Rattle.std.proofs.Common.{◌≡◌, ◌==◌, List, false, true, refl, sym, ap, ◌∙◌, ℕ, arith}
 use Rattle.std.specs.List.{list_any}
-use Rattle.flow_recorders.specs.Climbs.{own_at, own_in, parent_at}
+use Rattle.flow_recorders.specs.ClimbLaws.{own_at, own_in, parent_at}
 use Rattle.flow_recorders.proofs.LeftScopes.{begin_whole, whole_pushed}
 use Rattle.flow_recorders.proofs.NearScopes.{near_left, apart_pushed, below_pushed}
 use Rattle.flow_recorders.proofs.leaving.left_nearby.Goals as goal

@@ -1,6 +1,6 @@
 -- What is left to show of `collect_all`.
 use Rattle.std.proofs.Common.{None, length, get_or, arith}
-use Rattle.recorder_rules.specs.Generated.{generated_is}
+use Rattle.recorder_rules.specs.GeneratedLaws.{generated_is}
 use Rattle.recorder_rules.specs.Spans.{collected}
 use Rattle.flow_recorders.proofs.spans.collect_all.Goals as goal
 

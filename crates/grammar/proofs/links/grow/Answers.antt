@@ -1,6 +1,6 @@
 -- That a part takes some of the text is the type of its rule.
 use Rattle.std.proofs.Common.{sym, ◌∙◌}
-use Rattle.grammar.specs.Turns.{chain_goes_on, chain_fails}
+use Rattle.grammar.specs.TurnLaws.{chain_goes_on, chain_fails}
 use Rattle.grammar.proofs.links.grow.Goals as goal
 
 pub loop-value-smaller : goal.loop-value-smaller

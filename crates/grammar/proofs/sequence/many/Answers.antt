@@ -1,7 +1,7 @@
 -- That a part takes some of the text is the type of its rule.
 use Rattle.std.proofs.Common.{◌≡◌, ◌++◌, ◌∷◌, [], map, sym, ◌∙◌}
 use Rattle.std.proofs.lemmas.List.{map_push}
-use Rattle.grammar.specs.Rows.{row_goes_on, row_ends}
+use Rattle.grammar.specs.RowLaws.{row_goes_on, row_ends}
 use Rattle.grammar.proofs.sequence.many.Goals as goal
 
 pub loop-reader-smaller : goal.loop-reader-smaller

@@ -2,7 +2,7 @@
 use Rattle.std.proofs.Common.{◌≡◌, Bool, false, List, ℕ, [], ◌∷◌, ◌++◌, replicate, length, ap, subst, sym, ◌∙◌, arith}
 use Rattle.std.proofs.lemmas.Grind.{common_steps}
 use Rattle.graph_walks.specs.Walks.{Walk, goes_on, IsDistinct}
-use Rattle.graph_walks.specs.WalkLaws.{walk_starts}
+use Rattle.graph_walks.proofs.WalkLemmas.{walk_starts}
 use Rattle.graph_walks.specs.MarkedNodes.{IsMarked, IsBarred, IsPathPast}
 use Rattle.graph_walks.specs.MarkedNodeLaws.{none_marked}
 use Rattle.graph_walks.specs.Calls.{Calls, calls_of}

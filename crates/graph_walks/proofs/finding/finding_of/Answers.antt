@@ -2,7 +2,7 @@
 use Rattle.std.proofs.Common.{Bool, List, [], ◌∷◌, ap, subst, sym, arith}
 use Rattle.graph_walks.specs.Walks.{stays}
 use Rattle.graph_walks.specs.MarkedNodes.{IsMarked, marked_count}
-use Rattle.graph_walks.specs.MarkedNodeLaws.{marked_some}
+use Rattle.graph_walks.proofs.MarkedNodeLemmas.{marked_some}
 use Rattle.graph_walks.proofs.finding.finding_of.Goals as goal
 
 -- a function is among what it reaches, so something is

@@ -4,7 +4,7 @@ use Rattle.std.proofs.lemmas.Grind.{common_steps}
 use Rattle.std.proofs.lemmas.List.Elements.{Contains-get_or}
 use Rattle.std.specs.Option.{option_copied}
 use Rattle.graph_walks.specs.Tables.{rows_of}
-use Rattle.graph_walks.specs.ListLaws.{last_is, last_none}
+use Rattle.graph_walks.proofs.ListLemmas.{last_is, last_none}
 use Rattle.graph_walks.specs.Searching.{IsSearch}
 use Rattle.graph_walks.specs.TableLaws.{rows_long}
 use Rattle.graph_walks.proofs.Spreading.{search_first, stands_low, search_on, search_back, search_over, on_falls, back_falls}

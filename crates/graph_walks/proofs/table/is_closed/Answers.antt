@@ -1,7 +1,8 @@
 -- What is left to show of `is_closed`.
 use Rattle.std.proofs.Common.{◌≡◌, false, true, refl, ◌<◌, ℕ, List, [], All, length, get_or, below_more, sym, ◌∙◌, subst, arith}
 use Rattle.graph_walks.specs.Tables.{rows_of}
-use Rattle.graph_walks.specs.TableLaws.{row_is, row_low, rows_closed}
+use Rattle.graph_walks.specs.TableLaws.{row_is, row_low}
+use Rattle.graph_walks.proofs.TableLemmas.{rows_closed}
 use Rattle.graph_walks.proofs.table.is_closed.Goals as goal
 
 pub loop-row-preserved : goal.loop-row-preserved

@@ -1,5 +1,5 @@
 -- What is left to show of `column_counts_are_feasible`.
-use Rattle.ipet_rows.specs.Feasible.{feasible, worth_cost}
+use Rattle.ipet_rows.specs.FeasibleLaws.{feasible, worth_cost}
 use Rattle.ipet_rows.proofs.path_laws.column_counts_are_feasible.Goals as goal
 
 pub returns-clause-feasible : goal.returns-clause-feasible

@@ -1,5 +1,5 @@
 -- What is left to show of `values_are_terms`.
-use Rattle.lowering_checks.specs.Values.{value_term, address_term_of}
+use Rattle.lowering_checks.proofs.ValueLaws.{value_term, address_term_of}
 use Rattle.lowering_checks.proofs.term_laws.values_are_terms.Goals as goal
 
 pub returns-clause-values : goal.returns-clause-values

@@ -1,9 +1,9 @@
 -- What is left to show of `measured_programs_pass`.
-use Rattle.c_rules.specs.UnitsStand.{unit_stands}
+use Rattle.c_rules.specs.UnitsStandLaws.{unit_stands}
 use Rattle.alf_check.specs.Checking.{calls_in}
 use Rattle.c_lowered.specs.Programs.{lowered}
-use Rattle.lowering_checks.specs.Faultless.{no_fault}
-use Rattle.lowering_checks.specs.Passing.{can_be_written, calls_are_ranked, root_stands}
+use Rattle.lowering_checks.proofs.FaultlessLaws.{no_fault}
+use Rattle.lowering_checks.proofs.PassingLaws.{can_be_written, calls_are_ranked, root_stands}
 use Rattle.lowering_checks.proofs.text_laws.measured_programs_pass.Goals as goal
 
 pub returns-clause-written : goal.returns-clause-written

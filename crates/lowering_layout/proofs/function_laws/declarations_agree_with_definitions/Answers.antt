@@ -1,5 +1,5 @@
 -- What is left to show of `declarations_agree_with_definitions`.
-use Rattle.lowering_layout.specs.Declared.{entries_agree}
+use Rattle.lowering_layout.specs.DeclaredLaws.{entries_agree}
 use Rattle.lowering_layout.proofs.function_laws.declarations_agree_with_definitions.Goals as goal
 
 pub returns : goal.returns

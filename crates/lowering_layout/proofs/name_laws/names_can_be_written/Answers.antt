@@ -1,5 +1,5 @@
 -- What is left to show of `names_can_be_written`.
-use Rattle.lowering_layout.specs.NameTexts.{function_is_name, label_is_name, call_is_name, object_is_name}
+use Rattle.lowering_layout.specs.NameTextLaws.{function_is_name, label_is_name, call_is_name, object_is_name}
 use Rattle.lowering_layout.proofs.name_laws.names_can_be_written.Goals as goal
 
 pub returns-clause-functions : goal.returns-clause-functions

@@ -1,5 +1,5 @@
 -- What is left to show of `spelled_programs_have_names`.
-use Rattle.lowering_layout.specs.Checked.{program_has_names}
+use Rattle.lowering_layout.specs.CheckedLaws.{program_has_names}
 use Rattle.lowering_layout.proofs.name_laws.spelled_programs_have_names.Goals as goal
 
 pub returns : goal.returns

@@ -1,5 +1,6 @@
 -- What is left to show of `labels_stand_once`.
-use Rattle.lowering_simulation.specs.Labels.{label_stands, label_stands_once}
+use Rattle.lowering_simulation.proofs.LabelLemmas.{label_stands_once}
+use Rattle.lowering_simulation.specs.LabelLaws.{label_stands}
 use Rattle.lowering_simulation.proofs.label_laws.labels_stand_once.Goals as goal
 
 pub returns : goal.returns

@@ -1,5 +1,5 @@
 use Rattle.alf_runs.specs.Starts.{words_of}
-use Rattle.lowering_layout.specs.Checked.{program_has_names}
+use Rattle.lowering_layout.specs.CheckedLaws.{program_has_names}
 use Rattle.lowering_simulation.specs.Lowering.{LoweringIsRight, EachStartIsOfTheUnit}
 use Rattle.lowering_simulation.proofs.Placed.{placed}
 use Rattle.lowering_simulation.proofs.Inputs.{are_cells, one_cells}

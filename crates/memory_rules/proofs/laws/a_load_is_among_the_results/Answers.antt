@@ -1,6 +1,6 @@
 use Rattle.memory_rules.specs.AbstractSets.{abstract_sets}
 use Rattle.memory_rules.specs.AbstractSetLaws.{abstract_is_sets}
-use Rattle.memory_rules.specs.MemoryProofs.{load_covers, loads_cover}
+use Rattle.memory_rules.specs.MemoryProofLaws.{load_covers, loads_cover}
 use Rattle.memory_rules.proofs.laws.a_load_is_among_the_results.Goals as goal
 
 pub returns-clause-cell : goal.returns-clause-cell

@@ -1,6 +1,7 @@
 use Rattle.memory_rules.specs.AbstractSets.{abstract_sets}
 use Rattle.memory_rules.specs.AbstractSetLaws.{abstract_is_sets}
-use Rattle.memory_rules.specs.MemoryProofs.{pin_covers, memory_pin_covers}
+use Rattle.memory_rules.proofs.MemoryProofLemmas.{pin_covers}
+use Rattle.memory_rules.specs.MemoryProofLaws.{memory_pin_covers}
 use Rattle.memory_rules.proofs.laws.a_pin_covers.Goals as goal
 
 pub returns-clause-frame : goal.returns-clause-frame

@@ -1,6 +1,6 @@
 use Rattle.memory_rules.specs.AbstractSets.{abstract_sets}
 use Rattle.memory_rules.specs.AbstractSetLaws.{abstract_is_sets}
-use Rattle.memory_rules.specs.MemoryProofs.{sharp_store, sharp_pin}
+use Rattle.memory_rules.proofs.MemoryProofLemmas.{sharp_store, sharp_pin}
 use Rattle.memory_rules.proofs.laws.a_sharp_frame_stays_sharp.Goals as goal
 
 pub returns-clause-store : goal.returns-clause-store

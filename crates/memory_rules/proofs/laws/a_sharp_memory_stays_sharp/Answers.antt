@@ -1,6 +1,6 @@
 use Rattle.memory_rules.specs.AbstractSets.{abstract_sets}
 use Rattle.memory_rules.specs.AbstractSetLaws.{abstract_is_sets}
-use Rattle.memory_rules.specs.MemoryProofs.{memory_stays_sharp, memory_pin_sharp, sharp_enter, sharp_leave}
+use Rattle.memory_rules.specs.MemoryProofLaws.{memory_stays_sharp, memory_pin_sharp, sharp_enter, sharp_leave}
 use Rattle.memory_rules.proofs.laws.a_sharp_memory_stays_sharp.Goals as goal
 
 pub returns-clause-store : goal.returns-clause-store

@@ -1,6 +1,6 @@
 use Rattle.memory_rules.specs.AbstractSets.{abstract_sets}
 use Rattle.memory_rules.specs.AbstractSetLaws.{abstract_is_sets}
-use Rattle.memory_rules.specs.MemoryProofs.{enter_covers, leave_covers}
+use Rattle.memory_rules.specs.MemoryProofLaws.{enter_covers, leave_covers}
 use Rattle.memory_rules.proofs.laws.calls_keep_covering.Goals as goal
 
 pub returns-clause-enter : goal.returns-clause-enter

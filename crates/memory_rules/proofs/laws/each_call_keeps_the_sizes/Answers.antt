@@ -1,6 +1,7 @@
 use Rattle.memory_rules.specs.AbstractSets.{abstract_sets}
 use Rattle.memory_rules.specs.AbstractSetLaws.{abstract_is_sets}
-use Rattle.memory_rules.specs.MemoryProofs.{store_sized, pin_sized, memory_pin_sized, join_sized, enter_sized, leave_sized}
+use Rattle.memory_rules.proofs.MemoryProofLemmas.{pin_sized}
+use Rattle.memory_rules.specs.MemoryProofLaws.{store_sized, memory_pin_sized, join_sized, enter_sized, leave_sized}
 use Rattle.memory_rules.proofs.laws.each_call_keeps_the_sizes.Goals as goal
 
 pub returns-clause-store : goal.returns-clause-store

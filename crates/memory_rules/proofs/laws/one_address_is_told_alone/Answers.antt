@@ -1,4 +1,4 @@
-use Rattle.memory_rules.specs.AddressSharp.{loads_only, stores_only, faults_only}
+use Rattle.memory_rules.specs.AddressSharpLaws.{loads_only, stores_only, faults_only}
 use Rattle.memory_rules.proofs.laws.one_address_is_told_alone.Goals as goal
 
 pub returns-clause-load : goal.returns-clause-load

@@ -3,7 +3,7 @@ use Rattle.std.proofs.Common.{◌*◌, ℕ, length, refl, sym, ap, subst, ◌∙
 use Rattle.domain_core.specs.Outlines.{shape_of}
 use Rattle.recorder_rules.specs.BitWords.{AreOwned}
 use Rattle.recorder_rules.specs.Seen.{AreLeftRows, AreCollectedRows, AreEnteredRows}
-use Rattle.recorder_rules.specs.PairBits.{stepped, stepped_book}
+use Rattle.recorder_rules.specs.PairBitLaws.{stepped, stepped_book}
 use Rattle.pair_recorder.proofs.advance.advance.Goals as goal
 
 pub leave-requires-clause-seen : goal.leave-requires-clause-seen

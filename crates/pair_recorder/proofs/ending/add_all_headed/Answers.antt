@@ -2,7 +2,7 @@
 use Rattle.std.proofs.Common.{◌==◌, ◌||◌, ◌&&◌, ℕ, List, ap, arith}
 use Rattle.std.specs.List.{list_any}
 use Rattle.domain_core.specs.Outlines.{header_of}
-use Rattle.flow_recorders.specs.Climbs.{own_in, parent_at}
+use Rattle.flow_recorders.specs.ClimbLaws.{own_in, parent_at}
 use Rattle.pair_recorder.proofs.Ended.{from_own, last_found, more_found, all_found}
 use Rattle.pair_recorder.proofs.ending.add_all_headed.Goals as goal
 

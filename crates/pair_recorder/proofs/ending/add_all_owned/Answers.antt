@@ -2,7 +2,8 @@
 use Rattle.std.proofs.Common.{◌≡◌, ◌*◌, ℕ, List, [], drop, length, arith, ap, sym, ◌∙◌}
 use Rattle.std.proofs.lemmas.List.{drop_all}
 use Rattle.recorder_rules.specs.BitWords.{is_marked}
-use Rattle.recorder_rules.specs.EndedNodes.{after_each, each_after}
+use Rattle.recorder_rules.specs.EndedNodes.{after_each}
+use Rattle.recorder_rules.specs.EndedNodeLaws.{each_after}
 use Rattle.pair_recorder.proofs.ending.add_all_owned.Goals as goal
 
 pub returns : goal.returns

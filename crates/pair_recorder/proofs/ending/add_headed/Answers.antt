@@ -1,7 +1,7 @@
 -- What is left to show of `add_headed`.
 use Rattle.std.proofs.Common.{sym, ◌∙◌}
 use Rattle.domain_core.specs.Outlines.{header_of}
-use Rattle.flow_recorders.specs.Climbs.{header_at}
+use Rattle.flow_recorders.specs.ClimbLaws.{header_at}
 use Rattle.pair_recorder.proofs.Ended.{headed_pushed, not_headed}
 use Rattle.pair_recorder.proofs.ending.add_headed.Goals as goal
 

@@ -1,6 +1,6 @@
 -- What is left to show of `add_owned`.
 use Rattle.std.proofs.Common.{◌*◌, length}
-use Rattle.recorder_rules.specs.EndedNodes.{range_bits}
+use Rattle.recorder_rules.specs.EndedNodeLaws.{range_bits}
 use Rattle.pair_recorder.proofs.ending.add_owned.Goals as goal
 
 pub returns : goal.returns

@@ -2,12 +2,12 @@
 use Rattle.std.proofs.Common.{◌≡◌, ◌<◌, ◌*◌, ◌||◌, ℕ, Bool, List, length, refl, ap, subst, ◌∙◌, sym, arith}
 use Rattle.std.specs.List.{list_any}
 use Rattle.std.proofs.lemmas.List.{with_items_is, length-replicate}
-use Rattle.lists.specs.Members.{all_members}
+use Rattle.lists.specs.MemberLaws.{all_members}
 use Rattle.domain_core.specs.Outlines.{shape_of}
 use Rattle.recorder_rules.specs.BitWords.{is_marked}
-use Rattle.recorder_rules.specs.EndedNodes.{ended_low, owned_ended}
-use Rattle.recorder_rules.specs.StepBits.{none_marked}
-use Rattle.flow_recorders.specs.Climbs.{own_low}
+use Rattle.recorder_rules.specs.EndedNodeLaws.{ended_low, owned_ended}
+use Rattle.recorder_rules.specs.StepBitLaws.{none_marked}
+use Rattle.flow_recorders.specs.ClimbLaws.{own_low}
 use Rattle.pair_recorder.proofs.ending.ended_nodes.Goals as goal
 
 pub add_all_owned-requires-clause-scopes : goal.add_all_owned-requires-clause-scopes

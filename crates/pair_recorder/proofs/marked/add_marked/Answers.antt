@@ -1,6 +1,6 @@
 -- What is left to show of `add_marked`.
 use Rattle.std.proofs.Common.{◌≡◌, ◌+◌, ◌-◌, ◌*◌, ℕ, bit_or, length, get_or, ap, ◌∙◌, arith}
-use Rattle.recorder_rules.specs.Rows.{rowwise_next}
+use Rattle.recorder_rules.specs.RowLaws.{rowwise_next}
 use Rattle.pair_recorder.proofs.marked.add_marked.Goals as goal
 
 pub loop-place-preserved : goal.loop-place-preserved

@@ -1,6 +1,6 @@
 -- What is left to show of `clear_marked`.
 use Rattle.std.proofs.Common.{length, refl}
-use Rattle.recorder_rules.specs.Rows.{rowwise_next}
+use Rattle.recorder_rules.specs.RowLaws.{rowwise_next}
 use Rattle.pair_recorder.proofs.marked.clear_marked.Goals as goal
 
 pub loop-place-preserved : goal.loop-place-preserved

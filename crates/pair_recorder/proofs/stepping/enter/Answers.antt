@@ -3,8 +3,8 @@ use Rattle.std.proofs.Common.{◌≡◌, ◌*◌, ℕ, List, length, refl, ap, �
 use Rattle.std.proofs.lemmas.List.{with_items_is}
 use Rattle.domain_core.specs.Outlines.{shape_of}
 use Rattle.recorder_rules.specs.BitWords.{is_marked}
-use Rattle.recorder_rules.specs.Rows.{row_end}
-use Rattle.recorder_rules.specs.StepBits.{entered_seen, entered_rows}
+use Rattle.recorder_rules.specs.RowLaws.{row_end}
+use Rattle.recorder_rules.specs.StepBitLaws.{entered_seen, entered_rows}
 use Rattle.pair_recorder.proofs.Handed.{kept_by, added_by}
 use Rattle.pair_recorder.proofs.stepping.enter.Goals as goal
 

@@ -3,7 +3,7 @@ use Rattle.std.proofs.Common.{◌≡◌, ◌+◌, ℕ, List, bit_or, bit_and, le
 use Rattle.std.proofs.lemmas.List.{with_items_is}
 use Rattle.domain_core.specs.Outlines.{shape_of}
 use Rattle.recorder_rules.specs.BitWords.{is_marked, AreInRange}
-use Rattle.recorder_rules.specs.StepBits.{left_seen, left_rows, collected_rows}
+use Rattle.recorder_rules.specs.StepBitLaws.{left_seen, left_rows, collected_rows}
 use Rattle.pair_recorder.proofs.Handed.{kept_by, rows_by, cleared_by}
 use Rattle.pair_recorder.proofs.stepping.leave.Goals as goal
 

@@ -2,7 +2,7 @@
 use Rattle.std.proofs.Common.{◌+◌, ◌-◌, ℕ, List, bit_or, length, get_or, subst, ap, ◌∙◌}
 use Rattle.std.proofs.lemmas.List.{with_items_is}
 use Rattle.recorder_rules.specs.BitWords.{is_marked, AreInRange}
-use Rattle.recorder_rules.specs.StepBits.{both_bits}
+use Rattle.recorder_rules.specs.StepBitLaws.{both_bits}
 use Rattle.pair_recorder.proofs.tables.both.Goals as goal
 
 pub returns-clause-bits : goal.returns-clause-bits

@@ -3,8 +3,8 @@ use Rattle.std.proofs.Common.{◌≡◌, ◌*◌, ◌/◌, ◌==◌, ◌&&◌, �
 use Rattle.std.proofs.lemmas.List.{with_items_is}
 use Rattle.domain_core.specs.Outlines.{shape_of}
 use Rattle.recorder_rules.specs.BitWords.{is_marked}
-use Rattle.recorder_rules.specs.Rows.{row_low}
-use Rattle.recorder_rules.specs.StepBits.{placed_set, more_owned}
+use Rattle.recorder_rules.specs.RowLaws.{row_low}
+use Rattle.recorder_rules.specs.StepBitLaws.{placed_set, more_owned}
 use Rattle.pair_recorder.proofs.tables.owned_bits.Goals as goal
 
 pub loop-node-preserved : goal.loop-node-preserved

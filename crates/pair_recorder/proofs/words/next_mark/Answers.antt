@@ -1,7 +1,7 @@
 -- What is left to show of `next_mark`.
 use Rattle.std.proofs.Common.{◌<◌, ◌/◌, ◌%◌, ◌^◌, get_or, arith}
 use Rattle.std.proofs.lemmas.Nat.{shr_le}
-use Rattle.recorder_rules.specs.Walks.{mark_found, rest_clear}
+use Rattle.recorder_rules.specs.WalkLaws.{mark_found, rest_clear}
 use Rattle.pair_recorder.proofs.words.next_mark.Goals as goal
 
 pub returns-then-rest-ne0 : goal.returns-then-rest-ne0

@@ -2,7 +2,7 @@
 use Rattle.std.proofs.Common.{rules, ◌≡◌, ◌<◌, ◌≤◌, ◌++◌, ◌∷◌, [], length, arith, ℕ, sym, subst, ◌∙◌, ap, Bool, ◌+◌}
 use Rattle.ipet_rows.specs.Programs.{row_at}
 use Rattle.simplex_rules.specs.Tableaus.{slacks_from, width_of, next_slack}
-use Rattle.simplex_tableau.specs.RowSteps.{width_more, next_past}
+use Rattle.simplex_tableau.specs.RowStepLaws.{width_more, next_past}
 use Rattle.path_lp.specs.Handing.{multipliers_by, multiplier_by}
 use Rattle.path_lp.proofs.HandingLaws.{rest_rises, rest_same, rest_above, room, same_behind, multiplier_there, multipliers_more}
 use Rattle.path_lp.proofs.handing.multipliers.Goals as goal

@@ -1,7 +1,7 @@
 -- The report that was found is a told one, and is found with its path bound.
 use Rattle.abstract_step.specs.Steppers.{StepperParts}
 use Rattle.flow_facts.specs.Reports.{reported}
-use Rattle.program_analysis.specs.BoundedLaws.{told_in}
+use Rattle.program_analysis.proofs.BoundedLaws.{told_in}
 use Rattle.program_analysis.proofs.Found.{found_bounded}
 use Rattle.program_analysis.proofs.analysing.analyse.Goals as goal
 

@@ -1,6 +1,6 @@
 use Rattle.alf_check.specs.CheckedPrograms.{seen}
-use Rattle.program_analysis.specs.Exploring.{written}
-use Rattle.program_analysis.specs.Naming.{names_spelled}
+use Rattle.program_analysis.proofs.ExploringLaws.{written}
+use Rattle.program_analysis.proofs.NamingLaws.{names_spelled}
 use Rattle.program_analysis.proofs.exploring.explore.Goals as goal
 
 pub returns-clause-writable : goal.returns-clause-writable

@@ -1,5 +1,5 @@
 use Rattle.flow_facts.specs.Reports.{reported}
-use Rattle.program_analysis.specs.Exploring.{happened_in, along_in, room_in, closed_in}
+use Rattle.program_analysis.proofs.ExploringLaws.{happened_in, along_in, room_in, closed_in}
 use Rattle.program_analysis.proofs.exploring.told.Goals as goal
 
 pub report-requires-clause-outline : goal.report-requires-clause-outline

@@ -1,4 +1,4 @@
-use Rattle.program_analysis.specs.ProgramAnalyses.{one_analysis, longer_analysis, one_event_list}
+use Rattle.program_analysis.proofs.ProgramAnalysisLaws.{one_analysis, longer_analysis, one_event_list}
 use Rattle.program_analysis.proofs.laws.a_program_has_one_analysis.Goals as goal
 
 pub returns : goal.returns

@@ -1,4 +1,4 @@
-use Rattle.program_analysis.specs.AlikeBounds.{one_bounded, longer_bounded, one_printed, longer_printed}
+use Rattle.program_analysis.proofs.AlikeBoundLemmas.{one_bounded, longer_bounded, one_printed, longer_printed}
 use Rattle.program_analysis.proofs.laws.a_program_has_one_bounded_analysis.Goals as goal
 
 pub returns : goal.returns

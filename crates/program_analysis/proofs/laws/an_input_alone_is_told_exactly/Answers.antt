@@ -1,4 +1,4 @@
-use Rattle.program_analysis.specs.LoneAnalyses.{lone_exact}
+use Rattle.program_analysis.proofs.LoneAnalysisLaws.{lone_exact}
 use Rattle.program_analysis.proofs.laws.an_input_alone_is_told_exactly.Goals as goal
 
 pub returns : goal.returns

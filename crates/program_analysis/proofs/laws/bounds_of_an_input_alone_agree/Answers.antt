@@ -1,4 +1,4 @@
-use Rattle.program_analysis.specs.AlikeBounds.{lone_bounds}
+use Rattle.program_analysis.proofs.AlikeBoundLemmas.{lone_bounds}
 use Rattle.program_analysis.proofs.laws.bounds_of_an_input_alone_agree.Goals as goal
 
 pub returns : goal.returns

@@ -1,4 +1,4 @@
-use Rattle.program_analysis.specs.BoundedLaws.{totals_in}
+use Rattle.program_analysis.proofs.BoundedLaws.{totals_in}
 use Rattle.program_analysis.proofs.laws.closed_explorations_have_totals.Goals as goal
 
 pub returns : goal.returns

@@ -1,4 +1,4 @@
-use Rattle.program_analysis.specs.BoundedLaws.{right_in}
+use Rattle.program_analysis.proofs.BoundedLaws.{right_in}
 use Rattle.program_analysis.proofs.laws.found_reports_are_right.Goals as goal
 
 pub returns : goal.returns

@@ -1,4 +1,4 @@
-use Rattle.program_analysis.specs.ExactLaws.{told_exactly}
+use Rattle.program_analysis.proofs.ExactLemmas.{told_exactly}
 use Rattle.program_analysis.proofs.laws.parts_alone_are_told_exactly.Goals as goal
 
 pub returns : goal.returns

@@ -1,4 +1,4 @@
-use Rattle.program_analysis.specs.Fitting.{parts_fit}
+use Rattle.program_analysis.proofs.FittingLaws.{parts_fit}
 use Rattle.program_analysis.proofs.laws.parts_fit.Goals as goal
 
 pub returns : goal.returns

@@ -1,4 +1,4 @@
-use Rattle.program_analysis.specs.AnalysisLaws.{one_analysis, longer_analysis, one_event_list, alike_outlines}
+use Rattle.program_analysis.proofs.AnalysisLemmas.{one_analysis, longer_analysis, one_event_list, alike_outlines}
 use Rattle.program_analysis.proofs.laws.parts_have_one_analysis.Goals as goal
 
 pub returns : goal.returns

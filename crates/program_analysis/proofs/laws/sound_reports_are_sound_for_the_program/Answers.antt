@@ -1,4 +1,4 @@
-use Rattle.program_analysis.specs.SoundLaws.{sound_for}
+use Rattle.program_analysis.proofs.SoundLemmas.{sound_for}
 use Rattle.program_analysis.proofs.laws.sound_reports_are_sound_for_the_program.Goals as goal
 
 pub returns : goal.returns

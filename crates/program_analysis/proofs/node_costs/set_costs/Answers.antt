@@ -1,6 +1,7 @@
 use Rattle.std.proofs.Common.{◌≡◌, ◌<◌, ◌+◌, ◌∙◌, length, sym, subst, arith}
 use Rattle.domain_core.specs.Outlines.{Outlined}
-use Rattle.program_analysis.specs.Pricing.{IsPricedAs, ArePaid, priced_more, priced_count, paid_more, paid_all}
+use Rattle.program_analysis.specs.Pricing.{IsPricedAs, ArePaid}
+use Rattle.program_analysis.proofs.PricingLemmas.{priced_more, priced_count, paid_more, paid_all}
 use Rattle.program_analysis.proofs.node_costs.set_costs.Goals as goal
 
 pub loop-n-preserved : goal.loop-n-preserved

@@ -1,6 +1,6 @@
 -- What is promised of analyses and runs of programs, and what the bounder is given.
 use Rattle.alf_check.specs.CheckedPrograms.{seen}
-use Rattle.program_bounder.specs.InputRowLaws.{are_ranges}
+use Rattle.program_bounder.proofs.InputRowLemmas.{are_ranges}
 use Rattle.program_bounder.specs.PathBounding.{Promises}
 use Rattle.program_bounder.proofs.Suiting.{suits_own}
 use Rattle.program_bounder.proofs.boxes.own_ranges_suit.Goals as goal

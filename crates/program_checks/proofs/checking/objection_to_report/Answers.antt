@@ -4,7 +4,7 @@ use Rattle.memory_model.specs.SeenOrders.{parts_order}
 use Rattle.abstract_step.specs.Steppers.{StepperParts, stepped_by}
 use Rattle.report_objections.specs.Checks.{IsChecked}
 use Rattle.report_objections.specs.Accepted.{IsSoundReport}
-use Rattle.program_checks.specs.Sound.{sound_report}
+use Rattle.program_checks.proofs.SoundLaws.{sound_report}
 use Rattle.program_checks.proofs.checking.objection_to_report.Goals as goal
 
 pub returns-clause-answer : goal.returns-clause-answer

@@ -1,4 +1,4 @@
-use Rattle.program_checks.specs.Checking.{one_check}
+use Rattle.program_checks.proofs.CheckingLaws.{one_check}
 use Rattle.program_checks.proofs.laws.a_report_has_one_check.Goals as goal
 
 pub returns : goal.returns

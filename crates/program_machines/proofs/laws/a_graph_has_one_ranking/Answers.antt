@@ -1,4 +1,4 @@
-use Rattle.program_machines.specs.Rankings.{one_ranking, one_shape}
+use Rattle.program_machines.proofs.RankingLaws.{one_ranking, one_shape}
 use Rattle.program_machines.proofs.laws.a_graph_has_one_ranking.Goals as goal
 
 pub returns : goal.returns

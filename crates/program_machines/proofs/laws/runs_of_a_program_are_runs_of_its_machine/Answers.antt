@@ -1,6 +1,7 @@
 use Rattle.alf_check.specs.CheckedPrograms.{seen}
 use Rattle.transfer_rules.specs.PointLaws.{Promises}
-use Rattle.program_machines.specs.ProgramRunLaws.{program_run, system_run, over_is_over, end_is_over}
+use Rattle.program_machines.specs.ProgramRunLaws.{program_run, over_is_over}
+use Rattle.program_machines.proofs.ProgramRunLemmas.{system_run, end_is_over}
 use Rattle.program_machines.proofs.laws.runs_of_a_program_are_runs_of_its_machine.Goals as goal
 
 pub returns : goal.returns

@@ -1,4 +1,5 @@
-use Rattle.progressions.specs.ProgressionLaws.{hull_first, hull_second, is_hull, hull_least}
+use Rattle.progressions.specs.ProgressionLaws.{hull_first, hull_second, is_hull}
+use Rattle.progressions.proofs.ProgressionLemmas.{hull_least}
 use Rattle.progressions.proofs.laws.hulls_are_least.Goals as goal
 
 pub returns-clause-first : goal.returns-clause-first

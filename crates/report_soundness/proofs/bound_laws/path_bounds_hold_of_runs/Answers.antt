@@ -1,5 +1,6 @@
 -- The path bound and the runs of a system.
-use Rattle.report_soundness.specs.RunLaws.{bound_above, bound_within, bound_exact}
+use Rattle.report_soundness.specs.RunLaws.{bound_above}
+use Rattle.report_soundness.proofs.RunLemmas.{bound_within, bound_exact}
 use Rattle.report_soundness.proofs.bound_laws.path_bounds_hold_of_runs.Goals as goal
 
 pub returns-clause-above : goal.returns-clause-above

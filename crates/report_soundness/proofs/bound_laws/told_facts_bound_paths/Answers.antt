@@ -1,5 +1,6 @@
 -- What the facts of a told report have.
-use Rattle.report_soundness.specs.BoundToldLaws.{told_about, told_fit, told_limited, summed_totals, told_within}
+use Rattle.report_soundness.specs.BoundToldLaws.{told_fit, told_limited, summed_totals, told_within}
+use Rattle.report_soundness.proofs.BoundToldLemmas.{told_about}
 use Rattle.report_soundness.proofs.bound_laws.told_facts_bound_paths.Goals as goal
 
 pub returns-clause-about : goal.returns-clause-about

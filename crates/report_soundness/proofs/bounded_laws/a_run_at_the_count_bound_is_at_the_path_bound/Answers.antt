@@ -1,5 +1,5 @@
 -- The path bound of a run at the count bound.
-use Rattle.report_soundness.specs.BoundedLaws.{met_at_bound}
+use Rattle.report_soundness.proofs.BoundedLemmas.{met_at_bound}
 use Rattle.report_soundness.proofs.bounded_laws.a_run_at_the_count_bound_is_at_the_path_bound.Goals as goal
 
 pub returns : goal.returns

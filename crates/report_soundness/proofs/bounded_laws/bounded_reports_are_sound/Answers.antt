@@ -1,5 +1,6 @@
 -- Reports with a path bound are sound.
-use Rattle.report_soundness.specs.BoundedLaws.{bounded_sound, run_at_bound, lone_bound}
+use Rattle.report_soundness.specs.BoundedLaws.{bounded_sound, run_at_bound}
+use Rattle.report_soundness.proofs.BoundedLemmas.{lone_bound}
 use Rattle.report_soundness.proofs.bounded_laws.bounded_reports_are_sound.Goals as goal
 
 pub returns-clause-sound : goal.returns-clause-sound

@@ -1,5 +1,6 @@
 -- Reports of closed explorations are told ones.
-use Rattle.report_soundness.specs.BoundedLaws.{sound_runs, kept_told, events_told}
+use Rattle.report_soundness.specs.BoundedLaws.{sound_runs, events_told}
+use Rattle.report_soundness.proofs.BoundedLemmas.{kept_told}
 use Rattle.report_soundness.proofs.bounded_laws.closed_explorations_are_told.Goals as goal
 
 pub returns-clause-kept : goal.returns-clause-kept

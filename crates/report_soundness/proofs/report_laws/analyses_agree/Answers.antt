@@ -1,4 +1,4 @@
-use Rattle.report_soundness.specs.AgreeLaws.{one_report, longer_report}
+use Rattle.report_soundness.proofs.AgreeLaws.{one_report, longer_report}
 use Rattle.report_soundness.proofs.report_laws.analyses_agree.Goals as goal
 
 pub returns-clause-one : goal.returns-clause-one

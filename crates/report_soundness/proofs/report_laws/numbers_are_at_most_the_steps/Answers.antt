@@ -1,4 +1,4 @@
-use Rattle.report_soundness.specs.NumberLaws.{orderly_events}
+use Rattle.report_soundness.proofs.NumberLaws.{orderly_events}
 use Rattle.report_soundness.proofs.report_laws.numbers_are_at_most_the_steps.Goals as goal
 
 pub returns : goal.returns

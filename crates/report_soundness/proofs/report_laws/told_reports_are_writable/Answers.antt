@@ -1,4 +1,4 @@
-use Rattle.report_soundness.specs.WritableLaws.{bound_fits, few_writable}
+use Rattle.report_soundness.proofs.WritableLaws.{bound_fits, few_writable}
 use Rattle.report_soundness.proofs.report_laws.told_reports_are_writable.Goals as goal
 
 pub returns-clause-room : goal.returns-clause-room

@@ -3,7 +3,8 @@ use Rattle.std.proofs.Common.{◌<◌, ◌^◌, ℕ, sym, ap, ◌∙◌, subst}
 use Rattle.flow_facts.specs.declared.report.BoundWord.{BoundWord}
 use Rattle.flow_facts.specs.Reports.{Reported, reported}
 use Rattle.report_soundness.specs.Bounded.{with_path_bound, bounded, IsWithinCount}
-use Rattle.report_soundness.specs.BoundedLaws.{facts_about, facts_limited, openings_fit, bound_most}
+use Rattle.report_soundness.specs.BoundedLaws.{facts_limited, bound_most}
+use Rattle.report_soundness.proofs.BoundedLemmas.{facts_about, openings_fit}
 use Rattle.report_soundness.proofs.reports.bounded_report.Goals as goal
 
 pub path_bound-requires-clause-about : goal.path_bound-requires-clause-about

@@ -1,4 +1,4 @@
-use Rattle.run_replays.specs.OneReplay.{one_replay}
+use Rattle.run_replays.proofs.OneReplayLaws.{one_replay}
 use Rattle.run_replays.proofs.laws.a_replay_tells_one_thing.Goals as goal
 
 pub returns : goal.returns

@@ -1,10 +1,10 @@
 -- What a run hands out is a dual point that is not wide.
 use Rattle.ipet_rows.specs.Firsts.{entry}
 use Rattle.simplex_rules.specs.Promise.{handed}
-use Rattle.simplex_rules.specs.Runs.{rule_answers}
+use Rattle.simplex_rules.proofs.RunLemmas.{rule_answers}
 use Rattle.simplex_rules.specs.OpeningPlaces.{opening_places, started, ended}
 use Rattle.simplex_rules.specs.OpeningPlaceLaws.{opens_lines}
-use Rattle.simplex_rules.specs.HandedLaws.{run_narrow, dual_holds}
+use Rattle.simplex_rules.proofs.HandedLaws.{run_narrow, dual_holds}
 use Rattle.simplex_rules.proofs.laws.handed_duals_hold.Goals as goal
 
 pub returns : goal.returns

@@ -1,8 +1,8 @@
 -- The opening in plain numbers, and what it hands out.
 use Rattle.simplex_rules.specs.OpeningPlaces.{opening_places}
 use Rattle.simplex_rules.specs.OpeningPlaceLaws.{opens_lines}
-use Rattle.simplex_rules.specs.PlainOpening.{plain_opening}
-use Rattle.simplex_rules.specs.NarrowOpening.{opening_narrow}
+use Rattle.simplex_rules.specs.PlainOpeningLaws.{plain_opening}
+use Rattle.simplex_rules.proofs.NarrowOpeningLaws.{opening_narrow}
 use Rattle.simplex_rules.proofs.laws.opening_fits.Goals as goal
 
 pub returns-clause-plain : goal.returns-clause-plain

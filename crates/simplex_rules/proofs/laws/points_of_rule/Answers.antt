@@ -2,12 +2,13 @@
 use Rattle.std.proofs.Common.{ℕ, Option, None, subst, arith}
 use Rattle.simplex_rules.specs.Tableaus.{held_at, slacks_from}
 use Rattle.simplex_rules.specs.PivotRule.{variables_of}
-use Rattle.simplex_rules.specs.Choices.{EnteringIs, entering_is}
-use Rattle.simplex_rules.specs.HandedOut.{width_above}
-use Rattle.simplex_rules.specs.Opening.{opening_right}
+use Rattle.simplex_rules.specs.Choices.{EnteringIs}
+use Rattle.simplex_rules.specs.ChoiceLaws.{entering_is}
+use Rattle.simplex_rules.specs.HandedOutLaws.{width_above}
+use Rattle.simplex_rules.proofs.OpeningLemmas.{opening_right}
 use Rattle.simplex_rules.specs.OpeningPlaces.{opening_places}
 use Rattle.simplex_rules.specs.OpeningPlaceLaws.{opens_lines}
-use Rattle.simplex_rules.specs.Runs.{least_greatest, some_enters}
+use Rattle.simplex_rules.proofs.RunLemmas.{least_greatest, some_enters}
 use Rattle.simplex_rules.proofs.laws.points_of_rule.Goals as goal
 
 pub returns-clause-right : goal.returns-clause-right

@@ -4,11 +4,12 @@ use Rattle.std.specs.Prelude.{◌≤ℤ◌, ◌*ℤ◌}
 use Rattle.ipet_rows.specs.Firsts.{entry}
 use Rattle.ipet_rows.specs.Duals.{dual_sum}
 use Rattle.simplex_rules.specs.Promise.{handed}
-use Rattle.simplex_rules.specs.Runs.{rule_answers}
-use Rattle.simplex_rules.specs.OpeningValue.{rule_most}
+use Rattle.simplex_rules.proofs.RunLemmas.{rule_answers}
+use Rattle.simplex_rules.proofs.OpeningValueLaws.{rule_most}
 use Rattle.simplex_rules.specs.OpeningPlaces.{opening_places, ended}
-use Rattle.simplex_rules.specs.OpeningPlaceLaws.{opens_lines, opening_worth}
-use Rattle.simplex_rules.specs.ReadOff.{read_off_is}
+use Rattle.simplex_rules.specs.OpeningPlaceLaws.{opens_lines}
+use Rattle.simplex_rules.proofs.OpeningPlaceLemmas.{opening_worth}
+use Rattle.simplex_rules.proofs.ReadOffLaws.{read_off_is}
 use Rattle.simplex_rules.proofs.laws.rule_answers.Goals as goal
 
 pub returns-clause-answers : goal.returns-clause-answers

@@ -3,7 +3,7 @@ use Rattle.std.proofs.Common.{rules, ◌≡◌, ◌<◌, ◌+◌, ◌++◌, leng
 use Rattle.ipet_rows.specs.Programs.{cost_at}
 use Rattle.dual_check.specs.Terms.{term_if}
 use Rattle.simplex_tableau.specs.FirstTerms.{first_costs}
-use Rattle.simplex_tableau.specs.RowSteps.{costs_more}
+use Rattle.simplex_tableau.proofs.RowStepLemmas.{costs_more}
 use Rattle.simplex_tableau.proofs.costs.cost_terms.Goals as goal
 
 pub loop-column-preserved : goal.loop-column-preserved

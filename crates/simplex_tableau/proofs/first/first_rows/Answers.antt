@@ -3,7 +3,8 @@ use Rattle.std.proofs.Common.{rules, ◌≡◌, ◌<◌, ◌≤◌, ◌++◌, le
 use Rattle.ipet_rows.specs.Programs.{row_at}
 use Rattle.simplex_rules.specs.Tableaus.{slacks_from, width_of, next_slack}
 use Rattle.simplex_tableau.specs.FirstTerms.{first_rows, row_held}
-use Rattle.simplex_tableau.specs.RowSteps.{rows_more, width_more, next_past}
+use Rattle.simplex_tableau.proofs.RowStepLemmas.{rows_more}
+use Rattle.simplex_tableau.specs.RowStepLaws.{width_more, next_past}
 use Rattle.simplex_tableau.proofs.first.first_rows.Goals as goal
 
 pub loop-row-preserved : goal.loop-row-preserved

@@ -2,7 +2,7 @@
 use Rattle.std.proofs.Common.{rules, ◌≡◌, ◌<◌, length}
 use Rattle.ipet_rows.specs.Programs.{row_at}
 use Rattle.simplex_rules.specs.Tableaus.{width_of, next_slack}
-use Rattle.simplex_tableau.specs.RowSteps.{width_more}
+use Rattle.simplex_tableau.specs.RowStepLaws.{width_more}
 use Rattle.simplex_tableau.proofs.places.width.Goals as goal
 
 pub loop-row-preserved : goal.loop-row-preserved

@@ -1,6 +1,6 @@
 use Rattle.memory_model.specs.KeptMemories.{memory_in, rows_of}
 use Rattle.transfer_rules.specs.Evaluating.{pointer_value}
-use Rattle.transfer_rules.specs.Standing.{pointer_is}
+use Rattle.transfer_rules.specs.StandingLaws.{pointer_is}
 use Rattle.step_statements.proofs.FoundLaws.{store_told}
 use Rattle.step_statements.proofs.storing.store_at.Goals as goal
 

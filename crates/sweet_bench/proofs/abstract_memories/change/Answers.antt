@@ -1,4 +1,4 @@
-use Rattle.sweet_bench.specs.Changed.{changed_first}
+use Rattle.sweet_bench.proofs.ChangedLaws.{changed_first}
 use Rattle.sweet_bench.proofs.abstract_memories.change.Goals as goal
 
 pub returns-in_ok-store : goal.returns-in_ok-store

@@ -1,6 +1,6 @@
 use Rattle.std.proofs.Common.{sym, subst}
 use Rattle.memory_model.specs.KeptMemories.{MemoryParts}
-use Rattle.transfer_rules.specs.PartMachines.{is_part_machine}
+use Rattle.transfer_rules.specs.PartMachineLaws.{is_part_machine}
 use Rattle.abstract_step.specs.Steppers.{stepped_by}
 use Rattle.sweet_bench.proofs.steps.count.Goals as goal
 

@@ -1,7 +1,7 @@
 use Rattle.std.proofs.Common.{◌≡◌, ◌∙◌, ◌<◌, ℕ, List, length, sym, subst, arith}
 use Rattle.std.specs.Prelude.{Contains}
 use Rattle.memory_model.specs.KeptMemories.{MemoryParts}
-use Rattle.transfer_rules.specs.PartMachines.{is_part_machine}
+use Rattle.transfer_rules.specs.PartMachineLaws.{is_part_machine}
 use Rattle.sweet_bench.proofs.steps.onward.Goals as goal
 
 pub returns : goal.returns

@@ -1,4 +1,4 @@
-use Rattle.transfer_rules.specs.PartMachines.{is_part_machine, is_part_along}
+use Rattle.transfer_rules.specs.PartMachineLaws.{is_part_machine, is_part_along}
 use Rattle.transfer_rules.proofs.machine_laws.parts_are_a_machine.Goals as goal
 
 pub returns : goal.returns

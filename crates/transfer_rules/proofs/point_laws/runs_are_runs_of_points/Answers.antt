@@ -1,4 +1,4 @@
-use Rattle.transfer_rules.specs.PointLaws.{run_is_run}
+use Rattle.transfer_rules.proofs.PointLemmas.{run_is_run}
 use Rattle.transfer_rules.specs.TraceLaws.{trace_is_trace}
 use Rattle.transfer_rules.proofs.point_laws.runs_are_runs_of_points.Goals as goal
 

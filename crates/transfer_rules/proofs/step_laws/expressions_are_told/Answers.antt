@@ -1,4 +1,4 @@
-use Rattle.transfer_rules.specs.TransferLaws.{expressions_tell, expressions_tell_only}
+use Rattle.transfer_rules.proofs.TransferLemmas.{expressions_tell, expressions_tell_only}
 use Rattle.transfer_rules.proofs.step_laws.expressions_are_told.Goals as goal
 
 pub returns-clause-covering : goal.returns-clause-covering

@@ -1,4 +1,4 @@
-use Rattle.transfer_rules.specs.MachineLaws.{memory_is_order}
+use Rattle.transfer_rules.proofs.MachineLemmas.{memory_is_order}
 use Rattle.transfer_rules.proofs.step_laws.memories_are_a_lattice.Goals as goal
 
 pub returns : goal.returns

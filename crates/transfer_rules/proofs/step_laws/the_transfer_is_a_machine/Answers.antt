@@ -1,4 +1,4 @@
-use Rattle.transfer_rules.specs.TransferLaws.{transfer_is_machine, transfer_goes_along}
+use Rattle.transfer_rules.proofs.TransferLemmas.{transfer_is_machine, transfer_goes_along}
 use Rattle.transfer_rules.proofs.step_laws.the_transfer_is_a_machine.Goals as goal
 
 pub returns-clause-machine : goal.returns-clause-machine

@@ -1,4 +1,4 @@
-use Rattle.transfer_tests.specs.Slots.{bare_slots}
+use Rattle.transfer_tests.proofs.SlotLaws.{bare_slots}
 use Rattle.transfer_tests.proofs.frames.bare.Goals as goal
 
 pub returns : goal.returns

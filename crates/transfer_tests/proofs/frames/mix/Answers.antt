@@ -1,5 +1,5 @@
 use Rattle.std.proofs.Common.{refl}
-use Rattle.transfer_tests.specs.Slots.{mixed_slots}
+use Rattle.transfer_tests.proofs.SlotLaws.{mixed_slots}
 use Rattle.transfer_tests.proofs.frames.mix.Goals as goal
 
 pub returns-in_ok-store_weakly : goal.returns-in_ok-store_weakly

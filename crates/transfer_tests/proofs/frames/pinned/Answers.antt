@@ -1,7 +1,7 @@
 use Rattle.std.proofs.Common.{ℕ, sym, subst}
 use Rattle.pointer_rules.specs.AbstractValues.{Words, alone}
 use Rattle.pointer_rules.specs.Covering.{IsValue}
-use Rattle.transfer_tests.specs.Slots.{pinned_slots, words_are}
+use Rattle.transfer_tests.proofs.SlotLaws.{pinned_slots, words_are}
 use Rattle.transfer_tests.proofs.frames.pinned.Goals as goal
 
 pub returns-in_ok-pin : goal.returns-in_ok-pin

@@ -1,5 +1,5 @@
 use Rattle.std.proofs.Common.{refl}
-use Rattle.transfer_tests.specs.Slots.{stored_slots}
+use Rattle.transfer_tests.proofs.SlotLaws.{stored_slots}
 use Rattle.transfer_tests.proofs.frames.store.Goals as goal
 
 pub returns-in_ok-store_strongly : goal.returns-in_ok-store_strongly

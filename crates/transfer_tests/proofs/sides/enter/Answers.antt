@@ -1,4 +1,4 @@
-use Rattle.transfer_tests.specs.Sides.{both_entered}
+use Rattle.transfer_tests.proofs.SideLaws.{both_entered}
 use Rattle.transfer_tests.proofs.sides.enter.Goals as goal
 
 pub returns-in_ok-enter-2 : goal.returns-in_ok-enter-2

@@ -1,4 +1,4 @@
-use Rattle.transfer_tests.specs.Sides.{both_fresh}
+use Rattle.transfer_tests.proofs.SideLaws.{both_fresh}
 use Rattle.transfer_tests.proofs.sides.fresh.Goals as goal
 
 pub returns : goal.returns

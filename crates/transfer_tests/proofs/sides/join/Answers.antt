@@ -1,4 +1,4 @@
-use Rattle.transfer_tests.specs.Sides.{first_joined}
+use Rattle.transfer_tests.proofs.SideLaws.{first_joined}
 use Rattle.transfer_tests.proofs.sides.join.Goals as goal
 
 pub returns : goal.returns

@@ -1,4 +1,4 @@
-use Rattle.transfer_tests.specs.Sides.{both_left}
+use Rattle.transfer_tests.proofs.SideLaws.{both_left}
 use Rattle.transfer_tests.proofs.sides.leave.Goals as goal
 
 pub returns-then-func-count : goal.returns-then-func-count

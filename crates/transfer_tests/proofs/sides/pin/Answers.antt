@@ -1,7 +1,7 @@
 use Rattle.std.proofs.Common.{ap}
 use Rattle.memory_rules.specs.AbstractSets.{abstract_sets}
 use Rattle.memory_rules.specs.Memories.{Mem}
-use Rattle.transfer_tests.specs.Sides.{first_changed}
+use Rattle.transfer_tests.proofs.SideLaws.{first_changed}
 use Rattle.transfer_tests.proofs.sides.pin.Goals as goal
 
 pub returns-in_ok-pin : goal.returns-in_ok-pin

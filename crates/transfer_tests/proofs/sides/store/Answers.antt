@@ -1,4 +1,4 @@
-use Rattle.transfer_tests.specs.Sides.{stored_first}
+use Rattle.transfer_tests.proofs.SideLaws.{stored_first}
 use Rattle.transfer_tests.proofs.sides.store.Goals as goal
 
 pub returns-then-is_value-2 : goal.returns-then-is_value-2

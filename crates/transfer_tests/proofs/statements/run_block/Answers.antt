@@ -3,7 +3,7 @@ use Rattle.std.specs.List.{AllByRecursion}
 use Rattle.alf_check.specs.declared.rows.Act.{Act}
 use Rattle.alf_check.specs.CheckedPrograms.{act_of, seen}
 use Rattle.step_statements.specs.Typed.{IsTypedStatement}
-use Rattle.transfer_tests.specs.Statements.{all_typed}
+use Rattle.transfer_tests.proofs.StatementLaws.{all_typed}
 use Rattle.transfer_tests.proofs.statements.run_block.Goals as goal
 
 pub do_statements-requires-clause-typed : goal.do_statements-requires-clause-typed

@@ -1,6 +1,6 @@
 use Rattle.std.proofs.Common.{refl, sym, length}
 use Rattle.std.proofs.lemmas.Bool.{ltb-true}
-use Rattle.transfer_tests.specs.Statements.{argument_of, row_at}
+use Rattle.transfer_tests.proofs.StatementLaws.{argument_of, row_at}
 use Rattle.transfer_tests.proofs.statements.suits.Goals as goal
 
 pub returns-then-is_cell : goal.returns-then-is_cell

@@ -1,8 +1,8 @@
 use Rattle.std.proofs.Common.{◌≡◌, ◌≢◌, ◌∙◌, ◌<◌, ℕ, List, length, sym, subst, arith}
 use Rattle.std.specs.Prelude.{All, Contains}
-use Rattle.lists.specs.Members.{all_members}
+use Rattle.lists.specs.MemberLaws.{all_members}
 use Rattle.memory_model.specs.KeptMemories.{MemoryParts, IsMemory}
-use Rattle.transfer_rules.specs.PartMachines.{is_part_machine}
+use Rattle.transfer_rules.specs.PartMachineLaws.{is_part_machine}
 use Rattle.transfer_tests.proofs.walk.step.Goals as goal
 
 pub add_points-requires : goal.add_points-requires

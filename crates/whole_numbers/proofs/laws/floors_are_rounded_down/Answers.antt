@@ -1,4 +1,4 @@
-use Rattle.whole_numbers.specs.DivisionLaws.{quotient_floor}
+use Rattle.whole_numbers.proofs.DivisionLemmas.{quotient_floor}
 use Rattle.whole_numbers.proofs.laws.floors_are_rounded_down.Goals as goal
 
 pub returns : goal.returns

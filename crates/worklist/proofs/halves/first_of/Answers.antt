@@ -1,5 +1,5 @@
 use Rattle.std.proofs.Common.{rules, ◌≡◌, reverse, refl, true, false}
-use Rattle.worklist.specs.LeastLaws.{least_left}
+use Rattle.worklist.proofs.LeastLemmas.{least_left}
 use Rattle.worklist.specs.Lines.{keys_of}
 use Rattle.worklist.proofs.Ends.{alone_earlier, alone_later, in_later}
 use Rattle.worklist.proofs.halves.first_of.Goals as goal

@@ -1,7 +1,7 @@
 use Rattle.std.proofs.Common.{◌≡◌, ◌++◌, ◌∷◌, [], map}
 use Rattle.std.proofs.lemmas.Result.{err_from_is_err_and}
 use Rattle.std.proofs.lemmas.List.{map_push}
-use Rattle.grammar.specs.Rows.{count_starts, count_goes_on, count_fails, count_ends}
+use Rattle.grammar.specs.RowLaws.{count_starts, count_goes_on, count_fails, count_ends}
 use Rattle.alf_program.specs.Tree.{expression_of}
 use Rattle.alf_reader.specs.Grammar.{expr}
 use Rattle.alf_reader.specs.Reading.{position, fault_of}

@@ -1,6 +1,6 @@
 use Rattle.std.proofs.Common.{arith, refl}
 use Rattle.std.proofs.lemmas.Result.{err_from_is_err_and}
-use Rattle.grammar.specs.Rows.{count_starts, count_goes_on, count_fails, count_ends}
+use Rattle.grammar.specs.RowLaws.{count_starts, count_goes_on, count_fails, count_ends}
 use Rattle.alf_reader.specs.Grammar.{further}
 use Rattle.alf_reader.specs.Reading.{position, fault_of}
 use Rattle.alf_reader.proofs.reader.Reader.many_further.Goals as goal

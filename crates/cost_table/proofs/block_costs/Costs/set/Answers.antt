@@ -1,10 +1,9 @@
-use Rattle.std.proofs.Common.{◌≡◌, ◌<◌, ℕ, Vec, Global, Some, length, refl, slice_get, sym, subst}
+use Rattle.std.proofs.Common.{◌≡◌, ◌<◌, ℕ, Vec, Global, Some, length, refl, slice_get, sym, subst, set}
 use Rattle.std.proofs.lemmas.List.{length-map}
 use Rattle.std.proofs.lemmas.Option.{slice_get_read}
 use Rattle.cost_table.specs.CostTables.{CostTable, with_cost}
 use Rattle.cost_table.proofs.Costing.{rows_of, with_set}
 use Rattle.std.specs.Vec.{with_item}
-use Rattle.std.proofs.Common.{set}
 use Rattle.cost_table.proofs.block_costs.Costs.set.Goals as goal
 
 pub returns : goal.returns

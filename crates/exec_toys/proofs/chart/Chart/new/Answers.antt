@@ -1,7 +1,7 @@
 use Rattle.std.proofs.Common.{◌≡◌, length, refl, arith}
 use Rattle.std.proofs.lemmas.List.{length-map}
 use Rattle.domain_core.specs.Outlines.{shape_of}
-use Rattle.exec_toys.specs.ChartLaws.{chart_along}
+use Rattle.exec_toys.proofs.ChartLemmas.{chart_along}
 use Rattle.exec_toys.specs.Charts.{AreForksAlong}
 use Rattle.exec_toys.proofs.chart.Chart.new.Goals as goal
 

@@ -1,6 +1,6 @@
 -- That a line takes some of the text is the type of its rule.
 use Rattle.std.proofs.Common.{sym, ◌∙◌, []}
-use Rattle.grammar.specs.Turns.{chain_goes_on, chain_fails}
+use Rattle.grammar.specs.TurnLaws.{chain_goes_on, chain_fails}
 use Rattle.fact_text.specs.Grammar.{fact_begins, next_fact}
 use Rattle.fact_text.specs.Reading.{position, fault_of}
 use Rattle.fact_text.proofs.reader.Reader.facts.Goals as goal

@@ -1,6 +1,6 @@
 -- That a line takes some of the text is the type of its rule.
 use Rattle.std.proofs.Common.{sym, ◌∙◌, [], map}
-use Rattle.grammar.specs.Turns.{chain_goes_on, chain_fails}
+use Rattle.grammar.specs.TurnLaws.{chain_goes_on, chain_fails}
 use Rattle.flow_facts.specs.Reports.{node_of}
 use Rattle.fact_text.specs.Grammar.{node_begins, next_node}
 use Rattle.fact_text.specs.Reading.{position, fault_of}

@@ -3,7 +3,7 @@ use Rattle.std.proofs.Common.{◌≡◌, ◌*◌, ◌||◌, ℕ, List, length, s
 use Rattle.recorder_rules.specs.PairRules.{Sightings, both_seen}
 use Rattle.recorder_rules.specs.BitWords.{words_for, is_marked}
 use Rattle.recorder_rules.specs.Seen.{sightings}
-use Rattle.recorder_rules.specs.PairBits.{joined}
+use Rattle.recorder_rules.specs.PairBitLaws.{joined}
 use Rattle.pair_recorder.proofs.Handed.{seen_count}
 use Rattle.pair_recorder.proofs.pairs.PairsLattice.join.Goals as goal
 

@@ -1,8 +1,8 @@
 -- What is left to show of `book`.
 use Rattle.std.proofs.Common.{◌*◌}
 use Rattle.recorder_rules.specs.BitWords.{words_for}
-use Rattle.recorder_rules.specs.StepBits.{none_marked}
-use Rattle.recorder_rules.specs.PairBits.{begun_book}
+use Rattle.recorder_rules.specs.StepBitLaws.{none_marked}
+use Rattle.recorder_rules.specs.PairBitLaws.{begun_book}
 use Rattle.pair_recorder.proofs.pairs.PairsRecorder.book.Goals as goal
 
 pub returns : goal.returns

@@ -3,7 +3,7 @@ use Rattle.std.proofs.Common.{◌*◌, ℕ, List, length, sym, ap, ◌∙◌}
 use Rattle.std.proofs.lemmas.List.{with_items_is}
 use Rattle.recorder_rules.specs.BitWords.{words_for}
 use Rattle.recorder_rules.specs.Seen.{pair_book}
-use Rattle.recorder_rules.specs.PairBits.{nodes_of, book_nodes}
+use Rattle.recorder_rules.specs.PairBitLaws.{nodes_of, book_nodes}
 use Rattle.pair_recorder.proofs.Handed.{added_rows_by, finished_collected}
 use Rattle.pair_recorder.proofs.pairs.PairsRecorder.finish.Goals as goal
 

@@ -6,7 +6,7 @@ use Rattle.domain_core.specs.Outlines.{shape_of}
 use Rattle.recorder_rules.specs.PairRules.{pair_recording}
 use Rattle.recorder_rules.specs.BitWords.{words_for, AreOwned}
 use Rattle.recorder_rules.specs.Seen.{sightings, pair_book}
-use Rattle.recorder_rules.specs.PairBits.{nodes_of, book_nodes, book_scopes, book_owned}
+use Rattle.recorder_rules.specs.PairBitLaws.{nodes_of, book_nodes, book_scopes, book_owned}
 use Rattle.pair_recorder.proofs.Handed.{gone_recorder, gone_collected, sightings_same}
 use Rattle.pair_recorder.proofs.pairs.PairsRecorder.go.Goals as goal
 

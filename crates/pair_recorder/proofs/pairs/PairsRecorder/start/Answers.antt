@@ -3,9 +3,9 @@ use Rattle.std.proofs.Common.{◌≡◌, ◌*◌, ◌<◌, ◌==◌, ◌||◌, �
 use Rattle.std.proofs.lemmas.List.{with_items_is, length-replicate}
 use Rattle.recorder_rules.specs.TotalLaws.{node_low}
 use Rattle.recorder_rules.specs.BitWords.{is_marked}
-use Rattle.recorder_rules.specs.Rows.{row_low}
-use Rattle.recorder_rules.specs.StepBits.{none_marked, first_set, first_marked}
-use Rattle.recorder_rules.specs.PairBits.{begun}
+use Rattle.recorder_rules.specs.RowLaws.{row_low}
+use Rattle.recorder_rules.specs.StepBitLaws.{none_marked, first_set, first_marked}
+use Rattle.recorder_rules.specs.PairBitLaws.{begun}
 use Rattle.pair_recorder.proofs.Handed.{sightings_same}
 use Rattle.pair_recorder.proofs.pairs.PairsRecorder.start.Goals as goal
 

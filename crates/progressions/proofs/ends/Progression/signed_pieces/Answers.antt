@@ -1,5 +1,5 @@
 use Rattle.progressions.specs.ProgressionLaws.{placed_small}
-use Rattle.progressions.specs.PartLaws.{from_least_small}
+use Rattle.progressions.proofs.PartLemmas.{from_least_small}
 use Rattle.progressions.proofs.ends.Progression.signed_pieces.Goals as goal
 
 pub from_least-high-requires-clause-small : goal.from_least-high-requires-clause-small

@@ -1,5 +1,5 @@
 use Rattle.progressions.specs.ProgressionLaws.{placed_small}
-use Rattle.progressions.specs.PartLaws.{from_least_small, up_to_small}
+use Rattle.progressions.proofs.PartLemmas.{from_least_small, up_to_small}
 use Rattle.progressions.proofs.ends.Progression.unsigned_pieces.Goals as goal
 
 pub up_to-low-requires-clause-small : goal.up_to-low-requires-clause-small

@@ -2,7 +2,7 @@
 use Rattle.std.proofs.Common.{sym, ◌∙◌, subst}
 use Rattle.domain_core.specs.OutlineOf.{IsOutlineOf}
 use Rattle.scope_graph.specs.Placing.{plan_of}
-use Rattle.program_analysis.specs.Pricing.{priced_shape}
+use Rattle.program_analysis.specs.PricingLaws.{priced_shape}
 use Rattle.sweet_cli.proofs.JudgedReports.{named_again}
 use Rattle.sweet_cli.proofs.commands.analyse.priced.Goals as goal
 

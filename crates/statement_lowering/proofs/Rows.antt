@@ -1,13 +1,17 @@
 -- Statements in a row that are put one after the other.
 --   row_put                     one statement more, and its items
 --   row_labels, row_calls       its labels and its calls
+--   row_elements, row_places    the elements of its arrays, and the labels of a switch
 --   row_stays                   the outer scopes are as they were
-use Rattle.std.proofs.Common.{◌≡◌, ◌+◌, ◌<◌, ◌++◌, ℕ, suc, List, ◌∷◌, Option, None, Some, map, length, drop, drop-cons, get_or, refl, ap, sym, ◌∙◌, arith}
+use Rattle.std.proofs.Common.{◌≡◌, ◌+◌, ◌<◌, ◌≤◌, ◌++◌, ℕ, suc, List, ◌∷◌, Option, None, Some, map, length, drop, drop-cons, get_or, refl, ap, sym, ◌∙◌, subst, arith}
 use Rattle.alf_program.specs.declared.program.Item.{Item}
 use Rattle.alf_program.specs.Tree.{BodyItem, item_of}
 use Rattle.c_unit.specs.declared.statement.Stmt.{Stmt}
 use Rattle.c_unit.specs.Tree.{Statement, Statements, Then, statement_of, statements_of}
+use Rattle.c_unit.specs.Limits.{most_elements}
+use Rattle.c_unit.specs.Units.{Word}
 use Rattle.c_rules.specs.Names.{Scope}
+use Rattle.c_rules.specs.Counts.{elements_in, all_elements_in}
 use Rattle.c_rules.specs.Statements.{scopes_after}
 use Rattle.c_scopes.specs.Views.{Known, others}
 use Rattle.c_meaning.specs.Objects.{Program}
@@ -15,7 +19,7 @@ use Rattle.c_lowered.specs.Conditions.{Within}
 use Rattle.c_lowered.specs.Statements.{Around, calls_in, calls_in_all, items_of, labels_in, labels_in_all}
 use Rattle.condition_lowering.specs.Views.{Makes}
 use Rattle.statement_lowering.specs.Afterwards.{Stays}
-use Rattle.statement_lowering.specs.Braces.{next_place, place_items, row_items}
+use Rattle.statement_lowering.specs.Braces.{HasPlaces, next_place, place_items, row_items}
 use Rattle.statement_lowering.specs.Views.{known_after}
 use Rattle.statement_lowering.proofs.Scopes.{others_after}
 
@@ -70,6 +74,25 @@ row_calls program row i s c d all low is inv calls =
     let tail = calls_in_all program (rest_of (drop (i + 1) row)) in
     let whole : c + (here + tail) ≡ all = ap (λ (ss : List Stmt). c + calls_in_all program (rest_of ss)) (sym (cut row i s low is)) ∙ inv in
     omega (arith, calls, whole)
+
+pub row_elements : (words : List Word) (row : List Stmt) (i : ℕ) (s : Stmt) → i < length row → s ≡ get_or row i s
+    → all_elements_in words (rest_of (drop i row)) ≤ most_elements → all_elements_in words (rest_of (drop (i + 1) row)) ≤ most_elements
+row_elements words row i s low is few =
+    let here = elements_in words (statement_of s) in
+    let tail = all_elements_in words (rest_of (drop (i + 1) row)) in
+    let whole : here + tail ≤ most_elements = subst (λ (ss : List Stmt). all_elements_in words (rest_of ss) ≤ most_elements) (cut row i s low is) few in
+    omega (arith, whole)
+
+next_places : (s : Statement) (ss : Statements) (place : Option ℕ) → HasPlaces place (Then s ss) → HasPlaces (next_place s place) ss
+next_places s ss None few = tt
+next_places s ss (Some place) few = omega (arith, few)
+
+pub row_places : (row : List Stmt) (i : ℕ) (s : Stmt) (place further : Option ℕ) → i < length row → s ≡ get_or row i s
+    → HasPlaces place (rest_of (drop i row)) → further ≡ next_place (statement_of s) place → HasPlaces further (rest_of (drop (i + 1) row))
+row_places row i s place further low is few next =
+    let tail = rest_of (drop (i + 1) row) in
+    let whole : HasPlaces place (Then (statement_of s) tail) = subst (λ (ss : List Stmt). HasPlaces place (rest_of ss)) (cut row i s low is) few in
+    subst (λ (x : Option ℕ). HasPlaces x tail) (sym next) (next_places (statement_of s) tail place whole)
 
 pub row_stays : (before now next : Known) (s : Statement) → Stays before now → next ≡ known_after now s → Stays before next
 row_stays before now next s stays known = record {

@@ -4,6 +4,7 @@ use Rattle.alf_program.specs.Tree.{BodyItem, item_of}
 use Rattle.c_unit.specs.declared.statement.Stmt.{Stmt}
 use Rattle.c_unit.specs.declared.statement.Stmt.TheVariants as stmts
 use Rattle.c_unit.specs.Tree.{statement_of, statements_of}
+use Rattle.c_unit.specs.Units.{unit_of}
 use Rattle.c_lowered.specs.Statements.{calls_in_all, labels_in_all}
 use Rattle.object_layout.specs.Views.{program_in}
 use Rattle.condition_lowering.specs.Views.{within_of}
@@ -11,7 +12,7 @@ use Rattle.statement_lowering.specs.Braces.{row_items}
 use Rattle.c_scopes.specs.Views.{Known, entered, left}
 use Rattle.statement_lowering.specs.Views.{around_of, known_after}
 use Rattle.statement_lowering.proofs.Scopes.{left_after, for_after}
-use Rattle.statement_lowering.proofs.Rows.{row_put, row_labels, row_calls, row_stays}
+use Rattle.statement_lowering.proofs.Rows.{row_put, row_labels, row_calls, row_elements, row_places, row_stays}
 use Rattle.statement_lowering.proofs.statements.+statements.Goals as goal
 
 pub put_row-loop-statement-preserved : goal.put_row-loop-statement-preserved
@@ -34,6 +35,8 @@ put_row-loop-statement-preserved t c =
       labels = row_labels row i s now.labels c.in_ok-after.after.labels (c.args.next.labels + labels_in_all (statements_of (map statement_of row))) low is c.loop-statement.invariant.labels made.labels;
       calls = row_calls (program_in c.args.code.table.now) row i s now.calls c.in_ok-after.after.calls (c.args.next.calls + calls_in_all (program_in c.args.code.table.now) (statements_of (map statement_of row)))
           low is c.loop-statement.invariant.calls made.calls;
+      elements = row_elements (unit_of c.args.code.table.now).words row i s low is c.loop-statement.invariant.elements;
+      places = row_places row i s c.loop-statement.here c.in_ok-here.here low is c.loop-statement.invariant.places placed.next;
       stays = row_stays c.args.scopes.now c.loop-statement.scopes c.put_statement.new.scopes (statement_of s) c.loop-statement.invariant.stays made.known;
     }
 

@@ -26,7 +26,11 @@ mod machine;
 mod counting;
 mod tally;
 
+// Rows, worked out by hand.
+mod worked;
+
 pub use counting::count;
 pub use machine::Machine;
 pub use moved::{Moved, Outputs};
 pub use tally::{Counted, RunEnd, Tally};
+pub use worked::traces_are_counted_and_added_up;

@@ -29,6 +29,9 @@ mod table_lines;
 // The text of a program of C that is made.
 mod made_lines;
 
+// Rows, worked out by hand.
+mod worked;
+
 pub use box_lines::worst_text;
 pub use cache_lines::cache_text;
 pub use made_lines::made_text;
@@ -38,3 +41,7 @@ pub use run_lines::run_text;
 pub use scope_lines::{irreducible_line, left_line};
 pub use summary_lines::summary_text;
 pub use table_lines::table_line;
+pub use worked::{
+    a_fault_has_one_word, answers_are_told_line_by_line, tables_are_refused_in_one_line,
+    what_speaks_against_a_report_has_its_line,
+};

@@ -23,6 +23,9 @@ mod leaf_laws;
 // The theorem.
 mod program_laws;
 
+// Rows, worked out by hand.
+mod worked;
+
 pub use label_laws::{
     labels_lead_to_what_stands_after_them, labels_stand_once,
     the_rest_stands_after_the_items_of_a_statement,
@@ -30,3 +33,4 @@ pub use label_laws::{
 pub use leaf_laws::lowered_programs_have_the_units_outcome;
 pub use program_laws::each_program_has_the_outcome_of_its_unit;
 pub use run_laws::runs_have_the_units_outcome;
+pub use worked::outcomes_go_with_their_objects;

@@ -23,6 +23,9 @@ mod expressions;
 // Stores, calls, starts and outputs.
 mod memories;
 
+// Rows, worked out by hand.
+mod worked;
+
 pub use expressions::{
     conversions_agree, expressions_agree, operators_agree, tests_agree, values_fit,
 };
@@ -38,3 +41,4 @@ pub use operator_laws::{
     comparisons_give_their_bit, conversions_give_the_same, operators_give_the_same,
     values_have_their_size,
 };
+pub use worked::pointers_go_with_their_objects;

@@ -16,7 +16,11 @@ mod units;
 // The program of a command, with its graph.
 mod expanding;
 
+// Rows, worked out by hand.
+mod worked;
+
 pub use expanding::{Expanded, checked_in, expanded_in, graph_of};
 pub use lines::{limit_line, number_or_dash, push_quoted};
 pub use programs::{MOST_BYTES_OF_A_FILE, TOO_LONG, program_in};
 pub use units::{checked_unit_in, unit_in};
+pub use worked::{checks_refuse_in_one_line, texts_are_refused_in_one_line};

@@ -8,6 +8,10 @@
 // What the definitions promise.
 mod laws;
 
+// Rows, worked out by hand.
+mod worked;
+
 pub use laws::{
     a_graph_has_one_ranking, a_lone_input_has_one_start, runs_of_a_program_are_runs_of_its_machine,
 };
+pub use worked::nodes_cost_what_their_blocks_cost;

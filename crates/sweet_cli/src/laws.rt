@@ -1,5 +1,9 @@
 //! What the definitions promise, as functions that do nothing when they are called.
 
+ghost use Rattle.std.specs.Prelude.{◌≡◌, Some, None, codes, option_map};
+ghost use Rattle.sweet_words.specs.Merges.{merging_or_joins};
+ghost use Rattle.worklist_rules.specs.declared.policy.Policy.TheVariants as policies;
+ghost use Rattle.sweet_cli.specs.Analyse.{policy_of};
 ghost use Rattle.sweet_cli.specs.Exact.{OneInputIsToldExactly};
 ghost use Rattle.sweet_cli.specs.Laws.{HaveOneAnswer, ReportsStay, OwnReportsAreAccepted, RunsOfCHaveTheirOwnOutcome};
 
@@ -58,3 +62,13 @@ pub fn each_run_of_c_has_the_outcome_from_its_own_cells()
 {
     a_file_has_one_answer();
 }
+
+/// States are merged nowhere after `none`, where a scope is left after `exits`, and everywhere after `joins`, and as well
+/// where no word is given. Does nothing when it is called.
+pub fn merges_have_their_policies()
+    ensures none { option_map policy_of (merging_or_joins (Some (codes "none"))) ≡ Some policies.None }
+    ensures exits { option_map policy_of (merging_or_joins (Some (codes "exits"))) ≡ Some policies.Exits }
+    ensures joins { option_map policy_of (merging_or_joins (Some (codes "joins"))) ≡ Some policies.Joins }
+    ensures absent { option_map policy_of (merging_or_joins None) ≡ Some policies.Joins }
+    ensures other { option_map policy_of (merging_or_joins (Some (codes "never"))) ≡ None }
+{}

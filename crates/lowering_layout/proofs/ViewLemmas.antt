@@ -107,16 +107,16 @@ module _ (unit : UnitTree) (names : HasNames (program_of unit)) where
       (λ a is. each_when (IsLater 0 (owned unit names)) (DifferInName a) frames (λ b is'. differ a is b is') laters) (globals_part unit names 0).known
     where
       differ : (a : Allocation) → IsFrameOf (whole unit names) 0 0 0 (globals unit names) a → (b : Allocation) → IsLater 0 (owned unit names) b → DifferInName a b
-      differ a is b (later g count low is') = frames_differ (whole unit names) names 0 g 0 0 0 count (globals unit names) (owned unit names) a b objects_apart.across (λ l same from to from' to'. absurd (omega (arith, to))) is is'
+      differ a is b (later g count low is') = frames_differ (whole unit names) names 0 g 0 0 0 count (globals unit names) (owned unit names) a b (objects_apart unit names).across (λ l same from to from' to'. absurd (omega (arith, to))) is is'
 
   -- no two frames of the whole program have one name
   pub all_frames_apart : Apart DifferInName (frames_of (lowered unit))
   all_frames_apart =
       let functions =
-      functions_apart 0 whole.functions
+      functions_apart 0 (whole unit names).functions
       (λ i function at.
       subst (λ (n : ℕ). View (whole unit names) (globals unit names) n function) (let same : i ≡ 0 + i = omega arith in same)
-      (view_of unit names i function at)) objects_apart.right in
-      apart_joined DifferInName (global_frames (whole unit names)) (flat_map own_frames (lowered_from (whole unit names) 0 whole.functions))
+      (view_of unit names i function at)) (objects_apart unit names).right in
+      apart_joined DifferInName (global_frames (whole unit names)) (flat_map own_frames (lowered_from (whole unit names) 0 (whole unit names).functions))
       (globals_part unit names 0).apart functions.1
-      (globals_before (flat_map own_frames (lowered_from (whole unit names) 0 whole.functions)) functions.0)
+      (globals_before (flat_map own_frames (lowered_from (whole unit names) 0 (whole unit names).functions)) functions.0)

@@ -41,25 +41,25 @@ apart_own R words k (g ∷ fs) (suc i) function at h =
 -- ---- global frames
 
 module _ (unit : UnitTree) (names : HasNames (program_of unit)) where
-  pub view_of : (f : ℕ) (function : Function) → slice_get whole.functions f ≡ Some function → View (whole unit names) (globals unit names) f function
+  pub view_of : (f : ℕ) (function : Function) → slice_get (whole unit names).functions f ≡ Some function → View (whole unit names) (globals unit names) f function
   view_of f function at =
-      let low = slice_get_within whole.functions f function at in
+      let low = slice_get_within (whole unit names).functions f function at in
       let params = map (parameter_object f) function.parameters in
       let locals = all_locals_in unit.words f function.body in
-      let few : calls_in_all (whole unit names) function.body ≤ 256 = each_at (HasFewCalls (whole unit names)) whole.functions f function at names.few_calls in
+      let few : calls_in_all (whole unit names) function.body ≤ 256 = each_at (HasFewCalls (whole unit names)) (whole unit names).functions f function at names.few_calls in
       let same : 0 + f ≡ f = omega arith in
       let apart : Apart (OfOtherFrames (whole unit names) names) (own_objects unit.words f function) =
       subst (λ (n : ℕ). Apart (OfOtherFrames (whole unit names) names) (own_objects unit.words n function)) same
-      (apart_own (OfOtherFrames (whole unit names) names) unit.words 0 whole.functions f function at objects_apart.right)
+      (apart_own (OfOtherFrames (whole unit names) names) unit.words 0 (whole unit names).functions f function at (objects_apart unit names).right)
       in
       let own : EachOf (IsObject (whole unit names)) (own_objects unit.words f function) =
-      subst (λ (n : ℕ). EachOf (IsObject (whole unit names)) (own_objects unit.words n function)) same (each_own (IsObject (whole unit names)) unit.words 0 whole.functions f function at all_objects.1)
+      subst (λ (n : ℕ). EachOf (IsObject (whole unit names)) (own_objects unit.words n function)) same (each_own (IsObject (whole unit names)) unit.words 0 (whole unit names).functions f function at (all_objects unit names).1)
       in
       let across : Across (OfOtherFrames (whole unit names) names) (globals unit names) (own_objects unit.words f function) =
       each_when (λ (g : Object). EachOf (OfOtherFrames (whole unit names) names g) (owned unit names)) (λ (g : Object). EachOf (OfOtherFrames (whole unit names) names g) (own_objects unit.words f function)) (globals unit names)
       (λ g h.
       subst (λ (n : ℕ). EachOf (OfOtherFrames (whole unit names) names g) (own_objects unit.words n function)) same
-      (each_own (OfOtherFrames (whole unit names) names g) unit.words 0 whole.functions f function at h)) objects_apart.across
+      (each_own (OfOtherFrames (whole unit names) names g) unit.words 0 (whole unit names).functions f function at h)) (objects_apart unit names).across
       in
       let parts = apart_parts (OfOtherFrames (whole unit names) names) params locals apart in
       let objects = each_parts (IsObject (whole unit names)) params locals own in

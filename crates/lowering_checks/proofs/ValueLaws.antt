@@ -46,7 +46,7 @@ module _ (whole : WholeProgram) (func : Function) (program : Program) where
   bound_term (Array i) at is = deeper whole func 32 1 3 at (omega arith) is
   bound_term (FunctionBound o ps) at is = deeper whole func 32 1 3 at (omega arith) is
 
-  module _ (scopes : List Scope) (usable : ScopesUsable scopes) where
+  module _ (scopes : List Scope) (usable : ScopesUsable whole func program scopes) where
     pub place_term : (token : ℕ) → IsObjectNamed program.words scopes token → Term whole func 32 1 (place_of program scopes token)
     place_term token named =
         subst (λ (x : Option Entry). Term whole func 32 1 (Address (frame_of program (declared_at x token)) 0)) (sym named.found)

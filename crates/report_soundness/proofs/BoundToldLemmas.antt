@@ -9,14 +9,14 @@ use Rattle.flow_facts.specs.Facts.{IsAbout}
 use Rattle.report_soundness.specs.ReportTold.{Found, told_facts}
 use Rattle.report_soundness.specs.Lines.{IsLine}
 use Rattle.report_soundness.specs.LineLaws.{told_line}
-use Rattle.report_soundness.specs.BoundToldLaws.{low, within}
+use Rattle.report_soundness.specs.BoundToldLaws.{low}
 
 -- ---- shapes
 
 module _ (o : Outlined) (found : Found) where
   about : (fact : Fact) → IsLine o found fact → IsAbout (shape_of o) fact
   about (Loop s least most) is = is.1.there
-  about (Count s n least most) (within o found, stepped, counted, span) = (within o found, low o found n span.there)
+  about (Count s n least most) (within, stepped, counted, span) = (within, low o found n span.there)
   about (Dead n) is = low o found n is.0
   about (Total n least most) is = low o found n is.1.there
   about (Pair s a b) is = (is.0, low o found a is.1.apart.first, low o found b is.1.apart.second)

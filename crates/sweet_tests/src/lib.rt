@@ -1,23 +1,27 @@
 //! Tests of the top call `run`, with files and a sink in memory. Without tests this library is empty.
 //!
 //! - `words`: words that are no command, and the options of each command. `codes`: the exit code of each status.
-//! - `texts`, `c_texts`: texts of ALF and of C, read, printed and refused. `faults`: programs and tables that are refused.
+//! - `texts`, `c_texts`: texts of ALF and of C, read, printed and refused. `faults`: programs and tables that are
+//!   refused.
 //! - `reports`, `ranges`, `certificates`: `analyse` without inputs and with inputs, and with `--cert`. `runs`: `run`.
 //! - `checks`: `check`, of reports that are accepted and refused. `migrations`: `migrate`. `replays`: `replay`.
 //! - `worst`: boxes of inputs.
 //! - `caches`: runs with an instruction cache. `tasks`: response times.
 //! - `made`: programs that are made.
-//! - `outside`: files at the limit, reads and writes that fail.
-//! - `answers`, `notation`, `programs`: words, files and answers, programs in a short notation, and programs of C as ALF.
+//! - `damage`: files that are damaged or too long, reads and writes that fail.
+//! - `tables`, `cases`, `notation`, `programs`: tables of tests, words and files as text and what answers them, programs
+//!   in a short notation, and programs of C as ALF.
 #![tactic(auto)]
 
 // What the tests share.
 #[cfg(test)]
-mod answers;
+mod cases;
 #[cfg(test)]
 mod notation;
 #[cfg(test)]
 mod programs;
+#[cfg(test)]
+mod tables;
 
 // Words and codes.
 #[cfg(test)]
@@ -59,6 +63,6 @@ mod worst;
 #[cfg(test)]
 mod tasks;
 
-// Files and sinks that fail.
+// Damaged files, and devices that fail.
 #[cfg(test)]
-mod outside;
+mod damage;

@@ -1,12 +1,15 @@
 //! Programs in a short notation.
 
+use crate::cases::replaced;
 use std::alloc::{AllocError, Global};
 
 const HEAD: &str = "{ alf { macro_defs } { least_addr_unit 8 } little_endian { exports { frefs ";
 
-const LABEL: &str = "{ label 32 { lref 32 \"";
+const FUNCTION: &str = "{ func { label 32 { lref 32 \"$\" } { dec_unsigned 32 0 } } { arg_decls ";
 
-const LABELLED: &str = "\" } { dec_unsigned 32 0 } } ";
+const FRAME: &str = "{ alloc 32 \"$\" <bits> } ";
+
+const INIT: &str = "{ init { ref \"$\" { dec_unsigned 32 0 } } { dec_unsigned <bits> <number> } } ";
 
 /// The program with these exports and global frames, and these functions.
 ///
@@ -28,90 +31,55 @@ pub fn program_of(
     functions: &str,
 ) -> Result<String, AllocError> {
     let mut text = String::from_str(alloc, HEAD)?;
-    push_exports(&mut text, exports)?;
+    push_exports(&mut text, exports, false)?;
+    text.push_str("} { lrefs ")?;
+    push_exports(&mut text, exports, true)?;
     text.push_str("} } { imports { frefs } { lrefs } } { decls ")?;
-    push_frames(&mut text, frames, ' ')?;
+    push_frames(&mut text, frames, ' ', FRAME)?;
     text.push_str("} { inits ")?;
-    push_inits(&mut text, frames)?;
+    push_frames(&mut text, frames, ' ', INIT)?;
     text.push_str("} { funcs ")?;
     push_functions(&mut text, functions)?;
     text.push_str("} } } } }")?;
     Ok(text)
 }
 
-fn push_all(text: &mut String, parts: &[&str]) -> Result<(), AllocError> {
-    for part in parts {
-        text.push_str(part)?;
-    }
-    Ok(())
+// A template with the part in place of each `$` in it.
+fn push_filled(text: &mut String, template: &str, part: &str) -> Result<(), AllocError> {
+    let filled = replaced(*text.allocator(), template, "$", part)?;
+    text.push_str(filled.as_str())
 }
 
-// What stands before a mark, after it, or after the next one. Nothing where it is not there.
-fn part(word: &str, mark: char, number: usize) -> &str {
-    word.split(mark).nth(number).unwrap_or("")
-}
-
-fn push_exports(text: &mut String, exports: &str) -> Result<(), AllocError> {
+// The exported frames, or the exported functions.
+fn push_exports(text: &mut String, exports: &str, functions: bool) -> Result<(), AllocError> {
     for name in exports.split(' ') {
-        if name != "-" && !name.starts_with('@') {
-            push_all(text, &["{ fref 32 \"", name, "\" } "])?;
-        }
-    }
-    text.push_str("} { lrefs ")?;
-    for name in exports.split(' ') {
-        if let Some(name) = name.strip_prefix('@') {
-            push_all(text, &["{ lref 32 \"", name, "\" } "])?;
+        match name.strip_prefix('@') {
+            Some(function) if functions => push_filled(text, "{ lref 32 \"$\" } ", function)?,
+            None if !functions && name != "-" => push_filled(text, "{ fref 32 \"$\" } ", name)?,
+            _ => {}
         }
     }
     Ok(())
 }
 
-// The name of a frame.
-fn name_of(frame: &str) -> &str {
-    part(part(frame, '=', 0), '%', 0)
-}
-
-// The bits of a frame.
-fn bits_of(frame: &str) -> &str {
-    let bits = part(part(frame, '=', 0), '%', 1);
-    if bits.is_empty() { "32" } else { bits }
-}
-
-fn push_frames(text: &mut String, frames: &str, mark: char) -> Result<(), AllocError> {
+// The template for each frame, with its bits and its number. One that has no number has no init.
+fn push_frames(
+    text: &mut String,
+    frames: &str,
+    mark: char,
+    template: &str,
+) -> Result<(), AllocError> {
+    let alloc = *text.allocator();
     for frame in frames.split(mark) {
-        if frame != "-" && !frame.is_empty() {
-            push_all(
-                text,
-                &[
-                    "{ alloc 32 \"",
-                    name_of(frame),
-                    "\" ",
-                    bits_of(frame),
-                    " } ",
-                ],
-            )?;
+        let name = frame.split('=').nth(0).unwrap_or("");
+        let number = frame.split('=').nth(1).unwrap_or("");
+        if frame == "-" || frame.is_empty() || (template == INIT && number.is_empty()) {
+            continue;
         }
-    }
-    Ok(())
-}
-
-fn push_inits(text: &mut String, frames: &str) -> Result<(), AllocError> {
-    for frame in frames.split(' ') {
-        let number = part(frame, '=', 1);
-        if !number.is_empty() {
-            push_all(
-                text,
-                &[
-                    "{ init { ref \"",
-                    name_of(frame),
-                    "\" { dec_unsigned 32 0 } } ",
-                ],
-            )?;
-            push_all(
-                text,
-                &["{ dec_unsigned ", bits_of(frame), " ", number, " } } "],
-            )?;
-        }
+        let bits = name.split('%').nth(1).unwrap_or("32");
+        let sized = replaced(alloc, template, "<bits>", bits)?;
+        let counted = replaced(alloc, sized.as_str(), "<number>", number)?;
+        push_filled(text, counted.as_str(), name.split('%').nth(0).unwrap_or(""))?;
     }
     Ok(())
 }
@@ -121,138 +89,98 @@ fn push_functions(text: &mut String, functions: &str) -> Result<(), AllocError> 
         push_function(text, "main")?;
     }
     for (at, word) in functions.split(' ').enumerate() {
-        match word.strip_prefix('/') {
-            Some(function) => {
-                if at > 0 {
-                    text.push_str("} } } ")?;
-                }
-                push_function(text, function)?;
-            }
-            None => push_word(text, word)?,
+        let Some(function) = word.strip_prefix('/') else {
+            push_long_word(text, word)?;
+            continue;
+        };
+        if at > 0 {
+            text.push_str("} } } ")?;
         }
+        push_function(text, function)?;
     }
     Ok(())
 }
 
 // The front of a function, up to its items.
 fn push_function(text: &mut String, function: &str) -> Result<(), AllocError> {
-    push_all(
-        text,
-        &[
-            "{ func ",
-            LABEL,
-            part(function, ':', 0),
-            LABELLED,
-            "{ arg_decls ",
-        ],
-    )?;
-    push_frames(text, part(function, ':', 1), ',')?;
+    push_filled(text, FUNCTION, function.split(':').nth(0).unwrap_or(""))?;
+    push_frames(text, function.split(':').nth(1).unwrap_or(""), ',', FRAME)?;
     text.push_str("} { scope { decls ")?;
-    push_frames(text, part(function, ':', 2), ',')?;
+    push_frames(text, function.split(':').nth(2).unwrap_or(""), ',', FRAME)?;
     text.push_str("} { inits } { stmts ")
 }
 
+// A word that stands for others is told by these.
+fn push_long_word(text: &mut String, word: &str) -> Result<(), AllocError> {
+    let alloc = *text.allocator();
+    let words = if word.starts_with('?') {
+        switched(alloc, word)?
+    } else if word.contains('=') {
+        stored(alloc, word)?
+    } else {
+        return push_word(text, word);
+    };
+    for word in words.as_str().split(' ') {
+        push_word(text, word)?;
+    }
+    Ok(())
+}
+
+// The words of a store of a sum, of a number or of what a frame holds.
+fn stored(alloc: Global, word: &str) -> Result<String, AllocError> {
+    let frame = word.split('=').nth(0).unwrap_or("");
+    let value = word.split('=').nth(1).unwrap_or("");
+    let first = value.split('+').nth(0).unwrap_or("");
+    if let Some(number) = value.split('+').nth(1) {
+        return format!(in alloc; "{{ store &{frame} with {{ add 32 *{first} #{number} '0 }} }}");
+    }
+    if let Some(b'0'..=b'9') = value.as_bytes().first() {
+        return format!(in alloc; "{{ store &{frame} with #{value} }}");
+    }
+    format!(in alloc; "{{ store &{frame} with *{value} }}")
+}
+
+// The words of a switch.
+fn switched(alloc: Global, word: &str) -> Result<String, AllocError> {
+    let frame = word
+        .split(':')
+        .nth(0)
+        .unwrap_or("")
+        .strip_prefix('?')
+        .unwrap_or("");
+    let mut words = format!(in alloc; "{{ switch *{frame}")?;
+    for arm in word.split(':').skip(1) {
+        let number = arm.split('>').nth(0).unwrap_or("");
+        let told = match arm.split('>').nth(1) {
+            Some(label) => format!(in alloc; " {{ target #{number} @{label} }}")?,
+            None => format!(in alloc; " {{ default @{arm} }}")?,
+        };
+        words.push_str(told.as_str())?;
+    }
+    words.push_str(" }")?;
+    Ok(words)
+}
+
+// What a word with such a first letter stands for. Empty where it stands for itself.
+fn template_of(word: &str) -> &'static str {
+    match word.as_bytes().first() {
+        Some(b'.') => "{ return } ",
+        Some(b'@') => "{ label 32 { lref 32 \"$\" } { dec_unsigned 32 0 } } ",
+        Some(b'^') => "{ jump { label 32 { lref 32 \"$\" } { dec_unsigned 32 0 } } leaving 0 } ",
+        Some(b'&') => "{ addr 32 { fref 32 \"$\" } { dec_unsigned 32 0 } } ",
+        Some(b'*') => "{ load 32 { addr 32 { fref 32 \"$\" } { dec_unsigned 32 0 } } } ",
+        Some(b'#') => "{ dec_unsigned 32 $ } ",
+        Some(b'\'') => "{ dec_unsigned 1 $ } ",
+        _ => "",
+    }
+}
+
 fn push_word(text: &mut String, word: &str) -> Result<(), AllocError> {
-    if word == "." {
-        return text.push_str("{ return } ");
-    }
-    if let Some(name) = word.strip_prefix('@') {
-        return push_label(text, name);
-    }
-    if let Some(name) = word.strip_prefix('^') {
-        text.push_str("{ jump ")?;
-        push_label(text, name)?;
-        return text.push_str("leaving 0 } ");
-    }
-    if let Some(arms) = word.strip_prefix('?') {
-        return push_switch(text, arms);
-    }
-    if let Some(frame) = word.strip_prefix('&') {
-        return push_address(text, frame);
-    }
-    if let Some(frame) = word.strip_prefix('*') {
-        return push_load(text, frame);
-    }
-    if let Some(number) = word.strip_prefix('#') {
-        return push_number(text, number);
-    }
-    if let Some(bit) = word.strip_prefix('\'') {
-        return push_all(text, &["{ dec_unsigned 1 ", bit, " } "]);
-    }
-    push_store_or_word(text, word)
-}
-
-fn push_store_or_word(text: &mut String, word: &str) -> Result<(), AllocError> {
-    let mut sides = word.split('=');
-    match (sides.next(), sides.next()) {
-        (Some(frame), Some(value)) => push_store(text, frame, value),
-        _ => push_all(text, &[word, " "]),
-    }
-}
-
-fn push_label(text: &mut String, name: &str) -> Result<(), AllocError> {
-    push_all(text, &[LABEL, name, LABELLED])
-}
-
-fn push_switch(text: &mut String, arms: &str) -> Result<(), AllocError> {
-    text.push_str("{ switch ")?;
-    for (at, arm) in arms.split(':').enumerate() {
-        let mut sides = arm.split('>');
-        match (sides.next(), sides.next()) {
-            (Some(number), Some(label)) => {
-                text.push_str("{ target ")?;
-                push_number(text, number)?;
-                push_label(text, label)?;
-            }
-            (Some(frame), None) if at == 0 => {
-                push_load(text, frame)?;
-                continue;
-            }
-            _ => {
-                text.push_str("{ default ")?;
-                push_label(text, arm)?;
-            }
+    match template_of(word) {
+        "" => {
+            text.push_str(word)?;
+            text.push(' ')
         }
-        text.push_str("} ")?;
+        template => push_filled(text, template, word.get(1..).unwrap_or("")),
     }
-    text.push_str("} ")
-}
-
-fn push_store(text: &mut String, frame: &str, value: &str) -> Result<(), AllocError> {
-    text.push_str("{ store ")?;
-    push_address(text, frame)?;
-    text.push_str("with ")?;
-    let mut sides = value.split('+');
-    match (sides.next(), sides.next()) {
-        (Some(frame), Some(number)) => {
-            text.push_str("{ add 32 ")?;
-            push_load(text, frame)?;
-            push_number(text, number)?;
-            text.push_str("{ dec_unsigned 1 0 } } ")?;
-        }
-        _ if value.starts_with(|letter: char| letter.is_ascii_digit()) => push_number(text, value)?,
-        _ => push_load(text, value)?,
-    }
-    text.push_str("} ")
-}
-
-fn push_number(text: &mut String, number: &str) -> Result<(), AllocError> {
-    push_all(text, &["{ dec_unsigned 32 ", number, " } "])
-}
-
-fn push_load(text: &mut String, frame: &str) -> Result<(), AllocError> {
-    text.push_str("{ load 32 ")?;
-    push_address(text, frame)?;
-    text.push_str("} ")
-}
-
-fn push_address(text: &mut String, frame: &str) -> Result<(), AllocError> {
-    push_all(
-        text,
-        &[
-            "{ addr 32 { fref 32 \"",
-            frame,
-            "\" } { dec_unsigned 32 0 } } ",
-        ],
-    )
 }

@@ -1,48 +1,16 @@
 //! One run from given values against a report: `replay`.
 
-use crate::answers::{field, files_of, lines_of, side, told};
-use crate::checks::{changed, row_of};
-use crate::programs::program_named;
-use std::alloc::{AllocError, Global};
+use crate::tables::hold;
 use std::test::Fail;
 
-// The report without its certificate.
-fn plain(alloc: Global, report: &str) -> Result<String, AllocError> {
-    let front = report.split("cert;").next().unwrap_or("");
-    let text = format!(in alloc; "{front}end;")?;
-    Ok(text)
-}
+// The report's name, lines of it and what stands in their place, perhaps once more, and the values.
+const RUNS: &str = r#"replay a.alf r --inputs i.toml --at v.toml
+a.alf subject $0
+i.toml ranges $0
+r plain $0 | $1 | $2 | $3 | $4
+v.toml text $5
 
-// The answer to a report of the program of this row and these values, with these words after `replay a.alf r`.
-fn replay_of(
-    alloc: Global,
-    row: &str,
-    report: &str,
-    options: &str,
-    values: &str,
-) -> Result<String, AllocError> {
-    let program = program_named(field(row, 1));
-    let inputs = field(side(row, 0), 2);
-    let mut files = files_of(alloc, program.as_bytes())?;
-    files.push((String::from_str(alloc, "r")?, lines_of(alloc, report)?))?;
-    files.push((String::from_str(alloc, "i.toml")?, lines_of(alloc, inputs)?))?;
-    files.push((String::from_str(alloc, "v.toml")?, lines_of(alloc, values)?))?;
-    let line = format!(in alloc; "replay a.alf r --inputs i.toml {options}")?;
-    told(alloc, line.as_str().trim_end(), files)
-}
-
-// The answer to the report that is named first, with two changes, and to the values.
-fn answer_to(alloc: Global, asked: &str) -> Result<String, AllocError> {
-    let row = row_of(field(asked, 0));
-    let report = plain(alloc, side(row, 1))?;
-    let once = changed(alloc, report.as_str(), field(asked, 1), field(asked, 2))?;
-    let report = changed(alloc, once.as_str(), field(asked, 3), field(asked, 4))?;
-    let values = field(asked, 5);
-    replay_of(alloc, row, report.as_str(), "--at v.toml", values)
-}
-
-// The report's name, lines of it and what stands in their place, perhaps once more, the values, and the answer.
-const RUNS: &str = r#"ten turns, form 1 |  |  |  |  | values = [] => 0 holds cost 23;
+ten turns, form 1 |  |  |  |  | values = [] => 0 holds cost 23;
 ten turns, form 1 |  |  |  |  | values = [1] => 2 fault 71 key values -;
 ten turns, form 1 | total 3 10 10; | total 3 9 9; |  |  | values = [] => 4 no fact 13;
 ten turns, form 1 | loop 1 11 11; | loop 1 12 12; |  |  | values = [] => 4 no fact 9;
@@ -92,24 +60,17 @@ joined |  |  |  |  | values = [10] => 4 no outside 0;"#;
 fn the_first_thing_that_speaks_against_a_report_is_told_of_the_run(
     rt: HostRuntime,
 ) -> Result<(), Fail> {
-    let alloc = rt.alloc();
-    for line in RUNS.lines() {
-        let found = answer_to(alloc, side(line, 0))?;
-        assert_eq!(rt; found.as_str(), side(line, 1), "{line}");
-    }
-    Ok(())
+    hold(rt.alloc(), RUNS)
 }
 
-// The report of an insertion sort of ten numbers.
-const SORT: &str =
-    r#"facts 1;node 0 0 0 "main":entry;node 1 0 1 "main":0;node 2 1 1 "main":1;node 3 1 1 "main":2;node 4 2 1 "main":3;node 5 2 1 "main":4;node 6 2 1 "main":5;node 7 1 1 "main":6;node 8 1 1 "main":7;node 9 0 1 "main":8;scope 0 - 0 call;scope 1 0 2 loop;scope 2 1 4 loop;loop 1 10 10;loop 2 1 10;total 0 1 1;total 1 1 1;total 2 10 10;total 3 9 9;total 4 9 54;total 5 9 45;total 6 0 45;total 7 9 9;total 8 9 9;total 9 1 1;count-bound 183;path-bound 183 least;end;"#;
-
-// Its row: a name, the program and its inputs.
-const SORTED: &str =
-    r#"- | insertion sort | [[input]];frame = "a";offset = 0;size = 32;count = 10;low = -100;high = 100; => "#;
-
 // Numbers in falling and in rising order, one that is outside first, and one that is outside last.
-const NUMBERS: &str = r#"values = [10, 9, 8, 7, 6, 5, 4, 3, 2, 1] => 0 holds cost 183;
+const NUMBERS: &str = r#"replay a.alf r --inputs i.toml --at v.toml
+a.alf subject a sort
+i.toml ranges a sort
+r report a sort
+v.toml text $0
+
+values = [10, 9, 8, 7, 6, 5, 4, 3, 2, 1] => 0 holds cost 183;
 values = [1, 2, 3, 4, 5, 6, 7, 8, 9, 10] => 0 holds cost 57;
 values = [101, 9, 8, 7, 6, 5, 4, 3, 2, 1] => 4 no outside 0;
 values = [10, 9, 8, 7, 6, 5, 4, 3, 2, -101] => 4 no outside 9;
@@ -117,43 +78,34 @@ values = [10, 9, 8, 7, 6, 5, 4, 3, 2] => 2 fault 71 key values -;"#;
 
 #[test]
 fn numbers_that_are_sorted_cost_no_more_than_the_bound(rt: HostRuntime) -> Result<(), Fail> {
-    let alloc = rt.alloc();
-    for line in NUMBERS.lines() {
-        let found = replay_of(alloc, SORTED, SORT, "--at v.toml", side(line, 0))?;
-        assert_eq!(rt; found.as_str(), side(line, 1), "{line}");
-    }
-    Ok(())
+    hold(rt.alloc(), NUMBERS)
 }
 
-#[test]
-fn a_report_with_a_certificate_is_replayed_as_without(rt: HostRuntime) -> Result<(), Fail> {
-    let alloc = rt.alloc();
-    let row = row_of("ten turns, form 1");
-    let found = replay_of(alloc, row, side(row, 1), "--at v.toml", "values = []")?;
-    assert_eq!(rt; found.as_str(), "0 holds cost 23;");
-    Ok(())
-}
+// A report's name, options and values.
+const OTHERS: &str = r#"replay a.alf r --inputs i.toml $1
+a.alf subject $0
+i.toml ranges $0
+r report $0
+v.toml text $2
+
+// a report with a certificate is replayed as without
+ten turns, form 1 | --at v.toml | values = [] => 0 holds cost 23;
+// without values a program has no inputs
+ten turns, form 1 |  |  => 0 holds cost 23;
+a division |  |  => 2 fault 71 key values -;
+// here a file that was not given is empty
+a division | --at w.toml |  => 2 fault 71 key values -;
+
+
+replay a.alf r --inputs i.toml --at w.toml
+a.alf subject $0
+i.toml ranges $0
+r text facts 2;
+
+// the report is read before the values
+a division => 2 fault 60 syntax 2 1;"#;
 
 #[test]
-fn without_values_a_program_has_no_inputs(rt: HostRuntime) -> Result<(), Fail> {
-    let alloc = rt.alloc();
-    let row = row_of("ten turns, form 1");
-    let found = replay_of(alloc, row, side(row, 1), "", "")?;
-    assert_eq!(rt; found.as_str(), "0 holds cost 23;");
-    let row = row_of("a division");
-    let found = replay_of(alloc, row, side(row, 1), "", "")?;
-    assert_eq!(rt; found.as_str(), "2 fault 71 key values -;");
-    Ok(())
-}
-
-#[test]
-fn the_report_is_read_before_the_values(rt: HostRuntime) -> Result<(), Fail> {
-    let alloc = rt.alloc();
-    let row = row_of("a division");
-    // Here a file that was not given is empty.
-    let found = replay_of(alloc, row, side(row, 1), "--at w.toml", "")?;
-    assert_eq!(rt; found.as_str(), "2 fault 71 key values -;");
-    let found = replay_of(alloc, row, "facts 2;", "--at w.toml", "")?;
-    assert_eq!(rt; found.as_str(), "2 fault 60 syntax 2 1;");
-    Ok(())
+fn values_are_read_after_the_report_and_may_be_left_out(rt: HostRuntime) -> Result<(), Fail> {
+    hold(rt.alloc(), OTHERS)
 }

@@ -1,11 +1,15 @@
 //! Words that are a command, in every order and form, and words that are none.
 
-use crate::answers::{REPORT, RETURNS, answer_of, three_files, told};
-use crate::notation::program_of;
+use crate::tables::hold;
 use std::test::Fail;
-use sweet_cli::Status;
 
-const USAGE: &str = r#"analyse
+// Words of every kind that are none, and no word at all.
+const USAGE: &str = r#"$0
+a.alf alf - | - | .
+=> 1 fault usage;
+
+analyse
+
 analyse a.alf --turns
 analyse a.alf --turns 
 analyse a.alf --turns 0
@@ -115,19 +119,15 @@ a.alf"#;
 
 #[test]
 fn other_words_are_no_command(rt: HostRuntime) -> Result<(), Fail> {
-    for line in USAGE.lines() {
-        let (status, text) = answer_of(rt.alloc(), line, RETURNS.as_bytes())?;
-        assert_eq!(rt; status, Status::Usage, "{line}");
-        assert_eq!(rt; text.as_slice(), b"fault usage\n".as_slice(), "{line}");
-    }
-    let (status, text) = answer_of(rt.alloc(), "", RETURNS.as_bytes())?;
-    assert_eq!(rt; status, Status::Usage);
-    assert_eq!(rt; text.as_slice(), b"fault usage\n".as_slice());
-    Ok(())
+    hold(rt.alloc(), USAGE)
 }
 
 // Words that are answered with the report, with what is told of the run, and with the node that is left.
-const REPORTED: &str = "analyse a.alf
+const TURNS: &str = r#"$0
+a.alf alf - | - | .
+=> 0 facts 2;node 0 0 0 "main":entry;node 1 0 1 "main":0;scope 0 - 0 call;total 0 1 1;total 1 1 1;count-bound 1;path-bound 1 least;end;
+
+analyse a.alf
 analyse a.alf --turns 2
 analyse a.alf --turns=2
 analyse --turns 2 a.alf
@@ -136,98 +136,78 @@ analyse a.alf --turns 000002
 analyse a.alf --turns 00000000000000000002
 analyse a.alf --turns 1000000
 analyse a.alf --pivots 1
-analyse --pivots=4000 a.alf";
+analyse --pivots=4000 a.alf
 
-const TOLD: &str = "run a.alf
+
+$0
+a.alf alf - | - | .
+=> 0 returned;turns 2;cost 1;
+
+run a.alf
 run -- a.alf
 run a.alf --
 run a.alf --turns 00000000000000000002
-run a.alf --turns=1000000";
+run a.alf --turns=1000000
 
-const LEFT: &str = "analyse a.alf --turns 1
-run --turns 1 a.alf";
+
+$0
+a.alf alf - | - | .
+=> 3 unbounded 0 "main":entry;
+
+analyse a.alf --turns 1
+run --turns 1 a.alf"#;
 
 #[test]
 fn a_run_ends_within_its_turns_or_is_unbounded(rt: HostRuntime) -> Result<(), Fail> {
-    for (lines, wanted, wanted_text) in [
-        (REPORTED, Status::Done, REPORT),
-        (TOLD, Status::Done, "returned\nturns 2\ncost 1\n"),
-        (LEFT, Status::Unbounded, "unbounded 0 \"main\":entry\n"),
-    ] {
-        for line in lines.lines() {
-            let (status, text) = answer_of(rt.alloc(), line, RETURNS.as_bytes())?;
-            assert_eq!(rt; status, wanted, "{line}");
-            assert_eq!(rt; text.as_slice(), wanted_text.as_bytes(), "{line}");
-        }
-    }
-    Ok(())
+    hold(rt.alloc(), TURNS)
 }
 
-// The options of `run` in each order, with the file at each place, and each option in one word or two.
-const ORDERS: &str = r#"run a.alf --root f --inputs=i.toml --costs c.toml --turns=24
-run --root f a.alf --inputs=i.toml --turns 23 --costs=c.toml
-run --root=f --costs c.toml a.alf --inputs=i.toml --turns 24
-run --root=f --costs c.toml --turns=23 a.alf --inputs i.toml
-run --root f --turns=24 --inputs i.toml --costs=c.toml a.alf
-run a.alf --root f --turns=23 --costs c.toml --inputs=i.toml
-run --inputs=i.toml a.alf --root f --costs=c.toml --turns 24
-run --inputs=i.toml --root f a.alf --turns=23 --costs c.toml
-run --inputs i.toml --costs=c.toml --root f a.alf --turns=24
-run --inputs i.toml --costs=c.toml --turns 23 --root=f a.alf
-run a.alf --inputs=i.toml --turns 24 --root=f --costs c.toml
-run --inputs=i.toml a.alf --turns 23 --costs=c.toml --root f
-run --costs c.toml --root=f a.alf --inputs i.toml --turns=24
-run --costs c.toml --root=f --turns 23 a.alf --inputs=i.toml
-run --costs=c.toml --inputs i.toml --root=f --turns 24 a.alf
-run a.alf --costs=c.toml --inputs i.toml --turns=23 --root f
-run --costs c.toml a.alf --turns=24 --root f --inputs=i.toml
-run --costs c.toml --turns=23 a.alf --inputs i.toml --root=f
-run --turns=24 --root f --inputs=i.toml a.alf --costs c.toml
-run --turns=23 --root f --costs=c.toml --inputs i.toml a.alf
-run a.alf --turns 24 --inputs=i.toml --root f --costs=c.toml
-run --turns 23 a.alf --inputs=i.toml --costs c.toml --root=f
-run --turns=24 --costs c.toml a.alf --root=f --inputs i.toml
-run --turns=23 --costs c.toml --inputs=i.toml a.alf --root f"#;
+// The options of `run`, and of `analyse`, in each order, with the file at each place, and each option in one word
+// or two. The function `f` counts up to its argument `n`, and costs more than 1 a block by the costs file.
+const ORDERS: &str = r#"$0
+a.alf alf - | - | { return #7 } /f:n:i i=0 @H { switch { s_lt 32 *i *n } { target '1 @B } { default @E } } @B i=i+1 ^H @E .
+i.toml text [[input]];frame="n";offset=0;size=32;low=10;high=20
+c.toml text default=2;[[cost]];function="f";block=2;cost=5
 
-// The same of `analyse`.
-const FEWER_ORDERS: &str = r#"analyse a.alf --root f --costs=c.toml --turns 3
-analyse --root f a.alf --turns=2 --costs c.toml
-analyse --costs=c.toml --root f a.alf --turns=3
-analyse --costs=c.toml --turns 2 --root=f a.alf
-analyse a.alf --turns 3 --root=f --costs c.toml
-analyse --turns 2 a.alf --costs=c.toml --root f"#;
+run a.alf --root f --inputs=i.toml --costs c.toml --turns=24 => 0 returned;turns 24;cost 76;
+run --root f a.alf --inputs=i.toml --turns 23 --costs=c.toml => 3 unbounded 0 "f":entry;
+run --root=f --costs c.toml a.alf --inputs=i.toml --turns 24 => 0 returned;turns 24;cost 76;
+run --root=f --costs c.toml --turns=23 a.alf --inputs i.toml => 3 unbounded 0 "f":entry;
+run --root f --turns=24 --inputs i.toml --costs=c.toml a.alf => 0 returned;turns 24;cost 76;
+run a.alf --root f --turns=23 --costs c.toml --inputs=i.toml => 3 unbounded 0 "f":entry;
+run --inputs=i.toml a.alf --root f --costs=c.toml --turns 24 => 0 returned;turns 24;cost 76;
+run --inputs=i.toml --root f a.alf --turns=23 --costs c.toml => 3 unbounded 0 "f":entry;
+run --inputs i.toml --costs=c.toml --root f a.alf --turns=24 => 0 returned;turns 24;cost 76;
+run --inputs i.toml --costs=c.toml --turns 23 --root=f a.alf => 3 unbounded 0 "f":entry;
+run a.alf --inputs=i.toml --turns 24 --root=f --costs c.toml => 0 returned;turns 24;cost 76;
+run --inputs=i.toml a.alf --turns 23 --costs=c.toml --root f => 3 unbounded 0 "f":entry;
+run --costs c.toml --root=f a.alf --inputs i.toml --turns=24 => 0 returned;turns 24;cost 76;
+run --costs c.toml --root=f --turns 23 a.alf --inputs=i.toml => 3 unbounded 0 "f":entry;
+run --costs=c.toml --inputs i.toml --root=f --turns 24 a.alf => 0 returned;turns 24;cost 76;
+run a.alf --costs=c.toml --inputs i.toml --turns=23 --root f => 3 unbounded 0 "f":entry;
+run --costs c.toml a.alf --turns=24 --root f --inputs=i.toml => 0 returned;turns 24;cost 76;
+run --costs c.toml --turns=23 a.alf --inputs i.toml --root=f => 3 unbounded 0 "f":entry;
+run --turns=24 --root f --inputs=i.toml a.alf --costs c.toml => 0 returned;turns 24;cost 76;
+run --turns=23 --root f --costs=c.toml --inputs i.toml a.alf => 3 unbounded 0 "f":entry;
+run a.alf --turns 24 --inputs=i.toml --root f --costs=c.toml => 0 returned;turns 24;cost 76;
+run --turns 23 a.alf --inputs=i.toml --costs c.toml --root=f => 3 unbounded 0 "f":entry;
+run --turns=24 --costs c.toml a.alf --root=f --inputs i.toml => 0 returned;turns 24;cost 76;
+run --turns=23 --costs c.toml --inputs=i.toml a.alf --root f => 3 unbounded 0 "f":entry;
 
-// The function `f` counts up to its argument `n`, and costs more than 1 a block by the costs file.
-const COUNTS: &str =
-    "{ return #7 } /f:n:i i=0 @H { switch { s_lt 32 *i *n } { target '1 @B } { default @E } } @B i=i+1 ^H @E .";
 
-const INPUTS: &str = "[[input]];frame=\"n\";offset=0;size=32;low=10;high=20";
+$0
+a.alf alf - | - | { return #7 } /f:n:i i=0 @H { switch { s_lt 32 *i *n } { target '1 @B } { default @E } } @B i=i+1 ^H @E .
+i.toml text [[
+c.toml text default=2;[[cost]];function="f";block=2;cost=5
 
-const COSTS: &str = "default=2;[[cost]];function=\"f\";block=2;cost=5";
+analyse a.alf --root f --costs=c.toml --turns 3 => 0 facts 2;node 0 0 0 "f":entry;node 1 0 2 "f":0;node 2 1 2 "f":1;node 3 1 5 "f":2;node 4 0 2 "f":3;scope 0 - 0 call;scope 1 0 2 loop;loop 1 1 1;dead 3;dead 4;total 0 1 1;total 1 1 1;total 2 1 1;alarm 2 uninit;count-bound 4;path-bound 4 least;end;
+analyse --root f a.alf --turns=2 --costs c.toml => 3 unbounded 1 "f":1;
+analyse --costs=c.toml --root f a.alf --turns=3 => 0 facts 2;node 0 0 0 "f":entry;node 1 0 2 "f":0;node 2 1 2 "f":1;node 3 1 5 "f":2;node 4 0 2 "f":3;scope 0 - 0 call;scope 1 0 2 loop;loop 1 1 1;dead 3;dead 4;total 0 1 1;total 1 1 1;total 2 1 1;alarm 2 uninit;count-bound 4;path-bound 4 least;end;
+analyse --costs=c.toml --turns 2 --root=f a.alf => 3 unbounded 1 "f":1;
+analyse a.alf --turns 3 --root=f --costs c.toml => 0 facts 2;node 0 0 0 "f":entry;node 1 0 2 "f":0;node 2 1 2 "f":1;node 3 1 5 "f":2;node 4 0 2 "f":3;scope 0 - 0 call;scope 1 0 2 loop;loop 1 1 1;dead 3;dead 4;total 0 1 1;total 1 1 1;total 2 1 1;alarm 2 uninit;count-bound 4;path-bound 4 least;end;
+analyse --turns 2 a.alf --costs=c.toml --root f => 3 unbounded 1 "f":1;"#;
 
 #[test]
 fn options_stand_in_any_order_and_form(rt: HostRuntime) -> Result<(), Fail> {
-    let alloc = rt.alloc();
-    let program = program_of(alloc, "-", "-", COUNTS)?;
-    for line in ORDERS.lines() {
-        let files = three_files(alloc, program.as_str(), INPUTS, COSTS)?;
-        let found = told(alloc, line, files)?;
-        let wanted = if line.contains("24") {
-            "0 returned;turns 24;cost 76;"
-        } else {
-            "3 unbounded 0 \"f\":entry;"
-        };
-        assert_eq!(rt; found.as_str(), wanted, "{line}");
-    }
-    for line in FEWER_ORDERS.lines() {
-        let files = three_files(alloc, program.as_str(), "[[", COSTS)?;
-        let found = told(alloc, line, files)?;
-        let wanted = if line.contains("3") {
-            r#"0 facts 2;node 0 0 0 "f":entry;node 1 0 2 "f":0;node 2 1 2 "f":1;node 3 1 5 "f":2;node 4 0 2 "f":3;scope 0 - 0 call;scope 1 0 2 loop;loop 1 1 1;dead 3;dead 4;total 0 1 1;total 1 1 1;total 2 1 1;alarm 2 uninit;count-bound 4;path-bound 4 least;end;"#
-        } else {
-            "3 unbounded 1 \"f\":1;"
-        };
-        assert_eq!(rt; found.as_str(), wanted, "{line}");
-    }
-    Ok(())
+    hold(rt.alloc(), ORDERS)
 }

@@ -260,7 +260,7 @@ c.toml text default=$1
 
 // numbers of inputs and of costs
 10 | 4294967295 => 0 returned;turns 4;cost 12884901885;
-10 | 4294967296 => 2 fault 72 range costs -;"#;
+10 | 4294967296 => 2 fault 71 key costs -;"#;
 
 #[test]
 fn a_number_is_told_where_it_passes_its_limit(rt: HostRuntime) -> Result<(), Fail> {

@@ -1,8 +1,8 @@
 //! Tests of the top call `run`, with files and a sink in memory. Without tests this library is empty.
 //!
 //! - `words`: words that are no command, and the options of each command. `codes`: the exit code of each status.
-//! - `texts`, `c_texts`: texts of ALF and of C, read, printed and refused. `faults`: programs and tables that are
-//!   refused.
+//! - `texts`, `tokens`, `c_texts`: texts of ALF and of C, read, printed and refused. `faults`: programs and tables that
+//!   are refused.
 //! - `reports`, `ranges`, `certificates`: `analyse` without inputs and with inputs, and with `--cert`. `runs`: `run`.
 //! - `checks`: `check`, of reports that are accepted and refused. `migrations`: `migrate`. `replays`: `replay`.
 //! - `worst`: boxes of inputs.
@@ -36,6 +36,8 @@ mod c_texts;
 mod faults;
 #[cfg(test)]
 mod texts;
+#[cfg(test)]
+mod tokens;
 
 // Reports and runs.
 #[cfg(test)]

@@ -9,6 +9,7 @@
 // What is kept at one offset.
 mod byte;
 mod held;
+mod kept_byte;
 mod slot;
 
 // What is kept of a frame.

@@ -102,7 +102,7 @@ fn shared_slots(alloc: Global, slots: &[Rc<Slot>]) -> Result<Vec<Rc<Slot>>, Allo
 fn bare_slots(alloc: Global, byte: &Byte, count: usize) -> Result<Vec<Rc<Slot>>, AllocError>
     ensures { IfOk result (λ slots. held slots.items ≡ replicate count (bare byte.now)) }
 {
-    let slot = shared(alloc, Slot::bare(alloc, byte))?;
+    let slot = shared(alloc, Slot::bare(alloc, byte)?)?;
     let mut slots = Vec::with_capacity(alloc, count)?;
     for _number in 0..count {
         slots.push(slot.clone()?)?;

@@ -1,11 +1,12 @@
 //! What is kept at one offset of a frame.
 
-ghost use Rattle.std.specs.Prelude.{◌≡◌, IsTrue, IfOk, OnOk, map, ◌==◌, ◌++◌, ◌∷◌, [], nat_lt};
+ghost use Rattle.std.specs.Prelude.{◌≡◌, IsTrue, IfOk, OnOk, OnErr, map, ◌==◌, ◌++◌, ◌∷◌, [], nat_lt};
 ghost use Rattle.std.specs.Option.{option_map};
 ghost use Rattle.memory_pages.specs.Slots.{kept_in, bare, with_byte, with_cell, without_wider, with_wider_marked, marked_kept, cell_of, IsCellSize};
 
-use crate::byte::{Byte, same_byte};
+use crate::byte::Byte;
 use crate::held::Held;
+use crate::kept_byte::KeptByte;
 use std::alloc::{AllocError, Global};
 use std::marker::Model;
 
@@ -19,7 +20,7 @@ pub(crate) struct Kept {
 /// One byte of a frame, and the cells that begin at it.
 #[derive(Debug, Drop)]
 pub struct Slot {
-    byte: Byte,
+    byte: KeptByte,
     cells: Vec<Kept>,
 }
 
@@ -136,21 +137,35 @@ fn is_wider(kept: &Kept, than: u32) -> bool
 }
 
 impl Slot {
-    /// A slot at which no cell begins. Takes no memory.
-    pub fn bare(alloc: Global, byte: &Byte) -> Slot
-        ensures { result ≡ bare byte.now }
+    /// A slot at which no cell begins. Takes memory only where the words of the byte have not 8 bits.
+    pub fn bare(alloc: Global, byte: &Byte) -> Result<Slot, AllocError>
+        ensures { IfOk result (λ slot. slot ≡ bare byte.now) }
     {
-        Slot {
-            byte: *byte,
+        Ok(Slot {
+            byte: KeptByte::of(alloc, byte)?,
             cells: Vec::new(alloc),
-        }
+        })
+    }
+
+    /// True only where it has this byte, and no cell begins here.
+    pub fn is_bare(&self, byte: &Byte) -> bool
+        ensures { IsTrue result → self.now ≡ bare byte.now }
+    {
+        self.cells.is_empty() && self.byte.is(byte)
+    }
+
+    /// True only where it has this byte.
+    pub fn has_byte(&self, byte: &Byte) -> bool
+        ensures { IsTrue result → self.now.byte ≡ byte.now }
+    {
+        self.byte.is(byte)
     }
 
     /// Its byte.
     pub fn byte(&self) -> Byte
         ensures { result ≡ self.now.byte }
     {
-        self.byte
+        self.byte.byte()
     }
 
     /// The cell of this size in bits that begins here, if it is kept.
@@ -166,7 +181,7 @@ impl Slot {
         ensures { IfOk result (λ copy. copy ≡ self.now) }
     {
         Ok(Slot {
-            byte: self.byte,
+            byte: self.byte.copy(alloc)?,
             cells: copied_cells(alloc, &self.cells)?,
         })
     }
@@ -175,14 +190,16 @@ impl Slot {
     pub fn is_same(&self, other: &Slot) -> bool
         ensures { IsTrue result → self.now ≡ other.now }
     {
-        same_byte(self.byte, other.byte) && same_cells(&self.cells, &other.cells)
+        self.byte.is_same(&other.byte) && same_cells(&self.cells, &other.cells)
     }
 
-    /// Sets its byte.
-    pub fn set_byte(&mut self, byte: Byte)
-        ensures { self.new ≡ with_byte self.old byte }
+    /// Sets its byte. After want of memory the slot is as it was.
+    pub fn set_byte(&mut self, alloc: Global, byte: &Byte) -> Result<(), AllocError>
+        ensures set { OnOk result (self.new ≡ with_byte self.old byte.now) }
+        ensures refused { OnErr result (self.new ≡ self.old) }
     {
-        self.byte = byte;
+        self.byte = KeptByte::of(alloc, byte)?;
+        Ok(())
     }
 
     /// Keeps the cell of this size in bits. After want of memory the slot is given up.
@@ -205,7 +222,7 @@ impl Slot {
         ensures { IfOk result (λ copy. copy ≡ with_wider_marked self.now than) }
     {
         Ok(Slot {
-            byte: self.byte,
+            byte: self.byte.copy(alloc)?,
             cells: marked_copies(alloc, &self.cells, than)?,
         })
     }

@@ -8,6 +8,7 @@ ghost use Rattle.memory_model.specs.HeldMemories.{joined_slots};
 ghost use Rattle.frame_memory.specs.FrameJoins.{AreCanonical};
 
 use crate::slot::slot_joined;
+use crate::slots::put;
 use memory_pages::FrameSlots;
 use std::alloc::{AllocError, Global};
 
@@ -35,7 +36,8 @@ fn same_from(a: &FrameSlots, b: &FrameSlots, place: u32) -> u32
     }
 }
 
-/// The join of two frames of so many bytes. The pages that are the same on both sides are shared.
+/// The join of two frames of so many bytes. The pages that are the same on both sides are shared, and so are those on
+/// which each slot of the join is that of the first side.
 pub fn joined_frame(
     alloc: Global,
     a: &FrameSlots,
@@ -55,7 +57,7 @@ pub fn joined_frame(
     while place < count {
         let same = same_from(a, b, place);
         if same == 0 {
-            slots.put(place as usize, slot_joined(alloc, a, b, place)?)?;
+            put(&mut slots, place as usize, slot_joined(alloc, a, b, place)?)?;
             place += 1;
         } else {
             place += same;

@@ -24,11 +24,11 @@ fn is_same(a: &FrameSlots, b: &FrameSlots, place: usize) -> bool
 
 /// How many slots from this place on are known to be the same.
 fn same_from(a: &FrameSlots, b: &FrameSlots, place: u32) -> u32
-    ensures few { result ≤ 64 }
+    ensures few { result ≤ 32 }
     ensures same { (at : ℕ) → place ≤ at → at < place + result → slice_get a.now at ≡ slice_get b.now at }
 {
-    if a.same_ahead(b, place as usize) == 64 {
-        64
+    if a.same_ahead(b, place as usize) == 32 {
+        32
     } else if is_same(a, b, place as usize) {
         1
     } else {

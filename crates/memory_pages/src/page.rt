@@ -191,10 +191,10 @@ pub(crate) fn put_on(page: &mut Rc<Page>, at: usize, slot: Rc<Slot>) -> Result<(
 
 /// Puts a slot on the page of its place.
 pub(crate) fn put_in(pages: &mut [Rc<Page>], at: usize, slot: Rc<Slot>) -> Result<(), AllocError>
-    requires page { at / 64 < length pages.old }
-    requires slot { at % 64 < length (page_at (pages_of pages.old) (at / 64)) }
-    ensures put { OnOk result (pages_of pages.new ≡ slice_set (pages_of pages.old) (at / 64) (slice_set (page_at (pages_of pages.old) (at / 64)) (at % 64) slot.value)) }
+    requires page { at / 32 < length pages.old }
+    requires slot { at % 32 < length (page_at (pages_of pages.old) (at / 32)) }
+    ensures put { OnOk result (pages_of pages.new ≡ slice_set (pages_of pages.old) (at / 32) (slice_set (page_at (pages_of pages.old) (at / 32)) (at % 32) slot.value)) }
     ensures refused { OnErr result (pages_of pages.new ≡ pages_of pages.old) }
 {
-    put_on(&mut pages[at / 64], at % 64, slot)
+    put_on(&mut pages[at / 32], at % 32, slot)
 }

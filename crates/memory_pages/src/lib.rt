@@ -10,6 +10,7 @@
 mod byte;
 mod held;
 mod kept_byte;
+mod kept_cell;
 mod slot;
 
 // What is kept of a frame.
@@ -19,4 +20,5 @@ mod page;
 pub use byte::Byte;
 pub use frame::FrameSlots;
 pub use held::Held;
+pub use kept_cell::KeptCell;
 pub use slot::Slot;

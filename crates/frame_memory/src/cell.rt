@@ -8,13 +8,13 @@ ghost use Rattle.memory_model.specs.HeldFrames.{cell_seen, frame_of, is_cell_siz
 ghost use Rattle.frame_memory.specs.StandingCells.{seen};
 
 use crate::byte::{all_stored, some_without_store};
-use memory_pages::{FrameSlots, Held};
+use memory_pages::{FrameSlots, Held, KeptCell};
 use std::alloc::{AllocError, Global};
 
 /// The cell of this size in bits that begins at an offset, if it is kept.
-pub fn kept_cell(slots: &FrameSlots, offset: u32, size: u32) -> Option<&Held>
+pub fn kept_cell(slots: &FrameSlots, offset: u32, size: u32) -> Option<&KeptCell>
     requires { is_cell_size size ≡ true }
-    ensures { cell_seen (option_map (λ cell. cell.now) result) ≡ (frame_of slots.now).cells offset size }
+    ensures { cell_seen (option_map (λ kept. kept.now.cell) result) ≡ (frame_of slots.now).cells offset size }
 {
     match slots.slot(offset as usize) {
         None => None,

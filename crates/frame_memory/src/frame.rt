@@ -8,6 +8,7 @@ ghost use Rattle.memory_model.specs.HeldMemories.{joined_slots};
 ghost use Rattle.frame_memory.specs.FrameJoins.{AreCanonical};
 
 use crate::slot::slot_joined;
+use crate::slots::put;
 use memory_pages::FrameSlots;
 use std::alloc::{AllocError, Global};
 
@@ -23,11 +24,11 @@ fn is_same(a: &FrameSlots, b: &FrameSlots, place: usize) -> bool
 
 /// How many slots from this place on are known to be the same.
 fn same_from(a: &FrameSlots, b: &FrameSlots, place: u32) -> u32
-    ensures few { result ≤ 64 }
+    ensures few { result ≤ 32 }
     ensures same { (at : ℕ) → place ≤ at → at < place + result → slice_get a.now at ≡ slice_get b.now at }
 {
-    if a.same_ahead(b, place as usize) == 64 {
-        64
+    if a.same_ahead(b, place as usize) == 32 {
+        32
     } else if is_same(a, b, place as usize) {
         1
     } else {
@@ -35,7 +36,8 @@ fn same_from(a: &FrameSlots, b: &FrameSlots, place: u32) -> u32
     }
 }
 
-/// The join of two frames of so many bytes. The pages that are the same on both sides are shared.
+/// The join of two frames of so many bytes. The pages that are the same on both sides are shared, and so are those on
+/// which each slot of the join is that of the first side.
 pub fn joined_frame(
     alloc: Global,
     a: &FrameSlots,
@@ -55,7 +57,7 @@ pub fn joined_frame(
     while place < count {
         let same = same_from(a, b, place);
         if same == 0 {
-            slots.put(place as usize, slot_joined(alloc, a, b, place)?)?;
+            put(&mut slots, place as usize, slot_joined(alloc, a, b, place)?)?;
             place += 1;
         } else {
             place += same;

@@ -6,7 +6,7 @@ ghost use Rattle.domain_core.specs.FaultSets.{has_fault};
 ghost use Rattle.pointer_rules.specs.Covering.{IsValue};
 ghost use Rattle.memory_rules.specs.AbstractSets.{abstract_sets};
 ghost use Rattle.memory_rules.specs.Covers.{FrameSized};
-ghost use Rattle.memory_rules.specs.Frames.{from_bytes, load_results, results, taken};
+ghost use Rattle.memory_rules.specs.Frames.{from_bytes, load_results, not_kept, results, taken};
 ghost use Rattle.memory_rules.specs.Memories.{faults_of};
 ghost use Rattle.memory_model.specs.HeldFrames.{frame_of, is_cell_size};
 ghost use Rattle.frame_memory.specs.StandingCells.{seen};
@@ -16,7 +16,7 @@ use crate::cell::{cell_of_bytes, kept_cell};
 use crate::loaded::{Loaded, fault_onto, value_onto, word_onto};
 use crate::word::{some_pointer, word_of_bytes};
 use alf_ops::RunFault;
-use memory_pages::{FrameSlots, Held};
+use memory_pages::{FrameSlots, KeptCell};
 use pointer_domain::AVal;
 use std::alloc::{AllocError, Global};
 
@@ -41,12 +41,18 @@ fn bytes_onto(
 }
 
 /// The value of a cell that is known to hold it.
-fn known_in(cell: &Held) -> Option<&AVal>
-    ensures { IfSome result (λ value. seen cell.now ≡ record { value = Some value.now; u = false; x = false }) }
+fn known_in(cell: &KeptCell) -> Option<&AVal>
+    ensures { IfSome result (λ value. seen cell.now.cell ≡ record { value = Some value.now; u = false; x = false }) }
 {
-    match &cell.value {
+    match cell.value() {
         None => None,
-        Some(value) => { if cell.u || cell.x { None } else { Some(value) } }
+        Some(value) => {
+            if cell.u() || cell.x() {
+                None
+            } else {
+                Some(value)
+            }
+        }
     }
 }
 
@@ -64,24 +70,31 @@ pub fn known_value(slots: &FrameSlots, offset: u32, size: u32) -> Option<&AVal>
     }
 }
 
+/// The cell that its bytes alone make, with its size. Takes no memory.
+fn unkept_cell(slots: &FrameSlots, offset: u32, size: u32) -> KeptCell
+    ensures { seen result.cell ≡ not_kept (taken abstract_sets (frame_of slots.now) offset size) }
+{
+    KeptCell::of(size, cell_of_bytes(slots, offset, size))
+}
+
 /// What a cell gives over its bytes, onto what was loaded before.
 fn cell_onto(
     alloc: Global,
     slots: &FrameSlots,
     offset: u32,
     size: u32,
-    cell: &Held,
+    cell: &KeptCell,
     before: Loaded,
 ) -> Result<Loaded, AllocError>
     requires size { is_cell_size size ≡ true }
     requires frame_sized { FrameSized abstract_sets (frame_of slots.now) }
-    requires cell_sized { IfSome cell.now.value (IsValue size) }
+    requires cell_sized { IfSome cell.now.cell.value (IsValue size) }
     requires before_sized { IfSome before.value (IsValue size) }
-    ensures { IfOk result (λ now. now ≡ onto before (results abstract_sets (taken abstract_sets (frame_of slots.now) offset size) (seen cell.now))) }
+    ensures { IfOk result (λ now. now ≡ onto before (results abstract_sets (taken abstract_sets (frame_of slots.now) offset size) (seen cell.now.cell))) }
 {
-    let own = value_onto(alloc, before, &cell.value)?;
-    let told = fault_onto(own, cell.u, RunFault::Uninit);
-    if cell.x {
+    let own = value_onto(alloc, before, cell.value())?;
+    let told = fault_onto(own, cell.u(), RunFault::Uninit);
+    if cell.x() {
         bytes_onto(alloc, slots, offset, size, told)
     } else {
         Ok(told)
@@ -110,7 +123,7 @@ pub fn load_onto(
             slots,
             offset,
             size,
-            &cell_of_bytes(slots, offset, size),
+            &unkept_cell(slots, offset, size),
             before,
         ),
     }

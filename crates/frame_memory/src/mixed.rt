@@ -19,7 +19,7 @@ fn mixed_copy(alloc: Global, slot: &Slot, at: u32, value: &AVal) -> Result<Slot,
 {
     let (old, new) = (slot.byte(), new_byte(value, at));
     let mut copy = slot.marked_wider(alloc, 0)?;
-    copy.set_byte(weak_byte(&old, &new));
+    copy.set_byte(alloc, &weak_byte(&old, &new))?;
     Ok(copy)
 }
 

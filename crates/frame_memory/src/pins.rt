@@ -12,7 +12,7 @@ use crate::cell::kept_cell;
 use crate::slots::put;
 use crate::stored_cell::known_cell;
 use interval_congruence::Strided;
-use memory_pages::{FrameSlots, Held, Slot};
+use memory_pages::{FrameSlots, KeptCell, Slot};
 use pointer_domain::AVal;
 use std::alloc::{AllocError, Global};
 
@@ -26,12 +26,12 @@ fn pinned_slot(alloc: Global, slot: &Slot, size: u32, value: &AVal) -> Result<Sl
 }
 
 /// The cell is known to hold the value.
-pub(crate) fn is_known(cell: &Held, value: &AVal) -> bool
-    ensures { IsTrue result → cell.now ≡ known value.now }
+pub(crate) fn is_known(cell: &KeptCell, value: &AVal) -> bool
+    ensures { IsTrue result → cell.now.cell ≡ known value.now }
 {
-    match &cell.value {
+    match cell.value() {
         None => false,
-        Some(own) => !cell.u && !cell.x && own.is_same(value),
+        Some(own) => !cell.u() && !cell.x() && own.is_same(value),
     }
 }
 

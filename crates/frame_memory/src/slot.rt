@@ -62,7 +62,7 @@ pub(crate) fn slot_joined(
     ensures { IfOk result (λ slot. slot ≡ joined_slot a.now b.now place) }
 {
     let byte = byte_at(a, b, place);
-    let mut slot = Slot::bare(alloc, &byte);
+    let mut slot = Slot::bare(alloc, &byte)?;
     for count in 1..9 {
         keep_joined(alloc, a, b, place, 8 * count, &mut slot)?;
     }

@@ -28,12 +28,12 @@ pub(crate) fn put(slots: &mut FrameSlots, place: usize, slot: Slot) -> Result<()
 }
 
 /// True only where the slot at the place has this byte, and no cell begins there.
-fn is_bare(alloc: Global, slots: &FrameSlots, place: usize, byte: &Byte) -> bool
+fn is_bare(slots: &FrameSlots, place: usize, byte: &Byte) -> bool
     ensures { IsTrue result → slice_get slots.now place ≡ Some (bare byte.now) }
 {
     match slots.slot(place) {
         None => false,
-        Some(old) => old.is_same(&Slot::bare(alloc, byte)),
+        Some(old) => old.is_bare(byte),
     }
 }
 
@@ -47,8 +47,8 @@ pub(crate) fn put_bare(
     requires { place < length slots.old }
     ensures { OnOk result (slots.new ≡ slice_set slots.old place (bare byte.now)) }
 {
-    if is_bare(alloc, slots, place, byte) {
+    if is_bare(slots, place, byte) {
         return Ok(());
     }
-    slots.put(place, Slot::bare(alloc, byte))
+    slots.put(place, Slot::bare(alloc, byte)?)
 }

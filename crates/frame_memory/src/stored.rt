@@ -9,13 +9,6 @@ use crate::pins::is_known;
 use memory_pages::{Byte, FrameSlots, Slot};
 use pointer_domain::AVal;
 
-/// True only where both are the same byte.
-fn same_byte(a: Byte, b: Byte) -> bool
-    ensures { IsTrue result → a ≡ b }
-{
-    a.u == b.u && a.p == b.p && a.value == b.value
-}
-
 /// True only where the cell of this size is known to hold the value.
 fn is_kept(slot: &Slot, size: u32, value: &AVal) -> bool
     requires { is_cell_size size ≡ true }
@@ -40,17 +33,23 @@ fn has_other(slot: &Slot, size: u32) -> bool
 }
 
 /// True only where the slot has this byte, and the one cell that begins there is known to hold the value.
-fn has_lone(slot: &Slot, size: u32, value: &AVal, byte: Byte) -> bool
+fn has_lone(slot: &Slot, size: u32, value: &AVal, byte: &Byte) -> bool
     requires { is_cell_size size ≡ true }
-    ensures { IsTrue result → HasLone slot.now size value.now byte }
+    ensures { IsTrue result → HasLone slot.now size value.now byte.now }
 {
-    same_byte(slot.byte(), byte) && is_kept(slot, size, value) && !has_other(slot, size)
+    slot.has_byte(byte) && is_kept(slot, size, value) && !has_other(slot, size)
 }
 
 /// True only where the slot at the place has this byte, and the one cell that begins there is known to hold the value.
-pub(crate) fn is_stored(slots: &FrameSlots, place: u32, size: u32, value: &AVal, byte: Byte) -> bool
+pub(crate) fn is_stored(
+    slots: &FrameSlots,
+    place: u32,
+    size: u32,
+    value: &AVal,
+    byte: &Byte,
+) -> bool
     requires { is_cell_size size ≡ true }
-    ensures { IsTrue result → IsStored slots.now place size value.now byte }
+    ensures { IsTrue result → IsStored slots.now place size value.now byte.now }
 {
     match slots.slot(place as usize) {
         None => false,

@@ -22,7 +22,7 @@ fn first_slot(alloc: Global, size: u32, value: &AVal, byte: &Byte) -> Result<Slo
     requires { byte.now ≡ byte_held (new_byte_of abstract_sets value.now 0) }
     ensures { IfOk result (λ slot. slot ≡ lone_slot 0 size value.now) }
 {
-    let mut slot = Slot::bare(alloc, byte);
+    let mut slot = Slot::bare(alloc, byte)?;
     slot.keep(size, known_cell(alloc, value)?)?;
     Ok(slot)
 }
@@ -41,7 +41,7 @@ fn store_first(
     ensures { OnOk result (Becomes slots.old slots.new (at_place offset (strong abstract_sets (frame_of slots.old) offset size value.now) (frame_of slots.old))) }
 {
     let byte = new_byte(value, 0);
-    if is_stored(slots, offset, size, value, byte) {
+    if is_stored(slots, offset, size, value, &byte) {
         return Ok(());
     }
     let slot = first_slot(alloc, size, value, &byte)?;

@@ -1,3 +1,4 @@
 mod PageLists
 mod SlotCells
 mod SameSlots
+mod EightBits

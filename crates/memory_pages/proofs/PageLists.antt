@@ -52,51 +52,51 @@ append_none [] = refl
 append_none (x ∷ xs) = ap (λ l. x ∷ l) (append_none xs)
 
 -- the page and the place of the members of the first page, and of those after it
-low_page : (i : ℕ) → i < 64 → i / 64 ≡ 0
+low_page : (i : ℕ) → i < 32 → i / 32 ≡ 0
 low_page i low = omega arith
 
-low_place : (i : ℕ) → i < 64 → i % 64 ≡ i
+low_place : (i : ℕ) → i < 32 → i % 32 ≡ i
 low_place i low = omega arith
 
-high_page : (i : ℕ) → 64 ≤ i → i / 64 ≡ suc ((i - 64) / 64)
+high_page : (i : ℕ) → 32 ≤ i → i / 32 ≡ suc ((i - 32) / 32)
 high_page i high = omega arith
 
-high_place : (i : ℕ) → 64 ≤ i → i % 64 ≡ (i - 64) % 64
+high_place : (i : ℕ) → 32 ≤ i → i % 32 ≡ (i - 32) % 32
 high_place i high = omega arith
 
 -- a member of the one list stands on the page of its place
-pub get_joined : {A : Type 0} (lists : List (List A)) (i : ℕ) → ArePages lists → slice_get (joined lists) i ≡ slice_get (page_at lists (i / 64)) (i % 64)
+pub get_joined : {A : Type 0} (lists : List (List A)) (i : ℕ) → ArePages lists → slice_get (joined lists) i ≡ slice_get (page_at lists (i / 32)) (i % 32)
 get_joined [] i are = refl
-get_joined (xs ∷ []) i are = elim (cases_lt i 64) [
+get_joined (xs ∷ []) i are = elim (cases_lt i 32) [
   | inl low ↦ rw (low_page i low, low_place i low, append_none xs) refl
   | inr high ↦ rw (high_page i high, append_none xs) (get_past xs i (omega arith))
 ]
-get_joined (xs ∷ ys ∷ lists) i are = elim (cases_lt i 64) [
+get_joined (xs ∷ ys ∷ lists) i are = elim (cases_lt i 32) [
   | inl low ↦
       let short : i < length xs = omega arith in
       rw (low_page i low, low_place i low) (get_left xs (joined (ys ∷ lists)) i short)
   | inr high ↦
-      let split : i ≡ length xs + (i - 64) = omega arith in
-      rw (high_page i high, high_place i high) (ap (λ (n : ℕ). slice_get (xs ++ joined (ys ∷ lists)) n) split ∙ get_right xs (joined (ys ∷ lists)) (i - 64)
-      ∙ get_joined (ys ∷ lists) (i - 64) are.1)
+      let split : i ≡ length xs + (i - 32) = omega arith in
+      rw (high_page i high, high_place i high) (ap (λ (n : ℕ). slice_get (xs ++ joined (ys ∷ lists)) n) split ∙ get_right xs (joined (ys ∷ lists)) (i - 32)
+      ∙ get_joined (ys ∷ lists) (i - 32) are.1)
 ]
 
 -- a member set there
 pub joined_set : {A : Type 0} (lists : List (List A)) (i : ℕ) (y : A) → ArePages lists
-    → joined (slice_set lists (i / 64) (slice_set (page_at lists (i / 64)) (i % 64) y)) ≡ slice_set (joined lists) i y
+    → joined (slice_set lists (i / 32) (slice_set (page_at lists (i / 32)) (i % 32) y)) ≡ slice_set (joined lists) i y
 joined_set [] i y are = refl
-joined_set (xs ∷ []) i y are = elim (cases_lt i 64) [
+joined_set (xs ∷ []) i y are = elim (cases_lt i 32) [
   | inl low ↦ rw (low_page i low, low_place i low, append_none xs) (append_none (slice_set xs i y))
   | inr high ↦ rw (high_page i high, append_none xs) (sym (set_past xs i y (omega arith)))
 ]
-joined_set (xs ∷ ys ∷ lists) i y are = elim (cases_lt i 64) [
+joined_set (xs ∷ ys ∷ lists) i y are = elim (cases_lt i 32) [
   | inl low ↦
       let short : i < length xs = omega arith in
       rw (low_page i low, low_place i low) (sym (set_left xs (joined (ys ∷ lists)) i y short))
   | inr high ↦
-      let split : i ≡ length xs + (i - 64) = omega arith in
-      rw (high_page i high, high_place i high) (ap (λ l. xs ++ l) (joined_set (ys ∷ lists) (i - 64) y are.1)
-      ∙ (sym (set_right xs (joined (ys ∷ lists)) (i - 64) y) ∙ ap (λ (n : ℕ). slice_set (xs ++ joined (ys ∷ lists)) n y) (sym split)))
+      let split : i ≡ length xs + (i - 32) = omega arith in
+      rw (high_page i high, high_place i high) (ap (λ l. xs ++ l) (joined_set (ys ∷ lists) (i - 32) y are.1)
+      ∙ (sym (set_right xs (joined (ys ∷ lists)) (i - 32) y) ∙ ap (λ (n : ℕ). slice_set (xs ++ joined (ys ∷ lists)) n y) (sym split)))
 ]
 
 set_length : {A : Type 0} (xs : List A) (i : ℕ) (y : A) → length (slice_set xs i y) ≡ length xs
@@ -116,26 +116,26 @@ set_pages (xs ∷ ys ∷ zs ∷ lists) (suc zero) k y are = (are.0, set_pages (y
 set_pages (xs ∷ ys ∷ zs ∷ lists) (suc (suc n)) k y are = (are.0, set_pages (ys ∷ zs ∷ lists) (suc n) k y are.1)
 
 -- the place of a member is on its page
-pub on_page : {A : Type 0} (lists : List (List A)) (i : ℕ) → ArePages lists → i < length (joined lists) → i / 64 < length lists
+pub on_page : {A : Type 0} (lists : List (List A)) (i : ℕ) → ArePages lists → i < length (joined lists) → i / 32 < length lists
 on_page [] i are low = absurd (omega arith)
 on_page (xs ∷ []) i are low =
     let short : i < length xs = subst (λ (n : ℕ). i < n) (ap length (append_none xs)) low in
     omega arith
-on_page (xs ∷ ys ∷ lists) i are low = elim (cases_lt i 64) [
+on_page (xs ∷ ys ∷ lists) i are low = elim (cases_lt i 32) [
   | inl small ↦ omega arith
   | inr high ↦
       let all : length (xs ++ joined (ys ∷ lists)) ≡ length xs + length (joined (ys ∷ lists)) = length-append xs (joined (ys ∷ lists)) in
-      let rest : (i - 64) / 64 < length (ys ∷ lists) = on_page (ys ∷ lists) (i - 64) are.1 (omega arith) in
+      let rest : (i - 32) / 32 < length (ys ∷ lists) = on_page (ys ∷ lists) (i - 32) are.1 (omega arith) in
       let next = high_page i high in
       omega arith
 ]
 
-pub in_page : {A : Type 0} (lists : List (List A)) (i : ℕ) → ArePages lists → i < length (joined lists) → i % 64 < length (page_at lists (i / 64))
+pub in_page : {A : Type 0} (lists : List (List A)) (i : ℕ) → ArePages lists → i < length (joined lists) → i % 32 < length (page_at lists (i / 32))
 in_page lists i are low =
-    elim (cases_lt (i % 64) (length (page_at lists (i / 64)))) [
+    elim (cases_lt (i % 32) (length (page_at lists (i / 32)))) [
       | inl there ↦ there
       | inr past ↦
-          let none : slice_get (joined lists) i ≡ None = get_joined lists i are ∙ get_past (page_at lists (i / 64)) (i % 64) past in
+          let none : slice_get (joined lists) i ≡ None = get_joined lists i are ∙ get_past (page_at lists (i / 32)) (i % 32) past in
           absurd (some_within (joined lists) i low none)
     ]
   where
@@ -145,16 +145,16 @@ in_page lists i are low =
     some_within (x ∷ xs) (suc i) low none = some_within xs i (omega arith) none
 
 -- pages of the same member
-pub made_pages : {A : Type 0} (count : ℕ) (y : A) → ArePages (replicate (count / 64) (replicate 64 y) ++ replicate 1 (replicate (count % 64) y))
-made_pages count y = go (count / 64) (count % 64) (omega arith)
+pub made_pages : {A : Type 0} (count : ℕ) (y : A) → ArePages (replicate (count / 32) (replicate 32 y) ++ replicate 1 (replicate (count % 32) y))
+made_pages count y = go (count / 32) (count % 32) (omega arith)
   where
-    go : (whole last : ℕ) → last ≤ 64 → ArePages (replicate whole (replicate 64 y) ++ replicate 1 (replicate last y))
+    go : (whole last : ℕ) → last ≤ 32 → ArePages (replicate whole (replicate 32 y) ++ replicate 1 (replicate last y))
     go zero last few = rw (length-replicate last y) few
-    go (suc zero) last few = (length-replicate 64 y, go zero last few)
-    go (suc (suc whole)) last few = (length-replicate 64 y, go (suc whole) last few)
+    go (suc zero) last few = (length-replicate 32 y, go zero last few)
+    go (suc (suc whole)) last few = (length-replicate 32 y, go (suc whole) last few)
 
-pub made_joined : {A : Type 0} (count : ℕ) (y : A) → joined (replicate (count / 64) (replicate 64 y) ++ replicate 1 (replicate (count % 64) y)) ≡ replicate count y
-made_joined count y = go (count / 64) (count % 64) ∙ ap (λ (n : ℕ). replicate n y) (omega arith)
+pub made_joined : {A : Type 0} (count : ℕ) (y : A) → joined (replicate (count / 32) (replicate 32 y) ++ replicate 1 (replicate (count % 32) y)) ≡ replicate count y
+made_joined count y = go (count / 32) (count % 32) ∙ ap (λ (n : ℕ). replicate n y) (omega arith)
   where
     replicate_sum : (m n : ℕ) → replicate m y ++ replicate n y ≡ replicate (m + n) y
     replicate_sum zero n =
@@ -164,22 +164,22 @@ made_joined count y = go (count / 64) (count % 64) ∙ ap (λ (n : ℕ). replica
         let e : suc m + n ≡ suc (m + n) = omega arith in
         ap (λ l. y ∷ l) (replicate_sum m n) ∙ ap (λ (k : ℕ). replicate k y) (sym e)
 
-    go : (whole last : ℕ) → joined (replicate whole (replicate 64 y) ++ replicate 1 (replicate last y)) ≡ replicate (whole * 64 + last) y
+    go : (whole last : ℕ) → joined (replicate whole (replicate 32 y) ++ replicate 1 (replicate last y)) ≡ replicate (whole * 32 + last) y
     go zero last =
-        let e : last ≡ 0 * 64 + last = omega arith in
+        let e : last ≡ 0 * 32 + last = omega arith in
         append_none (replicate last y) ∙ ap (λ (k : ℕ). replicate k y) e
     go (suc whole) last =
-        let e : 64 + (whole * 64 + last) ≡ suc whole * 64 + last = omega arith in
-        ap (λ l. replicate 64 y ++ l) (go whole last) ∙ (replicate_sum 64 (whole * 64 + last) ∙ ap (λ (k : ℕ). replicate k y) e)
+        let e : 32 + (whole * 32 + last) ≡ suc whole * 32 + last = omega arith in
+        ap (λ l. replicate 32 y ++ l) (go whole last) ∙ (replicate_sum 32 (whole * 32 + last) ∙ ap (λ (k : ℕ). replicate k y) e)
 
 -- pages that were added, and the last
 pub made : {A : Type 0} (none whole : List (List A)) (full last : List A) (count : ℕ) (y : A) → none ≡ []
-    → whole ≡ none ++ replicate (count / 64) full → full ≡ replicate 64 y → last ≡ replicate (count % 64) y
-    → whole ++ last ∷ [] ≡ replicate (count / 64) (replicate 64 y) ++ replicate 1 (replicate (count % 64) y)
+    → whole ≡ none ++ replicate (count / 32) full → full ≡ replicate 32 y → last ≡ replicate (count % 32) y
+    → whole ++ last ∷ [] ≡ replicate (count / 32) (replicate 32 y) ++ replicate 1 (replicate (count % 32) y)
 made none whole full last count y start added is_full is_last =
-    let so : whole ≡ replicate (count / 64) (replicate 64 y) =
-    added ∙ (ap (λ p. p ++ replicate (count / 64) full) start ∙ ap (λ f. replicate (count / 64) f) is_full) in
-    ap (λ p. p ++ last ∷ []) so ∙ ap (λ l. replicate (count / 64) (replicate 64 y) ++ l ∷ []) is_last
+    let so : whole ≡ replicate (count / 32) (replicate 32 y) =
+    added ∙ (ap (λ p. p ++ replicate (count / 32) full) start ∙ ap (λ f. replicate (count / 32) f) is_full) in
+    ap (λ p. p ++ last ∷ []) so ∙ ap (λ l. replicate (count / 32) (replicate 32 y) ++ l ∷ []) is_last
 
 -- pages before a last one
 pub page_before : {A : Type 0} (lists : List (List A)) (last : List A) (n : ℕ) → n < length lists → page_at (lists ++ last ∷ []) n ≡ page_at lists n
@@ -232,13 +232,13 @@ either_pages (Ok done) old new n k y put refused are = subst ArePages (sym put) 
 either_pages (Err fault) old new n k y put refused are = subst ArePages (sym refused) are
 
 -- members on a page that is the same are the same
-pub same_on : {A : Type 0} (lists others : List (List A)) (from place : ℕ) → ArePages lists → ArePages others → from % 64 ≡ 0
-    → page_at lists (from / 64) ≡ page_at others (from / 64) → from ≤ place → place < from + 64
+pub same_on : {A : Type 0} (lists others : List (List A)) (from place : ℕ) → ArePages lists → ArePages others → from % 32 ≡ 0
+    → page_at lists (from / 32) ≡ page_at others (from / 32) → from ≤ place → place < from + 32
     → slice_get (joined lists) place ≡ slice_get (joined others) place
 same_on lists others from place are_first are_second begins same low high =
-    let page : place / 64 ≡ from / 64 = omega arith in
+    let page : place / 32 ≡ from / 32 = omega arith in
     get_joined lists place are_first
-    ∙ (ap (λ (n : ℕ). slice_get (page_at lists n) (place % 64)) page
-    ∙ (ap (λ slots. slice_get slots (place % 64)) same
-    ∙ (ap (λ (n : ℕ). slice_get (page_at others n) (place % 64)) (sym page)
+    ∙ (ap (λ (n : ℕ). slice_get (page_at lists n) (place % 32)) page
+    ∙ (ap (λ slots. slice_get slots (place % 32)) same
+    ∙ (ap (λ (n : ℕ). slice_get (page_at others n) (place % 32)) (sym page)
     ∙ sym (get_joined others place are_second))))

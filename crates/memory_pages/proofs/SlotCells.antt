@@ -9,8 +9,7 @@ use Rattle.std.proofs.Common.{◌≡◌, sym, subst, ◌∙◌, ℕ, Bool, true,
 use Rattle.std.proofs.lemmas.Bool.{eqb-true, eq-eqb, false≢true}
 use Rattle.memory_pages.specs.declared.byte.Byte.{Byte}
 use Rattle.memory_pages.specs.declared.held.Held.{Held}
-use Rattle.memory_pages.specs.declared.slot.Kept.{Kept}
-use Rattle.memory_pages.specs.Slots.{HeldSlot, table, kept_in, slot_of, with_cell, without_wider, with_wider_marked, marked, marked_kept}
+use Rattle.memory_pages.specs.Slots.{SizedCell, HeldSlot, table, kept_in, slot_of, with_cell, without_wider, with_wider_marked, marked, marked_kept}
 
 by_test : {A : Type 0} (v : Bool) → (v ≡ true → A) → (v ≡ false → A) → A
 by_test true holds fails = holds refl
@@ -24,8 +23,8 @@ same_cells : (byte : Byte) (f g : ℕ → Option Held) → ((size : ℕ) → f s
 same_cells byte f g same = λ i. record { byte = byte; cells = table (λ size. same size i) }
 
 -- the new cell in the place of that of its size
-kept_more : (kept : List Kept) (size : ℕ) (cell : Held) (width : ℕ)
-    → kept_in (filter (λ (k : Kept). not (k.size == size)) kept ++ record { size = size; cell = cell } ∷ []) width ≡ (if width == size then Some cell else kept_in kept width)
+kept_more : (kept : List SizedCell) (size : ℕ) (cell : Held) (width : ℕ)
+    → kept_in (filter (λ (k : SizedCell). not (k.size == size)) kept ++ record { size = size; cell = cell } ∷ []) width ≡ (if width == size then Some cell else kept_in kept width)
 kept_more [] size cell width = by_test (size == width)
     (λ same. let turned : (width == size) ≡ true = eq-eqb width size (sym (eqb-true size width same)) in rw (same, turned) refl)
     (λ differ. let turned : (width == size) ≡ false = by_test (width == size) (λ same. absurd (false≢true (sym differ ∙ eq-eqb size width (sym (eqb-true width size same))))) (λ other. other) in
@@ -34,7 +33,7 @@ kept_more (first ∷ kept) size cell width = by_test (first.size == size)
     (λ gone. by_test (first.size == width)
     (λ here.
     let turned : (width == size) ≡ true = eq-eqb width size (sym (eqb-true first.size width here) ∙ eqb-true first.size size gone) in
-    let rest : kept_in (filter (λ (k : Kept). not (k.size == size)) kept ++ record { size = size; cell = cell } ∷ []) width ≡ Some cell = kept_more kept size cell width ∙ rw turned refl in
+    let rest : kept_in (filter (λ (k : SizedCell). not (k.size == size)) kept ++ record { size = size; cell = cell } ∷ []) width ≡ Some cell = kept_more kept size cell width ∙ rw turned refl in
     rw (gone, turned) rest)
     (λ there. rw (gone, there) (kept_more kept size cell width)))
     (λ stays. by_test (first.size == width)
@@ -43,18 +42,18 @@ kept_more (first ∷ kept) size cell width = by_test (first.size == size)
     rw (stays, here, turned) refl)
     (λ there. rw (stays, there) (kept_more kept size cell width)))
 
-pub kept_cell : (byte : Byte) (kept : List Kept) (size : ℕ) (cell : Held)
-    → slot_of byte (filter (λ (k : Kept). not (k.size == size)) kept ++ record { size = size; cell = cell } ∷ []) ≡ with_cell (slot_of byte kept) size cell
+pub kept_cell : (byte : Byte) (kept : List SizedCell) (size : ℕ) (cell : Held)
+    → slot_of byte (filter (λ (k : SizedCell). not (k.size == size)) kept ++ record { size = size; cell = cell } ∷ []) ≡ with_cell (slot_of byte kept) size cell
 kept_cell byte kept size cell = same_cells byte _ _ (kept_more kept size cell)
 
 -- the cells of more bits are gone
-less : (kept : List Kept) (than width : ℕ) → kept_in (filter (λ (k : Kept). not (nat_lt than k.size)) kept) width ≡ (if nat_lt than width then None else kept_in kept width)
+less : (kept : List SizedCell) (than width : ℕ) → kept_in (filter (λ (k : SizedCell). not (nat_lt than k.size)) kept) width ≡ (if nat_lt than width then None else kept_in kept width)
 less [] than width = by_test (nat_lt than width) (λ wide. rw wide refl) (λ small. rw small refl)
 less (first ∷ kept) than width = by_test (nat_lt than first.size)
     (λ gone. by_test (first.size == width)
     (λ here.
     let wide : nat_lt than width ≡ true = subst (λ (n : ℕ). nat_lt than n ≡ true) (eqb-true first.size width here) gone in
-    let rest : kept_in (filter (λ (k : Kept). not (nat_lt than k.size)) kept) width ≡ None = less kept than width ∙ rw wide refl in
+    let rest : kept_in (filter (λ (k : SizedCell). not (nat_lt than k.size)) kept) width ≡ None = less kept than width ∙ rw wide refl in
     rw (gone, wide) rest)
     (λ there. rw (gone, there) (less kept than width)))
     (λ stays. by_test (first.size == width)
@@ -63,11 +62,11 @@ less (first ∷ kept) than width = by_test (nat_lt than first.size)
     rw (stays, here, small) refl)
     (λ there. rw (stays, there) (less kept than width)))
 
-pub apart_cells : (byte : Byte) (kept : List Kept) (than : ℕ) → slot_of byte (filter (λ (k : Kept). not (nat_lt than k.size)) kept) ≡ without_wider (slot_of byte kept) than
+pub apart_cells : (byte : Byte) (kept : List SizedCell) (than : ℕ) → slot_of byte (filter (λ (k : SizedCell). not (nat_lt than k.size)) kept) ≡ without_wider (slot_of byte kept) than
 apart_cells byte kept than = same_cells byte _ _ (less kept than)
 
 -- the cells of more bits are marked
-more_marked : (kept : List Kept) (than width : ℕ) → kept_in (map (marked_kept than) kept) width ≡ (if nat_lt than width then marked (kept_in kept width) else kept_in kept width)
+more_marked : (kept : List SizedCell) (than width : ℕ) → kept_in (map (marked_kept than) kept) width ≡ (if nat_lt than width then marked (kept_in kept width) else kept_in kept width)
 more_marked [] than width = by_test (nat_lt than width) (λ wide. rw wide refl) (λ small. rw small refl)
 more_marked (first ∷ kept) than width = by_test (nat_lt than first.size)
     (λ wider. by_test (first.size == width)
@@ -81,5 +80,5 @@ more_marked (first ∷ kept) than width = by_test (nat_lt than first.size)
     rw (stays, here, small) refl)
     (λ there. rw (stays, there) (more_marked kept than width)))
 
-pub marked_cells : (byte : Byte) (kept : List Kept) (than : ℕ) → slot_of byte (map (marked_kept than) kept) ≡ with_wider_marked (slot_of byte kept) than
+pub marked_cells : (byte : Byte) (kept : List SizedCell) (than : ℕ) → slot_of byte (map (marked_kept than) kept) ≡ with_wider_marked (slot_of byte kept) than
 marked_cells byte kept than = same_cells byte _ _ (more_marked kept than)

@@ -1,3 +1,4 @@
 -- The files of this folder.
+pub mod KeptBytes
 pub mod Slots
 pub mod Pages

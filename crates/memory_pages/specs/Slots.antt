@@ -1,5 +1,6 @@
 -- What a slot holds: one byte of a frame, and the cells that begin at it.
 --   IsCellSize size              whole bytes from 8 to 64 bits
+--   SizedCell                    a cell and its size in bits
 --   HeldSlot                     the byte, and at place k the cell of 8 * k bits, if it is kept
 --   cell_of slot size            the cell of this size, if it is kept
 --   table cells                  these cells by size
@@ -11,11 +12,15 @@
 use Rattle.std.specs.Prelude.{◌≡◌, ℕ, true, List, [], ◌∷◌, map, Option, Some, None, ◌<◌, ◌≤◌, ◌/◌, ◌%◌, ◌==◌, nat_lt, if◌then◌else◌, slice_get}
 use Rattle.memory_pages.specs.declared.byte.Byte.{Byte}
 use Rattle.memory_pages.specs.declared.held.Held.{Held}
-use Rattle.memory_pages.specs.declared.slot.Kept.{Kept}
 
 -- the size of a cell
 abbrev pub IsCellSize : ℕ → Type 0
 IsCellSize size = (0 < size / 8) × (size % 8 ≡ 0) × (size ≤ 64)
+
+-- a cell and its size
+pub record SizedCell : Type 0 where
+  pub size : ℕ
+  pub cell : Held
 
 pub record HeldSlot : Type 0 where
   pub byte : Byte
@@ -34,11 +39,11 @@ abbrev pub table : (ℕ → Option Held) → List (Option Held)
 table cells = None ∷ map cells (8 ∷ 16 ∷ 24 ∷ 32 ∷ 40 ∷ 48 ∷ 56 ∷ 64 ∷ [])
 
 -- the cell of this size among those with their sizes
-abbrev pub kept_in : List Kept → ℕ → Option Held
+abbrev pub kept_in : List SizedCell → ℕ → Option Held
 kept_in [] size = None
 kept_in (kept ∷ others) size = if kept.size == size then Some kept.cell else kept_in others size
 
-abbrev pub slot_of : Byte → List Kept → HeldSlot
+abbrev pub slot_of : Byte → List SizedCell → HeldSlot
 slot_of byte kept = record { byte = byte; cells = table (kept_in kept) }
 
 -- no cell is kept
@@ -65,5 +70,5 @@ abbrev pub with_wider_marked : HeldSlot → ℕ → HeldSlot
 with_wider_marked slot than = record { byte = slot.byte; cells = table (λ width. if nat_lt than width then marked (cell_of slot width) else cell_of slot width) }
 
 -- the same of a list of cells with their sizes
-abbrev pub marked_kept : ℕ → Kept → Kept
+abbrev pub marked_kept : ℕ → SizedCell → SizedCell
 marked_kept than kept = if nat_lt than kept.size then record { size = kept.size; cell = record { value = kept.cell.value; u = kept.cell.u; x = true } } else kept

@@ -14,7 +14,7 @@ use std::rc::Rc;
 
 /// The slots of a frame, one for each byte.
 ///
-/// They lie on pages of 64, and on a last page as long as what is left, which a frame of fewer bytes has alone.
+/// They lie on pages of 32, and on a last page as long as what is left, which a frame of fewer bytes has alone.
 /// Copies share each page until a slot is put on it.
 #[derive(Drop)]
 pub struct FrameSlots {
@@ -51,11 +51,11 @@ fn page_of<'p>(whole: &'p [Rc<Page>], last: &'p Rc<Page>, number: usize) -> Opti
 
 /// The slot at this place.
 fn slot_in<'p>(whole: &'p [Rc<Page>], last: &'p Rc<Page>, at: usize) -> Option<&'p Slot>
-    ensures { option_map (λ slot. slot.now) result ≡ slice_get (page_at (all_pages whole.now last.now) (at / 64)) (at % 64) }
+    ensures { option_map (λ slot. slot.now) result ≡ slice_get (page_at (all_pages whole.now last.now) (at / 32)) (at % 32) }
 {
-    match page_of(whole, last, at / 64) {
+    match page_of(whole, last, at / 32) {
         None => None,
-        Some(page) => page.slot(at % 64),
+        Some(page) => page.slot(at % 32),
     }
 }
 
@@ -76,27 +76,27 @@ fn put_among(
     at: usize,
     slot: Rc<Slot>,
 ) -> Result<(), AllocError>
-    requires page { at / 64 < length (all_pages whole.old last.old) }
-    requires slot { at % 64 < length (page_at (all_pages whole.old last.old) (at / 64)) }
-    ensures put { OnOk result (all_pages whole.new last.new ≡ slice_set (all_pages whole.old last.old) (at / 64) (slice_set (page_at (all_pages whole.old last.old) (at / 64)) (at % 64) slot.value)) }
+    requires page { at / 32 < length (all_pages whole.old last.old) }
+    requires slot { at % 32 < length (page_at (all_pages whole.old last.old) (at / 32)) }
+    ensures put { OnOk result (all_pages whole.new last.new ≡ slice_set (all_pages whole.old last.old) (at / 32) (slice_set (page_at (all_pages whole.old last.old) (at / 32)) (at % 32) slot.value)) }
     ensures refused { OnErr result (all_pages whole.new last.new ≡ all_pages whole.old last.old) }
 {
-    if at / 64 < whole.len() {
+    if at / 32 < whole.len() {
         put_in(whole, at, slot)
     } else {
-        put_on(last, at % 64, slot)
+        put_on(last, at % 32, slot)
     }
 }
 
 impl FrameSlots {
-    /// So many slots with this byte, at which no cell begins. They share one page of 64.
+    /// So many slots with this byte, at which no cell begins. They share one page of 32.
     pub fn new(alloc: Global, count: usize, byte: &Byte) -> Result<FrameSlots, AllocError>
         ensures { IfOk result (λ frame. frame ≡ replicate count (bare byte.now)) }
     {
-        let page = bare_page(alloc, byte, 64)?;
-        let last = bare_page(alloc, byte, count % 64)?;
+        let page = bare_page(alloc, byte, 32)?;
+        let last = bare_page(alloc, byte, count % 32)?;
         let mut whole = Vec::new(alloc);
-        share_page(&mut whole, &page, count / 64)?;
+        share_page(&mut whole, &page, count / 32)?;
         Ok(FrameSlots { whole, last })
     }
 
@@ -126,15 +126,15 @@ impl FrameSlots {
         })
     }
 
-    /// How many slots from this place on are known to be the same: 64 where a page begins here and is the
+    /// How many slots from this place on are known to be the same: 32 where a page begins here and is the
     /// same on both sides, else none.
     pub fn same_ahead(&self, other: &FrameSlots, at: usize) -> usize
         ensures { (place : ℕ) → at ≤ place → place < at + result → slice_get self.now place ≡ slice_get other.now place }
     {
-        let own = page_of(&self.whole, &self.last, at / 64);
-        let others = page_of(&other.whole, &other.last, at / 64);
-        if at % 64 == 0 && are_same(own, others) {
-            64
+        let own = page_of(&self.whole, &self.last, at / 32);
+        let others = page_of(&other.whole, &other.last, at / 32);
+        if at % 32 == 0 && are_same(own, others) {
+            32
         } else {
             0
         }

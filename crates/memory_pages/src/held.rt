@@ -26,7 +26,7 @@ pub fn copied_value(alloc: Global, value: &Option<AVal>) -> Result<Option<AVal>,
 }
 
 /// Both have the same value, or none.
-fn same_value(a: &Option<AVal>, b: &Option<AVal>) -> bool
+pub(crate) fn same_value(a: &Option<AVal>, b: &Option<AVal>) -> bool
     ensures { IsTrue result → a.now ≡ b.now }
 {
     match (a, b) {
@@ -46,12 +46,5 @@ impl Held {
             u: self.u,
             x: self.x,
         })
-    }
-
-    /// True only where both are the same cell.
-    pub fn is_same(&self, other: &Held) -> bool
-        ensures { IsTrue result → self.now ≡ other.now }
-    {
-        self.u == other.u && self.x == other.x && same_value(&self.value, &other.value)
     }
 }

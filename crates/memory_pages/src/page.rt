@@ -102,7 +102,7 @@ fn shared_slots(alloc: Global, slots: &[Rc<Slot>]) -> Result<Vec<Rc<Slot>>, Allo
 fn bare_slots(alloc: Global, byte: &Byte, count: usize) -> Result<Vec<Rc<Slot>>, AllocError>
     ensures { IfOk result (λ slots. held slots.items ≡ replicate count (bare byte.now)) }
 {
-    let slot = shared(alloc, Slot::bare(alloc, byte))?;
+    let slot = shared(alloc, Slot::bare(alloc, byte)?)?;
     let mut slots = Vec::with_capacity(alloc, count)?;
     for _number in 0..count {
         slots.push(slot.clone()?)?;
@@ -191,10 +191,10 @@ pub(crate) fn put_on(page: &mut Rc<Page>, at: usize, slot: Rc<Slot>) -> Result<(
 
 /// Puts a slot on the page of its place.
 pub(crate) fn put_in(pages: &mut [Rc<Page>], at: usize, slot: Rc<Slot>) -> Result<(), AllocError>
-    requires page { at / 64 < length pages.old }
-    requires slot { at % 64 < length (page_at (pages_of pages.old) (at / 64)) }
-    ensures put { OnOk result (pages_of pages.new ≡ slice_set (pages_of pages.old) (at / 64) (slice_set (page_at (pages_of pages.old) (at / 64)) (at % 64) slot.value)) }
+    requires page { at / 32 < length pages.old }
+    requires slot { at % 32 < length (page_at (pages_of pages.old) (at / 32)) }
+    ensures put { OnOk result (pages_of pages.new ≡ slice_set (pages_of pages.old) (at / 32) (slice_set (page_at (pages_of pages.old) (at / 32)) (at % 32) slot.value)) }
     ensures refused { OnErr result (pages_of pages.new ≡ pages_of pages.old) }
 {
-    put_on(&mut pages[at / 64], at % 64, slot)
+    put_on(&mut pages[at / 32], at % 32, slot)
 }

@@ -1,26 +1,21 @@
 //! What is kept at one offset of a frame.
 
-ghost use Rattle.std.specs.Prelude.{◌≡◌, IsTrue, IfOk, OnOk, map, ◌==◌, ◌++◌, ◌∷◌, [], nat_lt};
+ghost use Rattle.std.specs.Prelude.{◌≡◌, IsTrue, IfOk, OnOk, OnErr, map, ◌==◌, ◌++◌, ◌∷◌, [], nat_lt};
 ghost use Rattle.std.specs.Option.{option_map};
 ghost use Rattle.memory_pages.specs.Slots.{kept_in, bare, with_byte, with_cell, without_wider, with_wider_marked, marked_kept, cell_of, IsCellSize};
 
-use crate::byte::{Byte, same_byte};
+use crate::byte::Byte;
 use crate::held::Held;
+use crate::kept_byte::KeptByte;
+use crate::kept_cell::KeptCell;
 use std::alloc::{AllocError, Global};
 use std::marker::Model;
-
-/// A cell and its size in bits.
-#[derive(Debug, Drop)]
-pub(crate) struct Kept {
-    size: u32,
-    cell: Held,
-}
 
 /// One byte of a frame, and the cells that begin at it.
 #[derive(Debug, Drop)]
 pub struct Slot {
-    byte: Byte,
-    cells: Vec<Kept>,
+    byte: KeptByte,
+    cells: Vec<KeptCell>,
 }
 
 impl Model for Slot {
@@ -32,14 +27,14 @@ impl Model for Slot {
 }
 
 /// The cell of this size.
-fn find_cell(cells: &[Kept], size: u32) -> Option<&Held>
-    ensures { option_map (λ cell. cell.now) result ≡ kept_in cells.now size }
+fn find_cell(cells: &[KeptCell], size: u32) -> Option<&KeptCell>
+    ensures { option_map (λ kept. kept.now.cell) result ≡ kept_in cells.now size }
 {
     match cells.split_first() {
         None => None,
         Some((first, others)) => {
-            if first.size == size {
-                Some(&first.cell)
+            if first.size() == size {
+                Some(first)
             } else {
                 find_cell(others, size)
             }
@@ -47,36 +42,19 @@ fn find_cell(cells: &[Kept], size: u32) -> Option<&Held>
     }
 }
 
-/// A copy of a cell with its size.
-fn copied_kept(alloc: Global, kept: &Kept) -> Result<Kept, AllocError>
-    ensures { IfOk result (λ copy. copy ≡ kept.now) }
-{
-    Ok(Kept {
-        size: kept.size,
-        cell: kept.cell.copy(alloc)?,
-    })
-}
-
 /// Copies of cells with their sizes.
-fn copied_cells(alloc: Global, cells: &[Kept]) -> Result<Vec<Kept>, AllocError>
+fn copied_cells(alloc: Global, cells: &[KeptCell]) -> Result<Vec<KeptCell>, AllocError>
     ensures { IfOk result (λ copy. copy.items ≡ cells.now) }
 {
     let mut copy = Vec::with_capacity(alloc, cells.len())?;
     for kept in cells {
-        copy.push(copied_kept(alloc, kept)?)?;
+        copy.push(kept.copied(alloc)?)?;
     }
     Ok(copy)
 }
 
-/// True only where both are the same cell, of the same size.
-fn same_kept(a: &Kept, b: &Kept) -> bool
-    ensures { IsTrue result → a.now ≡ b.now }
-{
-    a.size == b.size && a.cell.is_same(&b.cell)
-}
-
 /// True only where both are the same cells in the same order.
-fn same_cells(a: &[Kept], b: &[Kept]) -> bool
+fn same_cells(a: &[KeptCell], b: &[KeptCell]) -> bool
     ensures { IsTrue result → a.now ≡ b.now }
 {
     let Some((first, others)) = a.split_first() else {
@@ -85,33 +63,22 @@ fn same_cells(a: &[Kept], b: &[Kept]) -> bool
     let Some((cell, cells)) = b.split_first() else {
         return false;
     };
-    same_kept(first, cell) && same_cells(others, cells)
-}
-
-/// A copy of a cell with its size, with `x` where it has more bits.
-fn marked_copy(alloc: Global, kept: &Kept, than: u32) -> Result<Kept, AllocError>
-    ensures { IfOk result (λ copy. copy ≡ marked_kept than kept.now) }
-{
-    let mut copy = copied_kept(alloc, kept)?;
-    if than < copy.size {
-        copy.cell.x = true;
-    }
-    Ok(copy)
+    first.is_same(cell) && same_cells(others, cells)
 }
 
 /// Copies of cells with their sizes, with `x` where they have more bits.
-fn marked_copies(alloc: Global, cells: &[Kept], than: u32) -> Result<Vec<Kept>, AllocError>
+fn marked_copies(alloc: Global, cells: &[KeptCell], than: u32) -> Result<Vec<KeptCell>, AllocError>
     ensures { IfOk result (λ copy. copy.items ≡ map (marked_kept than) cells.now) }
 {
     let mut copy = Vec::with_capacity(alloc, cells.len())?;
     for kept in cells {
-        copy.push(marked_copy(alloc, kept, than)?)?;
+        copy.push(kept.marked(alloc, than)?)?;
     }
     Ok(copy)
 }
 
 /// Adds a cell with its size. Takes room for no more cells, since most slots keep one.
-fn push_kept(cells: &mut Vec<Kept>, kept: Kept) -> Result<(), AllocError>
+fn push_kept(cells: &mut Vec<KeptCell>, kept: KeptCell) -> Result<(), AllocError>
     ensures { OnOk result (cells.new.items ≡ cells.old.items ++ kept ∷ []) }
 {
     cells.reserve_exact(1)?;
@@ -122,41 +89,55 @@ fn push_kept(cells: &mut Vec<Kept>, kept: Kept) -> Result<(), AllocError>
 }
 
 /// The cell has this size.
-fn has_size(kept: &Kept, size: u32) -> bool
+fn has_size(kept: &KeptCell, size: u32) -> bool
     ensures { result ≡ (kept.now.size == size) }
 {
-    kept.size == size
+    kept.size() == size
 }
 
 /// The cell has more bits.
-fn is_wider(kept: &Kept, than: u32) -> bool
+fn is_wider(kept: &KeptCell, than: u32) -> bool
     ensures { result ≡ nat_lt than kept.now.size }
 {
-    than < kept.size
+    than < kept.size()
 }
 
 impl Slot {
-    /// A slot at which no cell begins. Takes no memory.
-    pub fn bare(alloc: Global, byte: &Byte) -> Slot
-        ensures { result ≡ bare byte.now }
+    /// A slot at which no cell begins. Takes memory only where the words of the byte have not 8 bits.
+    pub fn bare(alloc: Global, byte: &Byte) -> Result<Slot, AllocError>
+        ensures { IfOk result (λ slot. slot ≡ bare byte.now) }
     {
-        Slot {
-            byte: *byte,
+        Ok(Slot {
+            byte: KeptByte::of(alloc, byte)?,
             cells: Vec::new(alloc),
-        }
+        })
+    }
+
+    /// True only where it has this byte, and no cell begins here.
+    pub fn is_bare(&self, byte: &Byte) -> bool
+        ensures { IsTrue result → self.now ≡ bare byte.now }
+    {
+        self.cells.is_empty() && self.byte.is(byte)
+    }
+
+    /// True only where it has this byte.
+    pub fn has_byte(&self, byte: &Byte) -> bool
+        ensures { IsTrue result → self.now.byte ≡ byte.now }
+    {
+        self.byte.is(byte)
     }
 
     /// Its byte.
     pub fn byte(&self) -> Byte
         ensures { result ≡ self.now.byte }
     {
-        self.byte
+        self.byte.byte()
     }
 
     /// The cell of this size in bits that begins here, if it is kept.
-    pub fn cell(&self, size: u32) -> Option<&Held>
+    pub fn cell(&self, size: u32) -> Option<&KeptCell>
         requires { IsCellSize size }
-        ensures { option_map (λ cell. cell.now) result ≡ cell_of self.now size }
+        ensures { option_map (λ kept. kept.now.cell) result ≡ cell_of self.now size }
     {
         find_cell(&self.cells, size)
     }
@@ -166,7 +147,7 @@ impl Slot {
         ensures { IfOk result (λ copy. copy ≡ self.now) }
     {
         Ok(Slot {
-            byte: self.byte,
+            byte: self.byte.copy(alloc)?,
             cells: copied_cells(alloc, &self.cells)?,
         })
     }
@@ -175,14 +156,16 @@ impl Slot {
     pub fn is_same(&self, other: &Slot) -> bool
         ensures { IsTrue result → self.now ≡ other.now }
     {
-        same_byte(self.byte, other.byte) && same_cells(&self.cells, &other.cells)
+        self.byte.is_same(&other.byte) && same_cells(&self.cells, &other.cells)
     }
 
-    /// Sets its byte.
-    pub fn set_byte(&mut self, byte: Byte)
-        ensures { self.new ≡ with_byte self.old byte }
+    /// Sets its byte. After want of memory the slot is as it was.
+    pub fn set_byte(&mut self, alloc: Global, byte: &Byte) -> Result<(), AllocError>
+        ensures set { OnOk result (self.new ≡ with_byte self.old byte.now) }
+        ensures refused { OnErr result (self.new ≡ self.old) }
     {
-        self.byte = byte;
+        self.byte = KeptByte::of(alloc, byte)?;
+        Ok(())
     }
 
     /// Keeps the cell of this size in bits. After want of memory the slot is given up.
@@ -190,7 +173,7 @@ impl Slot {
         ensures { OnOk result (self.new ≡ with_cell self.old size cell) }
     {
         self.cells.retain(|kept| !has_size(kept, size));
-        push_kept(&mut self.cells, Kept { size, cell })
+        push_kept(&mut self.cells, KeptCell::of(size, cell))
     }
 
     /// Drops the cells that have more bits.
@@ -205,7 +188,7 @@ impl Slot {
         ensures { IfOk result (λ copy. copy ≡ with_wider_marked self.now than) }
     {
         Ok(Slot {
-            byte: self.byte,
+            byte: self.byte.copy(alloc)?,
             cells: marked_copies(alloc, &self.cells, than)?,
         })
     }

@@ -6,4 +6,4 @@ use Rattle.frame_memory.proofs.load.cell_onto.Goals as goal
 pub bytes_onto-requires-clause-before_sized : goal.bytes_onto-requires-clause-before_sized
 bytes_onto-requires-clause-before_sized c =
     let own = rw c.in_ok-own.was at c.value_onto.ensures in
-    told_sized c.args.size c.args.before c.in_ok-own.own c.fault_onto-told.result (seen c.args.cell.now) c.requires.before_sized c.requires.cell_sized own c.fault_onto-told.ensures
+    told_sized c.args.size c.args.before c.in_ok-own.own c.fault_onto-told.result (seen c.args.cell.now.cell) c.requires.before_sized c.requires.cell_sized own c.fault_onto-told.ensures

@@ -10,10 +10,10 @@ pub returns-in-Some-clause-value : goal.returns-in-Some-clause-value
 returns-in-Some-clause-value c =
     let kept = rw c.in-Some.is at c.kept_cell.ensures in
     IfSome_then c.known_in.result c.known_in.ensures
-    (λ value is. known_is (frame_of c.args.slots.now) c.args.offset c.args.size (seen c.in-Some.cell.now) value.now kept is)
+    (λ value is. known_is (frame_of c.args.slots.now) c.args.offset c.args.size (seen c.in-Some.cell.now.cell) value.now kept is)
 
 pub returns-in-Some-clause-sized : goal.returns-in-Some-clause-sized
 returns-in-Some-clause-sized c =
     let kept = rw c.in-Some.is at c.kept_cell.ensures in
     IfSome_then c.known_in.result c.known_in.ensures
-    (λ value is. known_sized (frame_of c.args.slots.now) c.args.offset c.args.size (seen c.in-Some.cell.now) value.now c.requires.frame_sized kept is)
+    (λ value is. known_sized (frame_of c.args.slots.now) c.args.offset c.args.size (seen c.in-Some.cell.now.cell) value.now c.requires.frame_sized kept is)

@@ -10,14 +10,14 @@ use Rattle.frame_memory.proofs.load.load_onto.Goals as goal
 pub cell_onto-requires-clause-cell_sized : goal.cell_onto-requires-clause-cell_sized
 cell_onto-requires-clause-cell_sized c =
     let kept = rw c.in-Some.is at c.kept_cell.ensures in
-    kept_sized (frame_of c.args.slots.now) c.args.offset c.args.size (seen c.in-Some.cell.now) c.requires.frame_sized kept
+    kept_sized (frame_of c.args.slots.now) c.args.offset c.args.size (seen c.in-Some.cell.now.cell) c.requires.frame_sized kept
 
 pub returns-in-Some-clause-onto : goal.returns-in-Some-clause-onto
 returns-in-Some-clause-onto c =
     let kept = rw c.in-Some.is at c.kept_cell.ensures in
     let m = frame_of c.args.slots.now in
-    load_is m c.args.offset c.args.size c.args.before (seen c.in-Some.cell.now) c.cell_onto.result
-    (kept_stands m c.args.offset c.args.size (seen c.in-Some.cell.now) kept) c.cell_onto.ensures
+    load_is m c.args.offset c.args.size c.args.before (seen c.in-Some.cell.now.cell) c.cell_onto.result
+    (kept_stands m c.args.offset c.args.size (seen c.in-Some.cell.now.cell) kept) c.cell_onto.ensures
 
 pub returns-in-Some-clause-faults : goal.returns-in-Some-clause-faults
 returns-in-Some-clause-faults c =
@@ -32,8 +32,8 @@ pub returns-in-None-clause-onto : goal.returns-in-None-clause-onto
 returns-in-None-clause-onto c =
     let none = rw c.in-None.is at c.kept_cell.ensures in
     let m = frame_of c.args.slots.now in
-    load_is m c.args.offset c.args.size c.args.before (seen c.cell_of_bytes.result) c.cell_onto-in-None.result
-    (c.cell_of_bytes.ensures ∙ bytes_stand m c.args.offset c.args.size none) c.cell_onto-in-None.ensures
+    load_is m c.args.offset c.args.size c.args.before (seen c.unkept_cell.result.cell) c.cell_onto-in-None.result
+    (c.unkept_cell.ensures ∙ bytes_stand m c.args.offset c.args.size none) c.cell_onto-in-None.ensures
 
 pub returns-in-None-clause-faults : goal.returns-in-None-clause-faults
 returns-in-None-clause-faults c =

@@ -26,7 +26,7 @@ invariant_of-self c =
     let items : (with_items c.self.inside.whole c.put_among.new.whole).items ≡ c.put_among.new.whole =
     with_items_is c.self.inside.whole c.put_among.new.whole (c.put_among.auto.whole ∙ c.deref_mut.ensures.len) in
     subst (λ (pages : List (List HeldSlot)). ArePages pages) (sym (ap (λ pages. all_pages pages c.put_among.new.last) items))
-    (either_pages c.put_among.result (all_pages c.self.inside.whole.items c.self.inside.last) (all_pages c.put_among.new.whole c.put_among.new.last) (c.args.at / 64) (c.args.at % 64) c.args.slot
+    (either_pages c.put_among.result (all_pages c.self.inside.whole.items c.self.inside.last) (all_pages c.put_among.new.whole c.put_among.new.last) (c.args.at / 32) (c.args.at % 32) c.args.slot
     (rw (c.deref_mut.ensures.value, c.in_ok-slot.ensures) at c.put_among.ensures.put) (rw c.deref_mut.ensures.value at c.put_among.ensures.refused) c.self.invariant)
 
 pub returns : goal.returns

@@ -4,7 +4,7 @@
 --   room_only, room_least, room_most   there is room for one more
 --   visited_only, visited_apart   one more at a place
 --   room_for_more              there is room at each place, where the greatest number is no limit
-use Rattle.std.proofs.Common.{◌≡◌, ◌<◌, ◌+◌, ◌-◌, ◌^◌, ℕ, zero, suc, List, [], ◌∷◌, map, length, get_or, set, replicate, refl, sym, ap, ◌∙◌, subst, arith}
+use Rattle.std.proofs.Common.{◌≡◌, ◌<◌, ◌+◌, ◌-◌, ◌^◌, ℕ, zero, suc, List, ◌∷◌, map, length, get_or, set, replicate, refl, sym, ap, ◌∙◌, subst, arith}
 use Rattle.std.proofs.Math.ListN.{get_or-map}
 use Rattle.std.proofs.lemmas.List.{map-set, get_or_read}
 use Rattle.recorder_rules.specs.GeneratedLaws.{generated_is}

@@ -1,5 +1,5 @@
 -- What is left to show of `begun`.
-use Rattle.std.proofs.Common.{◌≡◌, ℕ, length, arith, ap, ◌∙◌, cond}
+use Rattle.std.proofs.Common.{◌≡◌, ℕ, length, arith, ◌∙◌, cond}
 use Rattle.recorder_rules.specs.TallyRules.{is_at, key_at}
 use Rattle.recorder_rules.specs.Generated.{generated}
 use Rattle.flow_recorders.proofs.Steps.{generated_more}

@@ -1,7 +1,6 @@
 -- Walks up the scopes of an outline.
 --   near own around s      the scope s is `own` or that around it
 use Rattle.std.proofs.Common.{◌==◌, ◌||◌, ℕ, Option, Bool}
-use Rattle.domain_core.specs.Outlines.{Outlined}
 use Rattle.recorder_rules.specs.TallyRules.{is_at}
 
 -- the scope s is `own` or that around it

@@ -6,27 +6,28 @@ ghost use Rattle.recorder_rules.specs.Generated.{generated};
 ghost use Rattle.recorder_rules.specs.TallyRules.{key_at, is_at};
 ghost use Rattle.recorder_rules.specs.LoopRules.{is_counted, counted_node, counted_scope, own_of};
 
+use crate::span_list::SpanList;
 use domain_core::{Outline, ScopeKind};
 use std::alloc::{AllocError, Global};
 
 /// The spans of a run that begins at node 0.
-pub fn begun(alloc: Global, nodes: &[Option<u32>]) -> Result<Vec<(u32, u32)>, AllocError>
-    ensures { IfOk result (λ spans. spans.items ≡ generated (length nodes.now) (λ i. if is_at (key_at nodes.now i) 0 then (1, 1) else (0, 0))) }
+pub fn begun(alloc: Global, nodes: &[Option<u32>]) -> Result<SpanList, AllocError>
+    ensures { IfOk result (λ spans. spans ≡ generated (length nodes.now) (λ i. if is_at (key_at nodes.now i) 0 then (1, 1) else (0, 0))) }
 {
-    let mut spans = Vec::new(alloc);
+    let mut counts = Vec::with_capacity(alloc, nodes.len())?;
     for i in 0..nodes.len() {
-        spans.push(begun_at(nodes[i]))?;
+        counts.push(begun_at(nodes[i]))?;
     }
-    Ok(spans)
+    Ok(SpanList::only(counts))
 }
 
-/// The span of a number whose node is visited where it is node 0.
-fn begun_at(node: Option<u32>) -> (u32, u32)
-    ensures { result ≡ (if is_at node 0 then (1, 1) else (0, 0)) }
+/// The visits of a number's node, which is visited where it is node 0.
+fn begun_at(node: Option<u32>) -> u32
+    ensures { result ≡ (if is_at node 0 then 1 else 0) }
 {
     match node {
-        None => (0, 0),
-        Some(n) => if n == 0 { (1, 1) } else { (0, 0) },
+        None => 0,
+        Some(n) => if n == 0 { 1 } else { 0 },
     }
 }
 

@@ -11,6 +11,7 @@
 mod leaving;
 
 // Counts in a whole run.
+mod span_list;
 mod spans;
 mod totals;
 

@@ -9,6 +9,7 @@ ghost use Rattle.flow_recorders.specs.Ledgers.{IsLedger};
 
 use crate::chains::{Chains, chained};
 use crate::leaving::left_scopes;
+use crate::span_list::SpanList;
 use crate::walked::{collect_scopes, enter, reset_scopes};
 use domain_core::Outline;
 use std::alloc::{AllocError, Global};
@@ -67,7 +68,7 @@ impl Tallies {
         &mut self,
         alloc: Global,
         outline: &Outline,
-        spans: &mut [(u32, u32)],
+        spans: &mut SpanList,
         from: u32,
         to: u32,
     ) -> Result<(), AllocError>
@@ -90,7 +91,7 @@ impl Tallies {
         &mut self,
         alloc: Global,
         outline: &Outline,
-        spans: &[(u32, u32)],
+        spans: &SpanList,
         last: u32,
     ) -> Result<(), AllocError>
         requires ledger { IsLedger self.old (length spans.now) }

@@ -1,10 +1,9 @@
 //! How often a run visits each node.
 
-ghost use Rattle.std.specs.Prelude.{◌≡◌, ℕ, ◌-◌, ◌^◌, ◌<◌, length, slice_set, slice_get, Option, Some};
-ghost use Rattle.recorder_rules.specs.Spans.{one_more, greatest};
-ghost use Rattle.recorder_rules.specs.TotalRules.{span_at};
+ghost use Rattle.std.specs.Prelude.{◌≡◌, ◌<◌, length, slice_get, Some};
 
-use crate::spans::{collect_all, spans};
+use crate::span_list::SpanList;
+use crate::spans::collect_all;
 use domain_core::{Lattice, Outline, Recorder};
 use std::alloc::{AllocError, Global};
 use std::marker::Model;
@@ -12,7 +11,7 @@ use std::marker::Model;
 /// For each node the least and the greatest number of its visits so far.
 #[derive(Drop)]
 pub struct Totals {
-    counts: Vec<(u32, u32)>,
+    counts: SpanList,
 }
 
 impl Model for Totals {
@@ -20,7 +19,7 @@ impl Model for Totals {
 
     ghost Value = { List (ℕ × ℕ) };
 
-    ghost view = { λ totals. totals.counts.items };
+    ghost view = { λ totals. totals.counts };
 }
 
 /// For each node the least and the greatest number of its visits in the runs that are over.
@@ -48,16 +47,6 @@ impl TotalsBook {
     }
 }
 
-/// One visit more of the node.
-fn visit(counts: &mut [(u32, u32)], node: usize)
-    requires low { node < length counts.old }
-    requires room { greatest counts.old < 2 ^ 32 - 1 }
-    ensures { counts.new ≡ slice_set counts.old node (one_more (span_at counts.old node)) }
-{
-    let (least, most) = counts[node];
-    counts[node] = (least + 1, most + 1);
-}
-
 impl Lattice for Totals {
     ghost use Rattle.recorder_rules.specs.TotalRules.{span_order};
     ghost use Rattle.recorder_rules.specs.TotalLaws.{span_is_order};
@@ -68,13 +57,13 @@ impl Lattice for Totals {
 
     fn copy(&self, alloc: Global) -> Result<Self, AllocError> {
         Ok(Totals {
-            counts: Vec::from_slice(alloc, &self.counts)?,
+            counts: self.counts.copied(alloc)?,
         })
     }
 
     fn join(&self, alloc: Global, other: &Self) -> Result<Self, AllocError> {
         Ok(Totals {
-            counts: spans(alloc, &self.counts, &other.counts)?,
+            counts: self.counts.joined(alloc, &other.counts)?,
         })
     }
 }
@@ -97,8 +86,8 @@ impl Recorder for Totals {
 
     fn start(alloc: Global, outline: &Outline) -> Result<Self, AllocError> {
         outline.kept();
-        let mut counts = vec![in alloc; (0u32, 0u32); outline.node_count() as usize]?;
-        counts[0] = (1, 1);
+        let mut counts = SpanList::zeros(alloc, outline.node_count() as usize)?;
+        counts.visit(0);
         Ok(Totals { counts })
     }
 
@@ -110,7 +99,7 @@ impl Recorder for Totals {
         _from: u32,
         to: u32,
     ) -> Result<(), AllocError> {
-        visit(&mut self.counts, to as usize);
+        self.counts.visit(to as usize);
         Ok(())
     }
 

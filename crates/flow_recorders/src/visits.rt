@@ -4,7 +4,7 @@ ghost use Rattle.std.specs.Prelude.{◌≡◌, ◌<◌, length, slice_get, Some}
 
 use crate::begun::begun;
 use crate::counted::Counted;
-use crate::spans::spans;
+use crate::span_list::SpanList;
 use crate::tallies::Tallies;
 use domain_core::{Lattice, Outline, Recorder};
 use std::alloc::{AllocError, Global};
@@ -14,7 +14,7 @@ use std::marker::{Model, PhantomData};
 /// execution of its scope that is not over.
 #[derive(Drop)]
 pub struct Visits<K> {
-    spans: Vec<(u32, u32)>,
+    spans: SpanList,
     counted: PhantomData<K>,
 }
 
@@ -23,7 +23,7 @@ impl<K> Model for Visits<K> {
 
     ghost Value = { List (ℕ × ℕ) };
 
-    ghost view = { λ visits. visits.spans.items };
+    ghost view = { λ visits. visits.spans };
 }
 
 /// For each of these numbers the least and the greatest number of visits in the executions that are over.
@@ -62,14 +62,14 @@ impl<K> Lattice for Visits<K> {
 
     fn copy(&self, alloc: Global) -> Result<Self, AllocError> {
         Ok(Visits {
-            spans: Vec::from_slice(alloc, &self.spans)?,
+            spans: self.spans.copied(alloc)?,
             counted: PhantomData,
         })
     }
 
     fn join(&self, alloc: Global, other: &Self) -> Result<Self, AllocError> {
         Ok(Visits {
-            spans: spans(alloc, &self.spans, &other.spans)?,
+            spans: self.spans.joined(alloc, &other.spans)?,
             counted: PhantomData,
         })
     }

@@ -8,48 +8,47 @@ ghost use Rattle.recorder_rules.specs.TallyRules.{key_at, is_at, spread_after};
 ghost use Rattle.flow_recorders.specs.Walked.{AreChanged};
 
 use crate::chains::Chains;
+use crate::span_list::SpanList;
 use crate::spans::with_span;
 
 /// Collects the spans of the numbers of a scope.
-fn collect_scope(
-    chains: &Chains,
-    scope: u32,
-    spans: &[(u32, u32)],
-    spreads: &mut [Option<(u32, u32)>],
-)
+fn collect_scope(chains: &Chains, scope: u32, spans: &SpanList, spreads: &mut [Option<(u32, u32)>])
     requires keys { length chains.now ≡ length spreads.old }
     requires spans { length spans.now ≡ length spreads.old }
     ensures { AreChanged chains.now scope (λ j. collected (spread_at spreads.old j) (span_at spans.now j)) None spreads.old spreads.new }
 {
     let mut i = chains.first_of(scope);
     while i < spreads.len() {
-        spreads[i] = with_span(spreads[i], spans[i]);
+        spreads[i] = with_span(spreads[i], spans.at(i));
         i = chains.after(i);
     }
 }
 
 /// Lets the numbers of a scope begin anew.
-fn reset_scope(chains: &Chains, scope: u32, spans: &mut [(u32, u32)])
+fn reset_scope(chains: &Chains, scope: u32, spans: &mut SpanList)
     requires { length chains.now ≡ length spans.old }
-    ensures { AreChanged chains.now scope (λ j. (0, 0)) (0, 0) spans.old spans.new }
+    ensures same_length { length spans.new ≡ length spans.old }
+    ensures reset { AreChanged chains.now scope (λ j. (0, 0)) (0, 0) spans.old spans.new }
 {
+    let count = spans.len();
     let mut i = chains.first_of(scope);
-    while i < spans.len() {
-        spans[i] = (0, 0);
+    while i < count {
+        spans.reset(i);
         i = chains.after(i);
     }
 }
 
 /// One visit more of the node, at each number that counts it.
-pub fn enter(chains: &Chains, node: u32, spans: &mut [(u32, u32)])
+pub fn enter(chains: &Chains, node: u32, spans: &mut SpanList)
     requires keys { length chains.now ≡ length spans.old }
     requires room { greatest spans.old < 2 ^ 32 - 1 }
-    ensures { AreChanged chains.now node (λ j. one_more (span_at spans.old j)) (0, 0) spans.old spans.new }
+    ensures same_length { length spans.new ≡ length spans.old }
+    ensures entered { AreChanged chains.now node (λ j. one_more (span_at spans.old j)) (0, 0) spans.old spans.new }
 {
+    let count = spans.len();
     let mut i = chains.first_of(node);
-    while i < spans.len() {
-        let (least, most) = spans[i];
-        spans[i] = (least + 1, most + 1);
+    while i < count {
+        spans.visit(i);
         i = chains.after(i);
     }
 }
@@ -58,7 +57,7 @@ pub fn enter(chains: &Chains, node: u32, spans: &mut [(u32, u32)])
 pub fn collect_scopes(
     chains: &Chains,
     scopes: &[u32],
-    spans: &[(u32, u32)],
+    spans: &SpanList,
     spreads: &mut [Option<(u32, u32)>],
 )
     requires keys { length chains.now ≡ length spreads.old }
@@ -71,9 +70,10 @@ pub fn collect_scopes(
 }
 
 /// Lets the numbers of these scopes begin anew.
-pub fn reset_scopes(chains: &Chains, scopes: &[u32], spans: &mut [(u32, u32)])
+pub fn reset_scopes(chains: &Chains, scopes: &[u32], spans: &mut SpanList)
     requires { length chains.now ≡ length spans.old }
-    ensures { (j : ℕ) → j < length spans.old → span_at spans.new j ≡ (if list_any (λ k. is_at (key_at chains.now j) k) scopes.now then (0, 0) else span_at spans.old j) }
+    ensures same_length { length spans.new ≡ length spans.old }
+    ensures reset { (j : ℕ) → j < length spans.old → span_at spans.new j ≡ (if list_any (λ k. is_at (key_at chains.now j) k) scopes.now then (0, 0) else span_at spans.old j) }
 {
     for scope in scopes {
         reset_scope(chains, *scope, spans);

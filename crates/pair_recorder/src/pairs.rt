@@ -12,23 +12,24 @@ use std::alloc::{AllocError, Global};
 use std::marker::Model;
 
 /// The nodes that are seen in the current iterations of their scopes, and which two of them stand in
-/// one: a bit for each node and for each two.
+/// one: a bit for each node, and after these for each two.
 #[derive(Drop)]
 pub struct Pairs {
     count: u32,
-    seen: Vec<u64>,
-    rows: Vec<u64>,
+    bits: Vec<u64>,
 }
 
 impl Model for Pairs {
+    ghost use Rattle.std.specs.Prelude.{take, drop};
     ghost use Rattle.recorder_rules.specs.PairRules.{Sightings};
+    ghost use Rattle.recorder_rules.specs.BitWords.{words_for};
     ghost use Rattle.recorder_rules.specs.Seen.{sightings, AreSized};
 
     ghost Value = { Sightings };
 
-    ghost view = { λ pairs. sightings pairs.count pairs.seen.items pairs.rows.items };
+    ghost view = { λ pairs. sightings pairs.count (take (words_for pairs.count) pairs.bits.items) (drop (words_for pairs.count) pairs.bits.items) };
 
-    ghost invariant = { λ pairs. AreSized pairs.count pairs.seen.items pairs.rows.items };
+    ghost invariant = { λ pairs. AreSized pairs.count (take (words_for pairs.count) pairs.bits.items) (drop (words_for pairs.count) pairs.bits.items) };
 }
 
 /// The pairs that were collected, as bits, and for each scope the nodes that it is the own scope of.
@@ -76,16 +77,14 @@ impl Lattice for Pairs {
     fn copy(&self, alloc: Global) -> Result<Self, AllocError> {
         Ok(Pairs {
             count: self.count,
-            seen: Vec::from_slice(alloc, &self.seen)?,
-            rows: Vec::from_slice(alloc, &self.rows)?,
+            bits: Vec::from_slice(alloc, &self.bits)?,
         })
     }
 
     fn join(&self, alloc: Global, other: &Self) -> Result<Self, AllocError> {
         let count = self.count;
-        let seen = both(alloc, &self.seen, &other.seen)?;
-        let rows = both(alloc, &self.rows, &other.rows)?;
-        Ok(Pairs { count, seen, rows })
+        let bits = both(alloc, &self.bits, &other.bits)?;
+        Ok(Pairs { count, bits })
     }
 }
 
@@ -118,11 +117,11 @@ impl Recorder for Pairs {
         outline.kept();
         let count = outline.node_count();
         let width = words(count);
-        let mut seen = vec![in alloc; 0u64; width]?;
-        let mut rows = vec![in alloc; 0u64; count as usize * width]?;
-        mark(&mut seen, 0, 0);
-        mark(&mut rows, 0, 0);
-        Ok(Pairs { count, seen, rows })
+        let mut bits = vec![in alloc; 0u64; width + count as usize * width]?;
+        let (seen, rows) = bits.split_at_mut(width);
+        mark(seen, 0, 0);
+        mark(rows, 0, 0);
+        Ok(Pairs { count, bits })
     }
 
     fn go(
@@ -134,12 +133,14 @@ impl Recorder for Pairs {
         to: u32,
     ) -> Result<(), AllocError> {
         outline.kept();
+        let width = words(self.count);
+        let (seen, rows) = self.bits.split_at_mut(width);
         advance(
             alloc,
             outline,
             &book.owned,
-            &mut self.seen,
-            &mut self.rows,
+            seen,
+            rows,
             &mut book.rows,
             from,
             to,
@@ -155,7 +156,8 @@ impl Recorder for Pairs {
         _last: u32,
     ) -> Result<(), AllocError> {
         outline.kept();
-        add_marked(&mut book.rows, &self.rows, &self.seen, self.count as usize);
+        let (seen, rows) = self.bits.split_at(words(self.count));
+        add_marked(&mut book.rows, rows, seen, self.count as usize);
         Ok(())
     }
 }

@@ -1,18 +1,19 @@
 -- What is left to show of `begun`.
-use Rattle.std.proofs.Common.{◌≡◌, ℕ, length, arith, ap, ◌∙◌, cond}
+use Rattle.std.proofs.Common.{◌≡◌, ℕ, length, arith, ◌∙◌, cond}
 use Rattle.recorder_rules.specs.TallyRules.{is_at, key_at}
 use Rattle.recorder_rules.specs.Generated.{generated}
 use Rattle.flow_recorders.proofs.Steps.{generated_more}
+use Rattle.flow_recorders.proofs.Keys.{begun_spans}
 use Rattle.flow_recorders.proofs.begun.begun.Goals as goal
 
 pub loop-i-init : goal.loop-i-init
 unfolding generated
-loop-i-init c = c.new-spans.ensures.items
+loop-i-init c = c.in_ok-counts.ensures.items
 
 pub loop-i-preserved : goal.loop-i-preserved
-loop-i-preserved c = c.in_ok-push.ensures.items ∙ generated_more c.loop-i.spans.items c.loop-i.i (λ (k : ℕ). cond (is_at (key_at c.args.nodes.now k) 0) (1, 1) (0, 0)) _ c.begun_at.ensures c.loop-i.invariant
+loop-i-preserved c = c.in_ok-push.ensures.items ∙ generated_more c.loop-i.counts.items c.loop-i.i (λ (k : ℕ). cond (is_at (key_at c.args.nodes.now k) 0) 1 0) _ c.begun_at.ensures c.loop-i.invariant
 
 pub returns : goal.returns
 returns c =
     let all : c.loop-i.i ≡ length c.args.nodes.now = (let over = c.loop-i-test.false in omega arith) in
-    c.loop-i.invariant ∙ ap (λ (k : ℕ). generated k (λ (k : ℕ). cond (is_at (key_at c.args.nodes.now k) 0) (1, 1) (0, 0))) all
+    c.only.ensures ∙ begun_spans c.loop-i.counts.items c.loop-i.i c.args.nodes.now all c.loop-i.invariant

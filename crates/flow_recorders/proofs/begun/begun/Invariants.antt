@@ -5,4 +5,4 @@ use Rattle.recorder_rules.specs.Generated.{generated}
 use Rattle.flow_recorders.proofs.begun.begun.Given as goal
 
 abbrev pub invariant-loop-i : goal.invariant-loop-i
-invariant-loop-i l = l.spans.items ≡ generated l.i (λ (k : ℕ). cond (is_at (key_at l.nodes k) 0) (1, 1) (0, 0))
+invariant-loop-i l = l.counts.items ≡ generated l.i (λ (k : ℕ). cond (is_at (key_at l.nodes k) 0) 1 0)

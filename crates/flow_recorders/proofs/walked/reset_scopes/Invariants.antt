@@ -6,5 +6,7 @@ use Rattle.flow_recorders.proofs.Walking.{reset_each}
 use Rattle.flow_recorders.proofs.walked.reset_scopes.Given as goal
 
 abbrev pub invariant-loop-scope : goal.invariant-loop-scope
-invariant-loop-scope l = (j : ℕ) → j < length l.fn.spans
-    → reset_each (key_at l.chains j) (span_at l.spans j) (drop l.scope-index l.scopes) ≡ reset_each (key_at l.chains j) (span_at l.fn.spans j) l.scopes
+invariant-loop-scope l = record {
+  same_length : length l.spans ≡ length l.fn.spans;
+  reset : (j : ℕ) → j < length l.fn.spans → reset_each (key_at l.chains j) (span_at l.spans j) (drop l.scope-index l.scopes) ≡ reset_each (key_at l.chains j) (span_at l.fn.spans j) l.scopes;
+}

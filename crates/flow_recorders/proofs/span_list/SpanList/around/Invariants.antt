@@ -2,7 +2,7 @@
 use Rattle.std.proofs.Common.{◌≡◌, get_or}
 use Rattle.recorder_rules.specs.Generated.{generated}
 use Rattle.recorder_rules.specs.Spans.{span_of}
-use Rattle.flow_recorders.proofs.spans.spans.Given as goal
+use Rattle.flow_recorders.proofs.span_list.SpanList.around.Given as goal
 
 abbrev pub invariant-loop-i : goal.invariant-loop-i
-invariant-loop-i l = l.found.items ≡ generated l.i (λ j. span_of (get_or l.a j (0, 0)) (get_or l.b j (0, 0)))
+invariant-loop-i l = l.found.items ≡ generated l.i (λ j. span_of (get_or l.self j (0, 0)) (get_or l.other j (0, 0)))

@@ -1,0 +1,64 @@
+-- Lists of spans that are kept as one number each.
+--   only_set, only_replicate   a span that is set, and as many of one
+--   same_joined                a list joined with itself
+--   room_only, room_least, room_most   there is room for one more
+--   visited_only, visited_apart   one more at a place
+--   room_for_more              there is room at each place, where the greatest number is no limit
+use Rattle.std.proofs.Common.{◌≡◌, ◌<◌, ◌+◌, ◌-◌, ◌^◌, ℕ, zero, suc, List, ◌∷◌, map, length, get_or, set, replicate, refl, sym, ap, ◌∙◌, subst, arith}
+use Rattle.std.proofs.Math.ListN.{get_or-map}
+use Rattle.std.proofs.lemmas.List.{map-set, get_or_read}
+use Rattle.recorder_rules.specs.GeneratedLaws.{generated_is}
+use Rattle.recorder_rules.specs.Spans.{span_of, one_more, greatest}
+use Rattle.recorder_rules.specs.SpanLaws.{spans_of, below_greatest}
+use Rattle.recorder_rules.specs.TotalRules.{span_at}
+use Rattle.flow_recorders.specs.SpanLists.{only}
+
+-- a span that is set
+pub only_set : (xs : List ℕ) (i c : ℕ) → map only (set xs i c) ≡ set (map only xs) i (only c)
+only_set xs i c = map-set only xs i c
+
+-- as many of one
+pub only_replicate : (n c : ℕ) → map only (replicate n c) ≡ replicate n (only c)
+only_replicate zero c = refl
+only_replicate (suc n) c = ap (λ (xs : List (ℕ × ℕ)). only c ∷ xs) (only_replicate n c)
+
+-- a list joined with itself
+pub same_joined : (a b : List (ℕ × ℕ)) → a ≡ b → a ≡ spans_of a b
+same_joined a b same =
+    generated_is (length a) (λ i. span_of (get_or a i (0, 0)) (get_or b i (0, 0))) a (0, 0) refl (λ i low.
+    subst (λ (xs : List (ℕ × ℕ)). get_or a i (0, 0) ≡ span_of (get_or a i (0, 0)) (get_or xs i (0, 0))) same (itself (get_or a i (0, 0))))
+  where
+    itself : (s : ℕ × ℕ) → s ≡ span_of s s
+    itself s = ap (λ (l : ℕ). (l, s.1)) (omega arith) ∙ ap (λ (m : ℕ). ((span_of s s).0, m)) (omega arith)
+
+-- a span that was read, in the list
+read_at : {X : Type 0} (xs ys : List X) (i : ℕ) (x d : X) → xs ≡ ys → i < length ys → x ≡ get_or xs i x → x ≡ get_or ys i d
+read_at xs ys i x d same low read = get_or_read xs i x (subst (λ zs. i < length zs) (sym same) low) read d ∙ ap (λ zs. get_or zs i d) same
+
+module _ (spans : List (ℕ × ℕ)) (i : ℕ) (low : i < length spans) where
+  -- a span that was read, where one number is kept
+  only_read : (xs : List ℕ) (c : ℕ) → map only xs ≡ spans → c ≡ get_or xs i c → only c ≡ span_at spans i
+  only_read xs c is read = read_at (map only xs) spans i (only c) (0, 0) is low (ap only read ∙ sym (get_or-map only xs i c))
+
+  -- there is room for one more
+  pub room_only : (xs : List ℕ) (c : ℕ) → map only xs ≡ spans → c ≡ get_or xs i c → (span_at spans i).0 < 2 ^ 32 - 1 → c + 1 < 2 ^ 32
+  room_only xs c is read most = let same = ap (λ (s : ℕ × ℕ). s.0) (only_read xs c is read) in omega arith
+
+  pub room_least : (xs : List (ℕ × ℕ)) (s : ℕ × ℕ) → xs ≡ spans → s ≡ get_or xs i s → (span_at spans i).0 < 2 ^ 32 - 1 → s.0 + 1 < 2 ^ 32
+  room_least xs s is read most = let same = ap (λ (t : ℕ × ℕ). t.0) (read_at xs spans i s (0, 0) is low read) in omega arith
+
+  pub room_most : (xs : List (ℕ × ℕ)) (s : ℕ × ℕ) → xs ≡ spans → s ≡ get_or xs i s → (span_at spans i).1 < 2 ^ 32 - 1 → s.1 + 1 < 2 ^ 32
+  room_most xs s is read most = let same = ap (λ (t : ℕ × ℕ). t.1) (read_at xs spans i s (0, 0) is low read) in omega arith
+
+  -- one more at a place
+  pub visited_only : (xs : List ℕ) (c : ℕ) → map only xs ≡ spans → c ≡ get_or xs i c → map only (set xs i (c + 1)) ≡ set spans i (one_more (span_at spans i))
+  visited_only xs c is read = only_set xs i (c + 1) ∙ ap (λ (ys : List (ℕ × ℕ)). set ys i (only (c + 1))) is ∙ ap (λ (s : ℕ × ℕ). set spans i (one_more s)) (only_read xs c is read)
+
+  pub visited_apart : (xs : List (ℕ × ℕ)) (s : ℕ × ℕ) → xs ≡ spans → s ≡ get_or xs i s → set xs i (one_more s) ≡ set spans i (one_more (span_at spans i))
+  visited_apart xs s is read = ap (λ (ys : List (ℕ × ℕ)). set ys i (one_more s)) is ∙ ap (λ (t : ℕ × ℕ). set spans i (one_more t)) (read_at xs spans i s (0, 0) is low read)
+
+-- where the greatest number is no limit, there is room for one more at each place
+pub room_for_more : (kept spans : List (ℕ × ℕ)) (i : ℕ) → kept ≡ spans → i < length spans → greatest spans < 2 ^ 32 - 1 → ((span_at kept i).0 < 2 ^ 32 - 1) × ((span_at kept i).1 < 2 ^ 32 - 1)
+room_for_more kept spans i is low most =
+    subst (λ (xs : List (ℕ × ℕ)). ((span_at xs i).0 < 2 ^ 32 - 1) × ((span_at xs i).1 < 2 ^ 32 - 1)) (sym is)
+    (let below = below_greatest spans i low in let p = below.0 in let q = below.1 in (omega arith, omega arith))

@@ -1,0 +1,15 @@
+-- Lists of spans, as they are kept.
+--   only c          the span of one number alone
+--   spans_in ends   the spans that have these ends
+use Rattle.std.specs.Prelude.{ℕ, List, map}
+use Rattle.flow_recorders.specs.declared.span_list.Ends.{Ends}
+use Rattle.flow_recorders.specs.declared.span_list.Ends.TheVariants.{Same, Apart}
+
+-- the span of one number alone
+abbrev pub only : ℕ → ℕ × ℕ
+only c = (c, c)
+
+-- the spans that have these ends
+abbrev pub spans_in : Ends → List (ℕ × ℕ)
+spans_in (Same counts) = map only counts.items
+spans_in (Apart spans) = spans.items

@@ -80,10 +80,6 @@ fits_past bits size t above = by_test (fits_in bits t size)
 pub bounds_none : (x : Stride) (bits size : ℕ) (fault : RunFault) → Finds (CoversWord x) (first_past bits size) None → (has_fault no_faults fault ≡ true) ↔ IsBoundsFault x bits size fault
 bounds_none x bits size fault none = none_told (IsBoundsFault x bits size fault) fault (λ h. none h.1.0 h.1.1 (past_fits bits size h.1.0 h.1.2))
 
-pub bounds_some : (x : Stride) (bits size t : ℕ) (fault : RunFault) → IsLeast (CoversWord x) (first_past bits size) t
-    → (has_fault (with_fault no_faults Bounds) fault ≡ true) ↔ IsBoundsFault x bits size fault
-bounds_some x bits size t fault first = one_told Bounds fault ((offset : ℕ) × CoversWord x offset × (fits_in bits offset size ≡ false)) (t, first.holds, fits_past bits size t first.above)
-
 -- ---- pointers into one frame
 
 same_error : (told fault : RunFault) → (let r : Result (ℕ × ℕ) RunFault = Err told in r) ≡ Err fault → told ≡ fault

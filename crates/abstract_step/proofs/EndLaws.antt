@@ -62,10 +62,6 @@ stands_leads here block ending stands goal leads =
     subst (λ (o : Option ℕ). PlaceLeads (seen here.checked) (path_at here) o goal) (sym stands.at)
     (subst (λ (o : Option BlockEnding). EndLeads (seen here.checked) (path_at here) block o goal) (sym stands.ends) leads)
 
--- an entry leads to the first block
-pub entry_leads : (here : HereParts) → (place_of here).block ≡ None → Leads (seen here.checked) (place_of here) (Some (block_node (path_at here) 0))
-entry_leads here entry = subst (λ (o : Option ℕ). PlaceLeads (seen here.checked) (path_at here) o (Some (block_node (path_at here) 0))) (sym entry) refl
-
 -- a step from an entry
 pub entry_goals : (here : HereParts) (m : Mem abstract_sets) → (place_of here).block ≡ None
     → to_goal (Some (block_node (path_at here) 0)) m ≡ goals_from (seen here.checked) here.graph here.node m

@@ -64,16 +64,3 @@ one_linked keys first next i (Some m) low same is below so_far = record {
     | inr apart ↦ subst (λ (n : ℕ). IsNext keys k (j + 1) n) (sym (get_or-set_other next i j (get_or first m 0) 0 apart)) (so_far.nexts j k (omega arith) within has)
   ];
 }
-
--- a key that no number can have
-pub no_next : (keys : List (Option ℕ)) (n k : ℕ) → KeysBelow keys n → n ≤ k → IsNext keys k 0 (length keys)
-no_next keys n k below over = record {
-  least = omega arith;
-  most = omega arith;
-  has = λ low. absurd (omega arith);
-  none = λ x least low. not_there (key_at keys x) (λ m is. below x m is);
-}
-  where
-    not_there : (key : Option ℕ) → ((m : ℕ) → key ≡ Some m → m < n) → is_at key k ≡ false
-    not_there None low = refl
-    not_there (Some m) low = not_at m k (let e = low m refl in omega arith)

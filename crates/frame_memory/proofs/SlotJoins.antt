@@ -193,8 +193,3 @@ slot_self a b place slot sized first second =
     ∙ both_the_same slot x y
     (subst (λ (o : Option HeldSlot). IfSome (byte_in o).value (λ word. IsOfSize stride_sets 8 word)) first (sized.bytes place))
     (λ size cell is. sized.kept place size cell (ap (λ (o : Option HeldSlot). cell_in o size) first ∙ is)))
-
--- so many bytes are the size of a cell
-pub size_of_count : (count : ℕ) → 1 ≤ count → count < 9 → is_cell_size (8 * count) ≡ true
-size_of_count count some few =
-    and_from _ _ (eq-eqb (8 * count % 8) 0 (omega arith)) (and_from _ _ (lt-ltb 0 (8 * count) (omega (arith, some))) (le-leb (8 * count) 64 (omega (arith, few))))

@@ -145,11 +145,6 @@ store_told rows m new width at v (Err e) is own stored possible each = tt
 
 -- ---- statements in order
 
--- nothing is left
-pub ends_here : {A B : Type 0} (faults more : FaultSet) (r : Remains A) (further : A → Remains B) → r ≡ record { left = None; faults = more }
-    → with_faults faults (goes_on r further) ≡ record { left = None; faults = either faults more }
-ends_here faults more r further is = ap (λ r. with_faults faults (goes_on r further)) is
-
 -- it goes on with what is left
 pub goes_further : {A B : Type 0} (faults more : FaultSet) (a : A) (r : Remains A) (further : A → Remains B) → r ≡ record { left = Some a; faults = more }
     → with_faults faults (goes_on r further) ≡ with_faults (either faults more) (further a)

@@ -31,10 +31,6 @@ export_low n h =
     (λ e. let is : n ≡ 32 = search rules in omega arith)
     (λ c. let last : (n == 64) ≡ true = rw (a, b, c) at h in let is : n ≡ 64 = search rules in omega arith)))
 
-pub sizes_low : (program : NumberedProgram) (rows : List InputRow) → All (KeepsInput program) rows → All (λ (row : InputRow). row.size ≤ 64) rows
-sizes_low program rows keep =
-    all_members (λ (row : InputRow). row.size ≤ 64) rows (λ row c. export_low row.size ((All-contains (KeepsInput program) rows row keep c).sized))
-
 -- the low ends lie in their ranges
 pub lows_within : (program : NumberedProgram) (rows : List InputRow) → ((row : InputRow) → Contains rows row → KeepsInput program row) → AreWithin rows (map (λ (row : InputRow). row.low) rows)
 lows_within program [] keep = tt

@@ -1,10 +1,10 @@
 //! Lists of spans, of one number each while least and greatest are the same.
 
-ghost use Rattle.std.specs.Prelude.{◌≡◌, ◌-◌, ◌^◌, ◌<◌, length, map, replicate, slice_set, slice_get, IfOk, IsTrue, Some};
+ghost use Rattle.std.specs.Prelude.{◌≡◌, ◌-◌, ◌^◌, ◌<◌, length, map, replicate, slice_set, IfOk, IsTrue};
 ghost use Rattle.recorder_rules.specs.Spans.{one_more};
 ghost use Rattle.recorder_rules.specs.SpanLaws.{spans_of};
 ghost use Rattle.recorder_rules.specs.TotalRules.{span_at};
-ghost use Rattle.flow_recorders.specs.SpanLists.{spans_in, only};
+ghost use Rattle.flow_recorders.specs.SpanLists.{only};
 
 use crate::spans::span;
 use std::alloc::{AllocError, Global};

@@ -210,7 +210,7 @@ COUNTS = {
     r"(\d+) programs with what gcc": lambda: gcc_programs(),
     r"(\d+) statements, each row of the tables": lambda: expression_rows(),
     r"(\d+) statements with ways": lambda: rows("lower_tests/src/statements.rt", r" => "),
-    r"(\d+) values (?:of operators|for the)": lambda: rows("base_tests/src/values.rt", r"^[a-z_]+ [0-9 ]*\| .* = "),
+    r"(\d+) values (?:of operators|for the)": lambda: rows("base_tests/src/values.rt", r"^[a-z_]+ [0-9 ]*\| .* => "),
     r"(\d+) reports in which two lines": lambda: rows("fact_tests/src/swaps.rt", r"^\d+ \d+ => "),
 }
 WORDS = "none one two three four five six seven eight nine ten eleven twelve thirteen fourteen fifteen sixteen".split()

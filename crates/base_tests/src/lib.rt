@@ -2,13 +2,18 @@
 //! inputs: `flow_base`, `sweet_words`, `alf_ops`, `whole_numbers`, `progressions`, `graph_walks` and `worst_inputs`. Without
 //! tests this library has the definitions of `bound_table` alone.
 //!
-//! - `outside`: shelves and sinks, names and digits. `streams`: readers and writers that take a piece at a time.
+//! - `tables`: tables of tests as text, and what answers their rows.
+//! - `outside`: digits and names, shelves and sinks. `streams`: readers and writers that take a piece at a time.
 //! - `words`: words that are a command, and words that are none.
-//! - `operators`, `values`: sizes, loads, operators at pointers, and the values of operators.
+//! - `operators`, `values`, `loads`: sizes, values of operators, operators at pointers, and loads after events.
 //! - `numbers`: quotients, rests and common divisors; progressions.
-//! - `tables`, `cycles`: walks over tables, and cycles of calls.
+//! - `walks`: walks over tables, what is reached, and ranks and cycles of calls.
 //! - `searches`: worst inputs over a table of bounds, `bound_table`, which is a bounder that knows nothing of programs.
 #![tactic(auto)]
+
+// What the tests share.
+#[cfg(test)]
+mod tables;
 
 // Files and words.
 #[cfg(test)]
@@ -20,6 +25,8 @@ mod words;
 
 // Operators and their values, loads and stores.
 #[cfg(test)]
+mod loads;
+#[cfg(test)]
 mod operators;
 #[cfg(test)]
 mod values;
@@ -30,9 +37,7 @@ mod numbers;
 
 // Walks over tables, and cycles of calls.
 #[cfg(test)]
-mod cycles;
-#[cfg(test)]
-mod tables;
+mod walks;
 
 // Searches for worst inputs over a table of bounds.
 #[cfg(test)]

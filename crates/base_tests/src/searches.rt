@@ -3,104 +3,85 @@
 ghost use Rattle.std.specs.Prelude.{◌<◌, ◌≤ℤ◌, ◌<ℤ◌, pos, length};
 
 use crate::bound_table::BoundTable;
-use std::alloc::Global;
+use crate::tables::{hold, number, part};
+use std::alloc::{AllocError, Global};
+use std::test::Fail;
 use worst_inputs::{Bounded, Found, Range, SearchFault, search};
 
-// What each of the numbers 0 to 10 costs: 2 for each, and 3.
-const RISING: [Bounded; 11] = [
-    Bounded::At(3),
-    Bounded::At(5),
-    Bounded::At(7),
-    Bounded::At(9),
-    Bounded::At(11),
-    Bounded::At(13),
-    Bounded::At(15),
-    Bounded::At(17),
-    Bounded::At(19),
-    Bounded::At(21),
-    Bounded::At(23),
-];
-
-// The same cost for each of the numbers 0 to 3.
-const LEVEL: [Bounded; 4] = [
-    Bounded::At(5),
-    Bounded::At(5),
-    Bounded::At(5),
-    Bounded::At(5),
-];
-
-// A number without a bound.
-const HOLED: [Bounded; 3] = [Bounded::At(5), Bounded::Left(2), Bounded::Left(7)];
+// What each of the numbers from 0 on costs. A word with a dash is a number without a bound, and tells where one is
+// missing.
+fn entries_of(alloc: Global, words: &str) -> Result<Vec<Bounded>, AllocError> {
+    let mut entries = Vec::new(alloc);
+    for word in words.split(' ') {
+        let entry = match word.strip_prefix('-') {
+            Some(place) => Bounded::Left(number(place)),
+            None => Bounded::At(u64::from(number(word))),
+        };
+        entries.push(entry)?;
+    }
+    Ok(entries)
+}
 
 // A search over the table of these entries, from low to high.
 fn searched(
     alloc: Global,
-    entries: &[Bounded],
+    entries: Vec<Bounded>,
     low: i128,
     high: i128,
     splits: u32,
 ) -> Result<Found, SearchFault>
-    requires few { length entries.now < 100 }
+    requires few { length entries.items < 100 }
     requires least { pos 0 ≤ℤ low }
     requires ordered { low ≤ℤ high }
-    requires most { high <ℤ pos (length entries.now) }
+    requires most { high <ℤ pos (length entries.items) }
 {
-    let mut table = BoundTable {
-        entries: Vec::from_slice(alloc, entries)?,
-    };
+    let mut table = BoundTable { entries };
     search(alloc, &mut table, &[Range { low, high }], splits)
 }
 
-// Whether these are the boxes: the bound, low and high of each.
-fn are_boxes(found: &Found, boxes: &[(u64, i128, i128)]) -> bool {
-    if found.boxes.len() != boxes.len() {
-        return false;
-    }
-    for (place, (bound, low, high)) in boxes.iter().enumerate() {
-        let Some((area, is)) = found.boxes.get(place) else {
-            return false;
-        };
-        if *is != *bound || area.len() != 1 || area[0].low != *low || area[0].high != *high {
-            return false;
+// The boxes, each with its bound and its ends, and whether the greatest bound is exact.
+fn boxes_text(alloc: Global, found: &Found) -> Result<String, AllocError> {
+    let mut text = String::from_str(alloc, if found.exact { "exact" } else { "open" })?;
+    for (area, bound) in found.boxes.iter() {
+        for range in area.iter() {
+            let one = format!(in alloc; "; {bound} {} {}", range.low, range.high)?;
+            text.push_str(one.as_str())?;
         }
     }
-    true
+    Ok(text)
 }
 
-#[test]
-fn four_splits_find_the_worst_number(rt: HostRuntime) -> Result<(), SearchFault> {
-    let found = searched(rt.alloc(), &RISING, 0, 10, 4)?;
-    let boxes = [(13, 0, 5), (19, 6, 8), (21, 9, 9), (23, 10, 10)];
-    assert!(rt; are_boxes(&found, &boxes) && found.exact);
-    Ok(())
+/// What is told of costs, of the ends of a search, and of how many splits it may make.
+pub fn boxes_told(alloc: Global, asked: &str) -> Result<String, AllocError> {
+    let entries = entries_of(alloc, part(asked, " | ", 0))?;
+    let ends = part(asked, " | ", 1);
+    let (low, high) = (number(part(ends, " ", 0)), number(part(ends, " ", 1)));
+    if entries.len() >= 100 || low > high || high as usize >= entries.len() {
+        return String::from_str(alloc, "no range");
+    }
+    let splits = number(part(asked, " | ", 2));
+    let found = searched(alloc, entries, low as i128, high as i128, splits);
+    match &found {
+        Ok(found) => boxes_text(alloc, found),
+        Err(SearchFault::Left(place)) => format!(in alloc; "left {place}"),
+        Err(SearchFault::Memory) => String::from_str(alloc, "memory"),
+    }
 }
 
-#[test]
-fn one_split_leaves_the_bound_open(rt: HostRuntime) -> Result<(), SearchFault> {
-    let found = searched(rt.alloc(), &RISING, 0, 10, 1)?;
-    let boxes = [(13, 0, 5), (23, 6, 10)];
-    assert!(rt; are_boxes(&found, &boxes) && !found.exact);
-    Ok(())
-}
+// What each number costs, the ends of the search, and the splits.
+static BOXES: &str = "\
+5 boxes
+// four splits find the worst number, and one leaves the bound open
+3 5 7 9 11 13 15 17 19 21 23 | 0 10 | 4 => exact; 13 0 5; 19 6 8; 21 9 9; 23 10 10
+3 5 7 9 11 13 15 17 19 21 23 | 0 10 | 1 => open; 13 0 5; 23 6 10
+// a point needs no split
+3 5 7 9 11 13 15 17 19 21 23 | 7 7 | 0 => exact; 17 7 7
+// the first of equal bounds is split
+5 5 5 5 | 0 3 | 16 => exact; 5 0 0; 5 1 1; 5 2 3
+// a bound that is missing is told
+5 -2 -7 | 0 2 | 16 => left 2";
 
 #[test]
-fn a_point_needs_no_split(rt: HostRuntime) -> Result<(), SearchFault> {
-    let found = searched(rt.alloc(), &RISING, 7, 7, 0)?;
-    assert!(rt; are_boxes(&found, &[(17, 7, 7)]) && found.exact);
-    Ok(())
-}
-
-#[test]
-fn the_first_of_equal_bounds_is_split(rt: HostRuntime) -> Result<(), SearchFault> {
-    let found = searched(rt.alloc(), &LEVEL, 0, 3, 16)?;
-    let boxes = [(5, 0, 0), (5, 1, 1), (5, 2, 3)];
-    assert!(rt; are_boxes(&found, &boxes) && found.exact);
-    Ok(())
-}
-
-#[test]
-fn a_missing_bound_is_told(rt: HostRuntime) -> Result<(), SearchFault> {
-    let fault = searched(rt.alloc(), &HOLED, 0, 2, 16);
-    assert!(rt; matches!(&fault, Err(SearchFault::Left(2))));
-    Ok(())
+fn the_first_box_of_greatest_bound_is_split(rt: HostRuntime) -> Result<(), Fail> {
+    hold(rt.alloc(), BOXES)
 }

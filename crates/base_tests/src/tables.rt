@@ -1,132 +1,122 @@
-//! Walks over tables, and what is reached, worked out by hand.
+//! Tables of tests as text, and the first row that is not answered as it is due.
 
-use crate::cycles::{lists, numbers};
-use crate::values::part;
-use graph_walks::{find_walk, is_closed, mark_reached};
+use crate::loads::{load_told, overlap_told};
+use crate::numbers::{checked_told, parts_told, pieces_told, quotient_told, sums_told};
+use crate::operators::{names_told, outcome_told, shape_told, word_told};
+use crate::outside::{digits_told, fault_told, name_told, shelf_told, sink_told, sure_sink_told};
+use crate::searches::boxes_told;
+use crate::streams::{reader_told, writer_told};
+use crate::walks::{calls_told, reached_told, walk_told};
+use crate::words::command_told;
 use std::alloc::{AllocError, Global};
-use std::process::Abort;
 use std::test::Fail;
 
-/// The rows of a table, which nodes are marked, the ends of the walk, the walk, and what is told of them. In each
-/// there is one such walk at most.
-static WALKS: &str = "\
-- | 0 | 0 0 => 0 | a node to itself
-1; - | 0 0 | 0 1 => 0 1 | an edge
-1; - | 0 0 | 1 0 => none | no edge
-1; 0 2; - | 0 0 0 | 0 2 => 0 1 2 | a way round a loop
-1 2; 1; 3; - | 0 0 0 0 | 0 3 => 0 2 3 | past the end of the first row
-1 2; 3; 3; - | 0 1 0 0 | 0 3 => 0 2 3 | round a marked node
-1; 2; - | 0 1 0 | 0 2 => none | through a marked node alone
-1; - | 1 0 | 0 1 => none | from a marked node
-1; - | 0 1 | 0 1 => none | to a marked node
-";
-
-/// Which nodes are marked.
-fn marks_of(alloc: Global, words: &str) -> Result<Vec<bool>, AllocError> {
-    let mut marks = Vec::new(alloc);
-    for word in words.split_whitespace() {
-        marks.push(word == "1")?;
+/// Fails with the first row that is not answered as it is due.
+///
+/// The first line of a table says how many rows it has, its subject, and perhaps, behind ` => `, the answer that is
+/// due of each row. Each further line is a row: what is asked, ` => `, and the answer that is due, perhaps with a
+/// remark behind ` // `. A line that begins with `// ` says what the rows below it are.
+pub fn hold(alloc: Global, table: &str) -> Result<(), Fail> {
+    match wrong_in(alloc, table)? {
+        Some(wrong) => Err(Fail::new(wrong)),
+        None => Ok(()),
     }
-    Ok(marks)
 }
 
-/// The number at this place of the words.
-fn number_at(words: &str, place: usize) -> u32 {
-    part(words, " ", place).parse::<u32>().unwrap_or(0)
-}
-
-/// The path, if there is one.
-fn path_of(alloc: Global, words: &str) -> Result<Option<Vec<u32>>, AllocError> {
-    if words == "none" {
+// What is told of the first row that is not answered as it is due, or of a table with another count of rows.
+fn wrong_in(alloc: Global, table: &str) -> Result<Option<String>, AllocError> {
+    let head = part(table, "\n", 0);
+    let subject = part(part(head, " => ", 0), " ", 1);
+    let mut count: u32 = 0;
+    for row in table.split('\n').skip(1) {
+        if row.starts_with("// ") {
+            continue;
+        }
+        count = count.saturating_add(1);
+        let told = answer_of(alloc, subject, part(row, " => ", 0))?;
+        let due = due_of(head, row);
+        if told.as_str() != due {
+            return Ok(Some(format!(in alloc; "{told} in place of {due} at {row}")?));
+        }
+    }
+    if count == number(part(head, " ", 0)) {
         return Ok(None);
     }
-    Ok(Some(numbers(alloc, words)?))
+    Ok(Some(format!(in alloc; "{count} rows in place of {head}")?))
 }
 
-/// The walk, where the table and the marks fit one another.
-fn walk_of(
-    rt: &impl Abort,
-    alloc: Global,
-    table: &[Vec<u32>],
-    marks: &[bool],
-    ends: (u32, u32),
-) -> Result<Option<Vec<u32>>, AllocError> {
-    assert!(rt; is_closed(table), "a node has no row");
-    assert!(rt; marks.len() == table.len(), "a node has no mark");
-    assert!(rt; (ends.0 as usize) < table.len(), "the start has no row");
-    find_walk(alloc, table, marks, ends.0, ends.1)
-}
-
-#[test]
-fn a_walk_is_found_where_there_is_one(rt: HostRuntime) -> Result<(), Fail> {
-    let alloc = rt.alloc();
-    for row in WALKS.lines() {
-        let (asked, due) = (part(row, " => ", 0), part(row, " => ", 1));
-        let table = lists(alloc, part(asked, " | ", 0))?;
-        let marks = marks_of(alloc, part(asked, " | ", 1))?;
-        let ends = part(asked, " | ", 2);
-        let ends = (number_at(ends, 0), number_at(ends, 1));
-        let found = walk_of(&rt, alloc, &table, &marks, ends)?;
-        let path = path_of(alloc, part(due, " | ", 0))?;
-        assert_eq!(rt; found, path, "{row}");
+/// The answer that is due of a row of a table with this head.
+pub fn due_of<'a>(head: &'a str, row: &'a str) -> &'a str {
+    if head.contains(" => ") {
+        return part(head, " => ", 1);
     }
-    Ok(())
+    part(part(row, " => ", 1), " // ", 0)
 }
 
-/// The rows of a table, the marks, a node, the marks of what it reaches, and what is told of them.
-static REACHED: &str = "\
--; - | 0 0 | 1 => 0 1 | a node alone
-1; 2; 1 | 0 0 0 | 1 => 0 1 1 | a loop, and not what leads to it
-1 2; 3; 3; -; 0 | 0 0 0 0 0 | 0 => 1 1 1 1 0 | both arms
-1; 2; - | 0 1 0 | 0 => 1 1 0 | not past a marked node
-1; - | 1 0 | 0 => 1 0 | nothing from a marked node
-";
-
-/// Marks what the node reaches, where the table and the marks fit one another.
-fn mark(
-    rt: &impl Abort,
-    alloc: Global,
-    table: &[Vec<u32>],
-    marks: &mut [bool],
-    from: u32,
-) -> Result<(), AllocError> {
-    assert!(rt; is_closed(table), "a node has no row");
-    assert!(rt; marks.len() == table.len(), "a node has no mark");
-    assert!(rt; (from as usize) < table.len(), "the node has no row");
-    mark_reached(alloc, table, marks, from)
-}
-
-#[test]
-fn what_a_node_reaches_is_marked(rt: HostRuntime) -> Result<(), Fail> {
-    let alloc = rt.alloc();
-    for row in REACHED.lines() {
-        let (asked, due) = (part(row, " => ", 0), part(row, " => ", 1));
-        let table = lists(alloc, part(asked, " | ", 0))?;
-        let mut marks = marks_of(alloc, part(asked, " | ", 1))?;
-        let from = number_at(part(asked, " | ", 2), 0);
-        mark(&rt, alloc, &table, &mut marks, from)?;
-        let after = marks_of(alloc, part(due, " | ", 0))?;
-        assert_eq!(rt; marks.as_slice(), after.as_slice(), "{row}");
+// What answers a row of this subject.
+fn answer_of(alloc: Global, subject: &str, asked: &str) -> Result<String, AllocError> {
+    match subject {
+        "digits" => digits_told(alloc, asked),
+        "name" => name_told(alloc, asked),
+        "fault" => fault_told(alloc, asked),
+        "shelf" => shelf_told(alloc, asked),
+        "sink" => sink_told(alloc, asked),
+        "sure_sink" => sure_sink_told(alloc, asked),
+        "reader" => reader_told(alloc, asked),
+        "writer" => writer_told(alloc, asked),
+        "words" => command_told(alloc, asked),
+        _ => answer_below(alloc, subject, asked),
     }
-    Ok(())
 }
 
-// How many nodes the longest chain has.
-const NODES: u32 = 20_000;
-
-#[test]
-fn a_long_walk_takes_no_stack(rt: HostRuntime) -> Result<(), Fail> {
-    let alloc = rt.alloc();
-    let mut table = Vec::new(alloc);
-    let mut chain = Vec::new(alloc);
-    for node in 0..NODES {
-        let mut row = Vec::new(alloc);
-        row.push((node + 1) % NODES)?;
-        table.push(row)?;
-        chain.push(node)?;
+// The same of operators, numbers, walks and searches.
+fn answer_below(alloc: Global, subject: &str, asked: &str) -> Result<String, AllocError> {
+    match subject {
+        "names" => names_told(alloc, asked),
+        "shape" => shape_told(alloc, asked),
+        "word" => word_told(alloc, asked),
+        "outcome" => outcome_told(alloc, asked),
+        "load" => load_told(alloc, asked),
+        "overlap" => overlap_told(alloc, asked),
+        "quotient" => quotient_told(alloc, asked),
+        "checked" => checked_told(alloc, asked),
+        "sums" => sums_told(alloc, asked),
+        "parts" => parts_told(alloc, asked),
+        "pieces" => pieces_told(alloc, asked),
+        "calls" => calls_told(alloc, asked),
+        "walk" => walk_told(alloc, asked),
+        "reached" => reached_told(alloc, asked),
+        "boxes" => boxes_told(alloc, asked),
+        _ => String::from_str(alloc, "no subject"),
     }
-    let marks = vec![in alloc; false; table.len()]?;
-    let found = walk_of(&rt, alloc, &table, &marks, (0, NODES - 1))?;
-    assert_eq!(rt; found, Some(chain));
+}
+
+/// A part of a text, between two of the marks. Empty where it is not there.
+pub fn part<'a>(text: &'a str, mark: &str, place: usize) -> &'a str {
+    text.split(mark).nth(place).unwrap_or("")
+}
+
+/// The number that a text writes, or 0.
+pub fn number(text: &str) -> u32 {
+    text.parse::<u32>().unwrap_or(0)
+}
+
+/// The numbers of the words. A word that is no number is left out.
+pub fn numbers(alloc: Global, words: &str) -> Result<Vec<u32>, AllocError> {
+    let mut numbers = Vec::new(alloc);
+    for word in words.split(' ') {
+        if let Ok(number) = word.parse::<u32>() {
+            numbers.push(number)?;
+        }
+    }
+    Ok(numbers)
+}
+
+/// Adds the numbers, with a space before each.
+pub fn push_numbers(text: &mut String, numbers: &[u32]) -> Result<(), AllocError> {
+    let alloc = *text.allocator();
+    for number in numbers {
+        text.push_str(format!(in alloc; " {number}")?.as_str())?;
+    }
     Ok(())
 }

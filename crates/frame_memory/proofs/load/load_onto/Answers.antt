@@ -32,14 +32,14 @@ pub returns-in-None-clause-onto : goal.returns-in-None-clause-onto
 returns-in-None-clause-onto c =
     let none = rw c.in-None.is at c.kept_cell.ensures in
     let m = frame_of c.args.slots.now in
-    load_is m c.args.offset c.args.size c.args.before (seen c.unkept_cell.result.cell) c.cell_onto-in-None.result
-    (c.unkept_cell.ensures ∙ bytes_stand m c.args.offset c.args.size none) c.cell_onto-in-None.ensures
+    load_is m c.args.offset c.args.size c.args.before (seen c.unkept_cell.result.cell) c.cell_onto-in-None-2.result
+    (c.unkept_cell.ensures ∙ bytes_stand m c.args.offset c.args.size none) c.cell_onto-in-None-2.ensures
 
 pub returns-in-None-clause-faults : goal.returns-in-None-clause-faults
 returns-in-None-clause-faults c =
-    faults_are c.args.before (load_results abstract_sets (frame_of c.args.slots.now) c.args.offset c.args.size) c.cell_onto-in-None.result (returns-in-None-clause-onto c)
+    faults_are c.args.before (load_results abstract_sets (frame_of c.args.slots.now) c.args.offset c.args.size) c.cell_onto-in-None-2.result (returns-in-None-clause-onto c)
 
 pub returns-in-None-clause-sized : goal.returns-in-None-clause-sized
 returns-in-None-clause-sized c =
-    sized_are (frame_of c.args.slots.now) c.args.offset c.args.size c.args.before c.cell_onto-in-None.result c.requires.size c.requires.frame_sized c.requires.before_sized
+    sized_are (frame_of c.args.slots.now) c.args.offset c.args.size c.args.before c.cell_onto-in-None-2.result c.requires.size c.requires.frame_sized c.requires.before_sized
     (returns-in-None-clause-onto c)

@@ -1,19 +1,11 @@
 //! Facts and traces in a short notation, and what is told of facts on traces.
 
+use crate::tables::{field, number, part};
 use domain_core::Outline;
 use exec_toys::outline_of;
-use flow_facts::{Fact, RunKind, holds, is_about};
+use flow_facts::{Fact, RunKind, holds, is_about, stands_before};
 use std::alloc::{AllocError, Global};
-use std::process::Abort;
 use std::test::Fail;
-
-/// The number that a word spells, or 0.
-pub fn number(word: Option<&str>) -> u32 {
-    match word {
-        Some(word) => word.parse::<u32>().unwrap_or(0),
-        None => 0,
-    }
-}
 
 // The kind of an alarm.
 fn kind(word: &str) -> RunKind {
@@ -30,18 +22,14 @@ fn kind(word: &str) -> RunKind {
 
 // A fact in letters: a loop (`L`), a pair (`P`), a dead node (`D`), an alarm (`A`), a count (`C`) or a total (`T`).
 fn fact(words: &str) -> Fact {
-    let mut parts = words.split(' ');
-    let letter = parts.next().unwrap_or("");
-    let first = number(parts.next());
-    if letter == "A" {
-        return Fact::Alarm(first, kind(parts.next().unwrap_or("")));
-    }
-    let (second, third) = (number(parts.next()), number(parts.next()));
-    match letter {
+    let first = number(part(words, " ", 1));
+    let (second, third) = (number(part(words, " ", 2)), number(part(words, " ", 3)));
+    match part(words, " ", 0) {
         "L" => Fact::Loop(first, second, third),
         "P" => Fact::Pair(first, second, third),
         "D" => Fact::Dead(first),
-        "C" => Fact::Count(first, second, third, number(parts.next())),
+        "A" => Fact::Alarm(first, kind(part(words, " ", 2))),
+        "C" => Fact::Count(first, second, third, number(part(words, " ", 4))),
         _ => Fact::Total(first, second, third),
     }
 }
@@ -55,11 +43,13 @@ pub fn facts_of(alloc: Global, words: &str) -> Result<Vec<Fact>, AllocError> {
     Ok(facts)
 }
 
-// The nodes of a trace.
-fn nodes_of(alloc: Global, words: &str) -> Result<Vec<u32>, AllocError> {
+// The nodes of a trace, of which `-` has none.
+fn nodes_of(alloc: Global, trace: &str) -> Result<Vec<u32>, AllocError> {
     let mut nodes = Vec::new(alloc);
-    for word in words.split_whitespace() {
-        nodes.push(number(Some(word)))?;
+    if trace != "-" {
+        for word in trace.split(' ') {
+            nodes.push(number(word))?;
+        }
     }
     Ok(nodes)
 }
@@ -76,38 +66,30 @@ fn judged(fact: &Fact, outline: &Outline, trace: &[u32]) -> &'static str {
     }
 }
 
-// What stands on a line is told of the facts of the line.
-fn judge_line(
-    rt: &impl Abort,
-    alloc: Global,
-    outline: &Outline,
-    trace: &[u32],
-    line: &str,
-) -> Result<(), AllocError> {
-    let facts = facts_of(alloc, line.split(": ").nth(0).unwrap_or(""))?;
-    let due = line.split(": ").nth(1).unwrap_or("");
-    for fact in &facts {
-        assert_eq!(rt; judged(fact, outline, trace), due, "{trace:?} {fact:?}");
+/// What is told of each of the facts on a trace of a program: `met`, `missed`, or `strange` where it names what is not
+/// there.
+pub fn told_on(alloc: Global, case: &str) -> Result<String, Fail> {
+    let outline = outline_of(alloc, field(case, 1))?;
+    let nodes = nodes_of(alloc, field(case, 2))?;
+    let mut told = String::new(alloc);
+    for fact in &facts_of(alloc, field(case, 3))? {
+        let word = judged(fact, &outline, &nodes);
+        if told.as_str() != word {
+            told.push_str(word)?;
+        }
     }
-    Ok(())
+    Ok(told)
 }
 
-/// What a text says of facts is told of them.
-///
-/// The text has parts with an empty line between two: what is tried, the items of a program, and then lines. `> 0 1 2` is a
-/// trace and `# ..` a remark; `L 1 3 3, D 4: met` says what is told of facts on the last trace: `met`, `missed`, or `strange`
-/// where they name what is not there.
-pub fn each_is_told(rt: &impl Abort, alloc: Global, text: &str) -> Result<(), Fail> {
-    for part in text.split("\n\n") {
-        let outline = outline_of(alloc, part.split('\n').nth(1).unwrap_or(""))?;
-        let mut trace = Vec::new(alloc);
-        for line in part.split('\n').skip(2) {
-            if let Some(nodes) = line.strip_prefix('>') {
-                trace = nodes_of(alloc, nodes)?;
-            } else if !line.starts_with('#') {
-                judge_line(rt, alloc, &outline, &trace, line)?;
+/// How many facts there are, where each stands before those after it and before no other.
+pub fn ascending(alloc: Global, case: &str) -> Result<String, AllocError> {
+    let facts = facts_of(alloc, field(case, 1))?;
+    for (i, first) in facts.iter().enumerate() {
+        for (j, second) in facts.iter().enumerate() {
+            if stands_before(first, second) != (i < j) {
+                return format!(in alloc; "not {i} and {j}");
             }
         }
     }
-    Ok(())
+    format!(in alloc; "{} ascend", facts.len())
 }

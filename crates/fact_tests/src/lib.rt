@@ -1,18 +1,26 @@
 //! Tests of facts, of reports as texts, and of path bounds: `flow_facts`, `fact_text`, `dual_check` and `path_lp`.
 //!
-//! - `traces`, `reports`: which traces meet which facts, one by one and as whole reports. `order`: the order of facts. `facts`:
-//!   facts and traces in a short notation.
+//! - `traces`, `reports`: which traces meet which facts, one by one and as whole reports. `order`: the order of facts.
 //! - `lines`, `further_lines`, `swaps`: reports with another text in place of a line, or with two lines in each other's
-//!   place, and what is told of them. `texts`: reports that are cut short, or printed again. `edits`: how such texts are made.
-//! - `duals`: rows that were written out by hand, and verdicts on multipliers. `rows`: rows as text.
-//! - `bounds`: path bounds of small programs.
+//!   place, and what is told of them. `texts`: reports that are cut short, or printed again.
+//! - `duals`: rows that were written out by hand, and verdicts on multipliers. `bounds`: path bounds of small programs.
+//! - `tables`: tables of tests as text, and what answers their rows. `facts`, `edits`, `rows`: facts in a short notation,
+//!   reports made of a report, and rows, verdicts and bounds as text.
 //!
 //! Without tests this library has `ready_bound` alone, which `bench/paths` takes too.
 #![tactic(auto)]
 
-// Facts on traces.
+// What the tests share.
+#[cfg(test)]
+mod edits;
 #[cfg(test)]
 mod facts;
+#[cfg(test)]
+mod rows;
+#[cfg(test)]
+mod tables;
+
+// Facts on traces.
 #[cfg(test)]
 mod order;
 #[cfg(test)]
@@ -21,8 +29,6 @@ mod reports;
 mod traces;
 
 // Reports as texts.
-#[cfg(test)]
-mod edits;
 #[cfg(test)]
 mod further_lines;
 #[cfg(test)]
@@ -35,8 +41,6 @@ mod texts;
 // Rows and verdicts.
 #[cfg(test)]
 mod duals;
-#[cfg(test)]
-mod rows;
 
 // Path bounds, where they may be asked for.
 #[cfg(test)]

@@ -1,208 +1,331 @@
-//! Each line of a report in place of which another text stands.
+//! Each line of a report in place of which another text stands: left out, doubled, or with other words.
 //!
 //! What is due was told by a reading of reports in another language, which was written from the rules
 //! alone and takes no part in the program.
 
-use crate::edits::{told, with_line};
-use fact_text::read;
-use std::alloc::Global;
-use std::process::Abort;
+use crate::tables::hold;
 use std::test::Fail;
 
-// A report with a line of each kind.
-pub(crate) const REPORT: &str = "\
-facts 2\n\
-node 0 0 0 \"main\":entry\n\
-node 1 1 7 \"a b\".2\"f\":0\n\
-scope 0 - 0 call\n\
-scope 1 0 1 loop\n\
-loop 1 2 3\n\
-count 1 0 4 5\n\
-dead 9\n\
-total 0 1 1\n\
-pair 0 1 2\n\
-alarm 1 divide\n\
-count-bound 23\n\
-path-bound 22 stopped\n\
-cert\n\
-step 0\n\
-merge 0 1\n\
-scale 3\n\
-mul -7\n\
-mul 0\n\
-end";
-
-// The number of a line, what is told of the report with this text in place of the line (`;` is a line feed), and the text.
-const ROWS: &str = "\
-0 => ok => facts 2;\n\
-0 => syntax 1 1 =>\x20\n\
-0 => syntax 2 1 => facts 2;facts 2;\n\
-0 => syntax 1 1 => 2;\n\
-0 => syntax 1 7 => facts facts 2;\n\
-0 => syntax 1 1 => x 2;\n\
-0 => syntax 1 6 => facts;\n\
-0 => syntax 1 9 => facts 2 2;\n\
-0 => syntax 1 7 => facts x;\n\
-0 => syntax 1 9 => facts 2 ;\n\
-0 => syntax 1 1 =>  facts 2;\n\
-0 => syntax 1 7 => facts  2;\n\
-0 => syntax 1 7 => facts 2\n\
-1 => ok => node 0 0 0 \"main\":entry;\n\
-1 => syntax 2 6 =>\x20\n\
-1 => syntax 3 6 => node 0 0 0 \"main\":entry;node 0 0 0 \"main\":entry;\n\
-1 => syntax 2 1 => 0 0 0 \"main\":entry;\n\
-1 => syntax 2 6 => node node 0 0 0 \"main\":entry;\n\
-1 => syntax 2 1 => x 0 0 0 \"main\":entry;\n\
-1 => syntax 2 10 => node 0 0 \"main\":entry;\n\
-1 => syntax 2 12 => node 0 0 0 0 \"main\":entry;\n\
-1 => syntax 2 6 => node x 0 0 \"main\":entry;\n\
-1 => syntax 2 8 => node 0 x 0 \"main\":entry;\n\
-1 => syntax 2 10 => node 0 0 x \"main\":entry;\n\
-1 => syntax 2 11 => node 0 0 0;\n\
-1 => syntax 2 25 => node 0 0 0 \"main\":entry \"main\":entry;\n\
-1 => syntax 2 12 => node 0 0 0 x;\n\
-1 => syntax 2 25 => node 0 0 0 \"main\":entry ;\n\
-1 => syntax 2 1 =>  node 0 0 0 \"main\":entry;\n\
-1 => syntax 2 6 => node  0 0 0 \"main\":entry;\n\
-1 => syntax 2 12 => node 0 0 0 \"main\":entry\n\
-2 => ok => node 1 1 7 \"a b\".2\"f\":0;\n\
-2 => ok =>\x20\n\
-2 => syntax 4 6 => node 1 1 7 \"a b\".2\"f\":0;node 1 1 7 \"a b\".2\"f\":0;\n\
-2 => syntax 3 1 => 1 1 7 \"a b\".2\"f\":0;\n\
-2 => syntax 3 6 => node node 1 1 7 \"a b\".2\"f\":0;\n\
-2 => syntax 3 1 => x 1 1 7 \"a b\".2\"f\":0;\n\
-2 => syntax 3 10 => node 1 7 \"a b\".2\"f\":0;\n\
-2 => syntax 3 12 => node 1 1 1 7 \"a b\".2\"f\":0;\n\
-2 => syntax 3 6 => node x 1 7 \"a b\".2\"f\":0;\n\
-2 => syntax 3 8 => node 1 x 7 \"a b\".2\"f\":0;\n\
-2 => syntax 3 10 => node 1 1 \"a b\".2\"f\":0;\n\
-2 => syntax 3 12 => node 1 1 7 7 \"a b\".2\"f\":0;\n\
-2 => syntax 3 10 => node 1 1 x \"a b\".2\"f\":0;\n\
-2 => syntax 3 11 => node 1 1 7;\n\
-2 => syntax 3 25 => node 1 1 7 \"a b\".2\"f\":0 \"a b\".2\"f\":0;\n\
-2 => syntax 3 12 => node 1 1 7 x;\n\
-2 => syntax 3 25 => node 1 1 7 \"a b\".2\"f\":0 ;\n\
-2 => syntax 3 1 =>  node 1 1 7 \"a b\".2\"f\":0;\n\
-2 => syntax 3 6 => node  1 1 7 \"a b\".2\"f\":0;\n\
-2 => syntax 3 12 => node 1 1 7 \"a b\".2\"f\":0\n\
-3 => ok => scope 0 - 0 call;\n\
-3 => syntax 4 7 =>\x20\n\
-3 => syntax 5 7 => scope 0 - 0 call;scope 0 - 0 call;\n\
-3 => syntax 4 1 => 0 - 0 call;\n\
-3 => syntax 4 7 => scope scope 0 - 0 call;\n\
-3 => syntax 4 1 => x 0 - 0 call;\n\
-3 => syntax 4 7 => scope - 0 call;\n\
-3 => syntax 4 11 => scope 0 0 - 0 call;\n\
-3 => syntax 4 7 => scope x - 0 call;\n\
-3 => syntax 4 11 => scope 0 0 call;\n\
-3 => syntax 4 11 => scope 0 - - 0 call;\n\
-3 => syntax 4 9 => scope 0 x 0 call;\n\
-3 => syntax 4 11 => scope 0 - call;\n\
-3 => syntax 4 13 => scope 0 - 0 0 call;\n\
-3 => syntax 4 11 => scope 0 - x call;\n\
-3 => syntax 4 12 => scope 0 - 0;\n\
-3 => syntax 4 18 => scope 0 - 0 call call;\n\
-3 => syntax 4 13 => scope 0 - 0 x;\n\
-3 => syntax 4 18 => scope 0 - 0 call ;\n\
-3 => syntax 4 1 =>  scope 0 - 0 call;\n\
-3 => syntax 4 7 => scope  0 - 0 call;\n\
-3 => syntax 4 13 => scope 0 - 0 call\n\
-4 => ok => scope 1 0 1 loop;\n\
-4 => ok =>\x20\n\
-4 => syntax 6 7 => scope 1 0 1 loop;scope 1 0 1 loop;\n\
-4 => syntax 5 1 => 1 0 1 loop;\n\
-4 => syntax 5 7 => scope scope 1 0 1 loop;\n\
-4 => syntax 5 1 => x 1 0 1 loop;\n\
-4 => syntax 5 7 => scope 0 1 loop;\n\
-4 => syntax 5 13 => scope 1 1 0 1 loop;\n\
-4 => syntax 5 7 => scope x 0 1 loop;\n\
-4 => syntax 5 11 => scope 1 1 loop;\n\
-4 => syntax 5 13 => scope 1 0 0 1 loop;\n\
-4 => syntax 5 9 => scope 1 x 1 loop;\n\
-4 => syntax 5 11 => scope 1 0 loop;\n\
-4 => syntax 5 13 => scope 1 0 1 1 loop;\n\
-4 => syntax 5 11 => scope 1 0 x loop;\n\
-4 => syntax 5 12 => scope 1 0 1;\n\
-4 => syntax 5 18 => scope 1 0 1 loop loop;\n\
-4 => syntax 5 13 => scope 1 0 1 x;\n\
-4 => syntax 5 18 => scope 1 0 1 loop ;\n\
-4 => syntax 5 1 =>  scope 1 0 1 loop;\n\
-4 => syntax 5 7 => scope  1 0 1 loop;\n\
-4 => syntax 5 13 => scope 1 0 1 loop\n\
-5 => ok => loop 1 2 3;\n\
-5 => ok =>\x20\n\
-5 => syntax 7 1 => loop 1 2 3;loop 1 2 3;\n\
-5 => syntax 6 1 => 1 2 3;\n\
-5 => syntax 6 6 => loop loop 1 2 3;\n\
-5 => syntax 6 1 => x 1 2 3;\n\
-5 => syntax 6 9 => loop 2 3;\n\
-5 => syntax 6 12 => loop 1 1 2 3;\n\
-5 => syntax 6 6 => loop x 2 3;\n\
-5 => syntax 6 9 => loop 1 3;\n\
-5 => syntax 6 12 => loop 1 2 2 3;\n\
-5 => syntax 6 8 => loop 1 x 3;\n\
-5 => syntax 6 9 => loop 1 2;\n\
-5 => syntax 6 12 => loop 1 2 3 3;\n\
-5 => syntax 6 10 => loop 1 2 x;\n\
-5 => syntax 6 12 => loop 1 2 3 ;\n\
-5 => syntax 6 1 =>  loop 1 2 3;\n\
-5 => syntax 6 6 => loop  1 2 3;\n\
-5 => syntax 6 10 => loop 1 2 3\n\
-6 => ok => count 1 0 4 5;\n\
-6 => ok =>\x20\n\
-6 => syntax 8 1 => count 1 0 4 5;count 1 0 4 5;\n\
-6 => syntax 7 1 => 1 0 4 5;\n\
-6 => syntax 7 7 => count count 1 0 4 5;\n\
-6 => syntax 7 1 => x 1 0 4 5;\n\
-6 => syntax 7 12 => count 0 4 5;\n\
-6 => syntax 7 15 => count 1 1 0 4 5;\n\
-6 => syntax 7 7 => count x 0 4 5;\n\
-6 => syntax 7 12 => count 1 4 5;\n\
-6 => syntax 7 15 => count 1 0 0 4 5;\n\
-6 => syntax 7 9 => count 1 x 4 5;\n\
-6 => syntax 7 12 => count 1 0 5;\n\
-6 => syntax 7 15 => count 1 0 4 4 5;\n\
-6 => syntax 7 11 => count 1 0 x 5;\n\
-6 => syntax 7 12 => count 1 0 4;\n\
-6 => syntax 7 15 => count 1 0 4 5 5;\n\
-6 => syntax 7 13 => count 1 0 4 x;\n\
-6 => syntax 7 15 => count 1 0 4 5 ;\n\
-6 => syntax 7 1 =>  count 1 0 4 5;\n\
-6 => syntax 7 7 => count  1 0 4 5;\n\
-6 => syntax 7 13 => count 1 0 4 5\n\
-7 => ok => dead 9;\n\
-7 => ok =>\x20\n\
-7 => syntax 9 1 => dead 9;dead 9;\n\
-7 => syntax 8 1 => 9;\n\
-7 => syntax 8 6 => dead dead 9;\n\
-7 => syntax 8 1 => x 9;\n\
-7 => syntax 8 5 => dead;\n\
-7 => syntax 8 8 => dead 9 9;\n\
-7 => syntax 8 6 => dead x;\n\
-7 => syntax 8 8 => dead 9 ;\n\
-7 => syntax 8 1 =>  dead 9;\n\
-7 => syntax 8 6 => dead  9;\n\
-7 => syntax 8 6 => dead 9";
-
-/// What is told of the report with each row's text in place of its line is what is due.
-pub(crate) fn each_is_told(rt: &impl Abort, alloc: Global, rows: &str) -> Result<(), Fail> {
-    for row in rows.split('\n') {
-        let at = row
-            .split(" => ")
-            .nth(0)
-            .unwrap_or("")
-            .parse::<usize>()
-            .unwrap_or(99);
-        let due = row.split(" => ").nth(1).unwrap_or("");
-        let new = row.split(" => ").nth(2).unwrap_or("");
-        let text = with_line(alloc, REPORT, at, new)?;
-        let answer = told(alloc, &read(alloc, &text))?;
-        assert_eq!(rt; answer.as_str(), due, "{row}");
-    }
-    Ok(())
-}
+// The number of a line, the text in its place, in which `;` is a line feed, and what is told of the report.
+const LINES: &str = r#"line | second
+0 | facts 2; => ok
+0 |  => syntax 1 1
+0 | facts 2;facts 2; => syntax 2 1
+0 | 2; => syntax 1 1
+0 | facts facts 2; => syntax 1 7
+0 | x 2; => syntax 1 1
+0 | facts; => syntax 1 6
+0 | facts 2 2; => syntax 1 9
+0 | facts x; => syntax 1 7
+0 | facts 2 ; => syntax 1 9
+0 |  facts 2; => syntax 1 1
+0 | facts  2; => syntax 1 7
+0 | facts 2 => syntax 1 7
+1 | node 0 0 0 "main":entry; => ok
+1 |  => syntax 2 6
+1 | node 0 0 0 "main":entry;node 0 0 0 "main":entry; => syntax 3 6
+1 | 0 0 0 "main":entry; => syntax 2 1
+1 | node node 0 0 0 "main":entry; => syntax 2 6
+1 | x 0 0 0 "main":entry; => syntax 2 1
+1 | node 0 0 "main":entry; => syntax 2 10
+1 | node 0 0 0 0 "main":entry; => syntax 2 12
+1 | node x 0 0 "main":entry; => syntax 2 6
+1 | node 0 x 0 "main":entry; => syntax 2 8
+1 | node 0 0 x "main":entry; => syntax 2 10
+1 | node 0 0 0; => syntax 2 11
+1 | node 0 0 0 "main":entry "main":entry; => syntax 2 25
+1 | node 0 0 0 x; => syntax 2 12
+1 | node 0 0 0 "main":entry ; => syntax 2 25
+1 |  node 0 0 0 "main":entry; => syntax 2 1
+1 | node  0 0 0 "main":entry; => syntax 2 6
+1 | node 0 0 0 "main":entry => syntax 2 12
+2 | node 1 1 7 "a b".2"f":0; => ok
+2 |  => ok
+2 | node 1 1 7 "a b".2"f":0;node 1 1 7 "a b".2"f":0; => syntax 4 6
+2 | 1 1 7 "a b".2"f":0; => syntax 3 1
+2 | node node 1 1 7 "a b".2"f":0; => syntax 3 6
+2 | x 1 1 7 "a b".2"f":0; => syntax 3 1
+2 | node 1 7 "a b".2"f":0; => syntax 3 10
+2 | node 1 1 1 7 "a b".2"f":0; => syntax 3 12
+2 | node x 1 7 "a b".2"f":0; => syntax 3 6
+2 | node 1 x 7 "a b".2"f":0; => syntax 3 8
+2 | node 1 1 "a b".2"f":0; => syntax 3 10
+2 | node 1 1 7 7 "a b".2"f":0; => syntax 3 12
+2 | node 1 1 x "a b".2"f":0; => syntax 3 10
+2 | node 1 1 7; => syntax 3 11
+2 | node 1 1 7 "a b".2"f":0 "a b".2"f":0; => syntax 3 25
+2 | node 1 1 7 x; => syntax 3 12
+2 | node 1 1 7 "a b".2"f":0 ; => syntax 3 25
+2 |  node 1 1 7 "a b".2"f":0; => syntax 3 1
+2 | node  1 1 7 "a b".2"f":0; => syntax 3 6
+2 | node 1 1 7 "a b".2"f":0 => syntax 3 12
+3 | scope 0 - 0 call; => ok
+3 |  => syntax 4 7
+3 | scope 0 - 0 call;scope 0 - 0 call; => syntax 5 7
+3 | 0 - 0 call; => syntax 4 1
+3 | scope scope 0 - 0 call; => syntax 4 7
+3 | x 0 - 0 call; => syntax 4 1
+3 | scope - 0 call; => syntax 4 7
+3 | scope 0 0 - 0 call; => syntax 4 11
+3 | scope x - 0 call; => syntax 4 7
+3 | scope 0 0 call; => syntax 4 11
+3 | scope 0 - - 0 call; => syntax 4 11
+3 | scope 0 x 0 call; => syntax 4 9
+3 | scope 0 - call; => syntax 4 11
+3 | scope 0 - 0 0 call; => syntax 4 13
+3 | scope 0 - x call; => syntax 4 11
+3 | scope 0 - 0; => syntax 4 12
+3 | scope 0 - 0 call call; => syntax 4 18
+3 | scope 0 - 0 x; => syntax 4 13
+3 | scope 0 - 0 call ; => syntax 4 18
+3 |  scope 0 - 0 call; => syntax 4 1
+3 | scope  0 - 0 call; => syntax 4 7
+3 | scope 0 - 0 call => syntax 4 13
+4 | scope 1 0 1 loop; => ok
+4 |  => ok
+4 | scope 1 0 1 loop;scope 1 0 1 loop; => syntax 6 7
+4 | 1 0 1 loop; => syntax 5 1
+4 | scope scope 1 0 1 loop; => syntax 5 7
+4 | x 1 0 1 loop; => syntax 5 1
+4 | scope 0 1 loop; => syntax 5 7
+4 | scope 1 1 0 1 loop; => syntax 5 13
+4 | scope x 0 1 loop; => syntax 5 7
+4 | scope 1 1 loop; => syntax 5 11
+4 | scope 1 0 0 1 loop; => syntax 5 13
+4 | scope 1 x 1 loop; => syntax 5 9
+4 | scope 1 0 loop; => syntax 5 11
+4 | scope 1 0 1 1 loop; => syntax 5 13
+4 | scope 1 0 x loop; => syntax 5 11
+4 | scope 1 0 1; => syntax 5 12
+4 | scope 1 0 1 loop loop; => syntax 5 18
+4 | scope 1 0 1 x; => syntax 5 13
+4 | scope 1 0 1 loop ; => syntax 5 18
+4 |  scope 1 0 1 loop; => syntax 5 1
+4 | scope  1 0 1 loop; => syntax 5 7
+4 | scope 1 0 1 loop => syntax 5 13
+5 | loop 1 2 3; => ok
+5 |  => ok
+5 | loop 1 2 3;loop 1 2 3; => syntax 7 1
+5 | 1 2 3; => syntax 6 1
+5 | loop loop 1 2 3; => syntax 6 6
+5 | x 1 2 3; => syntax 6 1
+5 | loop 2 3; => syntax 6 9
+5 | loop 1 1 2 3; => syntax 6 12
+5 | loop x 2 3; => syntax 6 6
+5 | loop 1 3; => syntax 6 9
+5 | loop 1 2 2 3; => syntax 6 12
+5 | loop 1 x 3; => syntax 6 8
+5 | loop 1 2; => syntax 6 9
+5 | loop 1 2 3 3; => syntax 6 12
+5 | loop 1 2 x; => syntax 6 10
+5 | loop 1 2 3 ; => syntax 6 12
+5 |  loop 1 2 3; => syntax 6 1
+5 | loop  1 2 3; => syntax 6 6
+5 | loop 1 2 3 => syntax 6 10
+6 | count 1 0 4 5; => ok
+6 |  => ok
+6 | count 1 0 4 5;count 1 0 4 5; => syntax 8 1
+6 | 1 0 4 5; => syntax 7 1
+6 | count count 1 0 4 5; => syntax 7 7
+6 | x 1 0 4 5; => syntax 7 1
+6 | count 0 4 5; => syntax 7 12
+6 | count 1 1 0 4 5; => syntax 7 15
+6 | count x 0 4 5; => syntax 7 7
+6 | count 1 4 5; => syntax 7 12
+6 | count 1 0 0 4 5; => syntax 7 15
+6 | count 1 x 4 5; => syntax 7 9
+6 | count 1 0 5; => syntax 7 12
+6 | count 1 0 4 4 5; => syntax 7 15
+6 | count 1 0 x 5; => syntax 7 11
+6 | count 1 0 4; => syntax 7 12
+6 | count 1 0 4 5 5; => syntax 7 15
+6 | count 1 0 4 x; => syntax 7 13
+6 | count 1 0 4 5 ; => syntax 7 15
+6 |  count 1 0 4 5; => syntax 7 1
+6 | count  1 0 4 5; => syntax 7 7
+6 | count 1 0 4 5 => syntax 7 13
+7 | dead 9; => ok
+7 |  => ok
+7 | dead 9;dead 9; => syntax 9 1
+7 | 9; => syntax 8 1
+7 | dead dead 9; => syntax 8 6
+7 | x 9; => syntax 8 1
+7 | dead; => syntax 8 5
+7 | dead 9 9; => syntax 8 8
+7 | dead x; => syntax 8 6
+7 | dead 9 ; => syntax 8 8
+7 |  dead 9; => syntax 8 1
+7 | dead  9; => syntax 8 6
+7 | dead 9 => syntax 8 6
+8 | total 0 1 1; => ok
+8 |  => ok
+8 | total 0 1 1;total 0 1 1; => syntax 10 1
+8 | 0 1 1; => syntax 9 1
+8 | total total 0 1 1; => syntax 9 7
+8 | x 0 1 1; => syntax 9 1
+8 | total 1 1; => syntax 9 10
+8 | total 0 0 1 1; => syntax 9 13
+8 | total x 1 1; => syntax 9 7
+8 | total 0 1; => syntax 9 10
+8 | total 0 1 1 1; => syntax 9 13
+8 | total 0 x 1; => syntax 9 9
+8 | total 0 1 x; => syntax 9 11
+8 | total 0 1 1 ; => syntax 9 13
+8 |  total 0 1 1; => syntax 9 1
+8 | total  0 1 1; => syntax 9 7
+8 | total 0 1 1 => syntax 9 11
+9 | pair 0 1 2; => ok
+9 |  => ok
+9 | pair 0 1 2;pair 0 1 2; => syntax 11 1
+9 | 0 1 2; => syntax 10 1
+9 | pair pair 0 1 2; => syntax 10 6
+9 | x 0 1 2; => syntax 10 1
+9 | pair 1 2; => syntax 10 9
+9 | pair 0 0 1 2; => syntax 10 12
+9 | pair x 1 2; => syntax 10 6
+9 | pair 0 2; => syntax 10 9
+9 | pair 0 1 1 2; => syntax 10 12
+9 | pair 0 x 2; => syntax 10 8
+9 | pair 0 1; => syntax 10 9
+9 | pair 0 1 2 2; => syntax 10 12
+9 | pair 0 1 x; => syntax 10 10
+9 | pair 0 1 2 ; => syntax 10 12
+9 |  pair 0 1 2; => syntax 10 1
+9 | pair  0 1 2; => syntax 10 6
+9 | pair 0 1 2 => syntax 10 10
+10 | alarm 1 divide; => ok
+10 |  => ok
+10 | alarm 1 divide;alarm 1 divide; => syntax 12 1
+10 | 1 divide; => syntax 11 1
+10 | alarm alarm 1 divide; => syntax 11 7
+10 | x 1 divide; => syntax 11 1
+10 | alarm divide; => syntax 11 7
+10 | alarm 1 1 divide; => syntax 11 9
+10 | alarm x divide; => syntax 11 7
+10 | alarm 1; => syntax 11 8
+10 | alarm 1 divide divide; => syntax 11 16
+10 | alarm 1 x; => syntax 11 9
+10 | alarm 1 divide ; => syntax 11 16
+10 |  alarm 1 divide; => syntax 11 1
+10 | alarm  1 divide; => syntax 11 7
+10 | alarm 1 divide => syntax 11 9
+11 | count-bound 23; => ok
+11 |  => syntax 12 1
+11 | count-bound 23;count-bound 23; => syntax 13 1
+11 | 23; => syntax 12 1
+11 | count-bound count-bound 23; => syntax 12 13
+11 | x 23; => syntax 12 1
+11 | count-bound; => syntax 12 12
+11 | count-bound 23 23; => syntax 12 16
+11 | count-bound x; => syntax 12 13
+11 | count-bound 23 ; => syntax 12 16
+11 |  count-bound 23; => syntax 12 1
+11 | count-bound  23; => syntax 12 13
+11 | count-bound 23 => syntax 12 13
+12 | path-bound 22 stopped; => ok
+12 |  => ok
+12 | path-bound 22 stopped;path-bound 22 stopped; => syntax 14 1
+12 | 22 stopped; => syntax 13 1
+12 | path-bound path-bound 22 stopped; => syntax 13 12
+12 | x 22 stopped; => syntax 13 1
+12 | path-bound stopped; => syntax 13 12
+12 | path-bound 22 22 stopped; => syntax 13 15
+12 | path-bound x stopped; => syntax 13 12
+12 | path-bound 22; => syntax 13 14
+12 | path-bound 22 stopped stopped; => syntax 13 23
+12 | path-bound 22 x; => syntax 13 15
+12 | path-bound 22 stopped ; => syntax 13 23
+12 |  path-bound 22 stopped; => syntax 13 1
+12 | path-bound  22 stopped; => syntax 13 12
+12 | path-bound 22 stopped => syntax 13 15
+13 | cert; => ok
+13 |  => syntax 14 1
+13 | cert;cert; => syntax 15 1
+13 | ; => syntax 14 1
+13 | cert cert; => syntax 14 6
+13 | x; => syntax 14 1
+13 | cert ; => syntax 14 6
+13 |  cert; => syntax 14 1
+13 | cert => syntax 14 1
+14 | step 0; => ok
+14 |  => ok
+14 | step 0;step 0; => ok
+14 | 0; => syntax 15 1
+14 | step step 0; => syntax 15 6
+14 | x 0; => syntax 15 1
+14 | step; => syntax 15 5
+14 | step 0 0; => syntax 15 8
+14 | step x; => syntax 15 6
+14 | step 0 ; => syntax 15 8
+14 |  step 0; => syntax 15 1
+14 | step  0; => syntax 15 6
+14 | step 0 => syntax 15 6
+15 | merge 0 1; => ok
+15 |  => ok
+15 | merge 0 1;merge 0 1; => ok
+15 | 0 1; => syntax 16 1
+15 | merge merge 0 1; => syntax 16 7
+15 | x 0 1; => syntax 16 1
+15 | merge 1; => syntax 16 8
+15 | merge 0 0 1; => syntax 16 11
+15 | merge x 1; => syntax 16 7
+15 | merge 0; => syntax 16 8
+15 | merge 0 1 1; => syntax 16 11
+15 | merge 0 x; => syntax 16 9
+15 | merge 0 1 ; => syntax 16 11
+15 |  merge 0 1; => syntax 16 1
+15 | merge  0 1; => syntax 16 7
+15 | merge 0 1 => syntax 16 9
+16 | scale 3; => ok
+16 |  => syntax 17 1
+16 | scale 3;scale 3; => syntax 18 1
+16 | 3; => syntax 17 1
+16 | scale scale 3; => syntax 17 7
+16 | x 3; => syntax 17 1
+16 | scale; => syntax 17 6
+16 | scale 3 3; => syntax 17 9
+16 | scale x; => syntax 17 7
+16 | scale 3 ; => syntax 17 9
+16 |  scale 3; => syntax 17 1
+16 | scale  3; => syntax 17 7
+16 | scale 3 => syntax 17 7
+17 | mul -7; => ok
+17 |  => ok
+17 | mul -7;mul -7; => ok
+17 | -7; => syntax 18 1
+17 | mul mul -7; => syntax 18 5
+17 | x -7; => syntax 18 1
+17 | mul; => syntax 18 4
+17 | mul -7 -7; => syntax 18 8
+17 | mul x; => syntax 18 5
+17 | mul -7 ; => syntax 18 8
+17 |  mul -7; => syntax 18 1
+17 | mul  -7; => syntax 18 5
+17 | mul -7 => syntax 18 5
+18 | mul 0; => ok
+18 |  => ok
+18 | mul 0;mul 0; => ok
+18 | 0; => syntax 19 1
+18 | mul mul 0; => syntax 19 5
+18 | x 0; => syntax 19 1
+18 | mul; => syntax 19 4
+18 | mul 0 0; => syntax 19 7
+18 | mul x; => syntax 19 5
+18 | mul 0 ; => syntax 19 7
+18 |  mul 0; => syntax 19 1
+18 | mul  0; => syntax 19 5
+18 | mul 0 => syntax 19 5
+19 | end; => ok
+19 |  => syntax 20 1
+19 | end;end; => syntax 21 1
+19 | ; => syntax 20 1
+19 | end end; => syntax 20 5
+19 | x; => syntax 20 1
+19 | end ; => syntax 20 5
+19 |  end; => syntax 20 1
+19 | end => syntax 20 4"#;
 
 #[test]
 fn a_line_in_place_of_another_is_told(rt: HostRuntime) -> Result<(), Fail> {
-    each_is_told(&rt, rt.alloc(), ROWS)
+    hold(rt.alloc(), LINES)
 }

@@ -32,7 +32,11 @@ pub fn number(word: &str) -> u32 {
 /// line a row: the rest of the case, ` => `, and the answer that is due. A line that begins with `#` is a remark.
 pub fn hold(alloc: Global, table: &str) -> Result<(), Fail> {
     for section in table.split("\n\n") {
-        for row in side(section, "\n", 1).lines() {
+        let rows = side(section, "\n", 1);
+        if !rows.contains(" => ") {
+            return Err("a section has no rows".into());
+        }
+        for row in rows.lines() {
             if !row.starts_with('#') {
                 hold_row(alloc, side(section, "\n", 0), row)?;
             }

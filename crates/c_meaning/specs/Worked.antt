@@ -113,6 +113,10 @@ with_a_narrow_result = unit_in (codes "char f|(|int x|)|{|return x|;|} int main|
     ∷ returns 25 (OfName 26) ∷ [])
     ∷ [])
 
+-- a root that gives a `char`
+abbrev pub with_a_narrow_root : UnitTree
+with_a_narrow_root = unit_in (codes "char main|(|void|)|{|return 200|;|}") (Definition 0 (outcomes.Integer Char) 1 [] (returns 6 (OfConstant 7) ∷ []) ∷ [])
+
 -- a root with a pointer, which an input may give a word
 abbrev pub with_a_pointer_parameter : UnitTree
 with_a_pointer_parameter = unit_in (codes "int main|(|int *|p|)|{|return *|p|;|}")

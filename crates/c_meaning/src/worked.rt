@@ -4,7 +4,7 @@ ghost use Rattle.std.specs.Prelude.{◌≡◌, Some, [], ◌∷◌};
 ghost use Rattle.alf_ops.specs.declared.history.Value.TheVariants.{Int};
 ghost use Rattle.alf_ops.specs.declared.history.RunFault.TheVariants.{Divide, Uninit, Bounds, Kind};
 ghost use Rattle.c_meaning.specs.Programs.{Ended, Stopped, Unfinished, outcome};
-ghost use Rattle.c_meaning.specs.Worked.{main, in_first_object, with_a_sum, with_a_guard, with_bytes, with_a_switch, without_an_end, with_a_pointer, with_a_narrow_result, with_a_pointer_parameter, without_a_value, past_an_array};
+ghost use Rattle.c_meaning.specs.Worked.{main, in_first_object, with_a_sum, with_a_guard, with_bytes, with_a_switch, without_an_end, with_a_pointer, with_a_narrow_result, with_a_narrow_root, with_a_pointer_parameter, without_a_value, past_an_array};
 
 /// A loop of three turns in a function gives its sum, which a global holds in the end; with two turns it is
 /// not known.
@@ -43,9 +43,11 @@ pub fn a_pointer_goes_down_an_array()
     ensures one { outcome with_a_pointer main 1 [] ≡ Unfinished }
 {}
 
-/// What a function gives is cut to its type.
+/// What a function gives is cut to its type: that of a call, which is then widened to the type of a variable, and that
+/// of the root.
 pub fn a_result_is_cut_to_its_type()
-    ensures { outcome with_a_narrow_result main 0 [] ≡ Ended (Some (Int 32 4294967240)) [] }
+    ensures call { outcome with_a_narrow_result main 0 [] ≡ Ended (Some (Int 32 4294967240)) [] }
+    ensures root { outcome with_a_narrow_root main 0 [] ≡ Ended (Some (Int 8 200)) [] }
 {}
 
 /// A word where a pointer is wanted, a variable that holds nothing, and an element that an array has not

@@ -8,5 +8,4 @@ pub mod Finding
 pub mod Deciding
 pub mod Numerals
 pub mod Entered
-mod Later
 pub mod Spelling

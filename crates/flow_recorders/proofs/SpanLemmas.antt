@@ -2,7 +2,7 @@
 --   only_set, only_replicate   a span that is set, and as many of one
 --   same_joined                a list joined with itself
 --   room_only, room_least, room_most   there is room for one more
---   visited_only, visited_apart   one more at a place
+--   visited_only, visited_small, visited_apart   one more at a place
 --   room_for_more              there is room at each place, where the greatest number is no limit
 use Rattle.std.proofs.Common.{◌≡◌, ◌<◌, ◌+◌, ◌-◌, ◌^◌, ℕ, zero, suc, List, ◌∷◌, map, length, get_or, set, replicate, refl, sym, ap, ◌∙◌, subst, arith}
 use Rattle.std.proofs.Math.ListN.{get_or-map}
@@ -53,6 +53,12 @@ module _ (spans : List (ℕ × ℕ)) (i : ℕ) (low : i < length spans) where
   -- one more at a place
   pub visited_only : (xs : List ℕ) (c : ℕ) → map only xs ≡ spans → c ≡ get_or xs i c → map only (set xs i (c + 1)) ≡ set spans i (one_more (span_at spans i))
   visited_only xs c is read = only_set xs i (c + 1) ∙ ap (λ (ys : List (ℕ × ℕ)). set ys i (only (c + 1))) is ∙ ap (λ (s : ℕ × ℕ). set spans i (one_more s)) (only_read xs c is read)
+
+  pub visited_small : (xs read : List ℕ) (c : ℕ) → map only xs ≡ spans → read ≡ xs → c ≡ get_or read i 0 + 1 → map only (set xs i c) ≡ set spans i (one_more (span_at spans i))
+  visited_small xs read c is same more =
+      ap (λ (n : ℕ). map only (set xs i n)) (more ∙ ap (λ (zs : List ℕ). get_or zs i 0 + 1) same)
+      ∙ only_set xs i (get_or xs i 0 + 1) ∙ ap (λ (zs : List (ℕ × ℕ)). set zs i (only (get_or xs i 0 + 1))) is
+      ∙ ap (λ (s : ℕ × ℕ). set spans i (one_more s)) (sym (get_or-map only xs i 0) ∙ ap (λ (zs : List (ℕ × ℕ)). get_or zs i (0, 0)) is)
 
   pub visited_apart : (xs : List (ℕ × ℕ)) (s : ℕ × ℕ) → xs ≡ spans → s ≡ get_or xs i s → set xs i (one_more s) ≡ set spans i (one_more (span_at spans i))
   visited_apart xs s is read = ap (λ (ys : List (ℕ × ℕ)). set ys i (one_more s)) is ∙ ap (λ (t : ℕ × ℕ). set spans i (one_more t)) (read_at xs spans i s (0, 0) is low read)

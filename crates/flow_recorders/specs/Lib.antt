@@ -3,6 +3,7 @@ pub mod Climbs
 pub mod ClimbLaws
 pub mod BothRules
 pub mod BothLaws
+pub mod SmallCounts
 pub mod SpanLists
 pub mod Chained
 pub mod Walked

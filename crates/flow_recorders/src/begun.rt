@@ -18,7 +18,7 @@ pub fn begun(alloc: Global, nodes: &[Option<u32>]) -> Result<SpanList, AllocErro
     for i in 0..nodes.len() {
         counts.push(begun_at(nodes[i]))?;
     }
-    Ok(SpanList::only(counts))
+    SpanList::only(alloc, counts)
 }
 
 /// The visits of a number's node, which is visited where it is node 0.

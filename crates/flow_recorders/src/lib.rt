@@ -11,6 +11,8 @@
 mod leaving;
 
 // Counts in a whole run.
+mod few;
+mod small;
 mod span_list;
 mod spans;
 mod totals;

@@ -1,25 +1,33 @@
 //! Lists of spans, of one number each while least and greatest are the same.
 
-ghost use Rattle.std.specs.Prelude.{◌≡◌, ◌-◌, ◌^◌, ◌<◌, length, map, replicate, slice_set, IfOk, IsTrue};
+ghost use Rattle.std.specs.Prelude.{◌≡◌, ◌-◌, ◌^◌, ◌<◌, length, map, replicate, slice_set, IfOk, OnOk, IsTrue};
 ghost use Rattle.recorder_rules.specs.Spans.{one_more};
 ghost use Rattle.recorder_rules.specs.SpanLaws.{spans_of};
 ghost use Rattle.recorder_rules.specs.TotalRules.{span_at};
-ghost use Rattle.flow_recorders.specs.SpanLists.{only};
+ghost use Rattle.flow_recorders.specs.SmallCounts.{AreSmall};
+ghost use Rattle.flow_recorders.specs.SpanLists.{only, spans_in};
 
+use crate::few::{FewCounts, MOST_COUNTS};
+use crate::small::{are_small, narrowed, widened_by};
 use crate::spans::span;
 use std::alloc::{AllocError, Global};
 use std::marker::Model;
 
-/// The ends of spans.
+/// The ends of spans. All forms have room in 32 bytes, beside the lists, which are pieces of memory of their own.
 #[derive(Drop)]
 enum Ends {
-    /// Of each span the one number that is its least and its greatest.
+    /// Of up to 23 spans the one number that is both ends, below 256.
+    Few(FewCounts),
+    /// Of each span the one number that is both ends, below 256.
+    Narrow(Vec<u8>),
+    /// Of each span the one number that is both ends.
     Same(Vec<u32>),
     /// Of each span the least and the greatest number.
     Apart(Vec<(u32, u32)>),
 }
 
-/// A list of spans. Until spans that differ are joined it keeps one number for each.
+/// A list of spans. Until spans that differ are joined it keeps one number for each, and that in a byte until one of
+/// them is past 255.
 #[derive(Drop)]
 pub struct SpanList {
     ends: Ends,
@@ -34,14 +42,34 @@ impl Model for SpanList {
     ghost view = { λ list. spans_in list.ends };
 }
 
+/// The span of the number of a byte.
+fn of_byte(count: u8) -> (u32, u32)
+    ensures { result ≡ only count }
+{
+    (count as u32, count as u32)
+}
+
+/// The ends of spans of numbers below 256.
+fn small_ends(alloc: Global, counts: &[u32]) -> Result<Ends, AllocError>
+    requires { AreSmall counts.now }
+    ensures { IfOk result (λ ends. spans_in ends ≡ map only counts.now) }
+{
+    if counts.len() <= MOST_COUNTS {
+        return Ok(Ends::Few(FewCounts::of(counts)));
+    }
+    Ok(Ends::Narrow(narrowed(alloc, counts)?))
+}
+
 impl SpanList {
     /// The spans of these numbers alone.
-    pub fn only(counts: Vec<u32>) -> SpanList
-        ensures { result ≡ map only counts.items }
+    pub fn only(alloc: Global, counts: Vec<u32>) -> Result<SpanList, AllocError>
+        ensures { IfOk result (λ list. list ≡ map only counts.items) }
     {
-        SpanList {
+        let mut list = SpanList {
             ends: Ends::Same(counts),
-        }
+        };
+        list.settle(alloc)?;
+        Ok(list)
     }
 
     /// As many spans of 0 alone.
@@ -49,7 +77,19 @@ impl SpanList {
         ensures { IfOk result (λ list. list ≡ replicate count (0, 0)) }
     {
         let counts = vec![in alloc; 0u32; count]?;
-        Ok(SpanList::only(counts))
+        SpanList::only(alloc, counts)
+    }
+
+    /// Goes back to bytes where each number fits into one again. It looks at the numbers up to the first that does not.
+    pub fn settle(&mut self, alloc: Global) -> Result<(), AllocError>
+        ensures { OnOk result (self.new ≡ self.old) }
+    {
+        if let Ends::Same(counts) = &self.ends {
+            if are_small(counts) {
+                self.ends = small_ends(alloc, counts)?;
+            }
+        }
+        Ok(())
     }
 
     /// How many spans there are.
@@ -57,6 +97,8 @@ impl SpanList {
         ensures { result ≡ length self.now }
     {
         match &self.ends {
+            Ends::Few(counts) => counts.as_slice().len(),
+            Ends::Narrow(counts) => counts.len(),
             Ends::Same(counts) => counts.len(),
             Ends::Apart(spans) => spans.len(),
         }
@@ -68,24 +110,59 @@ impl SpanList {
         ensures { result ≡ span_at self.now i }
     {
         match &self.ends {
+            Ends::Few(counts) => of_byte(counts.as_slice()[i]),
+            Ends::Narrow(counts) => of_byte(counts[i]),
             Ends::Same(counts) => (counts[i], counts[i]),
             Ends::Apart(spans) => spans[i],
         }
     }
 
-    /// One more at a place.
-    pub fn visit(&mut self, i: usize)
+    /// The spans of these numbers alone, in place of those that it has.
+    fn widen_to(&mut self, counts: Vec<u32>)
+        ensures { self.new ≡ map only counts.items }
+    {
+        self.ends = Ends::Same(counts);
+    }
+
+    /// One more at a place. It takes memory only where the number there is past a byte with it.
+    pub fn visit(&mut self, alloc: Global, i: usize) -> Result<(), AllocError>
         requires low { i < length self.old }
         requires least { (span_at self.old i).0 < 2 ^ 32 - 1 }
         requires most { (span_at self.old i).1 < 2 ^ 32 - 1 }
-        ensures { self.new ≡ slice_set self.old i (one_more (span_at self.old i)) }
+        ensures { OnOk result (self.new ≡ slice_set self.old i (one_more (span_at self.old i))) }
     {
         match &mut self.ends {
+            Ends::Few(counts) => match counts.as_slice()[i].checked_add(1) {
+                Some(count) => counts.set(i, count),
+                None => {
+                    let wide = widened_by(alloc, counts.as_slice(), i)?;
+                    self.widen_to(wide);
+                }
+            },
+            Ends::Narrow(counts) => match counts[i].checked_add(1) {
+                Some(count) => counts[i] = count,
+                None => {
+                    let wide = widened_by(alloc, counts, i)?;
+                    self.widen_to(wide);
+                }
+            },
             Ends::Same(counts) => counts[i] += 1,
             Ends::Apart(spans) => {
                 let (least, most) = spans[i];
                 spans[i] = (least + 1, most + 1);
             }
+        }
+        Ok(())
+    }
+
+    /// True only where there is one number for each span, and that at the place takes more than a byte.
+    pub fn is_wide(&self, i: usize) -> bool
+        requires { i < length self.now }
+        ensures { IsTrue result → 255 < (span_at self.now i).0 }
+    {
+        match &self.ends {
+            Ends::Same(counts) => counts[i] > 255,
+            _ => false,
         }
     }
 
@@ -95,6 +172,8 @@ impl SpanList {
         ensures { self.new ≡ slice_set self.old i (0, 0) }
     {
         match &mut self.ends {
+            Ends::Few(counts) => counts.set(i, 0),
+            Ends::Narrow(counts) => counts[i] = 0,
             Ends::Same(counts) => counts[i] = 0,
             Ends::Apart(spans) => spans[i] = (0, 0),
         }
@@ -105,22 +184,23 @@ impl SpanList {
         ensures { IfOk result (λ copy. copy ≡ self.now) }
     {
         let ends = match &self.ends {
+            Ends::Few(counts) => Ends::Few(counts.copied()),
+            Ends::Narrow(counts) => Ends::Narrow(Vec::from_slice(alloc, counts)?),
             Ends::Same(counts) => Ends::Same(Vec::from_slice(alloc, counts)?),
             Ends::Apart(spans) => Ends::Apart(Vec::from_slice(alloc, spans)?),
         };
         Ok(SpanList { ends })
     }
 
-    /// True only where both are the same, with one number for each span.
+    /// True only where both are the same, with one number for each span, in the same form.
     fn is_same(&self, other: &SpanList) -> bool
         ensures { IsTrue result → self.now ≡ other.now }
     {
-        match &self.ends {
-            Ends::Apart(_) => false,
-            Ends::Same(counts) => match &other.ends {
-                Ends::Apart(_) => false,
-                Ends::Same(others) => counts == others,
-            },
+        match (&self.ends, &other.ends) {
+            (Ends::Few(counts), Ends::Few(others)) => counts.as_slice() == others.as_slice(),
+            (Ends::Narrow(counts), Ends::Narrow(others)) => counts == others,
+            (Ends::Same(counts), Ends::Same(others)) => counts == others,
+            _ => false,
         }
     }
 

@@ -81,8 +81,8 @@ impl Tallies {
     {
         let left = left_scopes(alloc, outline, from, to)?;
         collect_scopes(&self.scopes, &left, spans, &mut self.spreads);
-        reset_scopes(&self.scopes, &left, spans);
-        enter(&self.nodes, to, spans);
+        reset_scopes(alloc, &self.scopes, &left, spans)?;
+        enter(alloc, &self.nodes, to, spans)?;
         Ok(())
     }
 

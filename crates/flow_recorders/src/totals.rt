@@ -87,20 +87,19 @@ impl Recorder for Totals {
     fn start(alloc: Global, outline: &Outline) -> Result<Self, AllocError> {
         outline.kept();
         let mut counts = SpanList::zeros(alloc, outline.node_count() as usize)?;
-        counts.visit(0);
+        counts.visit(alloc, 0)?;
         Ok(Totals { counts })
     }
 
     fn go(
         &mut self,
-        _alloc: Global,
+        alloc: Global,
         _outline: &Outline,
         _book: &mut TotalsBook,
         _from: u32,
         to: u32,
     ) -> Result<(), AllocError> {
-        self.counts.visit(to as usize);
-        Ok(())
+        self.counts.visit(alloc, to as usize)
     }
 
     fn finish(

@@ -1,6 +1,6 @@
 //! What is changed at all numbers that have a key.
 
-ghost use Rattle.std.specs.Prelude.{◌≡◌, ℕ, ◌+◌, ◌-◌, ◌^◌, ◌<◌, length, Option, None, if◌then◌else◌};
+ghost use Rattle.std.specs.Prelude.{◌≡◌, ℕ, ◌+◌, ◌-◌, ◌^◌, ◌<◌, length, Option, None, OnOk, if◌then◌else◌};
 ghost use Rattle.std.specs.List.{list_any};
 ghost use Rattle.recorder_rules.specs.Spans.{one_more, collected, greatest};
 ghost use Rattle.recorder_rules.specs.TotalRules.{span_at, spread_at};
@@ -10,6 +10,7 @@ ghost use Rattle.flow_recorders.specs.Walked.{AreChanged};
 use crate::chains::Chains;
 use crate::span_list::SpanList;
 use crate::spans::with_span;
+use std::alloc::{AllocError, Global};
 
 /// Collects the spans of the numbers of a scope.
 fn collect_scope(chains: &Chains, scope: u32, spans: &SpanList, spreads: &mut [Option<(u32, u32)>])
@@ -24,33 +25,42 @@ fn collect_scope(chains: &Chains, scope: u32, spans: &SpanList, spreads: &mut [O
     }
 }
 
-/// Lets the numbers of a scope begin anew.
-fn reset_scope(chains: &Chains, scope: u32, spans: &mut SpanList)
+/// Lets the numbers of a scope begin anew. It tells whether one of them took more than a byte.
+fn reset_scope(chains: &Chains, scope: u32, spans: &mut SpanList) -> bool
     requires { length chains.now ≡ length spans.old }
     ensures same_length { length spans.new ≡ length spans.old }
     ensures reset { AreChanged chains.now scope (λ j. (0, 0)) (0, 0) spans.old spans.new }
 {
     let count = spans.len();
+    let mut was_wide = false;
     let mut i = chains.first_of(scope);
     while i < count {
+        was_wide |= spans.is_wide(i);
         spans.reset(i);
         i = chains.after(i);
     }
+    was_wide
 }
 
 /// One visit more of the node, at each number that counts it.
-pub fn enter(chains: &Chains, node: u32, spans: &mut SpanList)
+pub fn enter(
+    alloc: Global,
+    chains: &Chains,
+    node: u32,
+    spans: &mut SpanList,
+) -> Result<(), AllocError>
     requires keys { length chains.now ≡ length spans.old }
     requires room { greatest spans.old < 2 ^ 32 - 1 }
-    ensures same_length { length spans.new ≡ length spans.old }
-    ensures entered { AreChanged chains.now node (λ j. one_more (span_at spans.old j)) (0, 0) spans.old spans.new }
+    ensures same_length { OnOk result (length spans.new ≡ length spans.old) }
+    ensures entered { OnOk result (AreChanged chains.now node (λ j. one_more (span_at spans.old j)) (0, 0) spans.old spans.new) }
 {
     let count = spans.len();
     let mut i = chains.first_of(node);
     while i < count {
-        spans.visit(i);
+        spans.visit(alloc, i)?;
         i = chains.after(i);
     }
+    Ok(())
 }
 
 /// Collects the spans of the numbers of these scopes.
@@ -69,13 +79,33 @@ pub fn collect_scopes(
     }
 }
 
-/// Lets the numbers of these scopes begin anew.
-pub fn reset_scopes(chains: &Chains, scopes: &[u32], spans: &mut SpanList)
+/// Lets the numbers of these scopes begin anew. It tells whether one of them took more than a byte.
+fn reset_all(chains: &Chains, scopes: &[u32], spans: &mut SpanList) -> bool
     requires { length chains.now ≡ length spans.old }
     ensures same_length { length spans.new ≡ length spans.old }
     ensures reset { (j : ℕ) → j < length spans.old → span_at spans.new j ≡ (if list_any (λ k. is_at (key_at chains.now j) k) scopes.now then (0, 0) else span_at spans.old j) }
 {
+    let mut was_wide = false;
     for scope in scopes {
-        reset_scope(chains, *scope, spans);
+        was_wide |= reset_scope(chains, *scope, spans);
     }
+    was_wide
+}
+
+/// Lets the numbers of these scopes begin anew, and then take the least memory. It looks at all numbers only where one
+/// of them had grown past a byte, which takes that many visits.
+pub fn reset_scopes(
+    alloc: Global,
+    chains: &Chains,
+    scopes: &[u32],
+    spans: &mut SpanList,
+) -> Result<(), AllocError>
+    requires { length chains.now ≡ length spans.old }
+    ensures same_length { OnOk result (length spans.new ≡ length spans.old) }
+    ensures reset { OnOk result ((j : ℕ) → j < length spans.old → span_at spans.new j ≡ (if list_any (λ k. is_at (key_at chains.now j) k) scopes.now then (0, 0) else span_at spans.old j)) }
+{
+    if reset_all(chains, scopes, spans) {
+        spans.settle(alloc)?;
+    }
+    Ok(())
 }

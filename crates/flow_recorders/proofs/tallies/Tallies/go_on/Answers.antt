@@ -9,7 +9,7 @@ use Rattle.flow_recorders.proofs.tallies.Tallies.go_on.Goals as goal
 
 pub enter-requires-clause-room : goal.enter-requires-clause-room
 enter-requires-clause-room c =
-    let least = reset_greatest c.args.spans.now c.reset_scopes.new.spans (λ j. list_any (λ s. is_at (key_at c.self.inside.scopes j) s) c.deref-2.result.now) c.reset_scopes.ensures.same_length c.reset_scopes.ensures.reset in
+    let least = reset_greatest c.args.spans.now c.reset_scopes.new.spans (λ j. list_any (λ s. is_at (key_at c.self.inside.scopes j) s) c.deref-2.result.now) c.in_ok-reset_scopes.ensures.same_length c.in_ok-reset_scopes.ensures.reset in
     omega (arith, c.requires.room)
 
 pub returns-clause-spans : goal.returns-clause-spans
@@ -17,7 +17,7 @@ returns-clause-spans c =
     subst (λ (z : Ledger). c.enter.new.spans ≡ spans_gone (shape_of c.args.outline.now) z.tally c.args.spans.now c.args.from c.args.to) c.self.view_is
     (spans_are (shape_of c.args.outline.now) (record { scopes = c.self.inside.scopes; nodes = c.self.inside.nodes }) c.args.spans.now c.args.from c.args.to c.deref-2.result.now
     (λ t. ap (λ (xs : List ℕ). list_any (λ s. t == s) xs) c.deref-2.ensures.value ∙ c.in_ok-left.ensures t)
-    c.reset_scopes.new.spans c.enter.new.spans c.reset_scopes.ensures.same_length c.enter.ensures.same_length c.reset_scopes.ensures.reset c.enter.ensures.entered)
+    c.reset_scopes.new.spans c.enter.new.spans c.in_ok-reset_scopes.ensures.same_length c.in_ok-enter.ensures.same_length c.in_ok-reset_scopes.ensures.reset c.in_ok-enter.ensures.entered)
 
 pub returns-clause-book : goal.returns-clause-book
 returns-clause-book c =

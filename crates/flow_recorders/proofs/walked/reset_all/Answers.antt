@@ -1,10 +1,10 @@
--- What is left to show of `reset_scopes`.
+-- What is left to show of `reset_all`.
 use Rattle.std.proofs.Common.{◌≡◌, ℕ, List, [], drop, arith, ap, sym, ◌∙◌}
 use Rattle.std.proofs.lemmas.List.{drop_all}
 use Rattle.recorder_rules.specs.TotalRules.{span_at}
 use Rattle.recorder_rules.specs.TallyRules.{key_at}
 use Rattle.flow_recorders.proofs.Walking.{reset_each, each_reset}
-use Rattle.flow_recorders.proofs.walked.reset_scopes.Goals as goal
+use Rattle.flow_recorders.proofs.walked.reset_all.Goals as goal
 
 pub returns-clause-reset : goal.returns-clause-reset
 returns-clause-reset c j low =

@@ -3,7 +3,7 @@ use Rattle.std.proofs.Common.{◌≡◌, ◌<◌, ℕ, length, drop}
 use Rattle.recorder_rules.specs.TotalRules.{span_at}
 use Rattle.recorder_rules.specs.TallyRules.{key_at}
 use Rattle.flow_recorders.proofs.Walking.{reset_each}
-use Rattle.flow_recorders.proofs.walked.reset_scopes.Given as goal
+use Rattle.flow_recorders.proofs.walked.reset_all.Given as goal
 
 abbrev pub invariant-loop-scope : goal.invariant-loop-scope
 invariant-loop-scope l = record {

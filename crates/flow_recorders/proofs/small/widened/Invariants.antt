@@ -1,0 +1,6 @@
+-- What the loop keeps.
+use Rattle.std.proofs.Common.{◌≡◌, take}
+use Rattle.flow_recorders.proofs.small.widened.Given as goal
+
+abbrev pub invariant-loop-i : goal.invariant-loop-i
+invariant-loop-i l = l.counts.items ≡ take l.i l.bytes

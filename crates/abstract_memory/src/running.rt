@@ -13,7 +13,7 @@ enum Flags {
     Many(Box<Vec<bool>>),
 }
 
-/// A flag for each function of a program, in 24 bytes of memory where there are no more than 22.
+/// A flag for each function of a program, in place where there are no more than 22, which takes 24 bytes.
 #[derive(Drop)]
 pub(crate) struct Running {
     flags: Flags,

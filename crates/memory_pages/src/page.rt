@@ -189,6 +189,15 @@ pub(crate) fn put_on(page: &mut Rc<Page>, at: usize, slot: Rc<Slot>) -> Result<(
     Ok(())
 }
 
+/// Puts a slot, which copies can share from then on.
+pub(crate) fn put_slot(page: &mut Rc<Page>, at: usize, slot: Slot) -> Result<(), AllocError>
+    requires { at < length (slots_on page.old) }
+    ensures { OnOk result (slots_on page.new ≡ slice_set (slots_on page.old) at slot) }
+{
+    let slot = shared(*page.slots.allocator(), slot)?;
+    put_on(page, at, slot)
+}
+
 /// Puts a slot on the page of its place.
 pub(crate) fn put_in(pages: &mut [Rc<Page>], at: usize, slot: Rc<Slot>) -> Result<(), AllocError>
     requires page { at / 32 < length pages.old }

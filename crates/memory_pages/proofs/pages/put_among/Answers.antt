@@ -5,7 +5,7 @@ use Rattle.std.proofs.lemmas.Result.{on_ok_weaker}
 use Rattle.memory_pages.specs.Slots.{HeldSlot}
 use Rattle.memory_pages.specs.Pages.{pages_of, slots_on}
 use Rattle.memory_pages.proofs.PageLists.{set_before, set_last}
-use Rattle.memory_pages.proofs.frame.put_among.Goals as goal
+use Rattle.memory_pages.proofs.pages.put_among.Goals as goal
 
 pub returns-then-at-whole-clause-put : goal.returns-then-at-whole-clause-put
 returns-then-at-whole-clause-put c =

@@ -7,7 +7,7 @@ use Rattle.std.proofs.lemmas.Result.{on_ok_weaker}
 use Rattle.memory_pages.specs.Slots.{HeldSlot}
 use Rattle.memory_pages.specs.Pages.{all_pages, joined, ArePages}
 use Rattle.memory_pages.proofs.PageLists.{on_page, in_page, joined_set, either_pages}
-use Rattle.memory_pages.proofs.frame.FrameSlots.put.Goals as goal
+use Rattle.memory_pages.proofs.pages.Pages.put.Goals as goal
 
 pub put_among-requires-clause-page : goal.put_among-requires-clause-page
 put_among-requires-clause-page c =

@@ -3,7 +3,7 @@ use Rattle.std.proofs.Common.{◌∙◌, sym, subst, ap, List}
 use Rattle.memory_pages.specs.Slots.{HeldSlot, bare}
 use Rattle.memory_pages.specs.Pages.{pages_of, joined, ArePages}
 use Rattle.memory_pages.proofs.PageLists.{made, made_pages, made_joined}
-use Rattle.memory_pages.proofs.frame.FrameSlots.new.Goals as goal
+use Rattle.memory_pages.proofs.pages.Pages.new.Goals as goal
 
 pub invariant_of-result : goal.invariant_of-result
 invariant_of-result c = subst (λ (pages : List (List HeldSlot)). ArePages pages)

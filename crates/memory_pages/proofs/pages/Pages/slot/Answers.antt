@@ -3,7 +3,7 @@ use Rattle.std.proofs.Common.{◌∙◌, sym, ap}
 use Rattle.std.specs.Prelude.{slice_get}
 use Rattle.memory_pages.specs.Pages.{all_pages}
 use Rattle.memory_pages.proofs.PageLists.{get_joined}
-use Rattle.memory_pages.proofs.frame.FrameSlots.slot.Goals as goal
+use Rattle.memory_pages.proofs.pages.Pages.slot.Goals as goal
 
 pub returns : goal.returns
 returns c =

@@ -3,7 +3,7 @@ use Rattle.std.proofs.Common.{◌∙◌, sym, ap, refl}
 use Rattle.std.specs.Prelude.{slice_get}
 use Rattle.memory_pages.specs.Pages.{all_pages}
 use Rattle.memory_pages.proofs.PageLists.{same_on}
-use Rattle.memory_pages.proofs.frame.FrameSlots.same_ahead.Goals as goal
+use Rattle.memory_pages.proofs.pages.Pages.same_ahead.Goals as goal
 
 pub returns-then-are_same : goal.returns-then-are_same
 returns-then-are_same c = λ place low high.

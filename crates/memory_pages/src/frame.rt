@@ -1,30 +1,32 @@
 //! The slots of a frame.
 
-ghost use Rattle.std.specs.Prelude.{◌≡◌, ◌≤◌, ◌<◌, ◌+◌, ℕ, IfOk, OnOk, length, replicate, slice_get, slice_set};
+ghost use Rattle.std.specs.Prelude.{◌≡◌, ◌≤◌, ◌<◌, ◌+◌, ℕ, IfOk, OnOk, IsTrue, length, replicate, slice_get, slice_set};
 ghost use Rattle.std.specs.Option.{option_map};
 ghost use Rattle.memory_pages.specs.Slots.{bare};
 ghost use Rattle.memory_pages.specs.Rooms.{slots_of};
 
 use crate::byte::Byte;
-use crate::page::{Page, bare_page, put_slot};
 use crate::pages::Pages;
-use crate::slot::Slot;
+use crate::sheet::{Sheet, put_on_sheet, sheet_with};
+use crate::slot::{Slot, shared};
 use std::alloc::{AllocError, Global};
 use std::marker::Model;
 use std::rc::Rc;
 
-/// One page alone, or pages that copies share until a slot is put on one of them.
+/// So many times one slot, slots of a frame of up to 32 bytes, or those of a longer one on pages.
 #[derive(Drop)]
 enum Room {
-    Lone(Rc<Page>),
+    Blank(u8, Rc<Slot>),
+    Lone(Rc<Sheet>),
     Many(Rc<Pages>),
 }
 
 /// The slots of a frame, one for each byte.
 ///
-/// Those of up to 32 bytes lie on one page, and the frame takes 16 bytes of memory besides. Others lie on pages of
-/// 32 and a last one as long as what is left, of which there is a list. Copies share all of it until a slot is put,
-/// and then each page but the one that it is put on.
+/// A frame takes 16 bytes of memory besides its slots. Those of up to 32 bytes are one slot until another one is
+/// put, and a list of their own from then on. Others lie on pages of 32 and a last one as long as what is left.
+/// Copies share all of it until a slot is put, and then each slot but that one, and each page but the one that it
+/// is put on.
 #[derive(Drop)]
 pub struct FrameSlots {
     room: Room,
@@ -56,8 +58,8 @@ fn bare_room(alloc: Global, count: usize, byte: &Byte) -> Result<Room, AllocErro
     ensures { IfOk result (λ room. slots_of room ≡ replicate count (bare byte.now)) }
 {
     if count <= 32 {
-        let page = bare_page(alloc, byte, count)?;
-        Ok(Room::Lone(page))
+        let slot = shared(alloc, Slot::bare(alloc, byte)?)?;
+        Ok(Room::Blank(count as u8, slot))
     } else {
         let pages = Pages::new(alloc, count, byte)?;
         shared_room(alloc, pages)
@@ -69,9 +71,13 @@ fn shared_slots(room: &Room) -> Result<Room, AllocError>
     ensures { IfOk result (λ copy. slots_of copy ≡ slots_of room.now) }
 {
     match room {
-        Room::Lone(page) => {
-            let page = page.clone()?;
-            Ok(Room::Lone(page))
+        Room::Blank(count, slot) => {
+            let slot = slot.clone()?;
+            Ok(Room::Blank(*count, slot))
+        }
+        Room::Lone(sheet) => {
+            let sheet = sheet.clone()?;
+            Ok(Room::Lone(sheet))
         }
         Room::Many(pages) => {
             let pages = pages.clone()?;
@@ -80,12 +86,24 @@ fn shared_slots(room: &Room) -> Result<Room, AllocError>
     }
 }
 
+/// The slot at this place of so many that are the same.
+fn slot_of(slot: &Rc<Slot>, count: usize, at: usize) -> Option<&Slot>
+    ensures { option_map (λ slot. slot.now) result ≡ slice_get (replicate count slot.now.value) at }
+{
+    if at < count {
+        Some(slot.as_ref())
+    } else {
+        None
+    }
+}
+
 /// The slot at this place.
 fn slot_in(room: &Room, at: usize) -> Option<&Slot>
     ensures { option_map (λ slot. slot.now) result ≡ slice_get (slots_of room.now) at }
 {
     match room {
-        Room::Lone(page) => page.slot(at),
+        Room::Blank(count, slot) => slot_of(slot, *count as usize, at),
+        Room::Lone(sheet) => sheet.slot(at),
         Room::Many(pages) => pages.slot(at),
     }
 }
@@ -105,8 +123,31 @@ fn put_in_room(room: &mut Room, at: usize, slot: Slot) -> Result<(), AllocError>
     ensures { OnOk result (slots_of room.new ≡ slice_set (slots_of room.old) at slot) }
 {
     match room {
-        Room::Lone(page) => put_slot(page, at, slot),
+        Room::Blank(count, first) => {
+            let sheet = sheet_with(first, *count as usize, at, slot)?;
+            *room = Room::Lone(sheet);
+            Ok(())
+        }
+        Room::Lone(sheet) => put_on_sheet(sheet, at, slot),
         Room::Many(pages) => put_among(pages, at, slot),
+    }
+}
+
+/// True only where both are so many times the same slot.
+fn same_blank(a: &Rc<Slot>, m: u8, b: &Rc<Slot>, n: u8) -> bool
+    ensures { IsTrue result → replicate m a.now.value ≡ replicate n b.now.value }
+{
+    m == n && a.is_same(b)
+}
+
+/// True only where both are known to be the same slots of a frame of up to 32 bytes.
+fn same_short(a: &Room, b: &Room) -> bool
+    ensures { IsTrue result → slots_of a.now ≡ slots_of b.now }
+{
+    match (a, b) {
+        (Room::Blank(m, first), Room::Blank(n, second)) => same_blank(first, *m, second, *n),
+        (Room::Lone(first), Room::Lone(second)) => first.is_same(second),
+        _ => false,
     }
 }
 
@@ -115,15 +156,8 @@ fn same_from(a: &Room, b: &Room, at: usize) -> usize
     ensures { (place : ℕ) → at ≤ place → place < at + result → slice_get (slots_of a.now) place ≡ slice_get (slots_of b.now) place }
 {
     match (a, b) {
-        (Room::Lone(first), Room::Lone(second)) => {
-            if at == 0 && first.is_same(second) {
-                32
-            } else {
-                0
-            }
-        }
         (Room::Many(first), Room::Many(second)) => first.same_ahead(second, at),
-        _ => 0,
+        _ => { if at == 0 && same_short(a, b) { 32 } else { 0 } }
     }
 }
 

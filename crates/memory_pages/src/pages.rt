@@ -6,8 +6,8 @@ ghost use Rattle.memory_pages.specs.Slots.{bare};
 ghost use Rattle.memory_pages.specs.Pages.{list_or, page_at, pages_of, slots_on};
 
 use crate::byte::Byte;
-use crate::page::{Page, bare_page, put_in, share_page, shared, shared_pages};
-use crate::slot::Slot;
+use crate::page::{Page, bare_page, put_in, share_page, shared_pages};
+use crate::slot::{Slot, shared};
 use std::alloc::{AllocError, Global};
 use std::marker::Model;
 use std::rc::Rc;

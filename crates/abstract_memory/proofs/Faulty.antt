@@ -21,7 +21,7 @@ use Rattle.strided_rules.specs.MemberLaws.{some_word}
 use Rattle.pointer_rules.specs.AbstractValues.{AbstractValue, Covers, IsAbstract, IsPlace, Ascends, AreAscending, offsets_in}
 use Rattle.memory_rules.specs.Addresses.{tested, tested_in, IsAddressFault}
 use Rattle.abstract_memory.specs.Running.{bits_on}
-use Rattle.abstract_memory.specs.NextOffsets.{IsLeast, Finds, first_past}
+use Rattle.abstract_memory.specs.NextOffsets.{Finds, first_past}
 use Rattle.abstract_memory.specs.PlaceFaults.{IsWordFault, IsBoundsFault, IsPlaceFault, IsFaultOf}
 use Rattle.abstract_memory.proofs.ActiveFrames.{tested_none, tested_some}
 

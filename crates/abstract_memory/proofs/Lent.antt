@@ -1,5 +1,6 @@
 -- What calls on the parts of a memory say of the memory.
 --   lent, taken   a fact of the parts that were lent is one of the memory, and the other way round
+--   with_running, with_frames   a memory with other flags, or other frames
 --   changed_in    the memory after a change of its frames
 --   kept_in       and what it keeps
 use Rattle.std.proofs.Common.{Bool, ◌≡◌, ◌∙◌, ap, subst, sym, List}
@@ -35,6 +36,9 @@ taken P parts now rows running frames same rows_are running_is frames_are fact =
     (subst (λ (r : List Bool). P parts.checked.frames r frames) (sym running_is)
     (subst (λ (f : List (List HeldSlot)). P parts.checked.frames parts.running f) (sym frames_are)
     (subst (λ (m : MemoryParts). P m.checked.frames m.running m.frames) (sym same) fact)))
+
+abbrev pub with_running : MemoryParts → List Bool → MemoryParts
+with_running parts running = record { checked = parts.checked; running = running; frames = parts.frames }
 
 abbrev pub with_frames : MemoryParts → List (List HeldSlot) → MemoryParts
 with_frames parts items = record { checked = parts.checked; running = parts.running; frames = items }

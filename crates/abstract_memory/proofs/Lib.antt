@@ -1,4 +1,5 @@
 -- The files of this folder.
+mod Flags
 mod Finding
 mod Members
 mod CellLists

@@ -1,5 +1,6 @@
 -- The files of this folder.
 -- The files here, each after those that it cites.
+pub mod Flags
 pub mod Running
 pub mod NextOffsets
 pub mod PlaceFaults

@@ -10,6 +10,9 @@
 //! one cell alone, which `lone_cell` finds without memory.
 #![tactic(auto)]
 
+// Which functions run.
+mod running;
+
 // Frames that are active, and the offsets of a pointer one after the other.
 mod active;
 mod offsets;

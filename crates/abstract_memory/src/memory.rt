@@ -17,7 +17,8 @@ ghost use Rattle.abstract_memory.specs.Cells.{IsCellOf};
 use crate::cell::has_cell;
 use crate::frames::{copied_frames, empty_frames, frames_joined};
 use crate::loads::{load_from, load_through};
-use crate::start::{blank_frames, idle};
+use crate::running::Running;
+use crate::start::blank_frames;
 use crate::stores::{pin_in, store_through, store_to};
 use alf_check::Checked;
 use domain_core::{FaultSet, Lattice};
@@ -35,7 +36,7 @@ use std::marker::Model;
 #[derive(Drop)]
 pub struct AMem<'a> {
     checked: &'a Checked,
-    running: Vec<bool>,
+    running: Running,
     frames: Vec<FrameSlots>,
 }
 
@@ -50,7 +51,7 @@ impl<'a> Model for AMem<'a> {
 
     ghost view = { λ memory. record {
       checked = memory.checked.now;
-      running = memory.running.items;
+      running = memory.running;
       frames = memory.frames.items;
     } };
 }
@@ -65,7 +66,7 @@ impl<'a> AMem<'a> {
     {
         held_memories_are_those_of_the_rules();
         let frames = blank_frames(alloc, checked.frames())?;
-        let running = idle(alloc, checked.func_count() as usize)?;
+        let running = Running::idle(alloc, checked.func_count() as usize)?;
         Ok(AMem {
             checked,
             running,
@@ -83,7 +84,7 @@ impl<'a> AMem<'a> {
     {
         held_memories_are_those_of_the_rules();
         empty_frames(alloc, self.checked.frames(), func, &mut self.frames)?;
-        self.running[func as usize] = true;
+        self.running.set(func as usize, true);
         Ok(())
     }
 
@@ -95,7 +96,7 @@ impl<'a> AMem<'a> {
         ensures left { memory_in self.new ≡ left abstract_sets (memory_in self.old) func }
     {
         held_memories_are_those_of_the_rules();
-        self.running[func as usize] = false;
+        self.running.set(func as usize, false);
     }
 
     /// Whether the cell lies in its frame, which is active. Takes no memory.
@@ -103,7 +104,13 @@ impl<'a> AMem<'a> {
         requires { size ≤ 64 }
         ensures { IsTrue result ↔ (tested (rows_of self.now.checked) (memory_in self.now).runs (Ptr frame offset) size ≡ Ok (frame, offset)) }
     {
-        has_cell(self.checked.frames(), &self.running, frame, offset, size)
+        has_cell(
+            self.checked.frames(),
+            self.running.as_slice(),
+            frame,
+            offset,
+            size,
+        )
     }
 
     /// What a load through the address gives: the values of all cells that it may mean, joined in their order, and
@@ -124,7 +131,7 @@ impl<'a> AMem<'a> {
         load_through(
             alloc,
             self.checked.frames(),
-            &self.running,
+            self.running.as_slice(),
             &self.frames,
             at,
             size,
@@ -148,7 +155,7 @@ impl<'a> AMem<'a> {
         load_from(
             alloc,
             self.checked.frames(),
-            &self.running,
+            self.running.as_slice(),
             &self.frames,
             frame,
             offset,
@@ -179,7 +186,7 @@ impl<'a> AMem<'a> {
         store_through(
             alloc,
             self.checked.frames(),
-            &self.running,
+            self.running.as_slice(),
             &mut self.frames,
             at,
             size,
@@ -208,7 +215,7 @@ impl<'a> AMem<'a> {
         store_to(
             alloc,
             self.checked.frames(),
-            &self.running,
+            self.running.as_slice(),
             &mut self.frames,
             frame,
             offset,
@@ -251,7 +258,7 @@ impl<'a> Lattice for AMem<'a> {
     fn copy(&self, alloc: Global) -> Result<Self, AllocError> {
         Ok(AMem {
             checked: self.checked,
-            running: Vec::from_slice(alloc, &self.running)?,
+            running: self.running.copy(alloc)?,
             frames: copied_frames(alloc, &self.frames)?,
         })
     }
@@ -259,7 +266,7 @@ impl<'a> Lattice for AMem<'a> {
     fn join(&self, alloc: Global, other: &Self) -> Result<Self, AllocError> {
         held_memories_are_those_of_the_rules();
         let frames = frames_joined(alloc, self.checked.frames(), &self.frames, &other.frames)?;
-        let running = Vec::from_slice(alloc, &self.running)?;
+        let running = self.running.copy(alloc)?;
         Ok(AMem {
             checked: self.checked,
             running,

@@ -1,6 +1,6 @@
-//! Flags of functions that do not run, and frames that hold nothing.
+//! Frames that hold nothing.
 
-ghost use Rattle.std.specs.Prelude.{◌≡◌, map, replicate, false, IfOk};
+ghost use Rattle.std.specs.Prelude.{◌≡◌, map, IfOk};
 ghost use Rattle.abstract_memory.specs.Blank.{blank_frame};
 ghost use Rattle.memory_model.specs.HeldMemories.{held_no_byte};
 
@@ -36,11 +36,4 @@ pub(crate) fn blank_frames(alloc: Global, rows: &[FrameRow]) -> Result<Vec<Frame
         frames.push(blank(alloc, row)?)?;
     }
     Ok(frames)
-}
-
-/// Functions that do not run.
-pub(crate) fn idle(alloc: Global, count: usize) -> Result<Vec<bool>, AllocError>
-    ensures { IfOk result (λ running. running.items ≡ replicate count false) }
-{
-    vec![in alloc; false; count]
 }

@@ -3,11 +3,11 @@
 --   numbers_by, words_by   numbers, and words of 8 bits, by their parts
 --   norm_by, one_by        words in normal form are those that norm gives, and that one word is
 --   are_few                ends, width and step of words of 8 bits are small
-use Rattle.std.proofs.Common.{◌≡◌, ◌∙◌, ap, sym, subst, ℕ, ℤ, pos, neg_ℤ, ◌<◌, ◌≤◌, ◌^◌, arith}
-use Rattle.std.specs.Prelude.{◌+ℤ◌, ◌-ℤ◌, ◌-◌, ◌≤ℤ◌, ◌<ℤ◌}
+use Rattle.std.proofs.Common.{◌≡◌, ◌∙◌, ap, sym, subst, ℕ, ℤ, pos, neg_ℤ, ◌≤◌, arith}
+use Rattle.std.specs.Prelude.{◌+ℤ◌, ◌-ℤ◌, ◌≤ℤ◌, ◌<ℤ◌}
 use Rattle.std.proofs.lemmas.Int.{ints}
 use Rattle.progressions.specs.declared.ends.Progression.{Progression}
-use Rattle.progressions.specs.Progressions.{IsPlaced, IsProgression, full, half, lone}
+use Rattle.progressions.specs.Progressions.{IsPlaced, half, lone}
 use Rattle.progressions.specs.ProgressionLaws.{halves, step_width}
 use Rattle.progressions.specs.Images.{moved}
 use Rattle.strided_rules.specs.Strides.{Stride, IsStride, centered, norm, one_word}

@@ -2,14 +2,16 @@
 --   get_joined       a member of the one list stands on the page of its place
 --   joined_set       a member set there
 --   set_pages        pages stay pages
---   replicate_pages  pages of the same member
---   page_before, page_last, page_past   pages before a last one, that one, and none after it
---   set_before, set_last                a member set on one of them
+--   on_page, in_page the place of a member is on its page
+--   made, made_pages, made_joined   pages of the same member
+--   page_is          a list at a place that it has
+--   map_set, set_same, either_pages   what is set in a list, or not
+--   same_on          members on a page that is the same
 use Rattle.std.specs.Prelude.{slice_get, slice_set, OnOk, OnErr, Result, Ok, Err}
 use Rattle.std.proofs.Common.{◌≡◌, inl, inr, sym, subst, ◌∙◌, ap, ℕ, suc, zero, List, [], ◌∷◌, ◌++◌, None, refl, arith, ◌+◌, ◌-◌, ◌*◌, ◌/◌, ◌%◌, ◌<◌, ◌≤◌, length, length-append, map, get_or, replicate}
 use Rattle.std.proofs.lemmas.Bool.{cases_lt}
 use Rattle.std.proofs.lemmas.List.{length-replicate}
-use Rattle.memory_pages.specs.Pages.{page_at, list_or, joined, ArePages}
+use Rattle.memory_pages.specs.Pages.{page_at, joined, ArePages}
 
 get_left : {A : Type 0} (xs ys : List A) (i : ℕ) → i < length xs → slice_get (xs ++ ys) i ≡ slice_get xs i
 get_left [] ys i low = absurd (omega arith)
@@ -172,41 +174,21 @@ made_joined count y = go (count / 32) (count % 32) ∙ ap (λ (n : ℕ). replica
         let e : 32 + (whole * 32 + last) ≡ suc whole * 32 + last = omega arith in
         ap (λ l. replicate 32 y ++ l) (go whole last) ∙ (replicate_sum 32 (whole * 32 + last) ∙ ap (λ (k : ℕ). replicate k y) e)
 
+-- what is made of a last member
+map_last : {A B : Type 0} (f : A → B) (xs : List A) (x : A) → map f (xs ++ x ∷ []) ≡ map f xs ++ f x ∷ []
+map_last f [] x = refl
+map_last f (y ∷ ys) x = ap (λ l. f y ∷ l) (map_last f ys x)
+
 -- pages that were added, and the last
-pub made : {A : Type 0} (none whole : List (List A)) (full last : List A) (count : ℕ) (y : A) → none ≡ []
-    → whole ≡ none ++ replicate (count / 32) full → full ≡ replicate 32 y → last ≡ replicate (count % 32) y
-    → whole ++ last ∷ [] ≡ replicate (count / 32) (replicate 32 y) ++ replicate 1 (replicate (count % 32) y)
-made none whole full last count y start added is_full is_last =
-    let so : whole ≡ replicate (count / 32) (replicate 32 y) =
-    added ∙ (ap (λ p. p ++ replicate (count / 32) full) start ∙ ap (λ f. replicate (count / 32) f) is_full) in
-    ap (λ p. p ++ last ∷ []) so ∙ ap (λ l. replicate (count / 32) (replicate 32 y) ++ l ∷ []) is_last
-
--- pages before a last one
-pub page_before : {A : Type 0} (lists : List (List A)) (last : List A) (n : ℕ) → n < length lists → page_at (lists ++ last ∷ []) n ≡ page_at lists n
-page_before lists last n low = ap list_or (get_left lists (last ∷ []) n low)
-
-pub page_last : {A : Type 0} (lists : List (List A)) (last : List A) (n : ℕ) → n ≡ length lists → page_at (lists ++ last ∷ []) n ≡ last
-page_last lists last n same =
-    let e : n ≡ length lists + 0 = omega (arith, same) in
-    ap (λ (k : ℕ). page_at (lists ++ last ∷ []) k) e ∙ ap list_or (get_right lists (last ∷ []) 0)
-
-pub page_past : {A : Type 0} (lists : List (List A)) (last : List A) (n : ℕ) → length lists < n → page_at (lists ++ last ∷ []) n ≡ []
-page_past lists last n past = ap list_or (get_past (lists ++ last ∷ []) n (omega (arith, past, length-append lists (last ∷ []))))
-
--- a member set on one of them
-pub set_before : {A : Type 0} (lists : List (List A)) (last : List A) (n k : ℕ) (y : A) → n < length lists
-    → slice_set lists n (slice_set (page_at lists n) k y) ++ last ∷ [] ≡ slice_set (lists ++ last ∷ []) n (slice_set (page_at (lists ++ last ∷ []) n) k y)
-set_before lists last n k y low =
-    sym (ap (λ p. slice_set (lists ++ last ∷ []) n (slice_set p k y)) (page_before lists last n low)
-    ∙ set_left lists (last ∷ []) n (slice_set (page_at lists n) k y) low)
-
-pub set_last : {A : Type 0} (lists : List (List A)) (last : List A) (n k : ℕ) (y : A) → n ≡ length lists
-    → lists ++ slice_set last k y ∷ [] ≡ slice_set (lists ++ last ∷ []) n (slice_set (page_at (lists ++ last ∷ []) n) k y)
-set_last lists last n k y same =
-    let e : n ≡ length lists + 0 = omega (arith, same) in
-    sym (ap (λ p. slice_set (lists ++ last ∷ []) n (slice_set p k y)) (page_last lists last n same)
-    ∙ (ap (λ (m : ℕ). slice_set (lists ++ last ∷ []) m (slice_set last k y)) e
-    ∙ set_right lists (last ∷ []) 0 (slice_set last k y)))
+pub made : {P A : Type 0} (slots : P → List A) (none whole list : List P) (full last : P) (count : ℕ) (y : A) → none ≡ []
+    → map slots whole ≡ map slots none ++ replicate (count / 32) (slots full) → list ≡ whole ++ last ∷ [] → slots full ≡ replicate 32 y → slots last ≡ replicate (count % 32) y
+    → map slots list ≡ replicate (count / 32) (replicate 32 y) ++ replicate 1 (replicate (count % 32) y)
+made slots none whole list full last count y start added is_list is_full is_last =
+    let so : map slots whole ≡ replicate (count / 32) (replicate 32 y) =
+    added ∙ (ap (λ p. map slots p ++ replicate (count / 32) (slots full)) start ∙ ap (λ f. replicate (count / 32) f) is_full) in
+    ap (map slots) is_list
+    ∙ (map_last slots whole last
+    ∙ (ap (λ p. p ++ slots last ∷ []) so ∙ ap (λ l. replicate (count / 32) (replicate 32 y) ++ l ∷ []) is_last))
 
 -- a list at a place that it has
 pub page_is : {A B : Type 0} (f : A → List B) (xs : List A) (n : ℕ) (x : A) → n < length xs → page_at (map f xs) n ≡ f (get_or xs n x)

@@ -2,3 +2,4 @@
 pub mod KeptBytes
 pub mod Slots
 pub mod Pages
+pub mod Rooms

@@ -2,7 +2,6 @@
 --   held slots           shared slots, as slots
 --   slots_on page        the slots of a page
 --   pages_of pages       those of each page
---   all_pages whole last those of these pages, and of the last
 --   page_at lists n      the page of this number, or none
 --   joined lists         the lists in their order, as one
 --   ArePages lists       each has 32 members, but the last, which has at most 32
@@ -22,10 +21,6 @@ slots_on page = page.value
 -- those of each page
 abbrev pub pages_of : {Z : Type 0} → List (Rc (List HeldSlot) Z) → List (List HeldSlot)
 pages_of pages = map slots_on pages
-
--- the slots of these pages, and of the last
-abbrev pub all_pages : {Z : Type 0} → List (Rc (List HeldSlot) Z) → Rc (List HeldSlot) Z → List (List HeldSlot)
-all_pages whole last = pages_of whole ++ slots_on last ∷ []
 
 abbrev pub list_or : {A : Type 0} → Option (List A) → List A
 list_or None = []

@@ -1,25 +1,35 @@
 //! The slots of a frame.
 
-ghost use Rattle.std.specs.Prelude.{◌≡◌, ◌≤◌, ◌<◌, ◌+◌, ◌%◌, ◌/◌, ℕ, IsTrue, IfOk, OnOk, OnErr, length, replicate, slice_get, slice_set};
+ghost use Rattle.std.specs.Prelude.{◌≡◌, ◌≤◌, ◌<◌, ◌+◌, ℕ, IfOk, OnOk, IsTrue, length, replicate, slice_get, slice_set};
 ghost use Rattle.std.specs.Option.{option_map};
 ghost use Rattle.memory_pages.specs.Slots.{bare};
-ghost use Rattle.memory_pages.specs.Pages.{all_pages, list_or, page_at, slots_on};
+ghost use Rattle.memory_pages.specs.Rooms.{slots_of};
 
 use crate::byte::Byte;
-use crate::page::{Page, bare_page, put_in, put_on, share_page, shared, shared_pages};
-use crate::slot::Slot;
+use crate::pages::Pages;
+use crate::sheet::{Sheet, put_on_sheet, sheet_with};
+use crate::slot::{Slot, shared};
 use std::alloc::{AllocError, Global};
 use std::marker::Model;
 use std::rc::Rc;
 
+/// So many times one slot, slots of a frame of up to 32 bytes, or those of a longer one on pages.
+#[derive(Drop)]
+enum Room {
+    Blank(u8, Rc<Slot>),
+    Lone(Rc<Sheet>),
+    Many(Rc<Pages>),
+}
+
 /// The slots of a frame, one for each byte.
 ///
-/// They lie on pages of 32, and on a last page as long as what is left, which a frame of fewer bytes has alone.
-/// Copies share each page until a slot is put on it.
+/// A frame takes 16 bytes of memory besides its slots. Those of up to 32 bytes are one slot until another one is
+/// put, and a list of their own from then on. Others lie on pages of 32 and a last one as long as what is left.
+/// Copies share all of it until a slot is put, and then each slot but that one, and each page but the one that it
+/// is put on.
 #[derive(Drop)]
 pub struct FrameSlots {
-    whole: Vec<Rc<Page>>,
-    last: Rc<Page>,
+    room: Room,
 }
 
 impl Model for FrameSlots {
@@ -28,83 +38,143 @@ impl Model for FrameSlots {
 
     ghost Value = { List HeldSlot };
 
-    ghost use Rattle.memory_pages.specs.Pages.{all_pages, joined, ArePages};
+    ghost use Rattle.memory_pages.specs.Rooms.{slots_of};
 
-    ghost view = { λ frame. joined (all_pages frame.whole.items frame.last) };
-
-    ghost invariant = { λ frame. ArePages (all_pages frame.whole.items frame.last) };
+    ghost view = { λ frame. slots_of frame.room };
 }
 
-/// The page of this number.
-fn page_of<'p>(whole: &'p [Rc<Page>], last: &'p Rc<Page>, number: usize) -> Option<&'p Rc<Page>>
-    ensures { list_or (option_map (λ page. slots_on page.now) result) ≡ page_at (all_pages whole.now last.now) number }
+/// Pages that copies can share.
+fn shared_room(alloc: Global, pages: Pages) -> Result<Room, AllocError>
+    ensures { IfOk result (λ room. slots_of room ≡ pages) }
 {
-    let count = whole.len();
-    if number < count {
-        Some(&whole[number])
-    } else if number == count {
-        Some(last)
+    match Rc::new(alloc, pages) {
+        Ok(pages) => Ok(Room::Many(pages)),
+        Err(_) => Err(AllocError),
+    }
+}
+
+/// So many slots with this byte, at which no cell begins.
+fn bare_room(alloc: Global, count: usize, byte: &Byte) -> Result<Room, AllocError>
+    ensures { IfOk result (λ room. slots_of room ≡ replicate count (bare byte.now)) }
+{
+    if count <= 32 {
+        let slot = shared(alloc, Slot::bare(alloc, byte)?)?;
+        Ok(Room::Blank(count as u8, slot))
+    } else {
+        let pages = Pages::new(alloc, count, byte)?;
+        shared_room(alloc, pages)
+    }
+}
+
+/// The same slots, shared.
+fn shared_slots(room: &Room) -> Result<Room, AllocError>
+    ensures { IfOk result (λ copy. slots_of copy ≡ slots_of room.now) }
+{
+    match room {
+        Room::Blank(count, slot) => {
+            let slot = slot.clone()?;
+            Ok(Room::Blank(*count, slot))
+        }
+        Room::Lone(sheet) => {
+            let sheet = sheet.clone()?;
+            Ok(Room::Lone(sheet))
+        }
+        Room::Many(pages) => {
+            let pages = pages.clone()?;
+            Ok(Room::Many(pages))
+        }
+    }
+}
+
+/// The slot at this place of so many that are the same.
+fn slot_of(slot: &Rc<Slot>, count: usize, at: usize) -> Option<&Slot>
+    ensures { option_map (λ slot. slot.now) result ≡ slice_get (replicate count slot.now.value) at }
+{
+    if at < count {
+        Some(slot.as_ref())
     } else {
         None
     }
 }
 
 /// The slot at this place.
-fn slot_in<'p>(whole: &'p [Rc<Page>], last: &'p Rc<Page>, at: usize) -> Option<&'p Slot>
-    ensures { option_map (λ slot. slot.now) result ≡ slice_get (page_at (all_pages whole.now last.now) (at / 32)) (at % 32) }
+fn slot_in(room: &Room, at: usize) -> Option<&Slot>
+    ensures { option_map (λ slot. slot.now) result ≡ slice_get (slots_of room.now) at }
 {
-    match page_of(whole, last, at / 32) {
-        None => None,
-        Some(page) => page.slot(at % 32),
+    match room {
+        Room::Blank(count, slot) => slot_of(slot, *count as usize, at),
+        Room::Lone(sheet) => sheet.slot(at),
+        Room::Many(pages) => pages.slot(at),
     }
 }
 
-/// Whether both pages are there, and are the same.
-fn are_same(a: Option<&Rc<Page>>, b: Option<&Rc<Page>>) -> bool
-    ensures { IsTrue result → list_or (option_map (λ page. slots_on page.now) a.entry) ≡ list_or (option_map (λ page. slots_on page.now) b.entry) }
+/// Puts a slot on pages, of which the list is made its own first.
+fn put_among(pages: &mut Rc<Pages>, at: usize, slot: Slot) -> Result<(), AllocError>
+    requires { at < length pages.old.value }
+    ensures { OnOk result (pages.new.value ≡ slice_set pages.old.value at slot) }
+{
+    let own = Rc::make_mut(pages)?;
+    own.put(at, slot)
+}
+
+/// Puts a slot.
+fn put_in_room(room: &mut Room, at: usize, slot: Slot) -> Result<(), AllocError>
+    requires { at < length (slots_of room.old) }
+    ensures { OnOk result (slots_of room.new ≡ slice_set (slots_of room.old) at slot) }
+{
+    match room {
+        Room::Blank(count, first) => {
+            let sheet = sheet_with(first, *count as usize, at, slot)?;
+            *room = Room::Lone(sheet);
+            Ok(())
+        }
+        Room::Lone(sheet) => put_on_sheet(sheet, at, slot),
+        Room::Many(pages) => put_among(pages, at, slot),
+    }
+}
+
+/// True only where both are so many times the same slot.
+fn same_blank(a: &Rc<Slot>, m: u8, b: &Rc<Slot>, n: u8) -> bool
+    ensures { IsTrue result → replicate m a.now.value ≡ replicate n b.now.value }
+{
+    m == n && a.is_same(b)
+}
+
+/// True only where both are known to be the same slots of a frame of up to 32 bytes.
+fn same_short(a: &Room, b: &Room) -> bool
+    ensures { IsTrue result → slots_of a.now ≡ slots_of b.now }
 {
     match (a, b) {
-        (Some(first), Some(second)) => first.is_same(second),
+        (Room::Blank(m, first), Room::Blank(n, second)) => same_blank(first, *m, second, *n),
+        (Room::Lone(first), Room::Lone(second)) => first.is_same(second),
         _ => false,
     }
 }
 
-/// Puts a slot on the page of its place.
-fn put_among(
-    whole: &mut [Rc<Page>],
-    last: &mut Rc<Page>,
-    at: usize,
-    slot: Rc<Slot>,
-) -> Result<(), AllocError>
-    requires page { at / 32 < length (all_pages whole.old last.old) }
-    requires slot { at % 32 < length (page_at (all_pages whole.old last.old) (at / 32)) }
-    ensures put { OnOk result (all_pages whole.new last.new ≡ slice_set (all_pages whole.old last.old) (at / 32) (slice_set (page_at (all_pages whole.old last.old) (at / 32)) (at % 32) slot.value)) }
-    ensures refused { OnErr result (all_pages whole.new last.new ≡ all_pages whole.old last.old) }
+/// How many slots from this place on are known to be the same.
+fn same_from(a: &Room, b: &Room, at: usize) -> usize
+    ensures { (place : ℕ) → at ≤ place → place < at + result → slice_get (slots_of a.now) place ≡ slice_get (slots_of b.now) place }
 {
-    if at / 32 < whole.len() {
-        put_in(whole, at, slot)
-    } else {
-        put_on(last, at % 32, slot)
+    match (a, b) {
+        (Room::Many(first), Room::Many(second)) => first.same_ahead(second, at),
+        _ => { if at == 0 && same_short(a, b) { 32 } else { 0 } }
     }
 }
 
 impl FrameSlots {
-    /// So many slots with this byte, at which no cell begins. They share one page of 32.
+    /// So many slots with this byte, at which no cell begins. Those of a whole page share one page.
     pub fn new(alloc: Global, count: usize, byte: &Byte) -> Result<FrameSlots, AllocError>
         ensures { IfOk result (λ frame. frame ≡ replicate count (bare byte.now)) }
     {
-        let page = bare_page(alloc, byte, 32)?;
-        let last = bare_page(alloc, byte, count % 32)?;
-        let mut whole = Vec::new(alloc);
-        share_page(&mut whole, &page, count / 32)?;
-        Ok(FrameSlots { whole, last })
+        let room = bare_room(alloc, count, byte)?;
+        Ok(FrameSlots { room })
     }
 
     /// The slot of this byte, if the frame has it.
     pub fn slot(&self, at: usize) -> Option<&Slot>
         ensures { option_map (λ slot. slot.now) result ≡ slice_get self.now at }
     {
-        slot_in(&self.whole, &self.last, at)
+        slot_in(&self.room, at)
     }
 
     /// Puts a slot. After want of memory the slots are given up.
@@ -112,18 +182,15 @@ impl FrameSlots {
         requires { at < length self.old }
         ensures { OnOk result (self.new ≡ slice_set self.old at slot) }
     {
-        let slot = shared(*self.whole.allocator(), slot)?;
-        put_among(&mut self.whole, &mut self.last, at, slot)
+        put_in_room(&mut self.room, at, slot)
     }
 
     /// The same slots, on shared pages.
     pub fn copy(&self) -> Result<FrameSlots, AllocError>
         ensures { IfOk result (λ copy. copy ≡ self.now) }
     {
-        Ok(FrameSlots {
-            whole: shared_pages(*self.whole.allocator(), &self.whole)?,
-            last: self.last.clone()?,
-        })
+        let room = shared_slots(&self.room)?;
+        Ok(FrameSlots { room })
     }
 
     /// How many slots from this place on are known to be the same: 32 where a page begins here and is the
@@ -131,12 +198,6 @@ impl FrameSlots {
     pub fn same_ahead(&self, other: &FrameSlots, at: usize) -> usize
         ensures { (place : ℕ) → at ≤ place → place < at + result → slice_get self.now place ≡ slice_get other.now place }
     {
-        let own = page_of(&self.whole, &self.last, at / 32);
-        let others = page_of(&other.whole, &other.last, at / 32);
-        if at % 32 == 0 && are_same(own, others) {
-            32
-        } else {
-            0
-        }
+        same_from(&self.room, &other.room, at)
     }
 }

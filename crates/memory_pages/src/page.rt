@@ -1,4 +1,4 @@
-//! Slots that copies share.
+//! Pages that know whether a slot was put on them.
 
 ghost use Rattle.std.specs.Prelude.{◌≡◌, ◌<◌, ◌%◌, ◌/◌, ◌++◌, IsTrue, IfOk, OnOk, OnErr, true, length, replicate, slice_get, slice_set};
 ghost use Rattle.std.specs.Option.{option_map};
@@ -6,18 +6,18 @@ ghost use Rattle.memory_pages.specs.Slots.{bare};
 ghost use Rattle.memory_pages.specs.Pages.{held, pages_of, page_at, slots_on, IsUntouched};
 
 use crate::byte::Byte;
-use crate::slot::Slot;
+use crate::sheet::Sheet;
+use crate::slot::{Slot, shared};
 use std::alloc::{AllocError, Global};
 use std::marker::Model;
 use std::rc::Rc;
 
-/// Slots that follow one another.
+/// The slots of one of several pages of a frame.
 ///
-/// Copies of a page share each slot until another one is put in its place. A page on which no slot was put knows
-/// that its slots are all the same, so two of them are compared by one slot.
+/// A page on which no slot was put knows that its slots are all the same, so two of them are compared by one slot.
 #[derive(Drop)]
 pub(crate) struct Page {
-    slots: Vec<Rc<Slot>>,
+    sheet: Sheet,
     untouched: bool,
 }
 
@@ -27,11 +27,11 @@ impl Model for Page {
 
     ghost Value = { List HeldSlot };
 
-    ghost use Rattle.memory_pages.specs.Pages.{held, IsUntouched};
+    ghost use Rattle.memory_pages.specs.Pages.{IsUntouched};
 
-    ghost view = { λ page. held page.slots.items };
+    ghost view = { λ page. page.sheet };
 
-    ghost invariant = { λ page. IsUntouched page.untouched (held page.slots.items) };
+    ghost invariant = { λ page. IsUntouched page.untouched page.sheet };
 }
 
 impl Clone for Page {
@@ -39,7 +39,7 @@ impl Clone for Page {
 
     fn clone(&self) -> Result<Self, AllocError> {
         Ok(Page {
-            slots: shared_slots(*self.slots.allocator(), &self.slots)?,
+            sheet: self.sheet.clone()?,
             untouched: self.untouched,
         })
     }
@@ -50,10 +50,7 @@ impl Page {
     pub fn slot(&self, at: usize) -> Option<&Slot>
         ensures { option_map (λ slot. slot.now) result ≡ slice_get self.now at }
     {
-        match self.slots.get(at) {
-            None => None,
-            Some(slot) => Some(slot.as_ref()),
-        }
+        self.sheet.slot(at)
     }
 
     /// True only where both have the same slots.
@@ -61,9 +58,9 @@ impl Page {
         ensures { IsTrue result → self.now ≡ other.now }
     {
         if self.untouched && other.untouched {
-            same_untouched(&self.slots, &other.slots)
+            self.sheet.is_same_alike(&other.sheet)
         } else {
-            same_slots(&self.slots, &other.slots)
+            self.sheet.is_same(&other.sheet)
         }
     }
 
@@ -73,50 +70,18 @@ impl Page {
         ensures { self.new ≡ slice_set self.old at slot.value }
     {
         self.untouched = false;
-        self.slots[at] = slot;
+        self.sheet.put(at, slot);
     }
-}
-
-/// A slot that copies can share.
-pub(crate) fn shared(alloc: Global, slot: Slot) -> Result<Rc<Slot>, AllocError>
-    ensures { IfOk result (λ shared. shared.value ≡ slot) }
-{
-    match Rc::new(alloc, slot) {
-        Ok(slot) => Ok(slot),
-        Err(_) => Err(AllocError),
-    }
-}
-
-/// The same slots, shared.
-fn shared_slots(alloc: Global, slots: &[Rc<Slot>]) -> Result<Vec<Rc<Slot>>, AllocError>
-    ensures { IfOk result (λ shared. held shared.items ≡ held slots.now) }
-{
-    let mut shared = Vec::with_capacity(alloc, slots.len())?;
-    for slot in slots {
-        shared.push(slot.clone()?)?;
-    }
-    Ok(shared)
-}
-
-/// So many times one slot with this byte, at which no cell begins.
-fn bare_slots(alloc: Global, byte: &Byte, count: usize) -> Result<Vec<Rc<Slot>>, AllocError>
-    ensures { IfOk result (λ slots. held slots.items ≡ replicate count (bare byte.now)) }
-{
-    let slot = shared(alloc, Slot::bare(alloc, byte)?)?;
-    let mut slots = Vec::with_capacity(alloc, count)?;
-    for _number in 0..count {
-        slots.push(slot.clone()?)?;
-    }
-    Ok(slots)
 }
 
 /// A page of so many slots with this byte, at which no cell begins.
 pub(crate) fn bare_page(alloc: Global, byte: &Byte, count: usize) -> Result<Rc<Page>, AllocError>
     ensures { IfOk result (λ page. slots_on page ≡ replicate count (bare byte.now)) }
 {
-    let slots = bare_slots(alloc, byte, count)?;
+    let slot = shared(alloc, Slot::bare(alloc, byte)?)?;
+    let sheet = Sheet::alike(alloc, &slot, count)?;
     let page = Page {
-        slots,
+        sheet,
         untouched: true,
     };
     match Rc::new(alloc, page) {
@@ -148,34 +113,6 @@ pub(crate) fn shared_pages(alloc: Global, pages: &[Rc<Page>]) -> Result<Vec<Rc<P
         shared.push(page.clone()?)?;
     }
     Ok(shared)
-}
-
-/// True only where both are the same slots, if those of each are all the same.
-fn same_untouched(a: &[Rc<Slot>], b: &[Rc<Slot>]) -> bool
-    requires first { IsUntouched true (held a.now) }
-    requires second { IsUntouched true (held b.now) }
-    ensures { IsTrue result → held a.now ≡ held b.now }
-{
-    let Some((first, others)) = a.split_first() else {
-        return b.is_empty();
-    };
-    let Some((slot, slots)) = b.split_first() else {
-        return false;
-    };
-    others.len() == slots.len() && first.is_same(slot)
-}
-
-/// True only where both are the same slots.
-fn same_slots(a: &[Rc<Slot>], b: &[Rc<Slot>]) -> bool
-    ensures { IsTrue result → held a.now ≡ held b.now }
-{
-    let Some((first, others)) = a.split_first() else {
-        return b.is_empty();
-    };
-    let Some((slot, slots)) = b.split_first() else {
-        return false;
-    };
-    first.is_same(slot) && same_slots(others, slots)
 }
 
 /// Puts a slot on a page, which is made its own first.

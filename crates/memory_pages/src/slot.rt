@@ -10,6 +10,7 @@ use crate::kept_byte::KeptByte;
 use crate::kept_cell::KeptCell;
 use std::alloc::{AllocError, Global};
 use std::marker::Model;
+use std::rc::Rc;
 
 /// One byte of a frame, and the cells that begin at it.
 #[derive(Debug, Drop)]
@@ -102,6 +103,16 @@ fn is_wider(kept: &KeptCell, than: u32) -> bool
     than < kept.size()
 }
 
+/// A slot that copies can share.
+pub(crate) fn shared(alloc: Global, slot: Slot) -> Result<Rc<Slot>, AllocError>
+    ensures { IfOk result (λ shared. shared.value ≡ slot) }
+{
+    match Rc::new(alloc, slot) {
+        Ok(slot) => Ok(slot),
+        Err(_) => Err(AllocError),
+    }
+}
+
 impl Slot {
     /// A slot at which no cell begins. Takes memory only where the words of the byte have not 8 bits.
     pub fn bare(alloc: Global, byte: &Byte) -> Result<Slot, AllocError>
@@ -111,6 +122,11 @@ impl Slot {
             byte: KeptByte::of(alloc, byte)?,
             cells: Vec::new(alloc),
         })
+    }
+
+    /// Where it takes its memory.
+    pub(crate) fn allocator(&self) -> Global {
+        *self.cells.allocator()
     }
 
     /// True only where it has this byte, and no cell begins here.

@@ -14,7 +14,7 @@ use Rattle.abstract_memory.proofs.memory.AMem.pin.Goals as goal
 
 pub returns-clause-kept : goal.returns-clause-kept
 returns-clause-kept c =
-    let parts : MemoryParts = record { checked = c.self.inside.checked.now; running = c.self.inside.running.items; frames = c.self.inside.frames.items } in
+    let parts : MemoryParts = record { checked = c.self.inside.checked.now; running = c.self.inside.running; frames = c.self.inside.frames.items } in
     let after = (λ (m : Mem abstract_sets). pinned_at abstract_sets m (c.args.frame, c.args.offset) c.args.size (alone (Words c.args.value))) in
     on_ok_weaker c.pin_in.result
     (λ changes. kept_in parts c.args.self.now c.pin_in.new.frames (with_items c.self.inside.frames c.pin_in.new.frames).items after c.self.view_is
@@ -24,7 +24,7 @@ returns-clause-kept c =
 
 pub returns-clause-pinned : goal.returns-clause-pinned
 returns-clause-pinned c =
-    let parts : MemoryParts = record { checked = c.self.inside.checked.now; running = c.self.inside.running.items; frames = c.self.inside.frames.items } in
+    let parts : MemoryParts = record { checked = c.self.inside.checked.now; running = c.self.inside.running; frames = c.self.inside.frames.items } in
     let after = (λ (m : Mem abstract_sets). pinned_at abstract_sets m (c.args.frame, c.args.offset) c.args.size (alone (Words c.args.value))) in
     on_ok_weaker c.pin_in.result
     (λ changes. changed_in parts c.args.self.now c.pin_in.new.frames (with_items c.self.inside.frames c.pin_in.new.frames).items after c.self.view_is

@@ -17,8 +17,8 @@ use Rattle.abstract_memory.proofs.memory.AMem.store.Goals as goal
 
 pub returns-clause-kept : goal.returns-clause-kept
 returns-clause-kept c =
-    let parts : MemoryParts = record { checked = c.self.inside.checked.now; running = c.self.inside.running.items; frames = c.self.inside.frames.items } in
-    let after = (λ (m : Mem abstract_sets). stored abstract_sets m (cells_of (shapes_of c.frames.result.now) (runs_in c.deref.result.now) c.args.at.now.places c.args.size) c.args.size c.args.value.now) in
+    let parts : MemoryParts = record { checked = c.self.inside.checked.now; running = c.self.inside.running; frames = c.self.inside.frames.items } in
+    let after = (λ (m : Mem abstract_sets). stored abstract_sets m (cells_of (shapes_of c.frames.result.now) (runs_in c.as_slice.result.now) c.args.at.now.places c.args.size) c.args.size c.args.value.now) in
     on_ok_weaker c.store_through.result
     (λ changes. kept_in parts c.args.self.now c.store_through.new.frames (with_items c.self.inside.frames c.store_through.new.frames).items after c.self.view_is
     (with_items_is c.self.inside.frames c.store_through.new.frames (c.store_through.auto.frames ∙ c.deref_mut.ensures.len))
@@ -27,7 +27,7 @@ returns-clause-kept c =
 
 pub returns-clause-goes_on : goal.returns-clause-goes_on
 returns-clause-goes_on c =
-    let parts : MemoryParts = record { checked = c.self.inside.checked.now; running = c.self.inside.running.items; frames = c.self.inside.frames.items } in
+    let parts : MemoryParts = record { checked = c.self.inside.checked.now; running = c.self.inside.running; frames = c.self.inside.frames.items } in
     lent (λ (rows : List FrameRow) (running : List Bool) (frames : List (List HeldSlot)).
     IfOk c.store_through.result (λ stored. IsTrue stored.0 ↔ (cells_of (shapes_of rows) (runs_in running) c.args.at.now.places c.args.size ≢ [])))
-    parts c.args.self.now c.frames.result.now c.deref.result.now parts.frames c.self.view_is c.frames.ensures.frames c.deref.ensures.value refl c.store_through.ensures.goes_on
+    parts c.args.self.now c.frames.result.now c.as_slice.result.now parts.frames c.self.view_is c.frames.ensures.frames c.as_slice.ensures refl c.store_through.ensures.goes_on

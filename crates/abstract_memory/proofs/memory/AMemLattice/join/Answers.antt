@@ -30,9 +30,9 @@ returns c =
     c.in_ok-frames.ensures
     ∙ (ap (λ (fs : List (List HeldSlot)). joined_frames fs c.deref-2.result.now) (c.deref.ensures.value ∙ ap (λ (m : MemoryParts). m.frames) c.self.view_is)
     ∙ ap (joined_frames c.args.self.now.frames) (c.deref-2.ensures.value ∙ ap (λ (m : MemoryParts). m.frames) c.other.view_is)) in
-    let running : c.in_ok-running.running.items ≡ c.args.self.now.running =
-    c.in_ok-running.ensures.items ∙ (c.deref-3.ensures.value ∙ ap (λ (m : MemoryParts). m.running) c.self.view_is) in
-    ap (λ (m : MemoryParts). record { checked = m.checked; running = c.in_ok-running.running.items; frames = c.in_ok-frames.frames.items }) c.self.view_is
+    let running : c.in_ok-running.running ≡ c.args.self.now.running =
+    c.in_ok-running.ensures ∙ ap (λ (m : MemoryParts). m.running) c.self.view_is in
+    ap (λ (m : MemoryParts). record { checked = m.checked; running = c.in_ok-running.running; frames = c.in_ok-frames.frames.items }) c.self.view_is
     ∙ (ap (λ (r : List Bool). record { checked = c.args.self.now.checked; running = r; frames = c.in_ok-frames.frames.items }) running
     ∙ (ap (λ (fs : List (List HeldSlot)). record { checked = c.args.self.now.checked; running = c.args.self.now.running; frames = fs }) frames
     ∙ joined_parts c.args.self.now c.args.other.now c.requires c.held_memories_are_those_of_the_rules.ensures.joined))

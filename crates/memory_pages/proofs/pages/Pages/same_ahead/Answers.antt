@@ -1,13 +1,13 @@
 -- What is left to show of `same_ahead`: facts of the proof files, applied.
 use Rattle.std.proofs.Common.{◌∙◌, sym, ap, refl}
 use Rattle.std.specs.Prelude.{slice_get}
-use Rattle.memory_pages.specs.Pages.{all_pages}
+use Rattle.memory_pages.specs.Pages.{pages_of}
 use Rattle.memory_pages.proofs.PageLists.{same_on}
-use Rattle.memory_pages.proofs.frame.FrameSlots.same_ahead.Goals as goal
+use Rattle.memory_pages.proofs.pages.Pages.same_ahead.Goals as goal
 
 pub returns-then-are_same : goal.returns-then-are_same
 returns-then-are_same c = λ place low high.
     ap (λ slots. slice_get slots place) (sym c.self.view_is)
-    ∙ (same_on (all_pages c.self.inside.whole.items c.self.inside.last) (all_pages c.other.inside.whole.items c.other.inside.last) c.args.at place c.self.invariant c.other.invariant c.if-at-eq0.true
+    ∙ (same_on (pages_of c.self.inside.list.items) (pages_of c.other.inside.list.items) c.args.at place c.self.invariant c.other.invariant c.if-at-eq0.true
     (sym (rw c.deref.ensures.value at c.page_of-own.ensures) ∙ (c.if-are_same.ensures refl ∙ (rw c.deref-2.ensures.value at c.page_of-others.ensures))) low high
     ∙ ap (λ slots. slice_get slots place) c.other.view_is)

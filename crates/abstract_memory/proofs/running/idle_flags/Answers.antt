@@ -1,0 +1,7 @@
+-- What is left to show of `idle_flags`: the first flags of a full room.
+use Rattle.std.proofs.Common.{false}
+use Rattle.std.proofs.lemmas.List.{take-replicate}
+use Rattle.abstract_memory.proofs.running.idle_flags.Goals as goal
+
+pub returns-then-count-le22-clause-flags : goal.returns-then-count-le22-clause-flags
+returns-then-count-le22-clause-flags c = take-replicate c.args.count 22 false c.if-count-le22.true

@@ -1,35 +1,42 @@
 //! Which two nodes of a scope a run visits in one iteration of it.
 
-ghost use Rattle.std.specs.Prelude.{◌≡◌, ◌<◌, length};
-ghost use Rattle.recorder_rules.specs.PairRules.{together};
+ghost use Rattle.std.specs.Prelude.{◌≡◌, ◌*◌, ◌<◌, ℕ, List, length, IfOk, OnOk};
+ghost use Rattle.domain_core.specs.Outlines.{Outlined, shape_of};
+ghost use Rattle.recorder_rules.specs.PairRules.{PairBook, both_seen, pair_recording, together};
+ghost use Rattle.recorder_rules.specs.BitWords.{words_for, AreOwned};
+ghost use Rattle.recorder_rules.specs.Seen.{pair_book};
+ghost use Rattle.pair_recorder.specs.Forms.{sighted};
 
-use crate::advance::advance;
-use crate::marked::add_marked;
-use crate::tables::{both, owned_bits};
-use crate::words::{is_marked_at, mark, words};
+use crate::bits::SeenBits;
+use crate::path::Path;
+use crate::seen::is_small;
+use crate::tables::owned_bits;
+use crate::words::{is_marked_at, words};
 use domain_core::{Lattice, Outline, Recorder};
 use std::alloc::{AllocError, Global};
 use std::marker::Model;
 
+/// A path of the nodes, as long as nothing was joined, or bits.
+#[derive(Drop)]
+enum Form {
+    Path(Path),
+    Bits(SeenBits),
+}
+
 /// The nodes that are seen in the current iterations of their scopes, and which two of them stand in
-/// one: a bit for each node, and after these for each two.
+/// one.
 #[derive(Drop)]
 pub struct Pairs {
-    count: u32,
-    bits: Vec<u64>,
+    form: Form,
 }
 
 impl Model for Pairs {
-    ghost use Rattle.std.specs.Prelude.{take, drop};
     ghost use Rattle.recorder_rules.specs.PairRules.{Sightings};
-    ghost use Rattle.recorder_rules.specs.BitWords.{words_for};
-    ghost use Rattle.recorder_rules.specs.Seen.{sightings, AreSized};
+    ghost use Rattle.pair_recorder.specs.Forms.{sighted};
 
     ghost Value = { Sightings };
 
-    ghost view = { λ pairs. sightings pairs.count (take (words_for pairs.count) pairs.bits.items) (drop (words_for pairs.count) pairs.bits.items) };
-
-    ghost invariant = { λ pairs. AreSized pairs.count (take (words_for pairs.count) pairs.bits.items) (drop (words_for pairs.count) pairs.bits.items) };
+    ghost view = { λ pairs. sighted pairs.form };
 }
 
 /// The pairs that were collected, as bits, and for each scope the nodes that it is the own scope of.
@@ -66,6 +73,91 @@ impl PairsBook {
     }
 }
 
+/// What either has seen, as bits.
+fn joined(alloc: Global, first: &Form, second: &Form) -> Result<SeenBits, AllocError>
+    requires { length (sighted first.now).seen ≡ length (sighted second.now).seen }
+    ensures { IfOk result (λ bits. bits ≡ both_seen (sighted first.now) (sighted second.now)) }
+{
+    match (first, second) {
+        (Form::Bits(one), Form::Bits(other)) => one.join(alloc, other),
+        (Form::Bits(one), Form::Path(other)) => one.join(alloc, &other.bits(alloc)?),
+        (Form::Path(one), Form::Bits(other)) => one.bits(alloc)?.join(alloc, other),
+        (Form::Path(one), Form::Path(other)) => {
+            one.bits(alloc)?.join(alloc, &other.bits(alloc)?)
+        }
+    }
+}
+
+/// A copy.
+fn copied(alloc: Global, form: &Form) -> Result<Form, AllocError>
+    ensures { IfOk result (λ copy. sighted copy ≡ sighted form.now) }
+{
+    match form {
+        Form::Path(path) => Ok(Form::Path(path.copy(alloc)?)),
+        Form::Bits(bits) => Ok(Form::Bits(bits.copy(alloc)?)),
+    }
+}
+
+/// Node 0 alone is seen.
+fn begun(alloc: Global, outline: &Outline) -> Result<Form, AllocError>
+    ensures { IfOk result (λ form. sighted form ≡ pair_recording.first outline.now) }
+{
+    if is_small(outline) {
+        Ok(Form::Path(Path::start(alloc, outline)?))
+    } else {
+        Ok(Form::Bits(SeenBits::start(alloc, outline)?))
+    }
+}
+
+/// A step.
+fn step(
+    alloc: Global,
+    outline: &Outline,
+    owned: &[u64],
+    form: &mut Form,
+    rows: &mut [u64],
+    from: u32,
+    to: u32,
+) -> Result<(), AllocError>
+    requires from { from < length outline.now.nodes }
+    requires to { to < length outline.now.nodes }
+    requires recorder { length (sighted form.old).seen ≡ length outline.now.nodes }
+    requires rows { length rows.old ≡ length outline.now.nodes * words_for (length outline.now.nodes) }
+    requires owned_length { length owned.now ≡ length outline.now.scopes * words_for (length outline.now.nodes) }
+    requires owned { AreOwned (shape_of outline.now) (length outline.now.scopes) (length outline.now.nodes) (words_for (length outline.now.nodes)) owned.now }
+    ensures gone { OnOk result ((b : PairBook) → sighted form.new ≡ pair_recording.gone outline.now (sighted form.old) b from to) }
+    ensures collected { OnOk result ((s : ℕ) → pair_book (length outline.now.nodes) s owned.now rows.new ≡ pair_recording.gone_book outline.now (sighted form.old) (pair_book (length outline.now.nodes) s owned.now rows.old) from to) }
+{
+    match form {
+        Form::Path(path) => {
+            if path.is_of(outline) {
+                path.go(alloc, outline, rows, from, to)
+            } else {
+                let mut bits = path.bits(alloc)?;
+                bits.go(alloc, outline, owned, rows, from, to)?;
+                *form = Form::Bits(bits);
+                Ok(())
+            }
+        }
+        Form::Bits(bits) => bits.go(alloc, outline, owned, rows, from, to),
+    }
+}
+
+/// Adds the pairs to those that were collected.
+fn collect(alloc: Global, form: &Form, rows: &mut [u64]) -> Result<(), AllocError>
+    requires { length rows.old ≡ length (sighted form.now).seen * words_for (length (sighted form.now).seen) }
+    ensures { OnOk result ((o : Outlined) (s k : ℕ) (owned : List ℕ) → length (sighted form.now).seen ≡ length o.nodes → pair_book (length o.nodes) s owned rows.new ≡ pair_recording.finished o (sighted form.now) (pair_book (length o.nodes) s owned rows.old) k) }
+{
+    match form {
+        Form::Path(path) => {
+            let bits = path.bits(alloc)?;
+            bits.finish(rows);
+        }
+        Form::Bits(bits) => bits.finish(rows),
+    }
+    Ok(())
+}
+
 impl Lattice for Pairs {
     ghost use Rattle.recorder_rules.specs.PairRules.{pair_order};
     ghost use Rattle.recorder_rules.specs.PairLaws.{pair_is_order};
@@ -75,16 +167,14 @@ impl Lattice for Pairs {
     ghost is_order = { pair_is_order };
 
     fn copy(&self, alloc: Global) -> Result<Self, AllocError> {
-        Ok(Pairs {
-            count: self.count,
-            bits: Vec::from_slice(alloc, &self.bits)?,
-        })
+        let form = copied(alloc, &self.form)?;
+        Ok(Pairs { form })
     }
 
     fn join(&self, alloc: Global, other: &Self) -> Result<Self, AllocError> {
-        let count = self.count;
-        let bits = both(alloc, &self.bits, &other.bits)?;
-        Ok(Pairs { count, bits })
+        let bits = joined(alloc, &self.form, &other.form)?;
+        let form = Form::Bits(bits);
+        Ok(Pairs { form })
     }
 }
 
@@ -114,14 +204,8 @@ impl Recorder for Pairs {
     }
 
     fn start(alloc: Global, outline: &Outline) -> Result<Self, AllocError> {
-        outline.kept();
-        let count = outline.node_count();
-        let width = words(count);
-        let mut bits = vec![in alloc; 0u64; width + count as usize * width]?;
-        let (seen, rows) = bits.split_at_mut(width);
-        mark(seen, 0, 0);
-        mark(rows, 0, 0);
-        Ok(Pairs { count, bits })
+        let form = begun(alloc, outline)?;
+        Ok(Pairs { form })
     }
 
     fn go(
@@ -133,31 +217,20 @@ impl Recorder for Pairs {
         to: u32,
     ) -> Result<(), AllocError> {
         outline.kept();
-        let width = words(self.count);
-        let (seen, rows) = self.bits.split_at_mut(width);
-        advance(
-            alloc,
-            outline,
-            &book.owned,
-            seen,
-            rows,
-            &mut book.rows,
-            from,
-            to,
-        )?;
+        let form = &mut self.form;
+        step(alloc, outline, &book.owned, form, &mut book.rows, from, to)?;
         Ok(())
     }
 
     fn finish(
         &self,
-        _alloc: Global,
+        alloc: Global,
         outline: &Outline,
         book: &mut PairsBook,
         _last: u32,
     ) -> Result<(), AllocError> {
         outline.kept();
-        let (seen, rows) = self.bits.split_at(words(self.count));
-        add_marked(&mut book.rows, rows, seen, self.count as usize);
+        collect(alloc, &self.form, &mut book.rows)?;
         Ok(())
     }
 }

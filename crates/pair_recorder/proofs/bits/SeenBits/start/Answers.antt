@@ -9,7 +9,7 @@ use Rattle.recorder_rules.specs.StepBitLaws.{none_marked, first_set, first_marke
 use Rattle.recorder_rules.specs.PairBitLaws.{begun}
 use Rattle.pair_recorder.proofs.Handed.{sightings_same}
 use Rattle.pair_recorder.proofs.Parted.{front_of, back_of}
-use Rattle.pair_recorder.proofs.pairs.PairsRecorder.start.Goals as goal
+use Rattle.pair_recorder.proofs.bits.SeenBits.start.Goals as goal
 
 pub returns : goal.returns
 returns c =

@@ -6,7 +6,7 @@ use Rattle.recorder_rules.specs.Seen.{sightings}
 use Rattle.recorder_rules.specs.PairBitLaws.{joined}
 use Rattle.pair_recorder.proofs.Handed.{seen_count}
 use Rattle.pair_recorder.proofs.Parted.{all_long, sized_of, front_either, back_either}
-use Rattle.pair_recorder.proofs.pairs.PairsLattice.join.Goals as goal
+use Rattle.pair_recorder.proofs.bits.SeenBits.join.Goals as goal
 
 pub both-requires : goal.both-requires
 both-requires c =

@@ -1,0 +1,3 @@
+-- The files of this folder.
+pub mod Paths
+pub mod Forms

@@ -4,3 +4,4 @@ pub mod Parted
 pub mod Pathed
 pub mod Rows
 pub mod PathSteps
+pub mod Formed

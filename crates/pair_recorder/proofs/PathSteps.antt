@@ -1,5 +1,5 @@
 -- A step of a path, and a path as bits.
---   path_bits     the same as bits
+--   marked_path     the same as bits
 --   path_begun    the path of node 0 alone
 --   gone_path, gone_rows   a path and a book after a step
 --   none_left     where no scope ends
@@ -16,28 +16,25 @@ use Rattle.recorder_rules.specs.PairRules.{Sightings, PairBook, is_shared, ends,
 use Rattle.recorder_rules.specs.BitWords.{words_for, is_marked}
 use Rattle.recorder_rules.specs.Seen.{sightings, pair_book}
 use Rattle.pair_recorder.specs.declared.seen.Seen.{Seen}
-use Rattle.pair_recorder.specs.Paths.{entered, met, paired, paired_in, NodePath, path_sightings, AreOwn, AreWithin}
+use Rattle.pair_recorder.specs.Paths.{entered, met, paired, paired_in, path_sightings, AreOwn, AreWithin}
 use Rattle.pair_recorder.proofs.Pathed.{eqb_itself, eqb_turned, entered-joined, paired-joined, own_kept, own_joined, any_paired, within_paired, own_met, own_paired, paired_entered, entered_kept, paired_kept}
 
 -- a recorder of these parts
 abbrev with_pairs : List Bool → List (List Bool) → Sightings
 with_pairs xs ys = record { seen = xs; pairs = ys }
 
-abbrev pub path_of : ℕ → List Seen → NodePath
-path_of n path = record { count = n; entries = path }
-
 -- the same as bits
-pub path_bits : (n : ℕ) (path : List Seen) (scopes seen rows : List ℕ) → ((a : ℕ) → a < n → is_marked seen 0 a ≡ entered a path)
-    → ((a b : ℕ) → a < n → b < n → is_marked rows (a * words_for n) b ≡ list_any (λ s. paired_in (λ t. t == s) a b path) scopes) → AreWithin path scopes → sightings n seen rows ≡ path_sightings (path_of n path)
-path_bits n path scopes seen rows marks pairs within =
+pub marked_path : (n : ℕ) (path : List Seen) (scopes seen rows : List ℕ) → ((a : ℕ) → a < n → is_marked seen 0 a ≡ entered a path)
+    → ((a b : ℕ) → a < n → b < n → is_marked rows (a * words_for n) b ≡ list_any (λ s. paired_in (λ t. t == s) a b path) scopes) → AreWithin path scopes → sightings n seen rows ≡ path_sightings n path
+marked_path n path scopes seen rows marks pairs within =
     ap (λ (xs : List Bool). with_pairs xs (tabled n n (λ a b. is_marked rows (a * words_for n) b))) (generated_same n (λ a. is_marked seen 0 a) (λ a. entered a path) marks)
     ∙ ap (λ (xs : List (List Bool)). with_pairs (generated n (λ a. entered a path)) xs)
     (tabled_same n n (λ a b. is_marked rows (a * words_for n) b) (λ a b. paired a b path) (λ a b low inside. pairs a b low inside ∙ any_paired a b scopes path ∙ within_paired a b scopes path within))
 
 -- the path of node 0 alone
-pub path_begun : (o : Outlined) (n t : ℕ) → n ≡ length o.nodes → path_sightings (path_of n (record { node = 0; scope = t } ∷ [])) ≡ pair_recording.first o
+pub path_begun : (o : Outlined) (n t : ℕ) → n ≡ length o.nodes → path_sightings n (record { node = 0; scope = t } ∷ []) ≡ pair_recording.first o
 path_begun o n t same =
-    subst (λ (m : ℕ). path_sightings (path_of n (record { node = 0; scope = t } ∷ [])) ≡ with_pairs (generated m (λ a. a == 0)) (tabled m m (λ a c. (a == 0) && (c == 0)))) same
+    subst (λ (m : ℕ). path_sightings n (record { node = 0; scope = t } ∷ []) ≡ with_pairs (generated m (λ a. a == 0)) (tabled m m (λ a c. (a == 0) && (c == 0)))) same
     (ap (λ (xs : List Bool). with_pairs xs (tabled n n (λ a c. paired a c (record { node = 0; scope = t } ∷ [])))) (generated_same n (λ a. (a == 0) || false) (λ a. a == 0) (λ a low. or_nothing (a == 0)))
     ∙ ap (λ (xs : List (List Bool)). with_pairs (generated n (λ a. a == 0)) xs)
     (tabled_same n n (λ a c. paired a c (record { node = 0; scope = t } ∷ [])) (λ a c. (a == 0) && (c == 0)) (λ a c low inside.
@@ -76,7 +73,7 @@ module _ (o : Outlined) (from k n : ℕ) (path : List Seen) (own : AreOwn (shape
   last = record { node = k; scope = own_of (shape_of o) k }
 
   abbrev before : Sightings
-  before = path_sightings (path_of n path)
+  before = path_sightings n path
 
   abbrev ends_of : ℕ → Bool
   ends_of a = ends (shape_of o) (own_of (shape_of o) a) from k
@@ -116,9 +113,9 @@ module _ (o : Outlined) (from k n : ℕ) (path : List Seen) (own : AreOwn (shape
       ∙ ap (λ (x : Bool). x || ((a == k) && met b last.scope (left ++ last ∷ []))) (stays a b low inside)
       ∙ ap (λ (x : Bool). (cell before.pairs a b && not (is_over (shape_of o) before.seen from k a)) || x) (meets a b inside)
 
-  pub gone_path : (b : PairBook) → n ≡ length o.nodes → path_sightings (path_of n (left ++ last ∷ [])) ≡ pair_recording.gone o before b from k
+  pub gone_path : (b : PairBook) → n ≡ length o.nodes → path_sightings n (left ++ last ∷ []) ≡ pair_recording.gone o before b from k
   gone_path b same =
-      subst (λ (m : ℕ). path_sightings (path_of n (left ++ last ∷ [])) ≡ with_pairs (generated m (λ a. seen_after (shape_of o) before.seen from k a)) (tabled m m (λ a c. pair_after (shape_of o) before from k a c))) same
+      subst (λ (m : ℕ). path_sightings n (left ++ last ∷ []) ≡ with_pairs (generated m (λ a. seen_after (shape_of o) before.seen from k a)) (tabled m m (λ a c. pair_after (shape_of o) before from k a c))) same
       (ap (λ (xs : List Bool). with_pairs xs (tabled n n (λ a c. paired a c (left ++ last ∷ [])))) (generated_same n (λ a. entered a (left ++ last ∷ [])) (λ a. seen_after (shape_of o) before.seen from k a) seen_now)
       ∙ ap (λ (xs : List (List Bool)). with_pairs (generated n (λ a. seen_after (shape_of o) before.seen from k a)) xs)
       (tabled_same n n (λ a c. paired a c (left ++ last ∷ [])) (λ a c. pair_after (shape_of o) before from k a c) pair_now))

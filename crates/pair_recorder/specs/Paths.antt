@@ -3,8 +3,7 @@
 --   met a t path        so with the scope t
 --   paired_in p a b path   the node a stands at or after b, with the same scope, which passes the test
 --   paired a b path     so with any scope
---   NodePath            such a path, and how many nodes there are
---   path_sightings path    what a recorder has seen that keeps it
+--   path_sightings n path   what a recorder of n nodes has seen that keeps the path
 --   AreBelow n path     each node is one of the first n
 --   AreOwn o path       each scope is the own scope of its node
 --   AreWithin path scopes   each scope is one of those
@@ -37,17 +36,9 @@ paired_in p a b (e ∷ path) = (p e.scope && ((b == e.node) && met a e.scope (e 
 abbrev pub paired : ℕ → ℕ → List Seen → Bool
 paired a b path = paired_in (λ t. true) a b path
 
--- a path, of so many nodes
-pub record NodePath : Type 0 where
-  pub count : ℕ
-  pub entries : List Seen
-
--- what a recorder has seen that keeps the path
-abbrev pub path_sightings : NodePath → Sightings
-path_sightings path = record {
-  seen = generated path.count (λ a. entered a path.entries);
-  pairs = tabled path.count path.count (λ a b. paired a b path.entries);
-}
+-- what a recorder of n nodes has seen that keeps the path
+abbrev pub path_sightings : ℕ → List Seen → Sightings
+path_sightings n path = record { seen = generated n (λ a. entered a path); pairs = tabled n n (λ a b. paired a b path) }
 
 -- each node is one of the first n
 abbrev pub AreBelow : ℕ → List Seen → Type 0

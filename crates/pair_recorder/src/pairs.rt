@@ -5,22 +5,24 @@ ghost use Rattle.domain_core.specs.Outlines.{Outlined, shape_of};
 ghost use Rattle.recorder_rules.specs.PairRules.{PairBook, both_seen, pair_recording, together};
 ghost use Rattle.recorder_rules.specs.BitWords.{words_for, AreOwned};
 ghost use Rattle.recorder_rules.specs.Seen.{pair_book};
-ghost use Rattle.pair_recorder.specs.Forms.{sighted};
+ghost use Rattle.pair_recorder.specs.SeenBits.{bit_sightings, AreBits};
+ghost use Rattle.pair_recorder.specs.Forms.{count_of, sighted, IsKept};
 
-use crate::bits::SeenBits;
-use crate::path::Path;
-use crate::seen::is_small;
+use crate::bits::{bits_begun, bits_end, bits_go, bits_joined};
+use crate::path::{is_path_of, path_begun, path_bits, path_goes};
+use crate::seen::{Seen, is_small};
 use crate::tables::owned_bits;
 use crate::words::{is_marked_at, words};
 use domain_core::{Lattice, Outline, Recorder};
 use std::alloc::{AllocError, Global};
 use std::marker::Model;
 
-/// A path of the nodes, as long as nothing was joined, or bits.
+/// The nodes in the order in which they were entered, as long as nothing was joined, or a bit for each
+/// node, and after these for each two. Either with the number of nodes, which takes no room beside the tag.
 #[derive(Drop)]
 enum Form {
-    Path(Path),
-    Bits(SeenBits),
+    Path(u32, Vec<Seen>),
+    Bits(u32, Vec<u64>),
 }
 
 /// The nodes that are seen in the current iterations of their scopes, and which two of them stand in
@@ -32,11 +34,13 @@ pub struct Pairs {
 
 impl Model for Pairs {
     ghost use Rattle.recorder_rules.specs.PairRules.{Sightings};
-    ghost use Rattle.pair_recorder.specs.Forms.{sighted};
+    ghost use Rattle.pair_recorder.specs.Forms.{sighted, IsKept};
 
     ghost Value = { Sightings };
 
     ghost view = { λ pairs. sighted pairs.form };
+
+    ghost invariant = { λ pairs. IsKept pairs.form };
 }
 
 /// The pairs that were collected, as bits, and for each scope the nodes that it is the own scope of.
@@ -73,39 +77,64 @@ impl PairsBook {
     }
 }
 
+/// As bits.
+fn bits_of(alloc: Global, form: &Form) -> Result<Vec<u64>, AllocError>
+    requires { IsKept form.now }
+    ensures bits { IfOk result (λ bits. bit_sightings (count_of form.now) bits.items ≡ sighted form.now) }
+    ensures sized { IfOk result (λ bits. AreBits (count_of form.now) bits.items) }
+{
+    match form {
+        Form::Path(count, path) => path_bits(alloc, *count, path),
+        Form::Bits(_, bits) => Vec::from_slice(alloc, bits),
+    }
+}
+
 /// What either has seen, as bits.
-fn joined(alloc: Global, first: &Form, second: &Form) -> Result<SeenBits, AllocError>
-    requires { length (sighted first.now).seen ≡ length (sighted second.now).seen }
-    ensures { IfOk result (λ bits. bits ≡ both_seen (sighted first.now) (sighted second.now)) }
+fn joined(alloc: Global, first: &Form, second: &Form) -> Result<Form, AllocError>
+    requires first { IsKept first.now }
+    requires second { IsKept second.now }
+    requires counts { count_of first.now ≡ count_of second.now }
+    ensures both { IfOk result (λ form. sighted form ≡ both_seen (sighted first.now) (sighted second.now)) }
+    ensures kept { IfOk result IsKept }
 {
     match (first, second) {
-        (Form::Bits(one), Form::Bits(other)) => one.join(alloc, other),
-        (Form::Bits(one), Form::Path(other)) => one.join(alloc, &other.bits(alloc)?),
-        (Form::Path(one), Form::Bits(other)) => one.bits(alloc)?.join(alloc, other),
-        (Form::Path(one), Form::Path(other)) => {
-            one.bits(alloc)?.join(alloc, &other.bits(alloc)?)
+        (Form::Bits(count, one), Form::Bits(_, other)) => {
+            Ok(Form::Bits(*count, bits_joined(alloc, *count, one, other)?))
+        }
+        (Form::Path(count, _), _) => {
+            let one = bits_of(alloc, first)?;
+            let other = bits_of(alloc, second)?;
+            Ok(Form::Bits(*count, bits_joined(alloc, *count, &one, &other)?))
+        }
+        (Form::Bits(count, one), Form::Path(_, path)) => {
+            let other = path_bits(alloc, *count, path)?;
+            Ok(Form::Bits(*count, bits_joined(alloc, *count, one, &other)?))
         }
     }
 }
 
-/// A copy.
+/// A copy, with no room to spare.
 fn copied(alloc: Global, form: &Form) -> Result<Form, AllocError>
-    ensures { IfOk result (λ copy. sighted copy ≡ sighted form.now) }
+    requires { IsKept form.now }
+    ensures same { IfOk result (λ copy. sighted copy ≡ sighted form.now) }
+    ensures kept { IfOk result IsKept }
 {
     match form {
-        Form::Path(path) => Ok(Form::Path(path.copy(alloc)?)),
-        Form::Bits(bits) => Ok(Form::Bits(bits.copy(alloc)?)),
+        Form::Path(count, path) => Ok(Form::Path(*count, Vec::from_slice(alloc, path)?)),
+        Form::Bits(count, bits) => Ok(Form::Bits(*count, Vec::from_slice(alloc, bits)?)),
     }
 }
 
 /// Node 0 alone is seen.
 fn begun(alloc: Global, outline: &Outline) -> Result<Form, AllocError>
-    ensures { IfOk result (λ form. sighted form ≡ pair_recording.first outline.now) }
+    ensures begun { IfOk result (λ form. sighted form ≡ pair_recording.first outline.now) }
+    ensures kept { IfOk result IsKept }
 {
+    let count = outline.node_count();
     if is_small(outline) {
-        Ok(Form::Path(Path::start(alloc, outline)?))
+        Ok(Form::Path(count, path_begun(alloc, outline)?))
     } else {
-        Ok(Form::Bits(SeenBits::start(alloc, outline)?))
+        Ok(Form::Bits(count, bits_begun(alloc, outline)?))
     }
 }
 
@@ -121,39 +150,43 @@ fn step(
 ) -> Result<(), AllocError>
     requires from { from < length outline.now.nodes }
     requires to { to < length outline.now.nodes }
-    requires recorder { length (sighted form.old).seen ≡ length outline.now.nodes }
+    requires kept { IsKept form.old }
+    requires count { count_of form.old ≡ length outline.now.nodes }
     requires rows { length rows.old ≡ length outline.now.nodes * words_for (length outline.now.nodes) }
     requires owned_length { length owned.now ≡ length outline.now.scopes * words_for (length outline.now.nodes) }
     requires owned { AreOwned (shape_of outline.now) (length outline.now.scopes) (length outline.now.nodes) (words_for (length outline.now.nodes)) owned.now }
     ensures gone { OnOk result ((b : PairBook) → sighted form.new ≡ pair_recording.gone outline.now (sighted form.old) b from to) }
     ensures collected { OnOk result ((s : ℕ) → pair_book (length outline.now.nodes) s owned.now rows.new ≡ pair_recording.gone_book outline.now (sighted form.old) (pair_book (length outline.now.nodes) s owned.now rows.old) from to) }
+    ensures kept { IsKept form.new }
 {
     match form {
-        Form::Path(path) => {
-            if path.is_of(outline) {
-                path.go(alloc, outline, rows, from, to)
+        Form::Path(count, path) => {
+            if is_path_of(outline, path) {
+                path_goes(alloc, outline, path, rows, from, to)
             } else {
-                let mut bits = path.bits(alloc)?;
-                bits.go(alloc, outline, owned, rows, from, to)?;
-                *form = Form::Bits(bits);
+                let count = *count;
+                let mut bits = path_bits(alloc, count, path)?;
+                bits_go(alloc, outline, owned, &mut bits, rows, from, to)?;
+                *form = Form::Bits(count, bits);
                 Ok(())
             }
         }
-        Form::Bits(bits) => bits.go(alloc, outline, owned, rows, from, to),
+        Form::Bits(_, bits) => bits_go(alloc, outline, owned, bits, rows, from, to),
     }
 }
 
 /// Adds the pairs to those that were collected.
 fn collect(alloc: Global, form: &Form, rows: &mut [u64]) -> Result<(), AllocError>
-    requires { length rows.old ≡ length (sighted form.now).seen * words_for (length (sighted form.now).seen) }
-    ensures { OnOk result ((o : Outlined) (s k : ℕ) (owned : List ℕ) → length (sighted form.now).seen ≡ length o.nodes → pair_book (length o.nodes) s owned rows.new ≡ pair_recording.finished o (sighted form.now) (pair_book (length o.nodes) s owned rows.old) k) }
+    requires kept { IsKept form.now }
+    requires rows { length rows.old ≡ count_of form.now * words_for (count_of form.now) }
+    ensures { OnOk result ((o : Outlined) (s k : ℕ) (owned : List ℕ) → count_of form.now ≡ length o.nodes → pair_book (count_of form.now) s owned rows.new ≡ pair_recording.finished o (sighted form.now) (pair_book (count_of form.now) s owned rows.old) k) }
 {
     match form {
-        Form::Path(path) => {
-            let bits = path.bits(alloc)?;
-            bits.finish(rows);
+        Form::Path(count, path) => {
+            let bits = path_bits(alloc, *count, path)?;
+            bits_end(*count, &bits, rows);
         }
-        Form::Bits(bits) => bits.finish(rows),
+        Form::Bits(count, bits) => bits_end(*count, bits, rows),
     }
     Ok(())
 }
@@ -172,8 +205,7 @@ impl Lattice for Pairs {
     }
 
     fn join(&self, alloc: Global, other: &Self) -> Result<Self, AllocError> {
-        let bits = joined(alloc, &self.form, &other.form)?;
-        let form = Form::Bits(bits);
+        let form = joined(alloc, &self.form, &other.form)?;
         Ok(Pairs { form })
     }
 }

@@ -25,8 +25,8 @@ loop-seen-preserved c =
     let len : length dm ≡ w = ap (λ (xs : List ℕ). length xs) c.deref_mut.ensures.value ∙ c.loop-seen.invariant.wide in
     let marked : (a : ℕ) → a < c.args.count → is_marked new 0 a ≡ met a t (take (i + 1) path) =
     λ a below. c.meet_within.ensures.marks a below
-        ∙ ap (λ (x : Bool). x || ((a == e.node) && (t == e.scope))) (ap (λ (xs : List ℕ). is_marked xs 0 a) c.deref_mut.ensures.value ∙ c.loop-seen.invariant.marks a below)
-        ∙ sym (met_more path i none low a t) in
+    ∙ ap (λ (x : Bool). x || ((a == e.node) && (t == e.scope))) (ap (λ (xs : List ℕ). is_marked xs 0 a) c.deref_mut.ensures.value ∙ c.loop-seen.invariant.marks a below)
+    ∙ sym (met_more path i none low a t) in
     record {
       wide = ap (λ (xs : List ℕ). length xs) now ∙ c.meet_within.auto.marks ∙ len;
       marks = λ a below. ap (λ (xs : List ℕ). is_marked xs 0 a) now ∙ marked a below;

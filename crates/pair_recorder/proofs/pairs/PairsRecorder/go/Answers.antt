@@ -7,10 +7,14 @@ use Rattle.recorder_rules.specs.PairRules.{Sightings, PairBook, pair_recording}
 use Rattle.recorder_rules.specs.BitWords.{words_for, AreOwned}
 use Rattle.recorder_rules.specs.Seen.{pair_book}
 use Rattle.recorder_rules.specs.PairBitLaws.{book_nodes, book_scopes, book_owned}
+use Rattle.pair_recorder.proofs.Formed.{sighted_count}
 use Rattle.pair_recorder.proofs.pairs.PairsRecorder.go.Goals as goal
 
 pub step-requires-clause-from : goal.step-requires-clause-from
 step-requires-clause-from c = node_low c.args.outline.now c.args.from (c.kept.ensures.edges_within c.args.from c.args.to c.requires.edge).0
+
+pub step-requires-clause-count : goal.step-requires-clause-count
+step-requires-clause-count c = sym (sighted_count c.self.inside.form) ∙ ap (λ (z : Sightings). length z.seen) c.self.view_is ∙ c.requires.recorder
 
 pub step-requires-clause-rows : goal.step-requires-clause-rows
 step-requires-clause-rows c =

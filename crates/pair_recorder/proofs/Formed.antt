@@ -1,10 +1,7 @@
 -- The two forms of a recorder.
 --   sighted_count   either has a truth value for each node
-use Rattle.std.proofs.Common.{◌≡◌, ℕ, length}
+use Rattle.std.proofs.Common.{◌≡◌, length}
 use Rattle.recorder_rules.specs.GeneratedLaws.{length-generated}
-use Rattle.recorder_rules.specs.PairRules.{Sightings}
-use Rattle.pair_recorder.specs.Paths.{entered, path_sightings}
-use Rattle.pair_recorder.specs.SeenBits.{bit_sightings}
 use Rattle.pair_recorder.specs.declared.pairs.Form.{Form}
 use Rattle.pair_recorder.specs.declared.pairs.Form.TheVariants as forms
 use Rattle.pair_recorder.specs.Forms.{count_of, sighted}

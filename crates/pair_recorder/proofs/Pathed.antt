@@ -6,7 +6,7 @@
 --   own_met, own_paired   where each scope is the own scope of its node
 --   paired_entered   of a pair both were entered
 --   entered_kept, paired_kept   a path without the nodes that have one of several scopes
-use Rattle.std.proofs.Common.{◌≡◌, ◌<◌, ◌==◌, ◌&&◌, ◌||◌, not, ℕ, Bool, true, false, cond, List, [], ◌∷◌, ◌++◌, inl, inr, refl, sym, ap, ◌∙◌, subst, arith, zero, suc, take, get_or, length, ◌+◌}
+use Rattle.std.proofs.Common.{◌≡◌, ◌<◌, ◌==◌, ◌&&◌, ◌||◌, not, ℕ, Bool, true, false, cond, List, [], ◌∷◌, ◌++◌, inl, inr, refl, sym, ap, ◌∙◌, arith, zero, suc, take, get_or, length, ◌+◌}
 use Rattle.std.specs.List.{list_any, filter}
 use Rattle.std.proofs.lemmas.Bool.{eqb-true, eq-eqb, ne_eqb, and_parts, or_cases, or_left, or_right}
 use Rattle.std.proofs.lemmas.List.{take_more}
@@ -14,7 +14,6 @@ use Rattle.lists.specs.TestLaws.{by_test}
 use Rattle.domain_core.specs.Outlines.{Shape}
 use Rattle.recorder_rules.specs.EndedNodeLaws.{any_with}
 use Rattle.recorder_rules.specs.LoopRules.{own_of}
-use Rattle.recorder_rules.specs.PairRules.{is_shared}
 use Rattle.pair_recorder.specs.declared.seen.Seen.{Seen}
 use Rattle.pair_recorder.specs.Paths.{entered, met, paired, paired_in, AreBelow, AreOwn, AreWithin}
 

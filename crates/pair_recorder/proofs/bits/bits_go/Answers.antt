@@ -1,5 +1,5 @@
 -- What is left to show of `bits_go`.
-use Rattle.std.proofs.Common.{◌≡◌, ◌++◌, ℕ, List, take, drop, length, refl, ap, ◌∙◌}
+use Rattle.std.proofs.Common.{◌≡◌, ◌++◌, ℕ, List, take, length, refl, ap, ◌∙◌}
 use Rattle.recorder_rules.specs.PairRules.{pair_recording}
 use Rattle.recorder_rules.specs.BitWords.{words_for}
 use Rattle.recorder_rules.specs.Seen.{sightings, pair_book}

@@ -1,5 +1,5 @@
 -- What the loop over the scopes keeps.
-use Rattle.std.proofs.Common.{◌≡◌, ◌<◌, ◌*◌, ◌==◌, ◌||◌, ℕ, length, take}
+use Rattle.std.proofs.Common.{◌≡◌, ◌<◌, ◌*◌, ◌==◌, ◌||◌, ℕ, take}
 use Rattle.std.specs.List.{list_any}
 use Rattle.recorder_rules.specs.BitWords.{is_marked}
 use Rattle.pair_recorder.specs.Paths.{paired_in}

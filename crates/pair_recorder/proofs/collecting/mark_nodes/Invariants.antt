@@ -1,5 +1,5 @@
 -- What the loop over the nodes keeps.
-use Rattle.std.proofs.Common.{◌≡◌, ◌<◌, ◌||◌, ℕ, length, take}
+use Rattle.std.proofs.Common.{◌≡◌, ◌<◌, ◌||◌, ℕ, take}
 use Rattle.recorder_rules.specs.BitWords.{is_marked}
 use Rattle.pair_recorder.specs.Paths.{entered}
 use Rattle.pair_recorder.proofs.collecting.mark_nodes.Given as goal

@@ -1,5 +1,5 @@
 -- What is left to show of `meet`.
-use Rattle.std.proofs.Common.{◌≡◌, ◌<◌, ◌||◌, ◌==◌, Bool, ℕ, List, length, ap, sym, ◌∙◌, arith}
+use Rattle.std.proofs.Common.{ℕ, List, length, ap, ◌∙◌, arith}
 use Rattle.recorder_rules.specs.BitWords.{is_marked}
 use Rattle.recorder_rules.specs.StepBitLaws.{first_set}
 use Rattle.pair_recorder.proofs.Rows.{added_row}

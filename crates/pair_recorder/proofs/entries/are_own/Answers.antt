@@ -1,5 +1,5 @@
 -- What is left to show of `are_own`.
-use Rattle.std.proofs.Common.{◌≡◌, List, length, subst, sym, ◌∙◌, arith}
+use Rattle.std.proofs.Common.{List, length, subst, sym, ◌∙◌, arith}
 use Rattle.std.proofs.lemmas.Bool.{eqb-true}
 use Rattle.std.proofs.lemmas.List.{take_more}
 use Rattle.domain_core.specs.Outlines.{shape_of}

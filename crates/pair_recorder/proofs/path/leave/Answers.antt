@@ -1,7 +1,6 @@
 -- What is left to show of `leave`.
-use Rattle.std.proofs.Common.{◌≡◌, ◌==◌, not, ℕ, List, [], length, subst, sym, ap, arith}
-use Rattle.std.specs.List.{list_any, filter}
-use Rattle.std.proofs.lemmas.List.{drop_all}
+use Rattle.std.proofs.Common.{◌==◌, not, List, subst, sym, arith}
+use Rattle.std.specs.List.{list_any}
 use Rattle.pair_recorder.specs.declared.seen.Seen.{Seen}
 use Rattle.pair_recorder.specs.Paths.{AreBelow}
 use Rattle.pair_recorder.proofs.Pathed.{below_kept}

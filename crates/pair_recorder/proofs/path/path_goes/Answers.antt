@@ -2,7 +2,6 @@
 use Rattle.std.proofs.Common.{◌≡◌, ◌<◌, ◌*◌, ◌==◌, ◌||◌, not, ◌++◌, ◌∷◌, [], ℕ, List, length, refl, subst, ap, ◌∙◌, arith}
 use Rattle.std.specs.List.{list_any, filter}
 use Rattle.domain_core.specs.Outlines.{shape_of}
-use Rattle.recorder_rules.specs.LoopRules.{own_of}
 use Rattle.recorder_rules.specs.PairRules.{ends}
 use Rattle.recorder_rules.specs.BitWords.{words_for, is_marked}
 use Rattle.pair_recorder.specs.declared.seen.Seen.{Seen}

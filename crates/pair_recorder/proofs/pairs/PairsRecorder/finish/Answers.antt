@@ -1,5 +1,5 @@
 -- What is left to show of `finish`.
-use Rattle.std.proofs.Common.{◌≡◌, ◌*◌, ℕ, List, length, sym, ap, ◌∙◌}
+use Rattle.std.proofs.Common.{◌*◌, ℕ, List, length, sym, ap, ◌∙◌}
 use Rattle.std.proofs.lemmas.List.{with_items_is}
 use Rattle.recorder_rules.specs.PairRules.{Sightings, PairBook, pair_recording}
 use Rattle.recorder_rules.specs.BitWords.{words_for}

@@ -1,5 +1,5 @@
 -- What is left to show of `go`.
-use Rattle.std.proofs.Common.{◌≡◌, ◌*◌, ℕ, List, length, sym, ap, subst, ◌∙◌}
+use Rattle.std.proofs.Common.{◌*◌, ℕ, List, length, sym, ap, subst, ◌∙◌}
 use Rattle.std.proofs.lemmas.List.{with_items_is}
 use Rattle.recorder_rules.specs.TotalLaws.{node_low}
 use Rattle.domain_core.specs.Outlines.{shape_of}

@@ -72,7 +72,7 @@ pub fn bits_go(
 }
 
 /// Adds the pairs to those that were collected.
-pub fn bits_end(count: u32, bits: &[u64], collected: &mut [u64])
+pub fn bits_finish(count: u32, bits: &[u64], collected: &mut [u64])
     requires bits { AreBits count bits.now }
     requires collected { length collected.old ≡ count * words_for count }
     ensures { (o : Outlined) (s k : ℕ) (owned : List ℕ) → count ≡ length o.nodes → pair_book count s owned collected.new ≡ pair_recording.finished o (bit_sightings count bits.now) (pair_book count s owned collected.old) k }

@@ -5,10 +5,9 @@ ghost use Rattle.domain_core.specs.Outlines.{Outlined, shape_of};
 ghost use Rattle.recorder_rules.specs.PairRules.{PairBook, both_seen, pair_recording, together};
 ghost use Rattle.recorder_rules.specs.BitWords.{words_for, AreOwned};
 ghost use Rattle.recorder_rules.specs.Seen.{pair_book};
-ghost use Rattle.pair_recorder.specs.SeenBits.{bit_sightings, AreBits};
 ghost use Rattle.pair_recorder.specs.Forms.{count_of, sighted, IsKept};
 
-use crate::bits::{bits_begun, bits_end, bits_go, bits_joined};
+use crate::bits::{bits_begun, bits_finish, bits_go, bits_joined};
 use crate::path::{is_path_of, path_begun, path_bits, path_goes};
 use crate::seen::{Seen, is_small};
 use crate::tables::owned_bits;
@@ -77,18 +76,6 @@ impl PairsBook {
     }
 }
 
-/// As bits.
-fn bits_of(alloc: Global, form: &Form) -> Result<Vec<u64>, AllocError>
-    requires { IsKept form.now }
-    ensures bits { IfOk result (λ bits. bit_sightings (count_of form.now) bits.items ≡ sighted form.now) }
-    ensures sized { IfOk result (λ bits. AreBits (count_of form.now) bits.items) }
-{
-    match form {
-        Form::Path(count, path) => path_bits(alloc, *count, path),
-        Form::Bits(_, bits) => Vec::from_slice(alloc, bits),
-    }
-}
-
 /// What either has seen, as bits.
 fn joined(alloc: Global, first: &Form, second: &Form) -> Result<Form, AllocError>
     requires first { IsKept first.now }
@@ -101,14 +88,18 @@ fn joined(alloc: Global, first: &Form, second: &Form) -> Result<Form, AllocError
         (Form::Bits(count, one), Form::Bits(_, other)) => {
             Ok(Form::Bits(*count, bits_joined(alloc, *count, one, other)?))
         }
-        (Form::Path(count, _), _) => {
-            let one = bits_of(alloc, first)?;
-            let other = bits_of(alloc, second)?;
-            Ok(Form::Bits(*count, bits_joined(alloc, *count, &one, &other)?))
-        }
         (Form::Bits(count, one), Form::Path(_, path)) => {
             let other = path_bits(alloc, *count, path)?;
             Ok(Form::Bits(*count, bits_joined(alloc, *count, one, &other)?))
+        }
+        (Form::Path(count, path), Form::Bits(_, other)) => {
+            let one = path_bits(alloc, *count, path)?;
+            Ok(Form::Bits(*count, bits_joined(alloc, *count, &one, other)?))
+        }
+        (Form::Path(count, path), Form::Path(_, second)) => {
+            let one = path_bits(alloc, *count, path)?;
+            let other = path_bits(alloc, *count, second)?;
+            Ok(Form::Bits(*count, bits_joined(alloc, *count, &one, &other)?))
         }
     }
 }
@@ -184,9 +175,9 @@ fn collect(alloc: Global, form: &Form, rows: &mut [u64]) -> Result<(), AllocErro
     match form {
         Form::Path(count, path) => {
             let bits = path_bits(alloc, *count, path)?;
-            bits_end(*count, &bits, rows);
+            bits_finish(*count, &bits, rows);
         }
-        Form::Bits(count, bits) => bits_end(*count, bits, rows),
+        Form::Bits(count, bits) => bits_finish(*count, bits, rows),
     }
     Ok(())
 }

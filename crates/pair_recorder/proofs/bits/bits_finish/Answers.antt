@@ -1,11 +1,11 @@
--- What is left to show of `bits_end`.
+-- What is left to show of `bits_finish`.
 use Rattle.std.proofs.Common.{take, drop, refl}
 use Rattle.recorder_rules.specs.BitWords.{words_for}
 use Rattle.recorder_rules.specs.Seen.{pair_book}
 use Rattle.pair_recorder.specs.SeenBits.{bit_sightings}
 use Rattle.pair_recorder.proofs.Handed.{added_rows_by, finished_collected}
 use Rattle.pair_recorder.proofs.Parted.{front_read, back_read}
-use Rattle.pair_recorder.proofs.bits.bits_end.Goals as goal
+use Rattle.pair_recorder.proofs.bits.bits_finish.Goals as goal
 
 pub returns : goal.returns
 returns c o scopes k owned same =

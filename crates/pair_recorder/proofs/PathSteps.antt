@@ -1,6 +1,5 @@
 -- A step of a path, and a path as bits.
---   marked_path     the same as bits
---   path_begun    the path of node 0 alone
+--   marked_path   the same as bits
 --   gone_path, gone_rows   a path and a book after a step
 --   none_left     where no scope ends
 use Rattle.std.proofs.Common.{◌≡◌, ◌<◌, ◌*◌, ◌==◌, ◌&&◌, ◌||◌, not, ℕ, Bool, true, false, List, [], ◌∷◌, ◌++◌, length, refl, sym, ap, ◌∙◌, subst, arith}
@@ -17,7 +16,7 @@ use Rattle.recorder_rules.specs.BitWords.{words_for, is_marked}
 use Rattle.recorder_rules.specs.Seen.{sightings, pair_book}
 use Rattle.pair_recorder.specs.declared.seen.Seen.{Seen}
 use Rattle.pair_recorder.specs.Paths.{entered, met, paired, paired_in, path_sightings, AreOwn, AreWithin}
-use Rattle.pair_recorder.proofs.Pathed.{eqb_itself, eqb_turned, entered-joined, paired-joined, own_kept, own_joined, any_paired, within_paired, own_met, own_paired, paired_entered, entered_kept, paired_kept}
+use Rattle.pair_recorder.proofs.Pathed.{eqb_turned, entered-joined, paired-joined, own_kept, own_joined, any_paired, within_paired, own_met, own_paired, paired_entered, entered_kept, paired_kept}
 
 -- a recorder of these parts
 abbrev with_pairs : List Bool → List (List Bool) → Sightings
@@ -30,21 +29,6 @@ marked_path n path scopes seen rows marks pairs within =
     ap (λ (xs : List Bool). with_pairs xs (tabled n n (λ a b. is_marked rows (a * words_for n) b))) (generated_same n (λ a. is_marked seen 0 a) (λ a. entered a path) marks)
     ∙ ap (λ (xs : List (List Bool)). with_pairs (generated n (λ a. entered a path)) xs)
     (tabled_same n n (λ a b. is_marked rows (a * words_for n) b) (λ a b. paired a b path) (λ a b low inside. pairs a b low inside ∙ any_paired a b scopes path ∙ within_paired a b scopes path within))
-
--- the path of node 0 alone
-pub path_begun : (o : Outlined) (n t : ℕ) → n ≡ length o.nodes → path_sightings n (record { node = 0; scope = t } ∷ []) ≡ pair_recording.first o
-path_begun o n t same =
-    subst (λ (m : ℕ). path_sightings n (record { node = 0; scope = t } ∷ []) ≡ with_pairs (generated m (λ a. a == 0)) (tabled m m (λ a c. (a == 0) && (c == 0)))) same
-    (ap (λ (xs : List Bool). with_pairs xs (tabled n n (λ a c. paired a c (record { node = 0; scope = t } ∷ [])))) (generated_same n (λ a. (a == 0) || false) (λ a. a == 0) (λ a low. or_nothing (a == 0)))
-    ∙ ap (λ (xs : List (List Bool)). with_pairs (generated n (λ a. a == 0)) xs)
-    (tabled_same n n (λ a c. paired a c (record { node = 0; scope = t } ∷ [])) (λ a c. (a == 0) && (c == 0)) (λ a c low inside.
-    ap (λ (x : Bool). ((c == 0) && (((a == 0) && x) || false)) || false) (eqb_itself t) ∙ one_pair (c == 0) (a == 0))))
-  where
-    or_nothing : (x : Bool) → (x || false) ≡ x
-    or_nothing x = grind arith
-
-    one_pair : (x y : Bool) → ((x && ((y && true) || false)) || false) ≡ (y && x)
-    one_pair x y = grind arith
 
 -- where no scope ends
 pub none_left : (scopes : List ℕ) (path : List Seen) → length scopes ≡ 0 → path ≡ filter (λ e. not (list_any (λ s. e.scope == s) scopes)) path

@@ -1,10 +1,12 @@
 -- Laws of paths.
 --   entered-joined, met-joined, paired-joined   one node more
---   below_joined, below_kept        nodes of which some are taken out, or that have one more
+--   entered_more, met_more, paired_more   and so along a path
+--   below_joined, below_kept, own_joined, own_kept, within_joined   what holds of each node, with one more and with some taken out
+--   below_at         a node of the path
 --   any_paired       pairs with one of several scopes
---   within_paired    all of them, where each scope is among those
+--   within_paired    all pairs, where each scope is among those
 --   own_met, own_paired   where each scope is the own scope of its node
---   paired_entered   of a pair both were entered
+--   paired_entered   of a pair the newer one was entered
 --   entered_kept, paired_kept   a path without the nodes that have one of several scopes
 use Rattle.std.proofs.Common.{◌≡◌, ◌<◌, ◌==◌, ◌&&◌, ◌||◌, not, ℕ, Bool, true, false, cond, List, [], ◌∷◌, ◌++◌, inl, inr, refl, sym, ap, ◌∙◌, arith, zero, suc, take, get_or, length, ◌+◌}
 use Rattle.std.specs.List.{list_any, filter}
@@ -27,7 +29,7 @@ or_nothing : (x : Bool) → (x || false) ≡ x
 or_nothing true = refl
 or_nothing false = refl
 
-pub eqb_itself : (n : ℕ) → (n == n) ≡ true
+eqb_itself : (n : ℕ) → (n == n) ≡ true
 eqb_itself n = eq-eqb n n refl
 
 pub eqb_turned : (m n : ℕ) → (m == n) ≡ (n == m)

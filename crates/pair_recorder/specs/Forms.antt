@@ -1,6 +1,7 @@
 -- The two forms of a recorder of pairs.
---   sighted form   what it has seen
---   IsKept form    the nodes of a path are nodes, and there are as many words as bits have
+--   count_of form   of how many nodes it is
+--   sighted form    what it has seen
+--   IsKept form     the nodes of a path are nodes, and there are as many words as bits have
 use Rattle.std.specs.Prelude.{ℕ}
 use Rattle.recorder_rules.specs.PairRules.{Sightings}
 use Rattle.pair_recorder.specs.Paths.{path_sightings, AreBelow}
@@ -8,7 +9,7 @@ use Rattle.pair_recorder.specs.SeenBits.{bit_sightings, AreBits}
 use Rattle.pair_recorder.specs.declared.pairs.Form.{Form}
 use Rattle.pair_recorder.specs.declared.pairs.Form.TheVariants as forms
 
--- of how many nodes
+-- of how many nodes it is
 abbrev pub count_of : Form → ℕ
 count_of (forms.Path count path) = count
 count_of (forms.Bits count bits) = count

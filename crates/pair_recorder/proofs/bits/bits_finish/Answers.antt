@@ -1,8 +1,6 @@
 -- What is left to show of `bits_finish`.
 use Rattle.std.proofs.Common.{take, drop, refl}
 use Rattle.recorder_rules.specs.BitWords.{words_for}
-use Rattle.recorder_rules.specs.Seen.{pair_book}
-use Rattle.pair_recorder.specs.SeenBits.{bit_sightings}
 use Rattle.pair_recorder.proofs.Handed.{added_rows_by, finished_collected}
 use Rattle.pair_recorder.proofs.Parted.{front_read, back_read}
 use Rattle.pair_recorder.proofs.bits.bits_finish.Goals as goal
@@ -16,5 +14,5 @@ returns c o scopes k owned same =
     let new = c.add_marked.new.into in
     let seen = c.split_at.result.0.now in
     let rows = c.split_at.result.1.now in
-    finished_collected n o same (take w bits) (drop w bits) (bit_sightings n bits) refl k 0 scopes owned old (pair_book n scopes owned old) refl new c.requires.bits.0
+    finished_collected o n k (take w bits) (drop w bits) scopes owned old new same c.requires.bits.0
     (added_rows_by n seen (take w bits) old old rows (drop w bits) new (front_read w c.words.result bits bits seen c.split_at.ensures.front c.words.ensures refl) refl (back_read w c.words.result bits bits rows c.split_at.ensures.back c.words.ensures refl) c.add_marked.ensures)

@@ -1,7 +1,7 @@
 -- What calls hand on, in the words of the next.
 --   own_at, own_low   the scope in a node's row is its own, and a node has one
 --   kept_by, rows_by, cleared_by, added_by   what a call ensures of one list, of an equal one
---   gone_recorder, gone_collected, finished_collected   a recorder and a book, with the number of nodes that they keep
+--   finished_collected   a book after the end of a run
 --   told_first, told_second   what a book tells
 use Rattle.std.proofs.Common.{◌≡◌, ◌+◌, ◌-◌, ◌*◌, ◌/◌, ◌^◌, ◌<◌, ◌≤◌, ◌||◌, ℕ, zero, suc, List, [], ◌∷◌, Some, None, Bool, true, false, cond, inl, inr, bit_or, bit_and, map, length, get_or, slice_get, sym, ap, ◌∙◌, subst, arith}
 use Rattle.std.specs.Int.{bit_not, w64}
@@ -10,11 +10,10 @@ use Rattle.std.proofs.lemmas.List.{length-map}
 use Rattle.std.proofs.lemmas.Nat.{and_le_r}
 use Rattle.domain_core.specs.declared.outline.NodeRow.{NodeRow}
 use Rattle.domain_core.specs.Outlines.{Outlined, shape_of}
-use Rattle.recorder_rules.specs.GeneratedLaws.{length-generated}
 use Rattle.recorder_rules.specs.TotalLaws.{past_end}
 use Rattle.recorder_rules.specs.Tables.{cell}
 use Rattle.recorder_rules.specs.TableLaws.{cell-tabled, length-tabled}
-use Rattle.recorder_rules.specs.PairRules.{Sightings, PairBook, together, pair_recording}
+use Rattle.recorder_rules.specs.PairRules.{PairBook, together, pair_recording}
 use Rattle.recorder_rules.specs.BitWords.{words_for, is_marked, AreInRange, AreRows}
 use Rattle.recorder_rules.specs.Seen.{sightings, pair_book}
 use Rattle.recorder_rules.specs.RangeLaws.{ranged, ranged_over}
@@ -55,32 +54,13 @@ added_rows_by count xs ys dm old d from new is dm_is d_is changed =
     (subst (λ (zs : List ℕ). AreRows count (length xs) xs (λ i. bit_or (get_or old i 0) (get_or zs i 0)) old new) d_is
     (subst (λ (zs : List ℕ). AreRows count (length xs) xs (λ i. bit_or (get_or zs i 0) (get_or d i 0)) zs new) dm_is changed))
 
--- ---- a recorder and a book, with the number of nodes that they keep
+-- ---- a book after the end of a run
 
-module _ (count : ℕ) (o : Outlined) (same : count ≡ length o.nodes) (seen rows : List ℕ) (r : Sightings) (is : sightings count seen rows ≡ r) (from k : ℕ) where
-  counted : sightings (length o.nodes) seen rows ≡ r
-  counted = ap (λ (m : ℕ). sightings m seen rows) (sym same) ∙ is
-
-  pub gone_recorder : (new new_rows : List ℕ) (b : PairBook) → sightings (length o.nodes) new new_rows ≡ pair_recording.gone o (sightings (length o.nodes) seen rows) b from k → sightings count new new_rows ≡ pair_recording.gone o r b from k
-  gone_recorder new new_rows b gone = ap (λ (m : ℕ). sightings m new new_rows) same ∙ gone ∙ ap (λ (z : Sightings). pair_recording.gone o z b from k) counted
-
-  module _ (scopes : ℕ) (owned collected : List ℕ) (b : PairBook) (b_is : pair_book count scopes owned collected ≡ b) where
-    counted_book : pair_book (length o.nodes) scopes owned collected ≡ b
-    counted_book = ap (λ (m : ℕ). pair_book m scopes owned collected) (sym same) ∙ b_is
-
-    pub gone_collected : (new : List ℕ) → pair_book (length o.nodes) scopes owned new ≡ pair_recording.gone_book o (sightings (length o.nodes) seen rows) (pair_book (length o.nodes) scopes owned collected) from k
-        → pair_book count scopes owned new ≡ pair_recording.gone_book o r b from k
-    gone_collected new gone =
-        ap (λ (m : ℕ). pair_book m scopes owned new) same ∙ gone
-        ∙ ap (λ (z : Sightings). pair_recording.gone_book o z (pair_book (length o.nodes) scopes owned collected) from k) counted
-        ∙ ap (λ (z : PairBook). pair_recording.gone_book o r z from k) counted_book
-
-    pub finished_collected : (new : List ℕ) → length seen ≡ words_for count → AreRows count (length seen) seen (λ i. bit_or (get_or collected i 0) (get_or rows i 0)) collected new
-        → pair_book count scopes owned new ≡ pair_recording.finished o r b from
-    finished_collected new len added =
-        finished_book o count from k seen rows scopes owned collected new same (omega arith) (subst (λ (w : ℕ). AreRows count w seen (λ i. bit_or (get_or collected i 0) (get_or rows i 0)) collected new) len added)
-        ∙ ap (λ (z : Sightings). pair_recording.finished o z (pair_book count scopes owned collected) from) is
-        ∙ ap (λ (z : PairBook). pair_recording.finished o r z from) b_is
+pub finished_collected : (o : Outlined) (n k : ℕ) (seen rows : List ℕ) (scopes : ℕ) (owned collected new : List ℕ) → n ≡ length o.nodes → length seen ≡ words_for n
+    → AreRows n (length seen) seen (λ i. bit_or (get_or collected i 0) (get_or rows i 0)) collected new
+    → pair_book n scopes owned new ≡ pair_recording.finished o (sightings n seen rows) (pair_book n scopes owned collected) k
+finished_collected o n k seen rows scopes owned collected new same len added =
+    finished_book o n k 0 seen rows scopes owned collected new same (omega arith) (subst (λ (w : ℕ). AreRows n w seen (λ i. bit_or (get_or collected i 0) (get_or rows i 0)) collected new) len added)
 
 -- ---- what a book tells
 
@@ -97,12 +77,9 @@ module _ (count scopes : ℕ) (owned rows : List ℕ) (b : PairBook) (is : pair_
   pub told_second : (x y : Bool) → x ≡ is_marked rows (a * words_for count) c → x ≡ false → y ≡ is_marked rows (c * words_for count) a → y ≡ together b a c
   told_second x y one no_one two = two ∙ sym second_told ∙ ap (λ (v : Bool). v || cell b.pairs c a) (sym (first_told ∙ sym one ∙ no_one))
 
--- a book has a row for each node, and a recorder a bit
+-- a book has a row for each node
 pub told_count : (count scopes : ℕ) (owned rows : List ℕ) (b : PairBook) → pair_book count scopes owned rows ≡ b → length b.pairs ≡ count
 told_count count scopes owned rows b is = ap (λ (z : PairBook). length z.pairs) (sym is) ∙ length-tabled count count (λ i j. is_marked rows (i * words_for count) j)
-
-pub seen_count : (count : ℕ) (seen rows : List ℕ) (r : Sightings) → sightings count seen rows ≡ r → length r.seen ≡ count
-seen_count count seen rows r is = ap (λ (z : Sightings). length z.seen) (sym is) ∙ length-generated count (λ a. is_marked seen 0 a)
 
 -- a bit of a row is in the table
 pub told_low : (count width a c : ℕ) (words rows : List ℕ) → words ≡ rows → length rows ≡ count * words_for count → width ≡ words_for count → a < count → c < count → a * width + c / 64 < length words

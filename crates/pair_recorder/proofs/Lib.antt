@@ -1,3 +1,7 @@
 pub mod Handed
 pub mod Ended
 pub mod Parted
+pub mod Pathed
+pub mod Rows
+pub mod PathSteps
+pub mod Formed

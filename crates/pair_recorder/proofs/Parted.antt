@@ -3,7 +3,7 @@
 --   front_read, back_read   a part that was read
 --   all_long, sized_of      how long they are
 --   front_either, back_either   bits that are set in either of two lists, in each part
-use Rattle.std.proofs.Common.{◌≡◌, ◌+◌, ◌-◌, ◌*◌, ◌/◌, ◌%◌, ◌<◌, ◌≤◌, ◌||◌, ℕ, List, [], ◌∷◌, ◌++◌, Bool, true, false, inl, inr, take, drop, length, get_or, refl, sym, ap, ◌∙◌, subst, arith}
+use Rattle.std.proofs.Common.{◌≡◌, ◌+◌, ◌*◌, ◌/◌, ◌%◌, ◌<◌, ◌≤◌, ◌||◌, ℕ, List, ◌++◌, Bool, true, false, inl, inr, take, drop, length, get_or, refl, sym, ap, ◌∙◌, arith}
 use Rattle.std.proofs.lemmas.Bool.{cases_lt}
 use Rattle.std.proofs.lemmas.List.{length-take, length-drop, get_or-take, get_or-drop, take-append-le, drop-append-le, take_all, drop_all}
 use Rattle.recorder_rules.specs.TotalLaws.{past_end}

@@ -11,6 +11,13 @@ mod advance;
 mod ending;
 mod stepping;
 
+// What was seen, as bits, and as a path.
+mod bits;
+mod collecting;
+mod entries;
+mod path;
+mod seen;
+
 // The recorder.
 mod pairs;
 

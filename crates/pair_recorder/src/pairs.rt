@@ -1,35 +1,45 @@
 //! Which two nodes of a scope a run visits in one iteration of it.
 
-ghost use Rattle.std.specs.Prelude.{◌≡◌, ◌<◌, length};
-ghost use Rattle.recorder_rules.specs.PairRules.{together};
+ghost use Rattle.std.specs.Prelude.{◌≡◌, ◌*◌, ◌<◌, ℕ, List, length, IfOk, OnOk};
+ghost use Rattle.domain_core.specs.Outlines.{Outlined, shape_of};
+ghost use Rattle.recorder_rules.specs.PairRules.{PairBook, both_seen, pair_recording, together};
+ghost use Rattle.recorder_rules.specs.BitWords.{words_for, AreOwned};
+ghost use Rattle.recorder_rules.specs.Seen.{pair_book};
+ghost use Rattle.pair_recorder.specs.Forms.{count_of, sighted, IsKept};
 
-use crate::advance::advance;
-use crate::marked::add_marked;
-use crate::tables::{both, owned_bits};
-use crate::words::{is_marked_at, mark, words};
+use crate::bits::{bits_begun, bits_finish, bits_go, bits_joined};
+use crate::path::{is_path_of, path_begun, path_bits, path_goes};
+use crate::seen::{Seen, is_small};
+use crate::tables::owned_bits;
+use crate::words::{is_marked_at, words};
 use domain_core::{Lattice, Outline, Recorder};
 use std::alloc::{AllocError, Global};
 use std::marker::Model;
 
+/// The nodes in the order in which they were entered, as long as nothing was joined, or a bit for each
+/// node, and after these for each two. Either with the number of nodes, which takes no room beside the tag.
+#[derive(Drop)]
+enum Form {
+    Path(u32, Vec<Seen>),
+    Bits(u32, Vec<u64>),
+}
+
 /// The nodes that are seen in the current iterations of their scopes, and which two of them stand in
-/// one: a bit for each node, and after these for each two.
+/// one.
 #[derive(Drop)]
 pub struct Pairs {
-    count: u32,
-    bits: Vec<u64>,
+    form: Form,
 }
 
 impl Model for Pairs {
-    ghost use Rattle.std.specs.Prelude.{take, drop};
     ghost use Rattle.recorder_rules.specs.PairRules.{Sightings};
-    ghost use Rattle.recorder_rules.specs.BitWords.{words_for};
-    ghost use Rattle.recorder_rules.specs.Seen.{sightings, AreSized};
+    ghost use Rattle.pair_recorder.specs.Forms.{sighted, IsKept};
 
     ghost Value = { Sightings };
 
-    ghost view = { λ pairs. sightings pairs.count (take (words_for pairs.count) pairs.bits.items) (drop (words_for pairs.count) pairs.bits.items) };
+    ghost view = { λ pairs. sighted pairs.form };
 
-    ghost invariant = { λ pairs. AreSized pairs.count (take (words_for pairs.count) pairs.bits.items) (drop (words_for pairs.count) pairs.bits.items) };
+    ghost invariant = { λ pairs. IsKept pairs.form };
 }
 
 /// The pairs that were collected, as bits, and for each scope the nodes that it is the own scope of.
@@ -66,6 +76,112 @@ impl PairsBook {
     }
 }
 
+/// What either has seen, as bits.
+fn joined(alloc: Global, first: &Form, second: &Form) -> Result<Form, AllocError>
+    requires first { IsKept first.now }
+    requires second { IsKept second.now }
+    requires counts { count_of first.now ≡ count_of second.now }
+    ensures both { IfOk result (λ form. sighted form ≡ both_seen (sighted first.now) (sighted second.now)) }
+    ensures kept { IfOk result IsKept }
+{
+    match (first, second) {
+        (Form::Bits(count, one), Form::Bits(_, other)) => {
+            Ok(Form::Bits(*count, bits_joined(alloc, *count, one, other)?))
+        }
+        (Form::Bits(count, one), Form::Path(_, path)) => {
+            let other = path_bits(alloc, *count, path)?;
+            Ok(Form::Bits(*count, bits_joined(alloc, *count, one, &other)?))
+        }
+        (Form::Path(count, path), Form::Bits(_, other)) => {
+            let one = path_bits(alloc, *count, path)?;
+            Ok(Form::Bits(*count, bits_joined(alloc, *count, &one, other)?))
+        }
+        (Form::Path(count, path), Form::Path(_, second)) => {
+            let one = path_bits(alloc, *count, path)?;
+            let other = path_bits(alloc, *count, second)?;
+            Ok(Form::Bits(*count, bits_joined(alloc, *count, &one, &other)?))
+        }
+    }
+}
+
+/// A copy, with no room to spare.
+fn copied(alloc: Global, form: &Form) -> Result<Form, AllocError>
+    requires { IsKept form.now }
+    ensures same { IfOk result (λ copy. sighted copy ≡ sighted form.now) }
+    ensures kept { IfOk result IsKept }
+{
+    match form {
+        Form::Path(count, path) => Ok(Form::Path(*count, Vec::from_slice(alloc, path)?)),
+        Form::Bits(count, bits) => Ok(Form::Bits(*count, Vec::from_slice(alloc, bits)?)),
+    }
+}
+
+/// Node 0 alone is seen.
+fn begun(alloc: Global, outline: &Outline) -> Result<Form, AllocError>
+    ensures begun { IfOk result (λ form. sighted form ≡ pair_recording.first outline.now) }
+    ensures kept { IfOk result IsKept }
+{
+    let count = outline.node_count();
+    if is_small(outline) {
+        Ok(Form::Path(count, path_begun(alloc, outline)?))
+    } else {
+        Ok(Form::Bits(count, bits_begun(alloc, outline)?))
+    }
+}
+
+/// A step.
+fn step(
+    alloc: Global,
+    outline: &Outline,
+    owned: &[u64],
+    form: &mut Form,
+    rows: &mut [u64],
+    from: u32,
+    to: u32,
+) -> Result<(), AllocError>
+    requires from { from < length outline.now.nodes }
+    requires to { to < length outline.now.nodes }
+    requires kept { IsKept form.old }
+    requires count { count_of form.old ≡ length outline.now.nodes }
+    requires rows { length rows.old ≡ length outline.now.nodes * words_for (length outline.now.nodes) }
+    requires owned_length { length owned.now ≡ length outline.now.scopes * words_for (length outline.now.nodes) }
+    requires owned { AreOwned (shape_of outline.now) (length outline.now.scopes) (length outline.now.nodes) (words_for (length outline.now.nodes)) owned.now }
+    ensures gone { OnOk result ((b : PairBook) → sighted form.new ≡ pair_recording.gone outline.now (sighted form.old) b from to) }
+    ensures collected { OnOk result ((s : ℕ) → pair_book (length outline.now.nodes) s owned.now rows.new ≡ pair_recording.gone_book outline.now (sighted form.old) (pair_book (length outline.now.nodes) s owned.now rows.old) from to) }
+    ensures kept { IsKept form.new }
+{
+    match form {
+        Form::Path(count, path) => {
+            if is_path_of(outline, path) {
+                path_goes(alloc, outline, path, rows, from, to)
+            } else {
+                let count = *count;
+                let mut bits = path_bits(alloc, count, path)?;
+                bits_go(alloc, outline, owned, &mut bits, rows, from, to)?;
+                *form = Form::Bits(count, bits);
+                Ok(())
+            }
+        }
+        Form::Bits(_, bits) => bits_go(alloc, outline, owned, bits, rows, from, to),
+    }
+}
+
+/// Adds the pairs to those that were collected.
+fn collect(alloc: Global, form: &Form, rows: &mut [u64]) -> Result<(), AllocError>
+    requires kept { IsKept form.now }
+    requires rows { length rows.old ≡ count_of form.now * words_for (count_of form.now) }
+    ensures { OnOk result ((o : Outlined) (s k : ℕ) (owned : List ℕ) → count_of form.now ≡ length o.nodes → pair_book (count_of form.now) s owned rows.new ≡ pair_recording.finished o (sighted form.now) (pair_book (count_of form.now) s owned rows.old) k) }
+{
+    match form {
+        Form::Path(count, path) => {
+            let bits = path_bits(alloc, *count, path)?;
+            bits_finish(*count, &bits, rows);
+        }
+        Form::Bits(count, bits) => bits_finish(*count, bits, rows),
+    }
+    Ok(())
+}
+
 impl Lattice for Pairs {
     ghost use Rattle.recorder_rules.specs.PairRules.{pair_order};
     ghost use Rattle.recorder_rules.specs.PairLaws.{pair_is_order};
@@ -75,16 +191,13 @@ impl Lattice for Pairs {
     ghost is_order = { pair_is_order };
 
     fn copy(&self, alloc: Global) -> Result<Self, AllocError> {
-        Ok(Pairs {
-            count: self.count,
-            bits: Vec::from_slice(alloc, &self.bits)?,
-        })
+        let form = copied(alloc, &self.form)?;
+        Ok(Pairs { form })
     }
 
     fn join(&self, alloc: Global, other: &Self) -> Result<Self, AllocError> {
-        let count = self.count;
-        let bits = both(alloc, &self.bits, &other.bits)?;
-        Ok(Pairs { count, bits })
+        let form = joined(alloc, &self.form, &other.form)?;
+        Ok(Pairs { form })
     }
 }
 
@@ -114,14 +227,8 @@ impl Recorder for Pairs {
     }
 
     fn start(alloc: Global, outline: &Outline) -> Result<Self, AllocError> {
-        outline.kept();
-        let count = outline.node_count();
-        let width = words(count);
-        let mut bits = vec![in alloc; 0u64; width + count as usize * width]?;
-        let (seen, rows) = bits.split_at_mut(width);
-        mark(seen, 0, 0);
-        mark(rows, 0, 0);
-        Ok(Pairs { count, bits })
+        let form = begun(alloc, outline)?;
+        Ok(Pairs { form })
     }
 
     fn go(
@@ -133,31 +240,20 @@ impl Recorder for Pairs {
         to: u32,
     ) -> Result<(), AllocError> {
         outline.kept();
-        let width = words(self.count);
-        let (seen, rows) = self.bits.split_at_mut(width);
-        advance(
-            alloc,
-            outline,
-            &book.owned,
-            seen,
-            rows,
-            &mut book.rows,
-            from,
-            to,
-        )?;
+        let form = &mut self.form;
+        step(alloc, outline, &book.owned, form, &mut book.rows, from, to)?;
         Ok(())
     }
 
     fn finish(
         &self,
-        _alloc: Global,
+        alloc: Global,
         outline: &Outline,
         book: &mut PairsBook,
         _last: u32,
     ) -> Result<(), AllocError> {
         outline.kept();
-        let (seen, rows) = self.bits.split_at(words(self.count));
-        add_marked(&mut book.rows, rows, seen, self.count as usize);
+        collect(alloc, &self.form, &mut book.rows)?;
         Ok(())
     }
 }

@@ -1,4 +1,4 @@
--- What is left to show of `start`.
+-- What is left to show of `bits_begun`.
 use Rattle.std.proofs.Common.{◌≡◌, ◌+◌, ◌-◌, ◌*◌, ◌<◌, ◌==◌, ◌||◌, ◌++◌, ℕ, Bool, List, take, drop, replicate, length, sym, ap, ◌∙◌, arith}
 use Rattle.std.specs.Vec.{with_items}
 use Rattle.std.proofs.lemmas.List.{with_items_is, length-append, length-replicate, take-replicate, drop-replicate}
@@ -7,12 +7,13 @@ use Rattle.recorder_rules.specs.BitWords.{words_for, is_marked}
 use Rattle.recorder_rules.specs.RowLaws.{row_low}
 use Rattle.recorder_rules.specs.StepBitLaws.{none_marked, first_set, first_marked}
 use Rattle.recorder_rules.specs.PairBitLaws.{begun}
+use Rattle.pair_recorder.specs.SeenBits.{bit_sightings}
 use Rattle.pair_recorder.proofs.Handed.{sightings_same}
 use Rattle.pair_recorder.proofs.Parted.{front_of, back_of}
-use Rattle.pair_recorder.proofs.pairs.PairsRecorder.start.Goals as goal
+use Rattle.pair_recorder.proofs.bits.bits_begun.Goals as goal
 
-pub returns : goal.returns
-returns c =
+pub returns-clause-bits : goal.returns-clause-bits
+returns-clause-bits c =
     let n = c.node_count-count.result in
     let w = c.words-width.result in
     let seen = c.mark.new.words in
@@ -27,7 +28,8 @@ returns c =
     let all : length seen + length rows ≡ length c.deref_mut.result.now =
     (let e = c.mark.auto.words in let f = c.mark-2.auto.words in let g = c.split_at_mut-seen.ensures.front_len in let h = c.split_at_mut-seen.ensures.back_len in omega arith) in
     let kept = with_items_is c.in_ok-bits.bits (seen ++ rows) (length-append seen rows ∙ all ∙ c.deref_mut.ensures.len) in
-    sightings_same n (front_of (words_for n) (with_items c.in_ok-bits.bits (seen ++ rows)).items seen rows kept first) (back_of (words_for n) (with_items c.in_ok-bits.bits (seen ++ rows)).items seen rows kept first)
+    ap (λ (m : ℕ). bit_sightings m (with_items c.in_ok-bits.bits (seen ++ rows)).items) (sym c.node_count-count.ensures)
+    ∙ sightings_same n (front_of (words_for n) (with_items c.in_ok-bits.bits (seen ++ rows)).items seen rows kept first) (back_of (words_for n) (with_items c.in_ok-bits.bits (seen ++ rows)).items seen rows kept first)
     ∙ begun c.args.outline.now n seen rows c.node_count-count.ensures
     (λ a low. ap (λ (xs : List ℕ). is_marked xs 0 a) c.mark.ensures
     ∙ first_set c.split_at_mut-seen.result.0.now w 0 (omega arith) (let len : length c.split_at_mut-seen.result.0.now ≡ w = ap (λ (xs : List ℕ). length xs) made ∙ length-replicate w 0 in omega arith) a (omega arith)

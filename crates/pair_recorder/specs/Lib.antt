@@ -1,0 +1,4 @@
+-- The files of this folder.
+pub mod Paths
+pub mod SeenBits
+pub mod Forms

@@ -2,6 +2,7 @@
 
 ghost use Rattle.std.specs.Prelude.{◌≡◌, ◌<◌, OnOk, length};
 
+use crate::words::part;
 use domain_core::{Outline, Recorder};
 use exec_toys::{new_book, record, record_joined};
 use flow_recorders::{Both, Counts, Loops, Totals};
@@ -31,13 +32,13 @@ fn enter<R: Recorder>(
     requires book { R.recording.book_is_of outline.now book.old }
     ensures book { OnOk result (R.recording.book_is_of outline.now book.new) }
 {
-    let first = numbers(alloc, run.split(" + ").nth(0).unwrap_or(""))?;
-    let merged = run.split(" + ").nth(1).unwrap_or("");
+    let first = numbers(alloc, part(run, " + ", 0))?;
+    let merged = part(run, " + ", 1);
     if merged.is_empty() {
         return record::<R>(alloc, outline, book, &first);
     }
-    let second = numbers(alloc, merged.split(" > ").nth(0).unwrap_or(""))?;
-    let rest = numbers(alloc, merged.split(" > ").nth(1).unwrap_or(""))?;
+    let second = numbers(alloc, part(merged, " > ", 0))?;
+    let rest = numbers(alloc, part(merged, " > ", 1))?;
     record_joined::<R>(alloc, outline, book, &first, &second, &rest)
 }
 

@@ -6,15 +6,12 @@ ghost use Rattle.domain_core.specs.Machines.{IsAlong};
 ghost use Rattle.exec_toys.specs.declared.span.Span.{Span};
 ghost use Rattle.exec_toys.specs.Charts.{chart_machine};
 
+use crate::words::{number, part};
 use alf_ops::RunFault;
 use domain_core::Outline;
 use exec_toys::{Chart, Fork, Span, Way};
 use std::alloc::{AllocError, Global};
 use std::test::Fail;
-
-fn number(word: &str) -> u32 {
-    word.parse::<u32>().unwrap_or(0)
-}
 
 // `3` leads to node 3, and `3-1` makes the number 1 less; `!` divides by 0, and `#` loads what no store wrote.
 fn way(word: &str) -> Way {
@@ -22,16 +19,16 @@ fn way(word: &str) -> Way {
         "!" => Way::Fails(RunFault::Divide),
         "#" => Way::Fails(RunFault::Uninit),
         _ => Way::Goes(
-            number(word.split('-').nth(0).unwrap_or("")),
-            number(word.split('-').nth(1).unwrap_or("")),
+            number(part(word, "-", 0)),
+            number(part(word, "-", 1)),
         ),
     }
 }
 
 // `5?2:3` is way 2 for numbers below 5, and way 3 for the others. A way alone is that of all numbers.
 fn fork(word: &str) -> Fork {
-    let first = word.split('?').nth(0).unwrap_or("");
-    let ways = word.split('?').nth(1).unwrap_or("");
+    let first = part(word, "?", 0);
+    let ways = part(word, "?", 1);
     if ways.is_empty() {
         return Fork {
             limit: 0,
@@ -41,8 +38,8 @@ fn fork(word: &str) -> Fork {
     }
     Fork {
         limit: number(first),
-        below: way(ways.split(':').nth(0).unwrap_or("")),
-        above: way(ways.split(':').nth(1).unwrap_or("")),
+        below: way(part(ways, ":", 0)),
+        above: way(part(ways, ":", 1)),
     }
 }
 
@@ -57,8 +54,8 @@ fn forks(alloc: Global, words: &str) -> Result<Vec<Fork>, AllocError> {
 // The numbers of a text, as `0..9`.
 fn span(words: &str) -> Span {
     Span {
-        least: number(words.split("..").nth(0).unwrap_or("")),
-        most: number(words.split("..").nth(1).unwrap_or("")),
+        least: number(part(words, "..", 0)),
+        most: number(part(words, "..", 1)),
     }
 }
 

@@ -9,6 +9,7 @@ ghost use Rattle.exec_toys.specs.Charts.{chart_machine};
 
 use crate::charts::chart_of;
 use crate::told::{Numbers, add_book, add_nodes, add_places};
+use crate::words::{given, number, part, rest};
 use abstract_exec::{ExecFault, Pool};
 use domain_core::{Event, Outline, Recorder, Stepper};
 use exec_toys::{Chart, outline_of};
@@ -30,19 +31,15 @@ const ROWS: &str = "\
 ?A |B @A ; ^C @B ; @C . | 1 5?2:3 3?!:4 7?#:4 5 | 0..9 | s0 s0 s1 s0 m0,1 s0 => 1/1 2/3/2 2/4/3 4/4/4 4/4 5 => 1-1 1-1 0-1 0-1 0-1 => 1-1 => +++!+#+\n\
 ; @A ?C |B @B ?D |E @D ; ^F @E ; @F ; ^A @C . | 1 2 1?7:3 3?4:5 6 6 2-1 8 | 0..4 | s0 s0 s0 s1 s1 s1 s1 s2 s2 s3 m2,3 m0,1 m1,2 => 1/1 2/2 7/3/3 7/4/5/4 7/6/5/5 7/2/5/6 7/7/3/5/7 7/7/4/5/8 7/7/6/5/9 7/7/6/6/10 bad 7/7/6/6/10 7/6/6/10 bad 7/6/6/10 => - - - - - - - - => - 1-2 => +++++++-";
 
-fn number(word: &str) -> u32 {
-    word.parse::<u32>().unwrap_or(0)
-}
-
 // `s1` and `m0,1`.
 fn event(word: &str) -> Event {
     if let Some(place) = word.strip_prefix("s") {
         return Event::Step(number(place));
     }
-    let places = word.strip_prefix("m").unwrap_or("");
+    let places = part(word, "m", 1);
     Event::Merge(
-        number(places.split(',').nth(0).unwrap_or("")),
-        number(places.split(',').nth(1).unwrap_or("")),
+        number(part(places, ",", 0)),
+        number(part(places, ",", 1)),
     )
 }
 
@@ -99,20 +96,14 @@ fn told(alloc: Global, outline: &Outline, chart: &Chart, words: &str) -> Result<
     Ok(text)
 }
 
-// The part of a line at this place, between bars.
-fn part(line: &str, place: usize) -> &str {
-    let given = line.split(" => ").nth(0).unwrap_or("");
-    given.split(" | ").nth(place).unwrap_or("")
-}
-
 #[test]
 fn events_do_what_is_said(rt: HostRuntime) -> Result<(), Fail> {
     let alloc = rt.alloc();
     for line in ROWS.lines() {
-        let outline = outline_of(alloc, part(line, 0))?;
-        let chart = chart_of(alloc, &outline, part(line, 1), part(line, 2))?;
-        let found = told(alloc, &outline, &chart, part(line, 3))?;
-        let wanted = line.splitn(2, " => ").nth(1).unwrap_or("");
+        let outline = outline_of(alloc, given(line, 0))?;
+        let chart = chart_of(alloc, &outline, given(line, 1), given(line, 2))?;
+        let found = told(alloc, &outline, &chart, given(line, 3))?;
+        let wanted = rest(line, " => ");
         assert_eq!(rt; found.as_str(), wanted, "{line}");
     }
     Ok(())

@@ -6,7 +6,12 @@
 //! - `reports`: the reports of explorations, as text.
 //! - `runs`: what books tell of runs that are written by hand.
 //! - `charts`, `told`, `books`: flow charts, what a pool tells, and what books tell, as text.
+//! - `words`: parts of a row.
 #![tactic(auto)]
+
+// Parts of rows.
+#[cfg(test)]
+mod words;
 
 // Explorations.
 #[cfg(test)]

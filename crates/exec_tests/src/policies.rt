@@ -8,6 +8,7 @@ ghost use Rattle.exec_toys.specs.Charts.{chart_machine};
 
 use crate::charts::chart_of;
 use crate::told::{Numbers, add_book, add_explored, add_nodes};
+use crate::words::{given, number, rest};
 use abstract_exec::Pool;
 use domain_core::Outline;
 use exec_toys::{Chart, Silent, outline_of};
@@ -123,22 +124,16 @@ fn told_alone(
     Ok(text)
 }
 
-// The part of a line at this place, between bars.
-fn part(line: &str, place: usize) -> &str {
-    let given = line.split(" => ").nth(0).unwrap_or("");
-    given.split(" | ").nth(place).unwrap_or("")
-}
-
 #[test]
 fn policies_give_these_events(rt: HostRuntime) -> Result<(), Fail> {
     let alloc = rt.alloc();
     for line in ROWS.lines() {
-        let outline = outline_of(alloc, part(line, 0))?;
-        let chart = chart_of(alloc, &outline, part(line, 1), part(line, 2))?;
-        let policy = policy(part(line, 3));
-        let turns = part(line, 4).parse::<u32>().unwrap_or(0);
+        let outline = outline_of(alloc, given(line, 0))?;
+        let chart = chart_of(alloc, &outline, given(line, 1), given(line, 2))?;
+        let policy = policy(given(line, 3));
+        let turns = number(given(line, 4));
         let found = told(alloc, &outline, &chart, policy, turns)?;
-        let wanted = line.splitn(2, " => ").nth(1).unwrap_or("");
+        let wanted = rest(line, " => ");
         assert_eq!(rt; found.as_str(), wanted, "{line}");
         let events = told_alone(alloc, &outline, &chart, policy, turns)?;
         assert!(rt; wanted.starts_with(events.as_str()), "{line}");

@@ -8,6 +8,7 @@ ghost use Rattle.exec_toys.specs.Charts.{chart_machine};
 
 use crate::charts::chart_of;
 use crate::policies::policy;
+use crate::words::{given, number, part};
 use abstract_exec::{Explored, Pool};
 use domain_core::Outline;
 use exec_toys::{Chart, costed};
@@ -86,15 +87,9 @@ fn printed(
     }
 }
 
-// The part of a row before the answer at this place, between bars.
-fn part(row: &str, place: usize) -> &str {
-    let given = row.split(" => ").nth(0).unwrap_or("");
-    given.split(" | ").nth(place).unwrap_or("")
-}
-
 // The lines of nodes and scopes that a row names.
 fn front(row: &str) -> &'static str {
-    match row.split(" => ").nth(1).unwrap_or("") {
+    match part(row, " => ", 1) {
         "loop" => LOOP,
         "ways" => WAYS,
         "nested" => NESTED,
@@ -104,11 +99,11 @@ fn front(row: &str) -> &'static str {
 
 // The text of the report of a row, `left` where there is none. A semicolon stands for the end of a line.
 fn told(alloc: Global, row: &str) -> Result<String, Fail> {
-    let outline = costed(alloc, part(row, 0), "1 1 1 1 1 1 1")?;
-    let chart = chart_of(alloc, &outline, part(row, 1), part(row, 2))?;
-    let turns = part(row, 4).parse::<u32>().unwrap_or(0);
+    let outline = costed(alloc, given(row, 0), "1 1 1 1 1 1 1")?;
+    let chart = chart_of(alloc, &outline, given(row, 1), given(row, 2))?;
+    let turns = number(given(row, 4));
     let mut told = String::new(alloc);
-    match printed(alloc, &outline, &chart, policy(part(row, 3)), turns)? {
+    match printed(alloc, &outline, &chart, policy(given(row, 3)), turns)? {
         None => told.push_str("left")?,
         Some(text) => {
             for byte in &text {
@@ -128,7 +123,7 @@ fn reports_tell_what_explorations_found(rt: HostRuntime) -> Result<(), Fail> {
     let alloc = rt.alloc();
     for row in ROWS.lines() {
         let found = told(alloc, row)?;
-        let facts = row.split(" => ").nth(2).unwrap_or("");
+        let facts = part(row, " => ", 2);
         let wanted = format!(in alloc; "{}{facts}", front(row))?;
         assert_eq!(rt; found.as_str(), wanted.as_str(), "{row}");
     }

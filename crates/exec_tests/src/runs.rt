@@ -1,6 +1,7 @@
 //! Runs that are written by hand.
 
 use crate::books::told;
+use crate::words::{part, rest};
 use exec_toys::outline_of;
 use std::test::Fail;
 
@@ -26,15 +27,15 @@ const RUNS: &str = "\
 
 // Of the three parts of a line the last, in which the mark between parts stands too.
 fn wanted_of(line: &str) -> &str {
-    line.splitn(3, " => ").nth(2).unwrap_or("")
+    rest(rest(line, " => "), " => ")
 }
 
 #[test]
 fn books_tell_what_runs_do(rt: HostRuntime) -> Result<(), Fail> {
     let alloc = rt.alloc();
     for line in RUNS.lines() {
-        let items = line.split(" => ").nth(0).unwrap_or("");
-        let runs = line.split(" => ").nth(1).unwrap_or("");
+        let items = part(line, " => ", 0);
+        let runs = part(line, " => ", 1);
         let outline = outline_of(alloc, items)?;
         let found = told(alloc, &outline, runs)?;
         assert_eq!(rt; found.as_str(), wanted_of(line), "{line}");

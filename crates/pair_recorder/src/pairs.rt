@@ -96,9 +96,9 @@ fn joined(alloc: Global, first: &Form, second: &Form) -> Result<Form, AllocError
             let one = path_bits(alloc, *count, path)?;
             Ok(Form::Bits(*count, bits_joined(alloc, *count, &one, other)?))
         }
-        (Form::Path(count, path), Form::Path(_, second)) => {
+        (Form::Path(count, path), Form::Path(_, another)) => {
             let one = path_bits(alloc, *count, path)?;
-            let other = path_bits(alloc, *count, second)?;
+            let other = path_bits(alloc, *count, another)?;
             Ok(Form::Bits(*count, bits_joined(alloc, *count, &one, &other)?))
         }
     }

@@ -1,13 +1,17 @@
 //! Places.
 
+use smallvec::SmallVec;
 use std::marker::Model;
 use worklist::Keyed;
+
+/// A position, in place where it has at most four numbers, as that of a node in no loop, which has three.
+pub type Position = SmallVec<u32, 4>;
 
 /// A place of a pool. Its key is its position.
 #[derive(Drop)]
 pub struct Place<T, R> {
     pub node: u32,
-    pub position: Vec<u32>,
+    pub position: Position,
     pub state: T,
     pub recorder: R,
 }

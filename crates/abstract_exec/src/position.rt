@@ -5,6 +5,7 @@ ghost use Rattle.domain_core.specs.Outlines.{shape_of, scopes_around};
 ghost use Rattle.worklist_rules.specs.Positions.{position_by, position_of, entered, turn_in, moved_position};
 
 use crate::numbers::{number_after, number_in, rank_of_header};
+use crate::place::Position;
 use domain_core::Outline;
 use std::alloc::{AllocError, Global};
 
@@ -26,14 +27,14 @@ fn position_after(
     scopes: &[u32],
     position: &[u32],
     to: u32,
-) -> Result<Vec<u32>, AllocError>
+) -> Result<Position, AllocError>
     requires node { to < length outline.now.nodes }
     requires around { around.now ≡ scopes_around (shape_of outline.now) to }
     requires room { (t : ℕ) → turn_in scopes.now position.now t < 2 ^ 32 - 1 }
     ensures { IfOk result (λ made. made.items ≡ position_by (shape_of outline.now) (λ t. entered (shape_of outline.now) to t (turn_in scopes.now position.now t)) to) }
 {
     outline.kept();
-    let mut made = Vec::with_capacity(alloc, 2 * around.len() + 1)?;
+    let mut made = Position::with_capacity(alloc, 2 * around.len() + 1)?;
     let mut rest = around;
     while let Some((scope, others)) = rest.split_first() {
         made.push(rank_of_header(outline, *scope))?;
@@ -45,7 +46,7 @@ fn position_after(
 }
 
 /// The position at node 0, where runs start.
-pub fn first_position(alloc: Global, outline: &Outline) -> Result<Vec<u32>, AllocError>
+pub fn first_position(alloc: Global, outline: &Outline) -> Result<Position, AllocError>
     ensures { IfOk result (λ made. made.items ≡ position_of (shape_of outline.now) (0 ∷ [])) }
 {
     outline.kept();
@@ -60,7 +61,7 @@ pub fn position_along(
     from: u32,
     position: &[u32],
     to: u32,
-) -> Result<Vec<u32>, AllocError>
+) -> Result<Position, AllocError>
     requires from { from < length outline.now.nodes }
     requires to { to < length outline.now.nodes }
     requires room { (t : ℕ) → turn_in (scopes_around (shape_of outline.now) from) position.now t < 2 ^ 32 - 1 }

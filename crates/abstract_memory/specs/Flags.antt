@@ -12,5 +12,5 @@ flags_of (forms.Many room) = room.value.items
 
 -- no more count than there is room for in place
 abbrev pub AreFlags : Flags → Type 0
-AreFlags (forms.Few flags count) = count ≤ 22
+AreFlags (forms.Few flags count) = count ≤ 14
 AreFlags (forms.Many room) = Unit {0}

@@ -9,11 +9,11 @@ use std::marker::Model;
 /// Flags in place and how many of them count, or a list of flags in a room of its own.
 #[derive(Drop)]
 enum Flags {
-    Few([bool; 22], u8),
+    Few([bool; 14], u8),
     Many(Box<Vec<bool>>),
 }
 
-/// A flag for each function of a program, in place where there are no more than 22, which takes 24 bytes.
+/// A flag for each function of a program, in place where there are no more than 14, which takes 16 bytes.
 #[derive(Drop)]
 pub(crate) struct Running {
     flags: Flags,
@@ -47,8 +47,8 @@ fn idle_flags(alloc: Global, count: usize) -> Result<Flags, AllocError>
     ensures flags { IfOk result (λ flags. flags_of flags ≡ replicate count false) }
     ensures are { IfOk result AreFlags }
 {
-    if count <= 22 {
-        Ok(Flags::Few([false; 22], count as u8))
+    if count <= 14 {
+        Ok(Flags::Few([false; 14], count as u8))
     } else {
         in_room(alloc, vec![in alloc; false; count]?)
     }

@@ -30,7 +30,7 @@ loop-scope-preserved c =
     record {
       low = λ t there. c.loop-scope.invariant.low t (subst (λ (xs : List ℕ). Contains xs t) (sym c.in-Some.ensures.cases.0) (further_member c.in-Some.scope.now c.in-Some.others.now t there));
       same =
-          one_more o turn c.loop-scope.made.items c.push.new.self.items c.push-in-Some.new.self.items c.loop-scope.rest.now c.in-Some.others.now (ranks_and_turns o turn (scopes_around o c.args.to)) c.in-Some.scope.now c.rank_of_header.result c.number_after.result c.in-Some.ensures.cases.0 c.in_ok-push.ensures.items c.in_ok-push-2.ensures.items c.rank_of_header.ensures
+          one_more o turn c.loop-scope.made.items c.push.new.self.items c.push-in-Some.new.self.items c.loop-scope.rest.now c.in-Some.others.now (ranks_and_turns o turn (scopes_around o c.args.to)) c.in-Some.scope.now c.rank_of_header.result c.number_after.result c.in-Some.ensures.cases.0 c.in_ok-push.ensures.ok c.in_ok-push-2.ensures.ok c.rank_of_header.ensures
           (c.number_after.ensures ∙ ap (λ (k : ℕ). entered o c.args.to c.in-Some.scope.now k) c.number_in.ensures) c.loop-scope.invariant.same;
     }
 
@@ -39,4 +39,4 @@ returns c =
     let o = shape_of c.args.outline.now in
     let turn : ℕ → ℕ = λ t. entered o c.args.to t (turn_in c.args.scopes.now c.args.position.now t) in
     let none : length c.loop-scope.rest.now ≡ 0 = search rules in
-    ended c.args.outline.now turn c.loop-scope.made.items c.push-2.new.self.items c.loop-scope.rest.now c.args.to c.node.result.now.rank none c.loop-scope.invariant.same c.in_ok-push-3.ensures.items (rank_is c.args.outline.now c.args.to c.node.result.now c.node.ensures)
+    ended c.args.outline.now turn c.loop-scope.made.items c.push-2.new.self.items c.loop-scope.rest.now c.args.to c.node.result.now.rank none c.loop-scope.invariant.same c.in_ok-push-3.ensures.ok (rank_is c.args.outline.now c.args.to c.node.result.now c.node.ensures)

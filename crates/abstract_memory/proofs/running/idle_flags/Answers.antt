@@ -3,5 +3,5 @@ use Rattle.std.proofs.Common.{false}
 use Rattle.std.proofs.lemmas.List.{take-replicate}
 use Rattle.abstract_memory.proofs.running.idle_flags.Goals as goal
 
-pub returns-then-count-le22-clause-flags : goal.returns-then-count-le22-clause-flags
-returns-then-count-le22-clause-flags c = take-replicate c.args.count 22 false c.if-count-le22.true
+pub returns-then-count-le14-clause-flags : goal.returns-then-count-le14-clause-flags
+returns-then-count-le14-clause-flags c = take-replicate c.args.count 14 false c.if-count-le14.true

@@ -2,6 +2,7 @@
 --   marked_path   the same as bits
 --   gone_path, gone_rows   a path and a book after a step
 --   none_left     where no scope ends
+--   finished_path   a book after the end of a run
 use Rattle.std.proofs.Common.{◌≡◌, ◌<◌, ◌*◌, ◌==◌, ◌&&◌, ◌||◌, not, ℕ, Bool, true, false, List, [], ◌∷◌, ◌++◌, length, refl, sym, ap, ◌∙◌, subst, arith}
 use Rattle.std.specs.List.{list_any, filter}
 use Rattle.std.proofs.lemmas.Bool.{eqb-true}
@@ -11,7 +12,7 @@ use Rattle.recorder_rules.specs.Generated.{generated}
 use Rattle.recorder_rules.specs.LoopRules.{own_of}
 use Rattle.recorder_rules.specs.Tables.{truth, cell, tabled}
 use Rattle.recorder_rules.specs.TableLaws.{truth-generated, cell-tabled, generated_same, tabled_same}
-use Rattle.recorder_rules.specs.PairRules.{Sightings, PairBook, is_shared, ends, is_over, seen_after, pair_after, book_after, pair_recording}
+use Rattle.recorder_rules.specs.PairRules.{Sightings, PairBook, is_shared, ends, is_over, seen_after, pair_after, book_after, book_ended, pair_recording}
 use Rattle.recorder_rules.specs.BitWords.{words_for, is_marked}
 use Rattle.recorder_rules.specs.Seen.{sightings, pair_book}
 use Rattle.pair_recorder.specs.declared.seen.Seen.{Seen}
@@ -35,6 +36,35 @@ pub none_left : (scopes : List ℕ) (path : List Seen) → length scopes ≡ 0 �
 none_left [] [] none = refl
 none_left [] (e ∷ path) none = ap (λ (xs : List Seen). e ∷ xs) (none_left [] path none)
 none_left (s ∷ scopes) path none = absurd (omega arith)
+
+-- ---- the end of a run
+
+is_kept : (r s : Bool) → (r ≡ true → s ≡ true) → r ≡ (r && s)
+is_kept false s both = refl
+is_kept true s both = sym (both refl)
+
+-- a book after the end of a run
+pub finished_path : (o : Outlined) (n k : ℕ) (path : List Seen) (among scopes : List ℕ) (count : ℕ) (owned collected new : List ℕ) → among ≡ scopes → AreWithin path scopes → n ≡ length o.nodes
+    → ((a b : ℕ) → a < n → b < n → is_marked new (a * words_for n) b ≡ (is_marked collected (a * words_for n) b || list_any (λ s. paired_in (λ t. t == s) a b path) among))
+    → pair_book n count owned new ≡ pair_recording.finished o (path_sightings n path) (pair_book n count owned collected) k
+finished_path o n k path among scopes count owned collected new are within same added =
+    subst (λ (m : ℕ). pair_book n count owned new ≡ with_rows (tabled m m (λ a c. book_ended (path_sightings n path) book_before a c))) same
+    (ap (λ (xs : List (List Bool)). with_rows xs)
+    (tabled_same n n (λ a c. is_marked new (a * words_for n) c) (λ a c. book_ended (path_sightings n path) book_before a c) (λ a c low inside.
+    added a c low inside
+    ∙ ap (λ (x : Bool). is_marked collected (a * words_for n) c || x)
+    (ap (λ (xs : List ℕ). list_any (λ s. paired_in (λ t. t == s) a c path) xs) are
+    ∙ any_paired a c scopes path ∙ within_paired a c scopes path within
+    ∙ is_kept (paired a c path) (entered a path) (paired_entered (λ t. true) a c path)
+    ∙ ap (λ (x : Bool). x && entered a path) (sym (cell-tabled n n (λ i j. paired i j path) a c low inside))
+    ∙ ap (λ (x : Bool). cell (path_sightings n path).pairs a c && x) (sym (truth-generated n (λ i. entered i path) a low)))
+    ∙ ap (λ (x : Bool). x || (cell (path_sightings n path).pairs a c && truth (path_sightings n path).seen a)) (sym (cell-tabled n n (λ i j. is_marked collected (i * words_for n) j) a c low inside)))))
+  where
+    book_before : PairBook
+    book_before = pair_book n count owned collected
+
+    with_rows : List (List Bool) → PairBook
+    with_rows xs = record { owned = book_before.owned; pairs = xs }
 
 -- ---- a step
 

@@ -8,7 +8,7 @@ ghost use Rattle.recorder_rules.specs.Seen.{pair_book};
 ghost use Rattle.pair_recorder.specs.Forms.{count_of, sighted, IsKept};
 
 use crate::bits::{bits_begun, bits_finish, bits_go, bits_joined};
-use crate::path::{is_path_of, path_begun, path_bits, path_goes};
+use crate::path::{is_path_of, path_begun, path_bits, path_finish, path_goes};
 use crate::seen::{Seen, is_small};
 use crate::tables::owned_bits;
 use crate::words::{is_marked_at, words};
@@ -173,13 +173,12 @@ fn collect(alloc: Global, form: &Form, rows: &mut [u64]) -> Result<(), AllocErro
     ensures { OnOk result ((o : Outlined) (s k : ℕ) (owned : List ℕ) → count_of form.now ≡ length o.nodes → pair_book (count_of form.now) s owned rows.new ≡ pair_recording.finished o (sighted form.now) (pair_book (count_of form.now) s owned rows.old) k) }
 {
     match form {
-        Form::Path(count, path) => {
-            let bits = path_bits(alloc, *count, path)?;
-            bits_finish(*count, &bits, rows);
+        Form::Path(count, path) => path_finish(alloc, *count, path, rows),
+        Form::Bits(count, bits) => {
+            bits_finish(*count, bits, rows);
+            Ok(())
         }
-        Form::Bits(count, bits) => bits_finish(*count, bits, rows),
     }
-    Ok(())
 }
 
 impl Lattice for Pairs {

@@ -2,7 +2,7 @@
 
 ghost use Rattle.std.specs.Prelude.{◌≡◌, ◌*◌, ◌<◌, ◌==◌, ◌||◌, ℕ, List, not, length, filter, IsTrue, IfOk, OnOk};
 ghost use Rattle.std.specs.List.{list_any};
-ghost use Rattle.domain_core.specs.Outlines.{shape_of};
+ghost use Rattle.domain_core.specs.Outlines.{Outlined, shape_of};
 ghost use Rattle.recorder_rules.specs.PairRules.{PairBook, pair_recording};
 ghost use Rattle.recorder_rules.specs.BitWords.{words_for, is_marked};
 ghost use Rattle.recorder_rules.specs.Seen.{pair_book};
@@ -99,5 +99,22 @@ pub fn path_goes(
     let ended = ended_scopes(alloc, outline, from, to)?;
     leave(alloc, path, &ended, count, collected)?;
     enter_node(path, seen_at(outline, to))?;
+    Ok(())
+}
+
+/// Adds all pairs of the path to those that were collected.
+pub fn path_finish(
+    alloc: Global,
+    count: u32,
+    path: &[Seen],
+    collected: &mut [u64],
+) -> Result<(), AllocError>
+    requires path { AreBelow count path.now }
+    requires collected { length collected.old ≡ count * words_for count }
+    ensures { OnOk result ((o : Outlined) (s k : ℕ) (owned : List ℕ) → count ≡ length o.nodes → pair_book count s owned collected.new ≡ pair_recording.finished o (path_sightings count path.now) (pair_book count s owned collected.old) k) }
+{
+    let width = words(count);
+    let scopes = scopes_of(alloc, path)?;
+    collect_scopes(alloc, path, &scopes, width, count as usize, collected)?;
     Ok(())
 }

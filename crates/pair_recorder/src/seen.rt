@@ -10,7 +10,7 @@ use crate::tables::own_scope;
 use domain_core::Outline;
 
 /// A node that was entered, and the scope that was its own then.
-#[derive(Clone, Copy, Debug, PartialEq, Eq, Drop)]
+#[derive(Clone, Copy, Drop)]
 pub(crate) struct Seen {
     pub node: u16,
     pub scope: u16,

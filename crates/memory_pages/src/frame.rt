@@ -19,14 +19,14 @@ use std::rc::Rc;
 enum Room {
     Blank(u8, Rc<Slot>),
     Lone(Rc<Sheet>),
-    Short(Rc<Pages<8>>),
+    Short(Rc<Pages<16>>),
     Many(Rc<Pages<32>>),
 }
 
 /// The slots of a frame, one for each byte.
 ///
 /// A frame takes 16 bytes of memory besides its slots. Those of up to 32 bytes are one slot until another one is
-/// put, and a list of their own from then on. Others lie on pages of 32, those of up to 256 bytes on pages of 8, and
+/// put, and a list of their own from then on. Others lie on pages of 32, those of up to 256 bytes on pages of 16, and
 /// on a last page as long as what is left. Copies share all of it until a slot is put, and then each slot but that
 /// one, and each page but the one that it is put on.
 #[derive(Drop)]

@@ -4,7 +4,7 @@
 --   pages_of pages       those of each page
 --   page_at lists n      the page of this number, or none
 --   joined lists         the lists in their order, as one
---   ArePages lists       each has 32 members, but the last, which has at most 32
+--   ArePages w lists     each has w members, but the last, which has at most w
 --   IsUntouched b slots  if the flag b is set, all slots are the same
 use Rattle.std.specs.Prelude.{◌≡◌, ◌≤◌, ℕ, Bool, true, false, List, [], ◌∷◌, ◌++◌, length, map, replicate, Option, Some, None, slice_get}
 use Rattle.std.specs.declared.rc.Rc.{Rc}
@@ -35,11 +35,11 @@ abbrev pub joined : {A : Type 0} → List (List A) → List A
 joined [] = []
 joined (xs ∷ lists) = xs ++ joined lists
 
--- each has 32 members, but the last, which has at most 32
-abbrev pub ArePages : {A : Type 0} → List (List A) → Type 0
-ArePages [] = Unit {0}
-ArePages (xs ∷ []) = length xs ≤ 32
-ArePages (xs ∷ ys ∷ lists) = (length xs ≡ 32) × ArePages (ys ∷ lists)
+-- each has w members, but the last, which has at most w
+abbrev pub ArePages : {A : Type 0} → ℕ → List (List A) → Type 0
+ArePages w [] = Unit {0}
+ArePages w (xs ∷ []) = length xs ≤ w
+ArePages w (xs ∷ ys ∷ lists) = (length xs ≡ w) × ArePages w (ys ∷ lists)
 
 -- if the flag is set, all slots are the same
 abbrev pub IsUntouched : Bool → List HeldSlot → Type 0

@@ -9,4 +9,5 @@ use Rattle.memory_pages.specs.declared.frame.Room.TheVariants as forms
 abbrev pub slots_of : Room → List HeldSlot
 slots_of (forms.Blank count slot) = replicate count slot.value
 slots_of (forms.Lone sheet) = sheet.value
+slots_of (forms.Short pages) = pages.value
 slots_of (forms.Many pages) = pages.value

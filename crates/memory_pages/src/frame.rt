@@ -13,20 +13,22 @@ use std::alloc::{AllocError, Global};
 use std::marker::Model;
 use std::rc::Rc;
 
-/// So many times one slot, slots of a frame of up to 32 bytes, or those of a longer one on pages.
+/// So many times one slot, slots of a frame of up to 32 bytes, those of one of up to 256 on short pages, or those of a
+/// longer one on pages.
 #[derive(Drop)]
 enum Room {
     Blank(u8, Rc<Slot>),
     Lone(Rc<Sheet>),
-    Many(Rc<Pages>),
+    Short(Rc<Pages<16>>),
+    Many(Rc<Pages<32>>),
 }
 
 /// The slots of a frame, one for each byte.
 ///
 /// A frame takes 16 bytes of memory besides its slots. Those of up to 32 bytes are one slot until another one is
-/// put, and a list of their own from then on. Others lie on pages of 32 and a last one as long as what is left.
-/// Copies share all of it until a slot is put, and then each slot but that one, and each page but the one that it
-/// is put on.
+/// put, and a list of their own from then on. Others lie on pages of 32, those of up to 256 bytes on pages of 16, and
+/// on a last page as long as what is left. Copies share all of it until a slot is put, and then each slot but that
+/// one, and each page but the one that it is put on.
 #[derive(Drop)]
 pub struct FrameSlots {
     room: Room,
@@ -43,12 +45,18 @@ impl Model for FrameSlots {
     ghost view = { λ frame. slots_of frame.room };
 }
 
-/// Pages that copies can share.
-fn shared_room(alloc: Global, pages: Pages) -> Result<Room, AllocError>
-    ensures { IfOk result (λ room. slots_of room ≡ pages) }
+/// Pages of so many slots with this byte, at which no cell begins, that copies can share.
+fn bare_pages<const WIDTH: usize>(
+    alloc: Global,
+    count: usize,
+    byte: &Byte,
+) -> Result<Rc<Pages<WIDTH>>, AllocError>
+    requires { 0 < WIDTH }
+    ensures { IfOk result (λ pages. pages.value ≡ replicate count (bare byte.now)) }
 {
+    let pages = Pages::new(alloc, count, byte)?;
     match Rc::new(alloc, pages) {
-        Ok(pages) => Ok(Room::Many(pages)),
+        Ok(pages) => Ok(pages),
         Err(_) => Err(AllocError),
     }
 }
@@ -60,9 +68,12 @@ fn bare_room(alloc: Global, count: usize, byte: &Byte) -> Result<Room, AllocErro
     if count <= 32 {
         let slot = shared(alloc, Slot::bare(alloc, byte)?)?;
         Ok(Room::Blank(count as u8, slot))
+    } else if count <= 256 {
+        let pages = bare_pages(alloc, count, byte)?;
+        Ok(Room::Short(pages))
     } else {
-        let pages = Pages::new(alloc, count, byte)?;
-        shared_room(alloc, pages)
+        let pages = bare_pages(alloc, count, byte)?;
+        Ok(Room::Many(pages))
     }
 }
 
@@ -78,6 +89,10 @@ fn shared_slots(room: &Room) -> Result<Room, AllocError>
         Room::Lone(sheet) => {
             let sheet = sheet.clone()?;
             Ok(Room::Lone(sheet))
+        }
+        Room::Short(pages) => {
+            let pages = pages.clone()?;
+            Ok(Room::Short(pages))
         }
         Room::Many(pages) => {
             let pages = pages.clone()?;
@@ -104,12 +119,17 @@ fn slot_in(room: &Room, at: usize) -> Option<&Slot>
     match room {
         Room::Blank(count, slot) => slot_of(slot, *count as usize, at),
         Room::Lone(sheet) => sheet.slot(at),
+        Room::Short(pages) => pages.slot(at),
         Room::Many(pages) => pages.slot(at),
     }
 }
 
 /// Puts a slot on pages, of which the list is made its own first.
-fn put_among(pages: &mut Rc<Pages>, at: usize, slot: Slot) -> Result<(), AllocError>
+fn put_among<const WIDTH: usize>(
+    pages: &mut Rc<Pages<WIDTH>>,
+    at: usize,
+    slot: Slot,
+) -> Result<(), AllocError>
     requires { at < length pages.old.value }
     ensures { OnOk result (pages.new.value ≡ slice_set pages.old.value at slot) }
 {
@@ -129,6 +149,7 @@ fn put_in_room(room: &mut Room, at: usize, slot: Slot) -> Result<(), AllocError>
             Ok(())
         }
         Room::Lone(sheet) => put_on_sheet(sheet, at, slot),
+        Room::Short(pages) => put_among(pages, at, slot),
         Room::Many(pages) => put_among(pages, at, slot),
     }
 }
@@ -156,6 +177,7 @@ fn same_from(a: &Room, b: &Room, at: usize) -> usize
     ensures { (place : ℕ) → at ≤ place → place < at + result → slice_get (slots_of a.now) place ≡ slice_get (slots_of b.now) place }
 {
     match (a, b) {
+        (Room::Short(first), Room::Short(second)) => first.same_ahead(second, at),
         (Room::Many(first), Room::Many(second)) => first.same_ahead(second, at),
         _ => { if at == 0 && same_short(a, b) { 32 } else { 0 } }
     }
@@ -193,8 +215,8 @@ impl FrameSlots {
         Ok(FrameSlots { room })
     }
 
-    /// How many slots from this place on are known to be the same: 32 where a page begins here and is the
-    /// same on both sides, else none.
+    /// How many slots from this place on are known to be the same: those of a page where one begins here
+    /// and is the same on both sides, else none.
     pub fn same_ahead(&self, other: &FrameSlots, at: usize) -> usize
         ensures { (place : ℕ) → at ≤ place → place < at + result → slice_get self.now place ≡ slice_get other.now place }
     {

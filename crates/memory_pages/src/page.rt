@@ -1,6 +1,6 @@
 //! Pages that know whether a slot was put on them.
 
-ghost use Rattle.std.specs.Prelude.{◌≡◌, ◌<◌, ◌%◌, ◌/◌, ◌++◌, IsTrue, IfOk, OnOk, OnErr, true, length, replicate, slice_get, slice_set};
+ghost use Rattle.std.specs.Prelude.{◌≡◌, ◌<◌, ◌++◌, IsTrue, IfOk, OnOk, OnErr, true, length, replicate, slice_get, slice_set};
 ghost use Rattle.std.specs.Option.{option_map};
 ghost use Rattle.memory_pages.specs.Slots.{bare};
 ghost use Rattle.memory_pages.specs.Pages.{held, pages_of, page_at, slots_on, IsUntouched};
@@ -126,12 +126,17 @@ pub(crate) fn put_on(page: &mut Rc<Page>, at: usize, slot: Rc<Slot>) -> Result<(
     Ok(())
 }
 
-/// Puts a slot on the page of its place.
-pub(crate) fn put_in(pages: &mut [Rc<Page>], at: usize, slot: Rc<Slot>) -> Result<(), AllocError>
-    requires page { at / 32 < length pages.old }
-    requires slot { at % 32 < length (page_at (pages_of pages.old) (at / 32)) }
-    ensures put { OnOk result (pages_of pages.new ≡ slice_set (pages_of pages.old) (at / 32) (slice_set (page_at (pages_of pages.old) (at / 32)) (at % 32) slot.value)) }
+/// Puts a slot on the page of this number.
+pub(crate) fn put_in(
+    pages: &mut [Rc<Page>],
+    number: usize,
+    at: usize,
+    slot: Rc<Slot>,
+) -> Result<(), AllocError>
+    requires page { number < length pages.old }
+    requires slot { at < length (page_at (pages_of pages.old) number) }
+    ensures put { OnOk result (pages_of pages.new ≡ slice_set (pages_of pages.old) number (slice_set (page_at (pages_of pages.old) number) at slot.value)) }
     ensures refused { OnErr result (pages_of pages.new ≡ pages_of pages.old) }
 {
-    put_on(&mut pages[at / 32], at % 32, slot)
+    put_on(&mut pages[number], at, slot)
 }

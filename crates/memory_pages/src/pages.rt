@@ -1,6 +1,6 @@
 //! Slots on several pages.
 
-ghost use Rattle.std.specs.Prelude.{◌≡◌, ◌≤◌, ◌<◌, ◌+◌, ◌%◌, ◌/◌, ℕ, IsTrue, IfOk, OnOk, length, replicate, slice_get, slice_set};
+ghost use Rattle.std.specs.Prelude.{◌≡◌, ◌≤◌, ◌<◌, ◌+◌, ℕ, IsTrue, IfOk, OnOk, length, replicate, slice_get, slice_set};
 ghost use Rattle.std.specs.Option.{option_map};
 ghost use Rattle.memory_pages.specs.Slots.{bare};
 ghost use Rattle.memory_pages.specs.Pages.{list_or, page_at, pages_of, slots_on};
@@ -12,16 +12,16 @@ use std::alloc::{AllocError, Global};
 use std::marker::Model;
 use std::rc::Rc;
 
-/// Slots that lie on pages of 32, and on a last page as long as what is left.
+/// Slots that lie on pages of a width, and on a last page as long as what is left.
 ///
 /// Copies share each page until a slot is put on it.
 #[derive(Drop)]
-pub(crate) struct Pages {
+pub(crate) struct Pages<const WIDTH: usize> {
     list: Vec<Rc<Page>>,
 }
 
-impl Model for Pages {
-    ghost use Rattle.std.specs.Prelude.{List};
+impl<const WIDTH: usize> Model for Pages<WIDTH> {
+    ghost use Rattle.std.specs.Prelude.{List, ◌<◌};
     ghost use Rattle.memory_pages.specs.Slots.{HeldSlot};
 
     ghost Value = { List HeldSlot };
@@ -30,10 +30,10 @@ impl Model for Pages {
 
     ghost view = { λ pages. joined (pages_of pages.list.items) };
 
-    ghost invariant = { λ pages. ArePages (pages_of pages.list.items) };
+    ghost invariant = { λ pages. (0 < WIDTH) × ArePages WIDTH (pages_of pages.list.items) };
 }
 
-impl Clone for Pages {
+impl<const WIDTH: usize> Clone for Pages<WIDTH> {
     ghost is_clone = { λ a b. a ≡ b };
 
     fn clone(&self) -> Result<Self, AllocError> {
@@ -49,13 +49,13 @@ fn page_of(list: &[Rc<Page>], number: usize) -> Option<&Rc<Page>>
     list.get(number)
 }
 
-/// The slot at this place.
-fn slot_in(list: &[Rc<Page>], at: usize) -> Option<&Slot>
-    ensures { option_map (λ slot. slot.now) result ≡ slice_get (page_at (pages_of list.now) (at / 32)) (at % 32) }
+/// The slot at this place of the page of this number.
+fn slot_in(list: &[Rc<Page>], number: usize, at: usize) -> Option<&Slot>
+    ensures { option_map (λ slot. slot.now) result ≡ slice_get (page_at (pages_of list.now) number) at }
 {
-    match page_of(list, at / 32) {
+    match page_of(list, number) {
         None => None,
-        Some(page) => page.slot(at % 32),
+        Some(page) => page.slot(at),
     }
 }
 
@@ -69,15 +69,16 @@ fn are_same(a: Option<&Rc<Page>>, b: Option<&Rc<Page>>) -> bool
     }
 }
 
-impl Pages {
+impl<const WIDTH: usize> Pages<WIDTH> {
     /// So many slots with this byte, at which no cell begins. Whole pages are one that they share.
-    pub fn new(alloc: Global, count: usize, byte: &Byte) -> Result<Pages, AllocError>
+    pub fn new(alloc: Global, count: usize, byte: &Byte) -> Result<Self, AllocError>
+        requires { 0 < WIDTH }
         ensures { IfOk result (λ pages. pages ≡ replicate count (bare byte.now)) }
     {
-        let page = bare_page(alloc, byte, 32)?;
-        let last = bare_page(alloc, byte, count % 32)?;
+        let page = bare_page(alloc, byte, WIDTH)?;
+        let last = bare_page(alloc, byte, count % WIDTH)?;
         let mut list = Vec::new(alloc);
-        share_page(&mut list, &page, count / 32)?;
+        share_page(&mut list, &page, count / WIDTH)?;
         list.push(last)?;
         Ok(Pages { list })
     }
@@ -86,7 +87,7 @@ impl Pages {
     pub fn slot(&self, at: usize) -> Option<&Slot>
         ensures { option_map (λ slot. slot.now) result ≡ slice_get self.now at }
     {
-        slot_in(&self.list, at)
+        slot_in(&self.list, at / WIDTH, at % WIDTH)
     }
 
     /// Puts a slot. After want of memory the slots are given up.
@@ -95,18 +96,18 @@ impl Pages {
         ensures { OnOk result (self.new ≡ slice_set self.old at slot) }
     {
         let slot = shared(*self.list.allocator(), slot)?;
-        put_in(&mut self.list, at, slot)
+        put_in(&mut self.list, at / WIDTH, at % WIDTH, slot)
     }
 
-    /// How many slots from this place on are known to be the same: 32 where a page begins here and is the
-    /// same on both sides, else none.
-    pub fn same_ahead(&self, other: &Pages, at: usize) -> usize
+    /// How many slots from this place on are known to be the same: those of a page where one begins here and is
+    /// the same on both sides, else none.
+    pub fn same_ahead(&self, other: &Self, at: usize) -> usize
         ensures { (place : ℕ) → at ≤ place → place < at + result → slice_get self.now place ≡ slice_get other.now place }
     {
-        let own = page_of(&self.list, at / 32);
-        let others = page_of(&other.list, at / 32);
-        if at % 32 == 0 && are_same(own, others) {
-            32
+        let own = page_of(&self.list, at / WIDTH);
+        let others = page_of(&other.list, at / WIDTH);
+        if at % WIDTH == 0 && are_same(own, others) {
+            WIDTH
         } else {
             0
         }

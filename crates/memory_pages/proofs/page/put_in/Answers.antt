@@ -1,5 +1,5 @@
 -- What is left to show of `put_in`: facts of the proof files, applied.
-use Rattle.std.proofs.Common.{◌∙◌, sym, ap, ◌/◌, ◌%◌}
+use Rattle.std.proofs.Common.{◌∙◌, sym, ap}
 use Rattle.std.specs.Prelude.{slice_set}
 use Rattle.std.proofs.lemmas.Result.{on_ok_weaker, on_err_weaker}
 use Rattle.memory_pages.specs.Pages.{pages_of, slots_on}
@@ -8,12 +8,12 @@ use Rattle.memory_pages.proofs.page.put_in.Goals as goal
 
 pub returns-clause-put : goal.returns-clause-put
 returns-clause-put c = on_ok_weaker c.put_on.result (λ put.
-    map_set slots_on c.args.pages.now (c.args.at / 32) c.put_on.new.page
-    ∙ ap (λ page. slice_set (pages_of c.args.pages.now) (c.args.at / 32) page)
-    (put ∙ ap (λ page. slice_set page (c.args.at % 32) c.args.slot.value) (sym (page_is slots_on c.args.pages.now (c.args.at / 32) c.index-pages-at.result c.requires.page))))
+    map_set slots_on c.args.pages.now c.args.number c.put_on.new.page
+    ∙ ap (λ page. slice_set (pages_of c.args.pages.now) c.args.number page)
+    (put ∙ ap (λ page. slice_set page c.args.at c.args.slot.value) (sym (page_is slots_on c.args.pages.now c.args.number c.index-pages-number.result c.requires.page))))
     c.put_on.ensures.put
 
 pub returns-clause-refused : goal.returns-clause-refused
 returns-clause-refused c = on_err_weaker c.put_on.result (λ same.
-    set_same slots_on c.args.pages.now (c.args.at / 32) c.put_on.new.page c.index-pages-at.result c.requires.page same)
+    set_same slots_on c.args.pages.now c.args.number c.put_on.new.page c.index-pages-number.result c.requires.page same)
     c.put_on.ensures.refused

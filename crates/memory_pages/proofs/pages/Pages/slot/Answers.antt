@@ -6,6 +6,6 @@ use Rattle.memory_pages.proofs.PageLists.{get_joined}
 use Rattle.memory_pages.proofs.pages.Pages.slot.Goals as goal
 
 pub returns : goal.returns
-returns c =
+returns g c =
     (rw c.deref.ensures.value at c.slot_in.ensures)
-    ∙ (sym (get_joined (pages_of c.self.inside.list.items) c.args.at c.self.invariant) ∙ ap (λ slots. slice_get slots c.args.at) c.self.view_is)
+    ∙ (sym (get_joined g.row.WIDTH (pages_of c.self.inside.list.items) c.args.at c.self.invariant.0 c.self.invariant.1) ∙ ap (λ slots. slice_get slots c.args.at) c.self.view_is)

@@ -1,12 +1,15 @@
 -- Lists of spans that are kept as one number each.
 --   only_set, only_replicate   a span that is set, and as many of one
+--   zeros_only, zeros_set      numbers that are all 0, and spans of 0 of which one is set to 0
+--   zeros_kept, zeros_same     so many spans of 0 are those of the numbers, and two lists of them are the same
+--   once_visited               numbers that are all 0, but for one that is 1
 --   same_joined                a list joined with itself
 --   room_only, room_least, room_most   there is room for one more
 --   visited_only, visited_small, visited_apart   one more at a place
 --   room_for_more              there is room at each place, where the greatest number is no limit
 use Rattle.std.proofs.Common.{◌≡◌, ◌<◌, ◌+◌, ◌-◌, ◌^◌, ℕ, zero, suc, List, ◌∷◌, map, length, get_or, set, replicate, refl, sym, ap, ◌∙◌, subst, arith}
 use Rattle.std.proofs.Math.ListN.{get_or-map}
-use Rattle.std.proofs.lemmas.List.{map-set, get_or_read}
+use Rattle.std.proofs.lemmas.List.{map-set, get_or_read, length-map, length-replicate}
 use Rattle.recorder_rules.specs.GeneratedLaws.{generated_is}
 use Rattle.recorder_rules.specs.Spans.{span_of, one_more, greatest}
 use Rattle.recorder_rules.specs.SpanLaws.{spans_of, below_greatest}
@@ -21,6 +24,32 @@ only_set xs i c = map-set only xs i c
 pub only_replicate : (n c : ℕ) → map only (replicate n c) ≡ replicate n (only c)
 only_replicate zero c = refl
 only_replicate (suc n) c = ap (λ (xs : List (ℕ × ℕ)). only c ∷ xs) (only_replicate n c)
+
+-- numbers that are all 0
+pub zeros_only : (xs : List ℕ) (n : ℕ) → xs ≡ replicate n 0 → map only xs ≡ replicate n (0, 0)
+zeros_only xs n zeros = ap (λ (ys : List ℕ). map only ys) zeros ∙ only_replicate n 0
+
+-- so many spans of 0 are those of the numbers
+pub zeros_kept : (n : ℕ) (xs read : List ℕ) → n ≡ length read → read ≡ xs → read ≡ replicate (length read) 0 → replicate n (0, 0) ≡ map only xs
+zeros_kept n xs read count is zeros =
+    ap (λ (m : ℕ). replicate {A = ℕ × ℕ} m (0, 0)) count ∙ sym (zeros_only read (length read) zeros) ∙ ap (λ (ys : List ℕ). map only ys) is
+
+-- two lists of spans of 0 are the same
+pub zeros_same : (n : ℕ) (xs read : List ℕ) (a b : List (ℕ × ℕ)) → replicate n (0, 0) ≡ a → map only xs ≡ b → length a ≡ length b → read ≡ xs → read ≡ replicate (length read) 0 → a ≡ b
+zeros_same n xs read a b is_a is_b long is zeros = sym is_a ∙ zeros_kept n xs read count is zeros ∙ is_b
+  where
+    count : n ≡ length read
+    count = sym (length-replicate n (0, 0)) ∙ ap (λ (ys : List (ℕ × ℕ)). length ys) is_a ∙ long ∙ sym (ap (λ (ys : List (ℕ × ℕ)). length ys) is_b) ∙ length-map xs only ∙ sym (ap (λ (ys : List ℕ). length ys) is)
+
+-- spans of 0, of which one is set to 0
+pub zeros_set : (n i : ℕ) → set (replicate n (0, 0)) i (0, 0) ≡ replicate {A = ℕ × ℕ} n (0, 0)
+zeros_set zero i = refl
+zeros_set (suc n) zero = refl
+zeros_set (suc n) (suc i) = ap (λ (xs : List (ℕ × ℕ)). (0, 0) ∷ xs) (zeros_set n i)
+
+-- numbers that are all 0, but for one that is 1
+pub once_visited : (xs : List ℕ) (n i : ℕ) → xs ≡ replicate n 0 → map only (set xs i 1) ≡ set (replicate n (0, 0)) i (1, 1)
+once_visited xs n i zeros = only_set xs i 1 ∙ ap (λ (ys : List (ℕ × ℕ)). set ys i (1, 1)) (zeros_only xs n zeros)
 
 -- a list joined with itself
 pub same_joined : (a b : List (ℕ × ℕ)) → a ≡ b → a ≡ spans_of a b

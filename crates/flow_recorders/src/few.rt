@@ -1,6 +1,6 @@
 //! A few small numbers, in place.
 
-ghost use Rattle.std.specs.Prelude.{◌≡◌, ◌<◌, ◌≤◌, ◌^◌, length, slice_set};
+ghost use Rattle.std.specs.Prelude.{◌≡◌, ◌<◌, ◌≤◌, ◌^◌, length, replicate, slice_set};
 ghost use Rattle.flow_recorders.specs.SmallCounts.{AreSmall};
 
 use std::marker::Model;
@@ -39,6 +39,17 @@ impl FewCounts {
         FewCounts {
             counts: few,
             len: counts.len() as u8,
+        }
+    }
+
+    /// As many times 0.
+    pub fn zeros(count: usize) -> FewCounts
+        requires { count ≤ 23 }
+        ensures { result ≡ replicate count 0 }
+    {
+        FewCounts {
+            counts: [0; MOST_COUNTS],
+            len: count as u8,
         }
     }
 

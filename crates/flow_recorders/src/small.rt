@@ -1,6 +1,6 @@
 //! Lists of numbers below 256, as bytes.
 
-ghost use Rattle.std.specs.Prelude.{◌≡◌, IsTrue, IfOk, slice_index, slice_set, ◌<◌, ◌+◌, ◌-◌, ◌^◌, length};
+ghost use Rattle.std.specs.Prelude.{◌≡◌, IsTrue, IfOk, slice_index, slice_set, ◌<◌, ◌+◌, ◌-◌, ◌^◌, length, replicate};
 ghost use Rattle.flow_recorders.specs.SmallCounts.{AreSmall};
 
 use std::alloc::{AllocError, Global};
@@ -11,6 +11,18 @@ pub fn are_small(counts: &[u32]) -> bool
 {
     for count in counts {
         if *count > 255 {
+            return false;
+        }
+    }
+    true
+}
+
+/// True only where each number is 0.
+pub fn are_zeros(counts: &[u8]) -> bool
+    ensures { IsTrue result → counts.now ≡ replicate (length counts.now) 0 }
+{
+    for count in counts {
+        if *count > 0 {
             return false;
         }
     }

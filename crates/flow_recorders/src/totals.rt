@@ -86,7 +86,7 @@ impl Recorder for Totals {
 
     fn start(alloc: Global, outline: &Outline) -> Result<Self, AllocError> {
         outline.kept();
-        let mut counts = SpanList::zeros(alloc, outline.node_count() as usize)?;
+        let mut counts = SpanList::zeros(outline.node_count() as usize);
         counts.visit(alloc, 0)?;
         Ok(Totals { counts })
     }

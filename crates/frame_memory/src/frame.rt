@@ -27,8 +27,9 @@ fn same_from(a: &FrameSlots, b: &FrameSlots, place: u32) -> u32
     ensures few { result ≤ 32 }
     ensures same { (at : ℕ) → place ≤ at → at < place + result → slice_get a.now at ≡ slice_get b.now at }
 {
-    if a.same_ahead(b, place as usize) == 32 {
-        32
+    let ahead = a.same_ahead(b, place as usize);
+    if 0 < ahead && ahead <= 32 {
+        ahead as u32
     } else if is_same(a, b, place as usize) {
         1
     } else {

@@ -18,10 +18,7 @@ fn way(word: &str) -> Way {
     match word {
         "!" => Way::Fails(RunFault::Divide),
         "#" => Way::Fails(RunFault::Uninit),
-        _ => Way::Goes(
-            number(part(word, "-", 0)),
-            number(part(word, "-", 1)),
-        ),
+        _ => Way::Goes(number(part(word, "-", 0)), number(part(word, "-", 1))),
     }
 }
 

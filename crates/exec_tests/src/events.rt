@@ -37,10 +37,7 @@ fn event(word: &str) -> Event {
         return Event::Step(number(place));
     }
     let places = part(word, "m", 1);
-    Event::Merge(
-        number(part(places, ",", 0)),
-        number(part(places, ",", 1)),
-    )
+    Event::Merge(number(part(places, ",", 0)), number(part(places, ",", 1)))
 }
 
 // Whether the event is allowed, which is then applied.

@@ -119,8 +119,18 @@ impl<'a> Stepper for AlfStepper<'a> {
         node: u32,
         state: &AMem<'a>,
     ) -> Result<Stepped<AMem<'a>>, AllocError> {
+        let stepped = self.step_owned(alloc, node, state.copy(alloc)?)?;
+        Ok(stepped)
+    }
+
+    fn step_owned(
+        &self,
+        alloc: Global,
+        node: u32,
+        state: AMem<'a>,
+    ) -> Result<Stepped<AMem<'a>>, AllocError> {
         let here = Here::new(self.checked, self.graph, &self.firsts, node);
-        let stepped = step_from(alloc, &here, state.copy(alloc)?)?;
+        let stepped = step_from(alloc, &here, state)?;
         Ok(stepped)
     }
 }

@@ -45,5 +45,16 @@ pub trait Stepper {
         ensures next { IfOk result (λ stepped. stepped.next.items ≡ (machine self.now).next node state.now) }
         ensures faults { IfOk result (λ stepped. stepped.faults ≡ (machine self.now).faults node state.now) };
 
+    /// The same of a state that is given, and not lent: what it alone keeps may be changed where it is.
+    fn step_owned(
+        &self,
+        alloc: Global,
+        node: u32,
+        state: Self::State,
+    ) -> Result<Stepped<Self::State>, AllocError>
+        requires { (machine self.now).fits node state }
+        ensures next { IfOk result (λ stepped. stepped.next.items ≡ (machine self.now).next node state) }
+        ensures faults { IfOk result (λ stepped. stepped.faults ≡ (machine self.now).faults node state) };
+
     ghost is_machine: { (m : Self) → (machine m).kept → IsMachine Self.State Self.Concrete Self.State.order (machine m) };
 }

@@ -62,4 +62,13 @@ impl Stepper for Chart {
         }
         taken(alloc, self.forks[node as usize], *state)
     }
+
+    fn step_owned(
+        &self,
+        alloc: Global,
+        node: u32,
+        state: Span,
+    ) -> Result<Stepped<Span>, AllocError> {
+        self.step(alloc, node, &state)
+    }
 }

@@ -1,5 +1,6 @@
 -- The files of this folder.
 mod Placing
+mod Beside
 mod Spreading
 mod Joining
 mod Choosing

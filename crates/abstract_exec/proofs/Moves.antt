@@ -80,7 +80,7 @@ placed_later o m z early later spot more placed =
       fits = placed.fits;
       is_of = placed.is_of;
       long = omega arith;
-      ends = placed.ends;
+      position_is = placed.position_is;
       low = λ t. let low = placed.low t in omega arith;
     }
 

@@ -3,12 +3,14 @@
 --   begun, one_more, ended   before the first scope, one scope more, and after the last
 --   rank_is       the rank of a node
 --   same_around   nodes of one scope have the same scopes around them
+--   scope_is, own_low   the own scope of a node, which is one of the outline
+--   parent_is, header_is   the parent and the header of a scope
 use Rattle.std.proofs.Common.{◌≡◌, ◌<◌, ℕ, List, [], ◌∷◌, ◌++◌, length, reverse, get_or, slice_get, Some, Contains, refl, ap, sym, ◌∙◌, arith}
 use Rattle.std.proofs.lemmas.List.{append_assoc, append-nil, length-map}
 use Rattle.std.proofs.lemmas.Option.{get_or_from_slice_get, slice_get-map}
 use Rattle.domain_core.specs.declared.outline.NodeRow.{NodeRow}
 use Rattle.domain_core.specs.declared.outline.ScopeRow.{ScopeRow}
-use Rattle.domain_core.specs.Outlines.{Outlined, Shape, IsOutline, header_of, no_scope, scopes_around, scopes_from, shape_of}
+use Rattle.domain_core.specs.Outlines.{Outlined, Shape, IsOutline, parent_of, header_of, no_scope, scopes_around, scopes_from, shape_of}
 use Rattle.domain_core.specs.OutlineLaws.{around_is, holder_low}
 use Rattle.worklist_rules.specs.Positions.{header_rank, ranks_and_turns, position_by}
 
@@ -35,12 +37,19 @@ pub rank_is : (o : Outlined) (n : ℕ) (row : NodeRow) → slice_get o.nodes n �
 rank_is o n row at = sym (get_or_from_slice_get (shape_of o).ranks n row.rank 0 (slice_get-map (λ (r : NodeRow). r.rank) o.nodes n ∙ rw at refl))
 
 -- nodes of one scope have the same scopes around them
-scope_is : (o : Outlined) (n : ℕ) (row : NodeRow) → slice_get o.nodes n ≡ Some row → get_or (shape_of o).own n 0 ≡ row.scope
+pub scope_is : (o : Outlined) (n : ℕ) (row : NodeRow) → slice_get o.nodes n ≡ Some row → get_or (shape_of o).own n 0 ≡ row.scope
 scope_is o n row at = get_or_from_slice_get (shape_of o).own n row.scope 0 (slice_get-map (λ (r : NodeRow). r.scope) o.nodes n ∙ rw at refl)
 
 pub same_around : (o : Outlined) (n m : ℕ) (a b : NodeRow) → slice_get o.nodes n ≡ Some a → slice_get o.nodes m ≡ Some b → a.scope ≡ b.scope → scopes_around (shape_of o) n ≡ scopes_around (shape_of o) m
 same_around o n m a b at_a at_b same =
     ap (λ (s : ℕ). reverse (scopes_from (shape_of o).scopes (length (shape_of o).scopes) s)) (scope_is o n a at_a ∙ same ∙ sym (scope_is o m b at_b))
+
+-- the own scope of a node is one of the outline
+pub own_low : (o : Outlined) → IsOutline (shape_of o) → (n : ℕ) (row : NodeRow) → n < length o.nodes → slice_get o.nodes n ≡ Some row → row.scope < length o.scopes
+own_low o ok n row low at = let long = own_long o in let same = scope_is o n row at in let within = ok.scopes_within n (omega arith) in omega arith
+
+pub parent_is : (o : Outlined) (t : ℕ) (row : ScopeRow) → slice_get o.scopes t ≡ Some row → row.parent ≡ parent_of o.scopes t
+parent_is o t row at = ap (λ (s : ScopeRow). s.parent) (sym (get_or_from_slice_get o.scopes t row no_scope at))
 
 pub header_is : (o : Outlined) (t : ℕ) (row : ScopeRow) → slice_get o.scopes t ≡ Some row → row.header ≡ header_of o.scopes t
 header_is o t row at = ap (λ (s : ScopeRow). s.header) (sym (get_or_from_slice_get o.scopes t row no_scope at))

@@ -1,10 +1,11 @@
 //! Positions of places.
 
-ghost use Rattle.std.specs.Prelude.{◌≡◌, ◌<◌, ◌-◌, ◌^◌, ◌∷◌, [], ℕ, IsTrue, length, IfOk};
-ghost use Rattle.domain_core.specs.Outlines.{shape_of, scopes_around};
-ghost use Rattle.worklist_rules.specs.Positions.{position_by, position_of, entered, turn_in, moved_position};
+ghost use Rattle.std.specs.Prelude.{◌≡◌, ◌<◌, ◌+◌, ◌-◌, ◌^◌, ◌++◌, ◌∷◌, [], ℕ, List, IsTrue, false, Some, length, slice_index, IfOk};
+ghost use Rattle.domain_core.specs.Outlines.{LeadsTo, parent_of, shape_of, scopes_around};
+ghost use Rattle.domain_core.specs.Executions.{is_header};
+ghost use Rattle.worklist_rules.specs.Positions.{position_by, position_of, IsPosition, entered, turn_in, moved_position};
 
-use crate::numbers::{number_after, number_in, rank_of_header};
+use crate::numbers::{keeps_outer_numbers, number_after, number_in, rank_of_header};
 use crate::place::Position;
 use domain_core::Outline;
 use std::alloc::{AllocError, Global};
@@ -54,23 +55,73 @@ pub fn first_position(alloc: Global, outline: &Outline) -> Result<Position, Allo
     position_after(alloc, outline, &around, &[], &[], 0)
 }
 
+/// The position with this rank at its end.
+fn with_rank(position: Position, rank: u32) -> Result<Position, AllocError>
+    ensures { IfOk result (λ made. (front : List ℕ) (last : ℕ) → position.items ≡ front ++ last ∷ [] → made.items ≡ front ++ rank ∷ []) }
+{
+    let mut made = position;
+    made.pop();
+    made.push(rank)?;
+    Ok(made)
+}
+
+/// The position with one more as its last number, and this rank at its end.
+fn with_next(position: Position, rank: u32) -> Result<Position, AllocError>
+    requires { (front : List ℕ) (number last : ℕ) → position.items ≡ front ++ number ∷ last ∷ [] → number < 2 ^ 32 - 1 }
+    ensures { IfOk result (λ made. (front : List ℕ) (number last : ℕ) → position.items ≡ front ++ number ∷ last ∷ [] → made.items ≡ front ++ (number + 1) ∷ rank ∷ []) }
+{
+    let mut made = position;
+    made.pop();
+    let Some(number) = made.pop() else {
+        return Ok(made);
+    };
+    made.push(number + 1)?;
+    made.push(rank)?;
+    Ok(made)
+}
+
+/// The position after an edge between nodes of one scope, around which no scope has another number then.
+fn position_beside(
+    outline: &Outline,
+    from: u32,
+    position: Position,
+    to: u32,
+) -> Result<Position, AllocError>
+    requires from { from < length outline.now.nodes }
+    requires to { to < length outline.now.nodes }
+    requires same { scopes_around (shape_of outline.now) from ≡ scopes_around (shape_of outline.now) to }
+    requires outer { (t p : ℕ) → parent_of outline.now.scopes (slice_index (shape_of outline.now).own to) ≡ Some p → LeadsTo outline.now.scopes t p → is_header (shape_of outline.now) t to ≡ false }
+    requires is { IsPosition (shape_of outline.now) from position.items }
+    requires room { (t : ℕ) → turn_in (scopes_around (shape_of outline.now) from) position.items t < 2 ^ 32 - 1 }
+    ensures { IfOk result (λ made. made.items ≡ moved_position (shape_of outline.now) from position.items to) }
+{
+    outline.kept();
+    let node = outline.node(to);
+    if outline.scope(node.scope).header == to {
+        with_next(position, node.rank)
+    } else {
+        with_rank(position, node.rank)
+    }
+}
+
 /// The position after an edge.
 pub fn position_along(
     alloc: Global,
     outline: &Outline,
     from: u32,
-    position: &[u32],
+    position: Position,
     to: u32,
 ) -> Result<Position, AllocError>
     requires from { from < length outline.now.nodes }
     requires to { to < length outline.now.nodes }
-    requires room { (t : ℕ) → turn_in (scopes_around (shape_of outline.now) from) position.now t < 2 ^ 32 - 1 }
-    ensures { IfOk result (λ made. made.items ≡ moved_position (shape_of outline.now) from position.now to) }
+    requires is { IsPosition (shape_of outline.now) from position.items }
+    requires room { (t : ℕ) → turn_in (scopes_around (shape_of outline.now) from) position.items t < 2 ^ 32 - 1 }
+    ensures { IfOk result (λ made. made.items ≡ moved_position (shape_of outline.now) from position.items to) }
 {
-    let scopes = outline.around(alloc, from)?;
-    if are_of_one_scope(outline, from, to) {
-        return position_after(alloc, outline, &scopes, &scopes, position, to);
+    if are_of_one_scope(outline, from, to) && keeps_outer_numbers(outline, to) {
+        return position_beside(outline, from, position, to);
     }
+    let scopes = outline.around(alloc, from)?;
     let around = outline.around(alloc, to)?;
-    position_after(alloc, outline, &around, &scopes, position, to)
+    position_after(alloc, outline, &around, &scopes, &position, to)
 }

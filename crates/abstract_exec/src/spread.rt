@@ -2,11 +2,11 @@
 
 ghost use Rattle.std.specs.Prelude.{◌≡◌, ◌≢◌, ◌<◌, ◌-◌, ◌^◌, ◌++◌, ℕ, length, Contains, IfOk, OnOk};
 ghost use Rattle.domain_core.specs.Outlines.{shape_of, scopes_around};
-ghost use Rattle.worklist_rules.specs.Positions.{turn_in};
+ghost use Rattle.worklist_rules.specs.Positions.{IsPosition, turn_in};
 ghost use Rattle.worklist_rules.specs.Events.{spots_after, book_after, spread_spots, spread_book};
 ghost use Rattle.worklist_rules.specs.Successors.{AreAlong};
 
-use crate::place::Place;
+use crate::place::{Place, Position};
 use crate::position::position_along;
 use domain_core::{Outline, Recorder};
 use std::alloc::{AllocError, Global};
@@ -17,7 +17,7 @@ fn succeed<T: Drop, R: Recorder>(
     alloc: Global,
     outline: &Outline,
     from: u32,
-    position: &[u32],
+    position: Position,
     recorder: R,
     book: &mut R::Book,
     successor: (u32, T),
@@ -29,8 +29,9 @@ fn succeed<T: Drop, R: Recorder>(
     requires from { from < length outline.now.nodes }
     requires along { successor.0 ≢ length outline.now.nodes → Contains outline.now.edges (from, successor.0) × (successor.0 < length outline.now.nodes) }
     requires room { R.recording.length_of recorder < 2 ^ 32 - 1 }
-    requires low { (t : ℕ) → turn_in (scopes_around (shape_of outline.now) from) position.now t < 2 ^ 32 - 1 }
-    ensures places { OnOk result (made.new.items ≡ made.old.items ++ spots_after R.recording outline.now position.now recorder from book.old successor) }
+    requires is { IsPosition (shape_of outline.now) from position.items }
+    requires low { (t : ℕ) → turn_in (scopes_around (shape_of outline.now) from) position.items t < 2 ^ 32 - 1 }
+    ensures places { OnOk result (made.new.items ≡ made.old.items ++ spots_after R.recording outline.now position.items recorder from book.old successor) }
     ensures book { OnOk result (book.new ≡ book_after R.recording outline.now recorder from book.old successor) }
 {
     let (to, state) = successor;
@@ -50,13 +51,13 @@ fn succeed<T: Drop, R: Recorder>(
     Ok(())
 }
 
-/// The places that the successors make, in order; the last one takes the recorder, and the others
+/// The places that the successors make, in order; the last one takes the position and the recorder, and the others
 /// have copies.
 pub fn spread<T: Drop, R: Recorder>(
     alloc: Global,
     outline: &Outline,
     from: u32,
-    position: &[u32],
+    position: Position,
     recorder: R,
     book: &mut R::Book,
     next: Vec<(u32, T)>,
@@ -67,8 +68,9 @@ pub fn spread<T: Drop, R: Recorder>(
     requires from { from < length outline.now.nodes }
     requires along { AreAlong outline.now from next.items }
     requires room { R.recording.length_of recorder < 2 ^ 32 - 1 }
-    requires low { (t : ℕ) → turn_in (scopes_around (shape_of outline.now) from) position.now t < 2 ^ 32 - 1 }
-    ensures places { IfOk result (λ made. made.items ≡ spread_spots R.recording outline.now position.now recorder from book.old next.items) }
+    requires is { IsPosition (shape_of outline.now) from position.items }
+    requires low { (t : ℕ) → turn_in (scopes_around (shape_of outline.now) from) position.items t < 2 ^ 32 - 1 }
+    ensures places { IfOk result (λ made. made.items ≡ spread_spots R.recording outline.now position.items recorder from book.old next.items) }
     ensures book { OnOk result (book.new ≡ spread_book R.recording outline.now recorder from book.old next.items) }
 {
     outline.kept();
@@ -79,9 +81,10 @@ pub fn spread<T: Drop, R: Recorder>(
     };
     next.reverse();
     while let Some(successor) = next.pop() {
+        let copied = Position::from_slice(alloc, &position)?;
         let copy = recorder.copy(alloc)?;
         succeed(
-            alloc, outline, from, position, copy, book, successor, &mut made,
+            alloc, outline, from, copied, copy, book, successor, &mut made,
         )?;
     }
     succeed(

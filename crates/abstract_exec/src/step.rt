@@ -103,9 +103,9 @@ fn followed<S: Stepper, R: Recorder>(
         state,
         recorder,
     } = place;
-    let Stepped { next, faults } = stepper.step(alloc, node, &state)?;
+    let Stepped { next, faults } = stepper.step_owned(alloc, node, state)?;
     collect_faults(alloc, outline, &recorder, book, node, faults)?;
-    let places = spread(alloc, outline, node, &position, recorder, book, next)?;
+    let places = spread(alloc, outline, node, position, recorder, book, next)?;
     Ok(Outcome { places, faults })
 }
 

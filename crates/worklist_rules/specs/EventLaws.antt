@@ -11,11 +11,11 @@ use Rattle.domain_core.specs.declared.event.Event.{Event}
 use Rattle.domain_core.specs.declared.event.Event.TheVariants.{Step, Merge}
 use Rattle.domain_core.specs.FaultSets.{no_faults}
 use Rattle.domain_core.specs.Orders.{Order, IsOrder}
-use Rattle.domain_core.specs.Outlines.{Outlined, IsOutline, shape_of, scopes_around}
+use Rattle.domain_core.specs.Outlines.{Outlined, IsOutline, shape_of}
 use Rattle.domain_core.specs.Executions.{turns_of}
 use Rattle.domain_core.specs.Machines.{Machine, IsMachine, IsAlong}
 use Rattle.domain_core.specs.Recordings.{Recording, IsRecording, IsSuited}
-use Rattle.worklist_rules.specs.Positions.{ranks_and_turns, position_of}
+use Rattle.worklist_rules.specs.Positions.{position_of}
 use Rattle.worklist_rules.specs.PositionLaws.{first_low}
 use Rattle.worklist_rules.specs.Pools.{Spot, Pooled}
 use Rattle.worklist_rules.specs.Events.{opened, Happens, HappenAll, IsOneOn}
@@ -36,7 +36,7 @@ module _ {S T C R B : Type 0} (machine : S → Machine T C) (states : Order T) (
         fits = machine_laws.first_fits;
         is_of = laws.first_is_of o suited;
         long = (let low = laws.first_length o suited in omega arith);
-        ends = (ranks_and_turns (shape_of o) (λ t. slice_index (turns_of (shape_of o) (0 ∷ [])) t) (scopes_around (shape_of o) 0), refl);
+        position_is = (λ t. slice_index (turns_of (shape_of o) (0 ∷ [])) t, refl);
         low = λ t. let low = first_low (shape_of o) ok t in omega arith;
       } in
       record {

@@ -1,11 +1,11 @@
 -- What every pool keeps.
 --   IsPlaced o m z steps spot   the place meets the conditions of the calls, after so many steps
 --   IsKept machine z w          every place does, and each run is waited for or is over
-use Rattle.std.specs.Prelude.{◌≡◌, ℕ, ◌+◌, ◌<◌, ◌≤◌, List, [], ◌∷◌, ◌++◌, length, slice_index, Contains}
+use Rattle.std.specs.Prelude.{◌≡◌, ℕ, ◌+◌, ◌<◌, ◌≤◌, length, Contains}
 use Rattle.domain_core.specs.Outlines.{Outlined, shape_of, scopes_around}
 use Rattle.domain_core.specs.Machines.{Machine, IsAlong}
 use Rattle.domain_core.specs.Recordings.{Recording, IsSuited}
-use Rattle.worklist_rules.specs.Positions.{turn_in}
+use Rattle.worklist_rules.specs.Positions.{IsPosition, turn_in}
 use Rattle.worklist_rules.specs.Pools.{Spot, Pooled}
 use Rattle.worklist_rules.specs.Runs.{EachIsHandled}
 
@@ -15,8 +15,8 @@ pub record IsPlaced {T C R B : Type 0} (o : Outlined) (m : Machine T C) (z : Rec
   pub fits : m.fits spot.node spot.state
   pub is_of : z.is_of o spot.recorder
   pub long : z.length_of spot.recorder ≤ steps + 1
-  -- the position ends with the rank of the node, and no number in it is too great
-  pub ends : (before : List ℕ) × (spot.position ≡ before ++ slice_index (shape_of o).ranks spot.node ∷ [])
+  -- the position is one of the node, and no number in it is too great
+  pub position_is : IsPosition (shape_of o) spot.node spot.position
   pub low : (t : ℕ) → turn_in (scopes_around (shape_of o) spot.node) spot.position t ≤ steps + 1
 
 pub record IsKept {S T C R B : Type 0} (machine : S → Machine T C) (z : Recording R B) (w : Pooled S T R B) : Type 0 where

@@ -5,9 +5,10 @@ use Rattle.std.proofs.Common.{◌≡◌, ℕ, ◌<◌, List, [], ◌∷◌, leng
 use Rattle.std.proofs.lemmas.List.{length-map}
 use Rattle.lists.specs.MemberLaws.{contained}
 use Rattle.domain_core.specs.Orders.{Order, IsOrder}
-use Rattle.domain_core.specs.Outlines.{Outlined, IsOutline, shape_of}
+use Rattle.domain_core.specs.Outlines.{Outlined, IsOutline, scopes_around, shape_of}
 use Rattle.domain_core.specs.Machines.{Machine, IsMachine}
 use Rattle.domain_core.specs.Recordings.{Recording, IsRecording}
+use Rattle.worklist_rules.specs.Positions.{ranks_and_turns}
 use Rattle.worklist_rules.specs.PositionLaws.{same_node}
 use Rattle.worklist_rules.specs.Pools.{Spot, Pooled}
 use Rattle.worklist_rules.specs.Events.{met, merged_at}
@@ -20,7 +21,9 @@ pub one_node : {T C R B : Type 0} (o : Outlined) (m : Machine T C) (z : Recordin
 one_node o m z steps a b ok left right same =
     let long : length (shape_of o).own ≡ length o.nodes = length-map o.nodes (λ row. row.scope) in
     let low_a = left.in_range in let low_b = right.in_range in
-    same_node (shape_of o) ok a.node b.node left.ends.0 right.ends.0 (omega arith) (omega arith) (sym left.ends.1 ∙ same ∙ right.ends.1)
+    let before_a : List ℕ = ranks_and_turns (shape_of o) left.position_is.0 (scopes_around (shape_of o) a.node) in
+    let before_b : List ℕ = ranks_and_turns (shape_of o) right.position_is.0 (scopes_around (shape_of o) b.node) in
+    same_node (shape_of o) ok a.node b.node before_a before_b (omega arith) (omega arith) (sym left.position_is.1 ∙ same ∙ right.position_is.1)
 
 module _ {S T C R B : Type 0} (machine : S → Machine T C) (states : Order T) (recorders : Order R) (z : Recording R B) (w : Pooled S T R B) (i j : ℕ) (a b : Spot T R)
     (machine_laws : IsMachine T C states (machine w.stepper)) (laws : IsRecording R B recorders z) (kept : IsKept machine z w)
@@ -102,7 +105,7 @@ module _ {S T C R B : Type 0} (machine : S → Machine T C) (states : Order T) (
           fits = machine_laws.joined_fits a.node a.state b.state left.fits right_fits;
           is_of = laws.joined_is_of w.outline a.recorder b.recorder kept.suited left.is_of right.is_of;
           long = omega arith;
-          ends = left.ends;
+          position_is = left.position_is;
           low = left.low;
         }
 

@@ -1,6 +1,9 @@
 -- Positions follow the iteration numbers of a trace.
 --   first_position   at node 0
 --   next_position    after an edge
+--   same_turns       positions of equal numbers are equal
+--   turn_found       a position has the numbers that it is made of
+--   position_beside  after an edge that stays in the same scopes, by the numbers of the position before
 --   turns_rise       the numbers after an edge are at most one more
 --   same_node        equal positions are those of one node
 use Rattle.std.proofs.Common.{◌≡◌, ℕ, zero, suc, ◌+◌, ◌<◌, ◌≤◌, true, false, ◌==◌, List, [], ◌∷◌, ◌++◌, inl, inr, reverse, length, get_or, slice_index, Contains, refl, ap, sym, ◌∙◌, subst, arith}
@@ -28,11 +31,11 @@ turn_of o n t past low = turns_at o n 0 t t (turns_of o past) (omega arith) (let
 -- ---- positions by their numbers
 
 -- a position has the numbers that it is made of
-same_turns : (o : Shape) (f g : ℕ → ℕ) (scopes : List ℕ) → ((t : ℕ) → Contains scopes t → f t ≡ g t) → ranks_and_turns o f scopes ≡ ranks_and_turns o g scopes
+pub same_turns : (o : Shape) (f g : ℕ → ℕ) (scopes : List ℕ) → ((t : ℕ) → Contains scopes t → f t ≡ g t) → ranks_and_turns o f scopes ≡ ranks_and_turns o g scopes
 same_turns o f g [] same = refl
 same_turns o f g (t ∷ scopes) same = rw (same t (first_member t scopes), same_turns o f g scopes (λ s there. same s (further_member t scopes s there))) refl
 
-turn_found : (o : Shape) (f : ℕ → ℕ) (scopes rest : List ℕ) (t : ℕ) → Contains scopes t → turn_in scopes (ranks_and_turns o f scopes ++ rest) t ≡ f t
+pub turn_found : (o : Shape) (f : ℕ → ℕ) (scopes rest : List ℕ) (t : ℕ) → Contains scopes t → turn_in scopes (ranks_and_turns o f scopes ++ rest) t ≡ f t
 turn_found o f [] rest t there = no_member t there
 turn_found o f (s ∷ scopes) rest t there =
     elim (cases_Bool (t == s)) [
@@ -58,6 +61,13 @@ turn_at_most o f limit (s ∷ scopes) rest t low =
       | inl same ↦ rw same (low s)
       | inr other ↦ rw other (turn_at_most o f limit scopes rest t low)
     ]
+
+-- after an edge that stays in the same scopes each has the number that it had, or one more
+pub position_beside : (o : Shape) (n k : ℕ) (turn : ℕ → ℕ) → scopes_around o n ≡ scopes_around o k → moved_position o n (position_by o turn n) k ≡ position_by o (λ t. entered o k t (turn t)) k
+position_beside o n k turn same =
+    ap (λ (front : List ℕ). front ++ slice_index o.ranks k ∷ [])
+    (same_turns o (λ t. entered o k t (turn_in (scopes_around o n) (position_by o turn n) t)) (λ t. entered o k t (turn t)) (scopes_around o k)
+    (λ t there. ap (λ (m : ℕ). entered o k t m) (turn_found o turn (scopes_around o n) (slice_index o.ranks n ∷ []) t (subst (λ (xs : List ℕ). Contains xs t) (sym same) there))))
 
 entered_low : (o : Shape) (k t turn : ℕ) → entered o k t turn ≤ turn + 1
 entered_low o k t turn = elim (cases_Bool (is_header o t k)) [ inl header ↦ rw header (omega arith) | inr other ↦ rw other (omega arith) ]

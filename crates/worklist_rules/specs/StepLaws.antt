@@ -2,7 +2,7 @@
 --   still_told, now_told   what is told at nodes after a step
 --   faults_of, faults_sum   the book of a step whose node may fault
 --   step_kept    what every pool keeps holds after a step
-use Rattle.std.proofs.Common.{◌≡◌, ◌≢◌, ℕ, zero, suc, ◌+◌, ◌<◌, ◌≤◌, List, [], ◌∷◌, ◌++◌, length, inl, inr, refl, sym, subst, ap, ◌∙◌, Bool, true, ◌||◌, arith, Contains, Some, slice_get, slice_set, slice_index, get_or, length-set}
+use Rattle.std.proofs.Common.{◌≡◌, ◌≢◌, ℕ, zero, suc, ◌+◌, ◌<◌, ◌≤◌, List, [], ◌∷◌, length, inl, inr, refl, sym, subst, ap, ◌∙◌, Bool, true, ◌||◌, arith, Contains, Some, slice_get, slice_set, get_or, length-set}
 use Rattle.std.proofs.lemmas.List.{length-map}
 use Rattle.std.proofs.lemmas.Bool.{cases_Bool}
 use Rattle.lists.specs.MemberLaws.{contained}
@@ -15,7 +15,7 @@ use Rattle.domain_core.specs.Outlines.{Outlined, IsOutline, shape_of, scopes_aro
 use Rattle.domain_core.specs.Traces.{IsTrace}
 use Rattle.domain_core.specs.Machines.{Machine, IsMachine}
 use Rattle.domain_core.specs.Recordings.{Recording, IsRecording, IsOf}
-use Rattle.worklist_rules.specs.Positions.{ranks_and_turns, turn_in, entered, moved_position}
+use Rattle.worklist_rules.specs.Positions.{position_by, turn_in, entered, moved_position}
 use Rattle.worklist_rules.specs.PositionLaws.{next_position, turns_rise}
 use Rattle.worklist_rules.specs.Pools.{Spot, Pooled, alarm_at, with_alarm, may_fault}
 use Rattle.worklist_rules.specs.FaultTestLaws.{or_right, some_fault}
@@ -189,7 +189,7 @@ module _ {S T C R B : Type 0} (machine : S → Machine T C) (states : Order T) (
         fits = was.fits;
         is_of = was.is_of;
         long = omega arith;
-        ends = was.ends;
+        position_is = was.position_is;
         low = λ t. let low = was.low t in omega arith;
       }
 
@@ -206,9 +206,9 @@ module _ {S T C R B : Type 0} (machine : S → Machine T C) (states : Order T) (
             (machine_laws.next_fits spot.node from.source.0 spot.state from.source.1 placed.fits from.among (λ e. from.no_end (e ∙ kept.along.exit_is ∙ own_long))));
         is_of = from.is_of;
         long = omega arith;
-        ends = (
-          ranks_and_turns (shape_of o) (λ t. entered (shape_of o) from.source.0 t (turn_in (scopes_around (shape_of o) spot.node) spot.position t)) (scopes_around (shape_of o) from.source.0),
-          from.position_is ∙ ap (λ (k : ℕ). ranks_and_turns (shape_of o) (λ t. entered (shape_of o) from.source.0 t (turn_in (scopes_around (shape_of o) spot.node) spot.position t)) (scopes_around (shape_of o) from.source.0) ++ slice_index (shape_of o).ranks k ∷ []) (sym node),
+        position_is = (
+          λ t. entered (shape_of o) from.source.0 t (turn_in (scopes_around (shape_of o) spot.node) spot.position t),
+          from.position_is ∙ ap (λ (k : ℕ). position_by (shape_of o) (λ t. entered (shape_of o) from.source.0 t (turn_in (scopes_around (shape_of o) spot.node) spot.position t)) k) (sym node),
         );
         low = λ t.
             subst (λ (position : List ℕ). turn_in (scopes_around (shape_of o) other.node) position t ≤ (w.steps + 1) + 1) (sym from.position_is)

@@ -1,8 +1,7 @@
 -- What the successors of a place make: the book grows, and each one that is no end of runs makes a place.
 use Rattle.std.proofs.Common.{◌≡◌, ◌≢◌, ℕ, ◌<◌, ◌≤◌, List, ◌∷◌, length, Contains}
-use Rattle.domain_core.specs.Orders.{Order}
 use Rattle.domain_core.specs.Outlines.{Outlined, shape_of}
-use Rattle.domain_core.specs.Recordings.{Recording, IsRecording, IsSuited}
+use Rattle.domain_core.specs.Recordings.{Recording}
 use Rattle.worklist_rules.specs.Positions.{moved_position}
 use Rattle.worklist_rules.specs.Pools.{Spot}
 

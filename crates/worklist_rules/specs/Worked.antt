@@ -1,6 +1,6 @@
 -- A loop, to be worked out.
 --   one_loop   an entry, the loop with header 2 and body 3, and node 1 behind it, whose rank is that after the header's
-use Rattle.std.specs.Prelude.{List, [], ◌∷◌, None, Some}
+use Rattle.std.specs.Prelude.{[], ◌∷◌, None, Some}
 use Rattle.domain_core.specs.declared.scope_kind.ScopeKind.TheVariants.{Call, Loop}
 use Rattle.domain_core.specs.Outlines.{Shape}
 

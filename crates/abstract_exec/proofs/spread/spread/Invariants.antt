@@ -8,8 +8,8 @@ abbrev pub invariant-loop-successor : goal.invariant-loop-successor
 invariant-loop-successor g l = record {
   book : g.R.Recorder.recording.book_is_of l.outline l.book;
   along : AreAlong l.outline l.from (reverse l.next.items ++ l.last ∷ []);
-  places : l.made.items ++ spread_spots g.R.Recorder.recording l.outline l.position l.recorder l.from l.book (reverse l.next.items ++ l.last ∷ [])
-      ≡ spread_spots g.R.Recorder.recording l.outline l.position l.recorder l.from l.fn.book l.fn.next.items;
+  places : l.made.items ++ spread_spots g.R.Recorder.recording l.outline l.fn.position.items l.recorder l.from l.book (reverse l.next.items ++ l.last ∷ [])
+      ≡ spread_spots g.R.Recorder.recording l.outline l.fn.position.items l.recorder l.from l.fn.book l.fn.next.items;
   collected : spread_book g.R.Recorder.recording l.outline l.recorder l.from l.book (reverse l.next.items ++ l.last ∷ [])
       ≡ spread_book g.R.Recorder.recording l.outline l.recorder l.from l.fn.book l.fn.next.items;
 }

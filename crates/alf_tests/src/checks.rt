@@ -1,5 +1,6 @@
 //! Small programs, checked.
 
+use crate::notation::{Row, put};
 use alf_check::{Act, BlockEnd, CheckFault, Checked, Term, check};
 use alf_text::read;
 use flow_base::Name;
@@ -20,62 +21,27 @@ dec_unsigned 32 2 } } { return } } } } } }";
 
 // `@A` is the label A, `^A` a jump to it, `=x` a store in the frame x, `!f` a call of f; after `/f`
 // stand the items of a further function f.
-fn item(text: &mut String, word: &str) -> Result<(), AllocError> {
-    if let Some(label) = word.strip_prefix("@") {
-        return around(
-            text,
-            "{ label 32 { lref 32 \"",
-            label,
-            "\" } { dec_unsigned 32 0 } } ",
-        );
-    }
-    if let Some(label) = word.strip_prefix("^") {
-        return around(
-            text,
-            "{ jump { label 32 { lref 32 \"",
-            label,
-            "\" } { dec_unsigned 32 0 } } leaving 0 } ",
-        );
-    }
-    if let Some(frame) = word.strip_prefix("=") {
-        return around(
-            text,
-            "{ store { addr 32 { fref 32 \"",
-            frame,
-            "\" } { dec_unsigned 32 0 } } with { dec_unsigned 32 1 } } ",
-        );
-    }
-    if let Some(func) = word.strip_prefix("!") {
-        return around(
-            text,
-            "{ call { label 32 { lref 32 \"",
-            func,
-            "\" } { dec_unsigned 32 0 } } result } ",
-        );
-    }
-    if let Some(func) = word.strip_prefix("/") {
-        return around(
-            text,
-            "} } } { func { label 32 { lref 32 \"",
-            func,
-            "\" } { dec_unsigned 32 0 } } { arg_decls } { scope { decls } { inits } { stmts ",
-        );
-    }
-    text.push_str(word)?;
-    text.push_str(" ")
-}
-
-fn around(text: &mut String, front: &str, word: &str, back: &str) -> Result<(), AllocError> {
-    text.push_str(front)?;
-    text.push_str(word)?;
-    text.push_str(back)
-}
+static WORDS: [Row; 5] = [
+    ("@", "{ label 32 { lref 32 \"", "\" } { dec_unsigned 32 0 } } "),
+    ("^", "{ jump { label 32 { lref 32 \"", "\" } { dec_unsigned 32 0 } } leaving 0 } "),
+    (
+        "=",
+        "{ store { addr 32 { fref 32 \"",
+        "\" } { dec_unsigned 32 0 } } with { dec_unsigned 32 1 } } ",
+    ),
+    ("!", "{ call { label 32 { lref 32 \"", "\" } { dec_unsigned 32 0 } } result } "),
+    (
+        "/",
+        "} } } { func { label 32 { lref 32 \"",
+        "\" } { dec_unsigned 32 0 } } { arg_decls } { scope { decls } { inits } { stmts ",
+    ),
+];
 
 // The program whose `main` has these items.
 fn text_of(alloc: Global, items: &str) -> Result<String, AllocError> {
     let mut text = String::from_str(alloc, HEAD)?;
     for word in items.split(' ') {
-        item(&mut text, word)?;
+        put(&mut text, &WORDS, word)?;
     }
     text.push_str(TAIL)?;
     Ok(text)

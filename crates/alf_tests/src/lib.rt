@@ -9,7 +9,7 @@
 //! - `memory`: scripts of stores and loads, and what each gives.
 //! - `costs`, `inputs`: files of costs and of inputs. `tables`: such files in a short notation, and what is told of them.
 //! - `tasks`: tasks files. `response_times`: response times of task sets. `simulation`: task sets unit by unit.
-//! - `runs`: runs of small programs.
+//! - `runs`: runs of small programs. `notation`: what words of a short notation stand for, and the words of faults.
 #![tactic(auto)]
 
 // Texts.
@@ -37,6 +37,8 @@ mod outlines;
 // Memories and runs.
 #[cfg(test)]
 mod memory;
+#[cfg(test)]
+mod notation;
 #[cfg(test)]
 mod runs;
 

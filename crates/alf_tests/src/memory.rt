@@ -4,8 +4,9 @@
 
 ghost use Rattle.std.specs.Prelude.{◌≡◌, ◌<◌, ◌≤◌, ◌^◌, length};
 
+use crate::notation::fault_word;
 use alf_check::Checked;
-use alf_ops::{RunFault, Value};
+use alf_ops::Value;
 use alf_values::{Frames, ValueFault};
 use exec_toys::checked_text;
 use std::alloc::{AllocError, Global};
@@ -59,17 +60,6 @@ fn value(words: &mut SplitWhitespace) -> Value {
     }
 }
 
-fn fault_name(fault: RunFault) -> &'static str {
-    match fault {
-        RunFault::Uninit => "uninit",
-        RunFault::Mixed => "mixed",
-        RunFault::Bounds => "bounds",
-        RunFault::Dead => "dead",
-        RunFault::Kind => "kind",
-        RunFault::Divide | RunFault::Pointers => "no fault of memory",
-    }
-}
-
 // Stores a value whose size is that of a cell.
 fn stored(frames: &mut Frames, at: Value, value: Value) -> &'static str
     ensures { length frames.new.running ≡ length frames.old.running }
@@ -88,7 +78,7 @@ fn stored(frames: &mut Frames, at: Value, value: Value) -> &'static str
     };
     match frames.store(at, value) {
         Ok(()) => "ok",
-        Err(ValueFault::Run(fault)) => fault_name(fault),
+        Err(ValueFault::Run(fault)) => fault_word(fault),
         Err(ValueFault::Memory) => "memory",
     }
 }
@@ -101,7 +91,7 @@ fn loaded(alloc: Global, frames: &Frames, at: Value, size: u32) -> Result<String
     match frames.load(at, size) {
         Ok(Value::Int { size, bits }) => format!(in alloc; "word {size} {bits}"),
         Ok(Value::Ptr { frame, offset }) => format!(in alloc; "ptr {frame} {offset}"),
-        Err(fault) => String::from_str(alloc, fault_name(fault)),
+        Err(fault) => String::from_str(alloc, fault_word(fault)),
     }
 }
 

@@ -7,9 +7,10 @@
 ghost use Rattle.alf_check.specs.CheckedPrograms.{seen};
 ghost use Rattle.flow_graph.specs.Numbering.{IsGraph};
 
+use crate::notation::{Row, fault_word, put};
 use alf_check::{Checked, check};
 use alf_interp::{Machine, Moved, Outputs};
-use alf_ops::{RunFault, Value};
+use alf_ops::Value;
 use alf_text::read;
 use flow_graph::Graph;
 use std::alloc::{AllocError, Global};
@@ -25,86 +26,39 @@ const OWN: &str = "\
 { scope { decls { alloc 32 \"own\" 32 } { alloc 32 \"kept\" 32 } } { inits { init { ref \"kept\" { dec_unsigned 32 \
 0 } } { dec_unsigned 32 5 } } } { stmts ";
 
-const LABEL: &str = "{ label 32 { lref 32 \"";
-
 // `@A` is a label or a function, `&x` an address, `*x` a load of 32 bits, `#5` a number of 32 bits and
 // `'0` a bit. After `/f` stand the items of a further function, and after `%f` those of one with the
 // argument `a`.
-fn put(text: &mut String, word: &str) -> Result<(), AllocError> {
-    if let Some(name) = word.strip_prefix("@") {
-        return around(text, LABEL, name, "\" } { dec_unsigned 32 0 } } ");
-    }
-    if let Some(name) = word.strip_prefix("&") {
-        return around(
-            text,
-            "{ addr 32 { fref 32 \"",
-            name,
-            "\" } { dec_unsigned 32 0 } } ",
-        );
-    }
-    if let Some(name) = word.strip_prefix("*") {
-        return around(
-            text,
-            "{ load 32 { addr 32 { fref 32 \"",
-            name,
-            "\" } { dec_unsigned 32 0 } } } ",
-        );
-    }
-    if let Some(number) = word.strip_prefix("#") {
-        return around(text, "{ dec_unsigned 32 ", number, " } ");
-    }
-    if let Some(number) = word.strip_prefix("'") {
-        return around(text, "{ dec_unsigned 1 ", number, " } ");
-    }
-    if let Some(name) = word.strip_prefix("/") {
-        around(
-            text,
-            "} } } { func { label 32 { lref 32 \"",
-            name,
-            "\" } { dec_unsigned 32 0 } } { arg_decls } ",
-        )?;
-        return text.push_str(OWN);
-    }
-    if let Some(name) = word.strip_prefix("%") {
-        around(
-            text,
-            "} } } { func { label 32 { lref 32 \"",
-            name,
-            "\" } { dec_unsigned 32 0 } } { arg_decls { alloc 32 \"a\" 32 } } ",
-        )?;
-        return text.push_str(OWN);
-    }
-    text.push_str(word)?;
-    text.push_str(" ")
-}
-
-fn around(text: &mut String, front: &str, word: &str, back: &str) -> Result<(), AllocError> {
-    text.push_str(front)?;
-    text.push_str(word)?;
-    text.push_str(back)
-}
+static WORDS: [Row; 7] = [
+    ("@", "{ label 32 { lref 32 \"", "\" } { dec_unsigned 32 0 } } "),
+    ("&", "{ addr 32 { fref 32 \"", "\" } { dec_unsigned 32 0 } } "),
+    ("*", "{ load 32 { addr 32 { fref 32 \"", "\" } { dec_unsigned 32 0 } } } "),
+    ("#", "{ dec_unsigned 32 ", " } "),
+    ("'", "{ dec_unsigned 1 ", " } "),
+    (
+        "/",
+        "} } } { func { label 32 { lref 32 \"",
+        "\" } { dec_unsigned 32 0 } } { arg_decls } ",
+    ),
+    (
+        "%",
+        "} } } { func { label 32 { lref 32 \"",
+        "\" } { dec_unsigned 32 0 } } { arg_decls { alloc 32 \"a\" 32 } } ",
+    ),
+];
 
 // The text of a program.
 fn text_of(alloc: Global, items: &str) -> Result<String, AllocError> {
     let mut text = String::from_str(alloc, HEAD)?;
     text.push_str(OWN)?;
     for word in items.split(' ') {
-        put(&mut text, word)?;
+        put(&mut text, &WORDS, word)?;
+        if word.starts_with('/') || word.starts_with('%') {
+            text.push_str(OWN)?;
+        }
     }
     text.push_str("} } } } }")?;
     Ok(text)
-}
-
-fn fault_name(fault: RunFault) -> &'static str {
-    match fault {
-        RunFault::Divide => "divide",
-        RunFault::Uninit => "uninit",
-        RunFault::Mixed => "mixed",
-        RunFault::Bounds => "bounds",
-        RunFault::Dead => "dead",
-        RunFault::Kind => "kind",
-        RunFault::Pointers => "pointers",
-    }
 }
 
 // A word with its size before it, a pointer's frame and offset, or `-`.
@@ -143,7 +97,7 @@ fn run(alloc: Global, checked: &Checked, graph: &Graph) -> Result<String, AllocE
             }
             Moved::Faulted(fault) => {
                 told.push_str(" ")?;
-                told.push_str(fault_name(fault))?;
+                told.push_str(fault_word(fault))?;
                 return Ok(told);
             }
         }

@@ -66,8 +66,10 @@ fn operator(row: &str) -> Option<Op> {
 
 /// What is told of an operator with the sizes that are written: the size of its result, and of its operands.
 pub fn shape_told(alloc: Global, asked: &str) -> Result<String, AllocError> {
+    let Some(op) = operator(asked) else {
+        return String::from_str(alloc, "no operator");
+    };
     let sizes = numbers(alloc, asked)?;
-    let op = operator(asked).unwrap_or(Op::Neg);
     let mut text = match shape(op, &sizes) {
         Some(size) => format!(in alloc; "{size} |")?,
         None => String::from_str(alloc, "none")?,
@@ -128,7 +130,10 @@ fn each_operator_has_its_sizes(rt: HostRuntime) -> Result<(), Fail> {
 /// What is told of an operator with its sizes, and of words: the word that it gives.
 pub fn word_told(alloc: Global, asked: &str) -> Result<String, AllocError> {
     let (row, words) = (part(asked, " | ", 0), part(asked, " | ", 1));
-    let (op, sizes) = (operator(row).unwrap_or(Op::Neg), numbers(alloc, row)?);
+    let Some(op) = operator(row) else {
+        return String::from_str(alloc, "no operator");
+    };
+    let sizes = numbers(alloc, row)?;
     let mut args = Vec::new(alloc);
     for word in words.split(' ') {
         args.push(word.parse::<u64>().unwrap_or(0))?;
@@ -182,7 +187,10 @@ pub fn value_told(alloc: Global, value: Result<Value, RunFault>) -> Result<Strin
 /// What is told of an operator with its sizes, and of values: the value that it gives.
 pub fn outcome_told(alloc: Global, asked: &str) -> Result<String, AllocError> {
     let (row, words) = (part(asked, " | ", 0), part(asked, " | ", 1));
-    let (op, sizes) = (operator(row).unwrap_or(Op::Neg), numbers(alloc, row)?);
+    let Some(op) = operator(row) else {
+        return String::from_str(alloc, "no operator");
+    };
+    let sizes = numbers(alloc, row)?;
     let mut values = Vec::new(alloc);
     for word in words.split(' ') {
         values.push(value_of(word))?;

@@ -2,6 +2,7 @@
 
 ghost use Rattle.std.specs.Prelude.{◌≡◌, ◌<◌, OnOk, length};
 
+use crate::told::add_spread;
 use crate::words::part;
 use domain_core::{Outline, Recorder};
 use exec_toys::{new_book, record, record_joined};
@@ -64,20 +65,6 @@ fn enter_all<R: Recorder>(
 // The recorders of totals, loops, counts and pairs side by side.
 type All = Both<Both<Totals, Loops>, Both<Counts, Pairs>>;
 
-fn add_spread(
-    alloc: Global,
-    text: &mut String,
-    spread: Option<(u32, u32)>,
-) -> Result<(), AllocError> {
-    match spread {
-        None => text.push_str("- "),
-        Some((least, most)) => {
-            let told = format!(in alloc; "{least}.{most} ")?;
-            text.push_str(told.as_str())
-        }
-    }
-}
-
 // The pairs: in each the lesser node first, where they are told both ways.
 fn add_pairs(
     alloc: Global,
@@ -107,15 +94,15 @@ pub fn told(alloc: Global, outline: &Outline, runs: &str) -> Result<String, Fail
     }
     let mut text = String::new(alloc);
     for n in 0..outline.node_count() {
-        add_spread(alloc, &mut text, book.first.first.total_of(n))?;
+        add_spread(alloc, &mut text, ".", book.first.first.total_of(n))?;
     }
     text.push_str("=> ")?;
     for s in 0..outline.scope_count() {
-        add_spread(alloc, &mut text, book.first.second.loop_of(s))?;
+        add_spread(alloc, &mut text, ".", book.first.second.loop_of(s))?;
     }
     text.push_str("=> ")?;
     for n in 0..outline.node_count() {
-        add_spread(alloc, &mut text, book.second.first.count_of(n))?;
+        add_spread(alloc, &mut text, ".", book.second.first.count_of(n))?;
     }
     text.push_str("=> ")?;
     add_pairs(alloc, &mut text, &book.second.second, outline.node_count())?;

@@ -42,15 +42,17 @@ pub fn add_explored(
     Ok(())
 }
 
-fn add_spread(
+/// The least and the most number, with a mark between.
+pub fn add_spread(
     alloc: Global,
     text: &mut String,
+    mark: &str,
     spread: Option<(u32, u32)>,
 ) -> Result<(), AllocError> {
     match spread {
         None => text.push_str("- "),
         Some((least, most)) => {
-            let told = format!(in alloc; "{least}-{most} ")?;
+            let told = format!(in alloc; "{least}{mark}{most} ")?;
             text.push_str(told.as_str())
         }
     }
@@ -68,11 +70,11 @@ pub fn add_book(
 {
     text.push_str("=> ")?;
     for n in 0..outline.node_count() {
-        add_spread(alloc, text, book.first.total_of(n))?;
+        add_spread(alloc, text, "-", book.first.total_of(n))?;
     }
     text.push_str("=> ")?;
     for s in 0..outline.scope_count() {
-        add_spread(alloc, text, book.second.loop_of(s))?;
+        add_spread(alloc, text, "-", book.second.loop_of(s))?;
     }
     Ok(())
 }

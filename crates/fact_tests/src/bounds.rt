@@ -19,7 +19,7 @@ bound | ?C |B @B . @C . | 0 1 1 1 | T 0 1 1, T 1 1 1, T 2 0 1, T 3 0 1, P 0 2 3
 # a store at one of four places
 1000 => 2 least
 
-bound | ?C |B @B ; ^D @C ; @D . | 0 1 1 1 1 | T 0 1 1, T 1 1 1, T 2 0 1, T 3 0 1, T 4 1 1, P 0 2 3, A 4
+bound | ?C |B @B ; ^D @C ; @D . | 0 1 1 1 1 | T 0 1 1, T 1 1 1, T 2 0 1, T 3 0 1, T 4 1 1, P 0 2 3, A 4 bounds
 # a pointer to one of two arrays
 1000 => 3 least";
 

@@ -7,16 +7,20 @@ use flow_facts::{Fact, RunKind, holds, is_about, stands_before};
 use std::alloc::{AllocError, Global};
 use std::test::Fail;
 
-// The kind of an alarm.
-fn kind(word: &str) -> RunKind {
-    match word {
-        "divide" => RunKind::Divide,
-        "uninit" => RunKind::Uninit,
-        "mixed" => RunKind::Mixed,
-        "dead" => RunKind::Dead,
-        "kind" => RunKind::Kind,
-        "pointers" => RunKind::Pointers,
-        _ => RunKind::Bounds,
+// What stands for a word that is misspelt: it is about no node, so no row wants what is told of it.
+const MISSPELT: Fact = Fact::Dead(u32::MAX);
+
+// An alarm of the kind with this word.
+fn alarm(node: u32, kind: &str) -> Fact {
+    match kind {
+        "divide" => Fact::Alarm(node, RunKind::Divide),
+        "uninit" => Fact::Alarm(node, RunKind::Uninit),
+        "mixed" => Fact::Alarm(node, RunKind::Mixed),
+        "bounds" => Fact::Alarm(node, RunKind::Bounds),
+        "dead" => Fact::Alarm(node, RunKind::Dead),
+        "kind" => Fact::Alarm(node, RunKind::Kind),
+        "pointers" => Fact::Alarm(node, RunKind::Pointers),
+        _ => MISSPELT,
     }
 }
 
@@ -28,9 +32,10 @@ fn fact(words: &str) -> Fact {
         "L" => Fact::Loop(first, second, third),
         "P" => Fact::Pair(first, second, third),
         "D" => Fact::Dead(first),
-        "A" => Fact::Alarm(first, kind(part(words, " ", 2))),
+        "A" => alarm(first, part(words, " ", 2)),
         "C" => Fact::Count(first, second, third, number(part(words, " ", 4))),
-        _ => Fact::Total(first, second, third),
+        "T" => Fact::Total(first, second, third),
+        _ => MISSPELT,
     }
 }
 

@@ -26,7 +26,7 @@ struct Task<'a> {
 }
 
 /// What so many calls of a kind count for, on the memory of the program in a file; with a fifth word the nanoseconds
-/// that they took, without those of dropping what they gave.
+/// that they took, but for loads without those of dropping what they gave.
 pub fn outcome(rt: &HostRuntime, words: &[String]) -> Option<String> {
     let [file, kind, rounds, cells, further @ ..] = words else {
         return None;
@@ -299,6 +299,7 @@ fn made(rt: &HostRuntime, checked: &Checked, task: &Task<'_>) -> Result<(u64, u6
             None => Ok((0, 0)),
             Some(value) => shared_stores(rt, &memory, &ats, value, task.rounds),
         },
-        _ => stores(rt, &mut memory, &ats, &values, task.rounds),
+        "own" | "weak" | "sets" => stores(rt, &mut memory, &ats, &values, task.rounds),
+        _ => Ok((0, 0)),
     }
 }

@@ -2,7 +2,7 @@
 
 use crate::inputs::{bytes_of, number};
 use c_check::{CFault, check};
-use c_text::read;
+use c_text::{CTextFault, read};
 use std::alloc::Global;
 
 /// What comes of reading the unit in a file so many times, and where the second word is `check`, of its checks.
@@ -11,7 +11,11 @@ pub fn outcome(rt: &HostRuntime, words: &[String]) -> Option<String> {
         return None;
     };
     let bytes = bytes_of(rt, file)?;
-    let checks = kind.as_str() == "check";
+    let checks = match kind.as_str() {
+        "read" => false,
+        "check" => true,
+        _ => return None,
+    };
     let mut told = "nothing";
     for _ in 0..number(count)? {
         told = told_of(rt.alloc(), &bytes, checks);
@@ -21,15 +25,14 @@ pub fn outcome(rt: &HostRuntime, words: &[String]) -> Option<String> {
 
 // What comes of it once.
 fn told_of(alloc: Global, bytes: &[u8], checks: bool) -> &'static str {
-    let Ok(unit) = read(alloc, bytes) else {
-        return "no unit of the profile";
-    };
-    if !checks {
-        return "a unit";
-    }
-    match check(alloc, unit, "main") {
-        Ok(_) => "a program",
-        Err(fault) => refused(&fault),
+    match read(alloc, bytes) {
+        Ok(_) if !checks => "a unit",
+        Ok(unit) => match check(alloc, unit, "main") {
+            Ok(_) => "a program",
+            Err(fault) => refused(&fault),
+        },
+        Err(CTextFault::Memory) => "memory ran out",
+        Err(_) => "no unit of the profile",
     }
 }
 

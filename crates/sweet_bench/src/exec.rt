@@ -21,7 +21,7 @@ pub fn outcome(rt: &HostRuntime, words: &[String]) -> Option<String> {
         least: number(least)?,
         most: number(most)?,
     };
-    let (policy, turns) = (policy_of(policy), number(turns)?);
+    let (policy, turns) = (policy_of(policy)?, number(turns)?);
     let outline = outline_of(rt, file)?;
     let chart = Chart::new(&outline, forks(rt.alloc()).ok()?, first)?;
     let told = match records.as_str() {
@@ -32,16 +32,18 @@ pub fn outcome(rt: &HostRuntime, words: &[String]) -> Option<String> {
             policy,
             turns,
         ),
-        _ => explored::<Chart, Silent>(rt.alloc(), &chart, &outline, policy, turns),
+        "nothing" => explored::<Chart, Silent>(rt.alloc(), &chart, &outline, policy, turns),
+        _ => return None,
     };
     told.ok()
 }
 
-fn policy_of(word: &str) -> Policy {
+fn policy_of(word: &str) -> Option<Policy> {
     match word {
-        "exits" => Policy::Exits,
-        "joins" => Policy::Joins,
-        _ => Policy::None,
+        "none" => Some(Policy::None),
+        "exits" => Some(Policy::Exits),
+        "joins" => Some(Policy::Joins),
+        _ => None,
     }
 }
 

@@ -14,7 +14,11 @@ pub fn outcome(rt: &HostRuntime, words: &[String]) -> Option<String> {
         return None;
     };
     let checked = program_of(rt, file)?;
-    let scopes = kind.as_str() == "scopes";
+    let scopes = match kind.as_str() {
+        "graph" => false,
+        "scopes" => true,
+        _ => return None,
+    };
     let mut told = "nothing";
     for _ in 0..number(count)? {
         told = expanded(rt.alloc(), &checked, scopes);

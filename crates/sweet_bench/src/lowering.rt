@@ -31,10 +31,11 @@ fn told_of(alloc: Global, program: &CProgram, kind: &str) -> &'static str {
             Err(_) => "memory ran out",
         },
         "text" => text_told(alloc, program),
-        _ => match lower(alloc, program) {
+        "checked" => match lower(alloc, program) {
             Ok(_) => "a checked program",
             Err(_) => "memory ran out",
         },
+        _ => "no such kind",
     }
 }
 

@@ -23,7 +23,8 @@ pub fn outcome(rt: &HostRuntime, words: &[String]) -> Option<String> {
     let count = number(count)?;
     let sum = match kind.as_str() {
         "cells" => cells(rt.alloc(), &checked, count)?,
-        _ => rounds(rt.alloc(), &checked, count)?,
+        "rounds" => rounds(rt.alloc(), &checked, count)?,
+        _ => return None,
     };
     format!(in rt.alloc(); "{sum}").ok()
 }

@@ -39,6 +39,7 @@ fn made_by(
         "pairs" => made::<Pairs>(alloc, outline, call, count),
         "counts" => made::<Counts>(alloc, outline, call, count),
         "loops" => made::<Loops>(alloc, outline, call, count),
-        _ => made::<Totals>(alloc, outline, call, count),
+        "totals" => made::<Totals>(alloc, outline, call, count),
+        _ => Ok(false),
     }
 }

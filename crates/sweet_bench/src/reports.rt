@@ -33,7 +33,8 @@ fn told(alloc: Global, kind: &str, bytes: Vec<u8>) -> Result<String, AllocError>
             Ok(report) => again_line(alloc, &report, &bytes),
             Err(fault) => fault_line(alloc, fault),
         },
-        _ => format!(in alloc; "{} bytes", bytes.len()),
+        "load" => format!(in alloc; "{} bytes", bytes.len()),
+        _ => String::from_str(alloc, "no such kind"),
     }
 }
 

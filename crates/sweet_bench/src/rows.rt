@@ -20,7 +20,8 @@ pub fn outcome(rt: &HostRuntime, words: &[String]) -> Option<String> {
     let count = number(count)?;
     let told = match kind.as_str() {
         "verify" => tested(rt.alloc(), &outline, count),
-        _ => made(rt.alloc(), &outline, count),
+        "rows" => made(rt.alloc(), &outline, count),
+        _ => return None,
     };
     told.ok()
 }

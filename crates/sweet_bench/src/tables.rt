@@ -14,7 +14,8 @@ pub fn outcome(rt: &HostRuntime, words: &[String]) -> Option<String> {
     let bytes = bytes_of(rt, file)?;
     let told = match kind.as_str() {
         "inputs" => inputs_line(rt.alloc(), &checked, &bytes),
-        _ => costs_line(rt.alloc(), &checked, &bytes),
+        "costs" => costs_line(rt.alloc(), &checked, &bytes),
+        _ => return None,
     };
     told.ok()
 }

@@ -59,6 +59,16 @@ migrate no | 9 | report | no
 migrate r | 0 | report | r
 tasks u.toml | 9 | tasks | u.toml
 tasks i.toml | 0 | tasks | i.toml
+worst a.alf | 0 | program | a.alf
+worst a.alf --inputs no.toml --costs no.toml | 9 | inputs | no.toml
+worst a.alf --inputs i.toml --costs c.toml | 1 | inputs | i.toml
+worst a.alf --inputs i.toml --costs c.toml | 2 | costs | c.toml
+cache a.alf --sets 1 --ways 1 --line 4 --penalty 1 | 0 | program | a.alf
+cache a.alf --sets 1 --ways 1 --line 4 --penalty 1 --inputs no.toml | 9 | inputs | no.toml
+cache a.alf --sets 1 --ways 1 --line 4 --penalty 1 --inputs i.toml --costs c.toml | 1 | inputs | i.toml
+cache a.alf --sets 1 --ways 1 --line 4 --penalty 1 --inputs i.toml --costs c.toml | 2 | costs | c.toml
+lower b.c | 9 | program | b.c
+lower b.c | 0 | program | b.c
 
 
 $0
@@ -117,6 +127,14 @@ replay a.alf r | 2 | 0
 replay a.alf r --root f --at i.toml | 1 | 2
 migrate r | 1 | 0
 generate 1 | 0 | 0
+worst a.alf --inputs i.toml --root f | 1 | 2
+worst a.alf --inputs a.alf --costs c.toml | 2 | 2
+worst a.alf --inputs i.toml --costs c.toml | 3 | 0
+cache a.alf --sets 1 --ways 1 --line 4 --penalty 1 --inputs i.toml --root f | 1 | 2
+cache a.alf --sets 1 --ways 1 --line 4 --penalty 1 --inputs a.alf --costs c.toml | 2 | 2
+cache a.alf --sets 1 --ways 1 --line 4 --penalty 1 --inputs i.toml --costs c.toml | 3 | 0
+tasks i.toml | 1 | 2
+lower a.alf | 0 | 1
 run a.alf --turns 1 | 1 | 3"#;
 
 #[test]

@@ -29,7 +29,12 @@ fn wrong_in(alloc: Global, section: &str) -> Result<Option<String>, AllocError> 
     let Some(rows) = section.splitn(2, "\n\n").nth(1) else {
         return Ok(Some(String::from_str(alloc, "a section has no rows")?));
     };
+    let mut is_empty = true;
     for row in rows.lines() {
+        if row.starts_with("// ") {
+            continue;
+        }
+        is_empty = false;
         for head in heads.split("\n--\n") {
             let wrong = wrong_row(alloc, head, row)?;
             if wrong.is_some() {
@@ -37,15 +42,15 @@ fn wrong_in(alloc: Global, section: &str) -> Result<Option<String>, AllocError> 
             }
         }
     }
+    if is_empty {
+        return Ok(Some(String::from_str(alloc, "a section has no rows")?));
+    }
     Ok(None)
 }
 
 // The same of one head and one row. Where the head begins with `each`, it is a case for each number below the one
 // behind it.
 fn wrong_row(alloc: Global, head: &str, row: &str) -> Result<Option<String>, AllocError> {
-    if row.starts_with("// ") {
-        return Ok(None);
-    }
     let asked = side(row, 0);
     let case = filled(alloc, head.split("\n=> ").nth(0).unwrap_or(""), asked)?;
     let due = match head.split("\n=> ").nth(1) {

@@ -77,178 +77,186 @@ a place has two frames
 { store &p with { if 32 { s_lt 32 *x #5 } &y &r } } { switch { s_lt 32 { load 32 *p } #5 } { target '1 @T } { \
   default @F } } @T { return } @F { return }
 x 32 1 -4 10;y 32 1 0 10;r 32 1 0 20
-3+0:32 1+0:32 2+0:32
+p3:0/32 p1:0/32 p2:0/32
 0 0
-/ 1( -!uninit 0..10 0..20 )/ 2( @1+0@2+0 0..10 0..20 ) 3( @1+0@2+0 0..10 0..20 )
+/ 1( none uninit w32:0..10/1 w32:0..20/1 )/ 2( p1:0|p2:0 w32:0..10/1 w32:0..20/1 ) 3( p1:0|p2:0 w32:0..10/1 \
+  w32:0..20/1 )
 
 a place has two offsets
 { switch { s_lt 32 { load 32 { add 32 &w { if 32 { s_lt 32 *x #5 } #0 #4 } '0 } } #5 } { target '1 @T } { default \
   @F } } @T { return } @F { return }
 x 32 1 -4 10;w 32 2 0 10
-6+0:32 6+4:32
+p6:0/32 p6:4/32
 0 0
-/ 1( 0..10 0..10 )/ 2( 0..10 0..10 ) 3( 0..10 0..10 )
+/ 1( w32:0..10/1 w32:0..10/1 )/ 2( w32:0..10/1 w32:0..10/1 ) 3( w32:0..10/1 w32:0..10/1 )
 
 a place has a pointer beside words
 { store &p with { if 32 { s_lt 32 *x #5 } &y #3 } } { switch *p { target #3 @T } { default @F } } @T { return } @F \
   { return }
 x 32 1 -4 10
-3+0:32
+p3:0/32
 0 0
-/ 1( -!uninit )/!kind 2( 3@1+0 )
+/ 1( none uninit )/ kind 2( w32:3|p1:0 )
 
 the other side has a pointer beside words
 { store &p with { if 32 { s_lt 32 *x #5 } &y #3 } } { switch { s_lt 32 *x *p } { target '1 @T } { default @F } } @T \
   { return } @F { return }
 x 32 1 -4 10
-0+0:32 3+0:32
+p0:0/32 p3:0/32
 0 0
-/ 1( -4..10 -!uninit )/!kind 2( -4..10 3@1+0 ) 3( -4..10 3@1+0 )
+/ 1( w32:-4..10/1 none uninit )/ kind 2( w32:-4..10/1 w32:3|p1:0 ) 3( w32:-4..10/1 w32:3|p1:0 )
 
 an address has words beside a pointer
 { store &p with { if 32 { s_lt 32 *x #5 } &y #3 } } { switch { s_lt 32 { load 32 *p } #5 } { target '1 @T } { \
   default @F } } @T { return } @F { return }
 x 32 1 -4 10;y 32 1 0 10
-1+0:32
+p1:0/32
 0 0
-/ 1( 0..10 )/!kind 2( 0..10 ) 3( 0..10 )
+/ 1( w32:0..10/1 )/ kind 2( w32:0..10/1 ) 3( w32:0..10/1 )
 
 one of two cells does not fit its frame
 { switch { s_lt 32 { load 32 { add 32 &x { if 32 { s_lt 32 *y #5 } #0 #4 } '0 } } #5 } { target '1 @T } { default \
   @F } } @T { return } @F { return }
 x 32 1 -4 10;y 32 1 0 10
-0+0:32
+p0:0/32
 0 0
-/ 1( -4..10 )/!bounds 2( -4..10 ) 3( -4..10 )
+/ 1( w32:-4..10/1 )/ bounds 2( w32:-4..10/1 ) 3( w32:-4..10/1 )
 
 the one cell does not fit its frame
 { switch { s_lt 32 { load 32 { add 32 &x #2 '0 } } #5 } { target '1 @T } { default @F } } @T { return } @F { return \
   }
 x 32 1 -4 10
-0+0:32
+p0:0/32
 0 0
-/ 1( -4..10 )/!bounds
+/ 1( w32:-4..10/1 )/ bounds
 
 both sides are one place
 { switch { s_lt 32 *x *x } { target '1 @T } { default @F } } @T { return } @F { return }
 x 32 1 -4 10
-0+0:32
+p0:0/32
 0 0
-/ 1( -4..10 )/ 2( -3..10 ) 3( -4..10 )
+/ 1( w32:-4..10/1 )/ 2( w32:-3..10/1 ) 3( w32:-4..10/1 )
 
 nothing is left of a side
 { store &r with { if 32 { s_lt 32 *x #5 } #0 #8 } } { switch { eq 32 *r *y } { target '1 @T } { default @F } } @T { \
   return } @F { return }
 x 32 1 -4 10;y 32 1 3 5
-2+0:32 1+0:32
+p2:0/32 p1:0/32
 0 0
-/ 1( -!uninit 3..5 )/ 3( 0..8/8 3..5 )
+/ 1( none uninit w32:3..5/1 )/ 3( w32:0..8/8 w32:3..5/1 )
 
 targets exclude one another
 { switch *x { target #0 @A } { target #4 @B } { target #9 @B } { default @C } } @A { return } @B { return } @C { \
   switch *x { target #4 @A } { target #2 @B } { default @D } } @D { switch { u_gt 32 *x #3 } { target '1 @A } { \
   default @B } }
 x 32 1 0 4
-0+0:32
+p0:0/32
 0 2 1 0 0
-/ 1( 0..4 )/ 2( 0 ) 3( 4 ) 4( 1..3 )/ 3( 2 ) 5( 1..3 )/ 3( 1..3 )/ end
+/ 1( w32:0..4/1 )/ 2( w32:0 ) 3( w32:4 ) 4( w32:1..3/1 )/ 3( w32:2 ) 5( w32:1..3/1 )/ 3( w32:1..3/1 )/ end
 
 a switch on an extended place
 { switch { s_ext 8 32 *8c } { target #4294967292 @A } { default @B } } @A { return } @B { return }
 c 8 1 -4 10
-4+0:8
+p4:0/8
 0 0
-/ 1( -4..10 )/ 2( -4 ) 3( -3..10 )
+/ 1( w8:-4..10/1 )/ 2( w8:-4 ) 3( w8:-3..10/1 )
 
 a switch on a pointer
 { switch &x { default @E } } @E { return }
 x 32 1 0 1
-0+0:32
+p0:0/32
 0 0
-/ 1( 0..1 )/!kind
+/ 1( w32:0..1/1 )/ kind
 
 a condition on what was not stored
 { switch { s_lt 32 *own #5 } { target '1 @E } { default @E } } @E { return }
 x 32 1 0 1
-7+0:32
+p7:0/32
 0 0
-/ 1( -!uninit )/!uninit
+/ 1( none uninit )/ uninit
 
 a condition on what was perhaps not stored
 { store { add 32 &w { if 32 { s_lt 32 *x #5 } #0 #4 } '0 } with #7 } { switch { eq 32 *w #7 } { target '1 @T } { \
   default @F } } @T { return } @F { return }
 x 32 1 -4 10
-6+0:32 6+4:32
+p6:0/32 p6:4/32
 0 0
-/ 1( -!uninit -!uninit )/!uninit 2( 7 7!uninit )
+/ 1( none uninit none uninit )/ uninit 2( w32:7 w32:7 uninit )
 
 faults of operands are united
 { store &r with { add 32 { u_div 32 32 *x *y } *own '0 } } @E { return }
 x 32 1 0 10;y 32 1 0 3
-2+0:32
+p2:0/32
 0 0
-/ 1( -!uninit )/!divide!uninit
+/ 1( none uninit )/ uninit divide
 
 values that are left go on after a fault
 { store &r with { u_div 32 32 *x *y } } { switch { s_lt 32 *r #5 } { target '1 @T } { default @F } } @T { return } \
   @F { return }
 x 32 1 0 10;y 32 1 0 3
-2+0:32 1+0:32
+p2:0/32 p1:0/32
 0 0
-/ 1( -!uninit 0..3 )/!divide 2( 0..4 0..3 ) 3( 5..10 0..3 )
+/ 1( none uninit w32:0..3/1 )/ divide 2( w32:0..4/1 w32:0..3/1 ) 3( w32:5..10/1 w32:0..3/1 )
 
 a store through two frames of which one is too short
 { store &p with { if 32 { s_lt 32 *x #5 } &x &w } } { store { add 32 *p #4 '0 } with #1 } @E { return }
 x 32 1 -4 10
-0+0:32 3+0:32 6+4:32
+p0:0/32 p3:0/32 p6:4/32
 0 0 0
-/ 1( -4..10 -!uninit -!uninit )/!bounds 2( -4..10 @0+0@6+0 1 )/ end
+/ 1( w32:-4..10/1 none uninit none uninit )/ bounds 2( w32:-4..10/1 p0:0|p6:0 w32:1 )/ end
 
 a call with arguments of three sizes
 { call @f *8c { add 32 *x #1 '0 } *64w result &r } { return } %f { store &own with *b } { return { z_ext 8 32 *8a } \
   }
 c 8 1 -4 10;x 32 1 -4 10;w 64 1 0 100
-8+0:8 9+0:32 10+0:64 10+0:32 11+0:32 2+0:32
+p8:0/8 p9:0/32 p10:0/64 p10:0/32 p11:0/32 p2:0/32
 0 0 0 0 0
-/ 1( -!dead -!dead -!dead -!dead -!dead -!uninit )/ 3( -4..10 -3..11 0..100 0..100 -!uninit -!uninit )/ 4( -4..10 \
-  -3..11 0..100 0..100 -!uninit -!uninit )/ 2( -!dead -!dead -!dead -!dead -!dead 0..255 )/ end
+/ 1( none dead none dead none dead none dead none dead none uninit )/ 3( w8:-4..10/1 w32:-3..11/1 w64:0..100/1 \
+  w32:0..100/1 none uninit none uninit )/ 4( w8:-4..10/1 w32:-3..11/1 w64:0..100/1 w32:0..100/1 none uninit none \
+  uninit )/ 2( none dead none dead none dead none dead none dead w32:0..255/1 )/ end
 
 an argument faults
 { call @f *8c { u_div 32 32 *x *y } *64w result &r } { return } %f { return *b }
 c 8 1 0 0;x 32 1 6 6;y 32 1 0 2;w 64 1 1 1
-8+0:8 9+0:32 10+0:64
+p8:0/8 p9:0/32 p10:0/64
 0 0
-/ 1( -!dead -!dead -!dead )/!divide 3( 0 3..6 1 )";
+/ 1( none dead none dead none dead )/ divide 3( w8:0 w32:3..6/1 w64:1 )";
 
 // The same of programs by their texts.
 static PROGRAMS: &str = "\
 the pointer is to the short array
 arrays
 c 32 1 0 1
-0+0:32 3+0:32 2+8:32
+p0:0/32 p3:0/32 p2:8/32
 0 0 0 0
-/ 1( 0..1 -!uninit 0 )/ 2( 1 -!uninit 0 ) 3( 0 -!uninit 0 )/ 4( 1 @1+0 0 )/!bounds
+/ 1( w32:0..1/1 none uninit w32:0 )/ 2( w32:1 none uninit w32:0 ) 3( w32:0 none uninit w32:0 )/ 4( w32:1 p1:0 w32:0 \
+  )/ bounds
 
 the pointer is to the long array
 arrays
 c 32 1 0 1
-0+0:32 3+0:32 2+8:32
+p0:0/32 p3:0/32 p2:8/32
 0 1 0 0
-/ 1( 0..1 -!uninit 0 )/ 2( 1 -!uninit 0 ) 3( 0 -!uninit 0 )/ 4( 0 @2+0 0 )/ end
+/ 1( w32:0..1/1 none uninit w32:0 )/ 2( w32:1 none uninit w32:0 ) 3( w32:0 none uninit w32:0 )/ 4( w32:0 p2:0 w32:0 \
+  )/ end
 
 two numbers of three are sorted
 sort
 a 32 10 -100 100
-1+0:32 2+0:32 3+0:32 0+0:32 0+4:32 0+8:32
+p1:0/32 p2:0/32 p3:0/32 p0:0/32 p0:4/32 p0:8/32
 0 0 0 0 0 0 0 0 0 0 0 0 0 0
-/ 1( -!uninit -!uninit -!uninit -100..100 -100..100 -100..100 )/ 2( 1 -!uninit -!uninit -100..100 -100..100 \
-  -100..100 )/ 3( 1 -!uninit -!uninit -100..100 -100..100 -100..100 )/ 4( 1 0 -100..100 -100..100 -100..100 \
-  -100..100 )/ 5( 1 0 -100..100 -100..100 -100..100 -100..100 )/ 6( 1 0 -100..99 -99..100 -100..100 -100..100 ) 7( \
-  1 0 -100..100 -100..100 -100..100 -100..100 )/ 4( 1 -1 -100..99 -99..100 -99..100 -100..100 )/ 7( 1 -1 -100..99 \
-  -99..100 -99..100 -100..100 )/ 8( 1 -1 -100..99 -100..99 -99..100 -100..100 )/ 2( 2 -1 -100..99 -100..99 -99..100 \
-  -100..100 )/ 3( 2 -1 -100..99 -100..99 -99..100 -100..100 )/ 4( 2 1 -100..100 -100..99 -99..100 -100..100 )/ 5( 2 \
-  1 -100..100 -100..99 -99..100 -100..100 )/ 6( 2 1 -100..99 -100..99 -99..100 -100..100 ) 7( 2 1 -99..100 -100..99 \
-  -99..100 -100..100 )";
+/ 1( none uninit none uninit none uninit w32:-100..100/1 w32:-100..100/1 w32:-100..100/1 )/ 2( w32:1 none uninit \
+  none uninit w32:-100..100/1 w32:-100..100/1 w32:-100..100/1 )/ 3( w32:1 none uninit none uninit w32:-100..100/1 \
+  w32:-100..100/1 w32:-100..100/1 )/ 4( w32:1 w32:0 w32:-100..100/1 w32:-100..100/1 w32:-100..100/1 w32:-100..100/1 \
+  )/ 5( w32:1 w32:0 w32:-100..100/1 w32:-100..100/1 w32:-100..100/1 w32:-100..100/1 )/ 6( w32:1 w32:0 \
+  w32:-100..99/1 w32:-99..100/1 w32:-100..100/1 w32:-100..100/1 ) 7( w32:1 w32:0 w32:-100..100/1 w32:-100..100/1 \
+  w32:-100..100/1 w32:-100..100/1 )/ 4( w32:1 w32:-1 w32:-100..99/1 w32:-99..100/1 w32:-99..100/1 w32:-100..100/1 \
+  )/ 7( w32:1 w32:-1 w32:-100..99/1 w32:-99..100/1 w32:-99..100/1 w32:-100..100/1 )/ 8( w32:1 w32:-1 w32:-100..99/1 \
+  w32:-100..99/1 w32:-99..100/1 w32:-100..100/1 )/ 2( w32:2 w32:-1 w32:-100..99/1 w32:-100..99/1 w32:-99..100/1 \
+  w32:-100..100/1 )/ 3( w32:2 w32:-1 w32:-100..99/1 w32:-100..99/1 w32:-99..100/1 w32:-100..100/1 )/ 4( w32:2 w32:1 \
+  w32:-100..100/1 w32:-100..99/1 w32:-99..100/1 w32:-100..100/1 )/ 5( w32:2 w32:1 w32:-100..100/1 w32:-100..99/1 \
+  w32:-99..100/1 w32:-100..100/1 )/ 6( w32:2 w32:1 w32:-100..99/1 w32:-100..99/1 w32:-99..100/1 w32:-100..100/1 ) \
+  7( w32:2 w32:1 w32:-99..100/1 w32:-100..99/1 w32:-99..100/1 w32:-100..100/1 )";
 
 // The line of a case with this number.
 fn line(case: &str, number: usize) -> &str {

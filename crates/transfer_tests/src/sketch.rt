@@ -13,76 +13,46 @@ lrefs } } { decls { alloc 32 \"x\" 32 } { alloc 32 \"y\" 32 } { alloc 32 \"r\" 3
 
 const OWN: &str = "{ scope { decls { alloc 32 \"own\" 32 } } { inits } { stmts ";
 
-const LABEL: &str = "{ label 32 { lref 32 \"";
+// What a word begins with, and what then stands before and after its name. `@A` is a label or a function, `&x` an address,
+// `*x` a load of 32 bits and `*8x` one of 8, `#5` a number of 32 bits, `$5` one of 8 and `'0` a bit. After `/f` stand the
+// items of a further function, and after `%f` those of one with the arguments `a` of 8, `b` of 32 and `d` of 64 bits.
+static WORDS: [(&str, &str, &str); 11] = [
+    ("@", "{ label 32 { lref 32 \"", "\" } { dec_unsigned 32 0 } } "),
+    ("&", "{ addr 32 { fref 32 \"", "\" } { dec_unsigned 32 0 } } "),
+    ("*8", "{ load 8 { addr 32 { fref 32 \"", "\" } { dec_unsigned 32 0 } } } "),
+    ("*16", "{ load 16 { addr 32 { fref 32 \"", "\" } { dec_unsigned 32 0 } } } "),
+    ("*64", "{ load 64 { addr 32 { fref 32 \"", "\" } { dec_unsigned 32 0 } } } "),
+    ("*", "{ load 32 { addr 32 { fref 32 \"", "\" } { dec_unsigned 32 0 } } } "),
+    ("#", "{ dec_unsigned 32 ", " } "),
+    ("$", "{ dec_unsigned 8 ", " } "),
+    ("'", "{ dec_unsigned 1 ", " } "),
+    (
+        "/",
+        "} } } { func { label 32 { lref 32 \"",
+        "\" } { dec_unsigned 32 0 } } { arg_decls } ",
+    ),
+    (
+        "%",
+        "} } } { func { label 32 { lref 32 \"",
+        "\" } { dec_unsigned 32 0 } } { arg_decls { alloc 32 \"a\" 8 } { alloc 32 \"b\" 32 } { alloc 32 \"d\" 64 } } ",
+    ),
+];
 
-const ADDRESS: &str = "{ addr 32 { fref 32 \"";
-
-const FUNCTION: &str = "} } } { func { label 32 { lref 32 \"";
-
-const FIRST: &str = "\" } { dec_unsigned 32 0 } } ";
-
+// Between two texts.
 fn around(text: &mut String, before: &str, word: &str, after: &str) -> Result<(), AllocError> {
     text.push_str(before)?;
     text.push_str(word)?;
     text.push_str(after)
 }
 
-// A load of so many bits.
-fn load(text: &mut String, bits: &str, name: &str) -> Result<(), AllocError> {
-    around(text, "{ load ", bits, " ")?;
-    around(text, ADDRESS, name, FIRST)?;
-    text.push_str("} ")
-}
-
-// `@A` is a label or a function, `&x` an address, `*x` a load of 32 bits and `*8x` one of 8, `#5` a number of 32 bits, `$5`
-// one of 8 and `'0` a bit. After `/f` stand the items of a further function, and after `%f` those of one with the arguments
-// `a` of 8, `b` of 32 and `d` of 64 bits.
+// A word, where its name stands between two texts, or as it is.
 fn put(text: &mut String, word: &str) -> Result<(), AllocError> {
-    if let Some(name) = word.strip_prefix("@") {
-        return around(text, LABEL, name, FIRST);
+    for (mark, before, after) in &WORDS {
+        if let Some(name) = word.strip_prefix(*mark) {
+            return around(text, before, name, after);
+        }
     }
-    if let Some(name) = word.strip_prefix("&") {
-        return around(text, ADDRESS, name, FIRST);
-    }
-    if let Some(name) = word.strip_prefix("*8") {
-        return load(text, "8", name);
-    }
-    if let Some(name) = word.strip_prefix("*16") {
-        return load(text, "16", name);
-    }
-    if let Some(name) = word.strip_prefix("*64") {
-        return load(text, "64", name);
-    }
-    if let Some(name) = word.strip_prefix("*") {
-        return load(text, "32", name);
-    }
-    put_further(text, word)
-}
-
-fn put_further(text: &mut String, word: &str) -> Result<(), AllocError> {
-    if let Some(number) = word.strip_prefix("#") {
-        return around(text, "{ dec_unsigned 32 ", number, " } ");
-    }
-    if let Some(number) = word.strip_prefix("$") {
-        return around(text, "{ dec_unsigned 8 ", number, " } ");
-    }
-    if let Some(number) = word.strip_prefix("'") {
-        return around(text, "{ dec_unsigned 1 ", number, " } ");
-    }
-    if let Some(name) = word.strip_prefix("/") {
-        around(text, FUNCTION, name, FIRST)?;
-        text.push_str("{ arg_decls } ")?;
-        return text.push_str(OWN);
-    }
-    if let Some(name) = word.strip_prefix("%") {
-        around(text, FUNCTION, name, FIRST)?;
-        text.push_str(
-            "{ arg_decls { alloc 32 \"a\" 8 } { alloc 32 \"b\" 32 } { alloc 32 \"d\" 64 } } ",
-        )?;
-        return text.push_str(OWN);
-    }
-    text.push_str(word)?;
-    text.push_str(" ")
+    around(text, "", word, " ")
 }
 
 // The text of a program.
@@ -91,6 +61,9 @@ pub fn program_text(alloc: Global, items: &str) -> Result<String, AllocError> {
     text.push_str(OWN)?;
     for word in items.split(' ') {
         put(&mut text, word)?;
+        if word.starts_with('/') || word.starts_with('%') {
+            text.push_str(OWN)?;
+        }
     }
     text.push_str("} } } } }")?;
     Ok(text)

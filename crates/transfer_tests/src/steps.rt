@@ -25,37 +25,36 @@ fn told_store(alloc: Global, answer: (bool, FaultSet)) -> Result<String, AllocEr
 fn do_store(
     alloc: Global,
     sides: &mut Sides<'_>,
-    count: u32,
     line: &str,
 ) -> Result<String, AllocError>
-    requires { AreReady count sides.old.a sides.old.b }
-    ensures { OnOk result (AreReady count sides.new.a sides.new.b) }
+    requires { AreReady sides.old.functions sides.old.a sides.old.b }
+    ensures { OnOk result (AreReady sides.new.functions sides.new.a sides.new.b) }
 {
     let at = value(alloc, field(line, " ", 1))?;
     let stored = value(alloc, field(line, " ", 2))?;
-    let answer = store(alloc, sides, count, &at, &stored, width(&stored))?;
+    let answer = store(alloc, sides, &at, &stored, width(&stored))?;
     told_store(alloc, answer)
 }
 
 // A load.
-fn do_load(alloc: Global, sides: &Sides<'_>, count: u32, line: &str) -> Result<String, AllocError>
-    requires { AreReady count sides.now.a sides.now.b }
+fn do_load(alloc: Global, sides: &Sides<'_>, line: &str) -> Result<String, AllocError>
+    requires { AreReady sides.now.functions sides.now.a sides.now.b }
 {
     let at = value(alloc, field(line, " ", 1))?;
-    let (loaded, faults) = load(alloc, sides, count, &at, small(field(line, " ", 2)))?;
+    let (loaded, faults) = load(alloc, sides, &at, small(field(line, " ", 2)))?;
     told(alloc, &loaded, faults)
 }
 
 // A pin.
-fn do_pin(alloc: Global, sides: &mut Sides<'_>, count: u32, line: &str) -> Result<(), AllocError>
-    requires { AreReady count sides.old.a sides.old.b }
-    ensures { OnOk result (AreReady count sides.new.a sides.new.b) }
+fn do_pin(alloc: Global, sides: &mut Sides<'_>, line: &str) -> Result<(), AllocError>
+    requires { AreReady sides.old.functions sides.old.a sides.old.b }
+    ensures { OnOk result (AreReady sides.new.functions sides.new.a sides.new.b) }
 {
     let cell = (small(field(line, " ", 1)), small(field(line, " ", 2)));
     let pinned = value(alloc, field(line, " ", 3))?;
     match pinned.int() {
         None => Ok(()),
-        Some(words) => pin(alloc, sides, count, cell, words),
+        Some(words) => pin(alloc, sides, cell, words),
     }
 }
 
@@ -69,50 +68,42 @@ fn do_has(sides: &Sides<'_>, line: &str) -> &'static str {
     }
 }
 
-// A step that tells nothing.
+// A step of which nothing is told, but where there is no such step.
 fn do_quietly(
     alloc: Global,
     sides: &mut Sides<'_>,
-    count: u32,
     line: &str,
-) -> Result<(), AllocError>
-    requires { AreReady count sides.old.a sides.old.b }
-    ensures { OnOk result (AreReady count sides.new.a sides.new.b) }
+) -> Result<&'static str, AllocError>
+    requires { AreReady sides.old.functions sides.old.a sides.old.b }
+    ensures { OnOk result (AreReady sides.new.functions sides.new.a sides.new.b) }
 {
-    let kind = field(line, " ", 0);
-    if kind == "enter" {
-        enter(alloc, sides, count, small(field(line, " ", 1)))
-    } else if kind == "pin" {
-        do_pin(alloc, sides, count, line)
-    } else if kind == "copy" {
-        copy(alloc, sides, count)
-    } else if kind == "swap" {
-        swap(alloc, sides, count)
-    } else if kind == "join" {
-        join(alloc, sides, count)
-    } else {
-        leave(sides, count, small(field(line, " ", 1)));
-        Ok(())
+    let func = small(field(line, " ", 1));
+    match field(line, " ", 0) {
+        "enter" => enter(alloc, sides, func)?,
+        "leave" => leave(sides, func),
+        "pin" => do_pin(alloc, sides, line)?,
+        "copy" => copy(alloc, sides)?,
+        "swap" => swap(alloc, sides)?,
+        "join" => join(alloc, sides)?,
+        _ => return Ok("no such step"),
     }
+    Ok("")
 }
 
 // What a step tells.
-fn step(alloc: Global, sides: &mut Sides<'_>, count: u32, line: &str) -> Result<String, AllocError>
-    requires { AreReady count sides.old.a sides.old.b }
-    ensures { OnOk result (AreReady count sides.new.a sides.new.b) }
+fn step(alloc: Global, sides: &mut Sides<'_>, line: &str) -> Result<String, AllocError>
+    requires { AreReady sides.old.functions sides.old.a sides.old.b }
+    ensures { OnOk result (AreReady sides.new.functions sides.new.a sides.new.b) }
 {
-    let kind = field(line, " ", 0);
-    if kind == "store" {
-        return do_store(alloc, sides, count, line);
+    match field(line, " ", 0) {
+        "store" => do_store(alloc, sides, line),
+        "load" => do_load(alloc, sides, line),
+        "has" => String::from_str(alloc, do_has(sides, line)),
+        _ => {
+            let told = do_quietly(alloc, sides, line)?;
+            String::from_str(alloc, told)
+        }
     }
-    if kind == "load" {
-        return do_load(alloc, sides, count, line);
-    }
-    if kind == "has" {
-        return String::from_str(alloc, do_has(sides, line));
-    }
-    do_quietly(alloc, sides, count, line)?;
-    Ok(String::new(alloc))
 }
 
 /// What the steps of a script tell, on memories before each event.
@@ -121,11 +112,10 @@ pub(crate) fn told_script(
     checked: &Checked,
     script: &str,
 ) -> Result<String, AllocError> {
-    let count = checked.func_count();
-    let mut sides = fresh(alloc, checked, count)?;
+    let mut sides = fresh(alloc, checked)?;
     let mut all = String::new(alloc);
     for line in script.split("; ") {
-        let told = step(alloc, &mut sides, count, line)?;
+        let told = step(alloc, &mut sides, line)?;
         if !told.is_empty() {
             if !all.is_empty() {
                 all.push_str("; ")?;

@@ -153,28 +153,25 @@ fn tell_value(alloc: Global, text: &mut String, value: &Option<AVal>) -> Result<
     Ok(())
 }
 
-// Tells the fault, if it is in the set.
-fn tell_fault(
-    text: &mut String,
-    faults: FaultSet,
-    fault: RunFault,
-    name: &str,
-) -> Result<(), AllocError> {
-    if faults.has(fault) {
-        text.push_str(name)?;
-    }
-    Ok(())
-}
+// The faults that a memory may have, with what is told of them.
+static FAULTS: [(RunFault, &str); 7] = [
+    (RunFault::Uninit, " uninit"),
+    (RunFault::Mixed, " mixed"),
+    (RunFault::Bounds, " bounds"),
+    (RunFault::Dead, " dead"),
+    (RunFault::Kind, " kind"),
+    (RunFault::Divide, " divide"),
+    (RunFault::Pointers, " pointers"),
+];
 
 /// Tells the faults that a memory may have.
 pub(crate) fn tell_faults(text: &mut String, faults: FaultSet) -> Result<(), AllocError> {
-    tell_fault(text, faults, RunFault::Uninit, " uninit")?;
-    tell_fault(text, faults, RunFault::Mixed, " mixed")?;
-    tell_fault(text, faults, RunFault::Bounds, " bounds")?;
-    tell_fault(text, faults, RunFault::Dead, " dead")?;
-    tell_fault(text, faults, RunFault::Kind, " kind")?;
-    tell_fault(text, faults, RunFault::Divide, " divide")?;
-    tell_fault(text, faults, RunFault::Pointers, " pointers")
+    for (fault, name) in &FAULTS {
+        if faults.has(*fault) {
+            text.push_str(name)?;
+        }
+    }
+    Ok(())
 }
 
 /// A value with faults.

@@ -7,7 +7,8 @@ ghost use Rattle.flow_graph.specs.Numbering.{IsGraph};
 ghost use Rattle.abstract_step.specs.Steppers.{stepped_by};
 
 use crate::sketch::{inputs_text, program_text};
-use crate::told::{add_faults, add_points};
+use crate::told::add_points;
+use crate::values::tell_faults;
 use abstract_memory::AMem;
 use abstract_step::AlfStepper;
 use alf_check::{Checked, InputRow, check};
@@ -33,7 +34,7 @@ fn step<'a>(
 {
     stepper.kept();
     let stepped = stepper.step(alloc, point.0, &point.1)?;
-    add_faults(text, stepped.faults)?;
+    tell_faults(text, stepped.faults)?;
     let mut next = stepped.next;
     add_points(alloc, text, exit, &next, cells)?;
     if choice >= next.len() {

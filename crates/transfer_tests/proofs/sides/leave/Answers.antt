@@ -3,6 +3,6 @@ use Rattle.transfer_tests.proofs.sides.leave.Goals as goal
 
 pub returns-then-func-count : goal.returns-then-func-count
 returns-then-func-count c =
-    both_left c.args.count c.args.sides.now.a c.args.sides.now.b c.leave.new.self c.leave-then-func-count.new.self c.args.func c.requires
+    both_left c.args.sides.now.functions c.args.sides.now.a c.args.sides.now.b c.leave.new.self c.leave-then-func-count.new.self c.args.func c.requires
     c.leave.ensures.checked c.leave-then-func-count.ensures.checked (c.leave.ensures.kept c.requires.alike.first) (c.leave-then-func-count.ensures.kept c.requires.alike.second)
     c.leave.ensures.left c.leave-then-func-count.ensures.left

@@ -1,7 +1,7 @@
 -- Positions along an edge that stays in the scopes of its source.
 --   passes         past a scope that the node does not head, only those further out are ahead
 --   outermost_passed   and past the outermost none is
---   around_own     the scopes around a node: those around its own one, and this one
+--   own_last       the scopes around a node: those around its own one, and this one
 --   begins_with, ends_with   the position at the source, and that at the end of the edge
 --   number_low     the number of the own scope is not too great
 --   entered_once, entered_not   a scope has one more where the node is its header, and else the same

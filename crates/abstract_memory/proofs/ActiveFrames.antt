@@ -1,36 +1,15 @@
 -- Frames that are active, by their bits.
 --   shape_at                   the shape of a row
---   cells_none, cells_some     the cells in the frame
 --   tested_none, tested_some   the test of a pointer into the frame
-use Rattle.std.proofs.Common.{◌≡◌, ℕ, Bool, [], Option, Some, None, Ok, Err, ◌-◌, ◌/◌, refl, ap, subst, arith}
+use Rattle.std.proofs.Common.{◌≡◌, ℕ, Bool, [], Option, Some, None, Ok, Err, refl, ap}
 use Rattle.std.specs.Prelude.{if◌then◌else◌}
 use Rattle.lists.specs.TestLaws.{by_test}
 use Rattle.alf_ops.specs.declared.history.RunFault.TheVariants.{Dead, Bounds}
 use Rattle.alf_ops.specs.declared.history.FrameShape.{FrameShape}
-use Rattle.alf_ops.specs.Histories.{fits_in, offsets}
-use Rattle.strided_rules.specs.Strides.{Stride}
+use Rattle.alf_ops.specs.Histories.{fits_in}
 use Rattle.memory_rules.specs.Memories.{is_on}
-use Rattle.memory_rules.specs.Addresses.{tested_in, cells_at, cells_in}
+use Rattle.memory_rules.specs.Addresses.{tested_in}
 use Rattle.abstract_memory.specs.Running.{bits_on}
-use Rattle.abstract_memory.specs.NextOffsets.{cells_from}
-
-pub cells_none : (found : Option FrameShape) (runs : ℕ → Bool) (place : ℕ × Stride) (size : ℕ) → None ≡ bits_on found runs → cells_in found runs place size ≡ []
-cells_none None runs place size none = refl
-cells_none (Some row) runs place size none = by_test (is_on runs row.owner)
-    (λ on. let bad : None ≡ Some row.bits = rw on at none in cc)
-    (λ off. rw off refl)
-
-pub cells_some : (found : Option FrameShape) (runs : ℕ → Bool) (place : ℕ × Stride) (size bits : ℕ) → Some bits ≡ bits_on found runs
-    → cells_in found runs place size ≡ cells_from place.0 bits size place.1 0
-cells_some None runs place size bits some = cc
-cells_some (Some row) runs place size bits some = by_test (is_on runs row.owner)
-    (λ on.
-    let same : Some bits ≡ Some row.bits = rw on at some in
-    let bits_same : row.bits ≡ bits = cc in
-    let count : row.bits / 8 ≡ row.bits / 8 - 0 = omega arith in
-    rw on (subst (λ (b : ℕ). cells_at place.0 row.bits size place.1 (offsets 0 (row.bits / 8)) ≡ cells_from place.0 b size place.1 0) bits_same
-    (ap (λ (n : ℕ). cells_at place.0 row.bits size place.1 (offsets 0 n)) count)))
-    (λ off. let bad : Some bits ≡ None = rw off at some in cc)
 
 pub tested_none : (found : Option FrameShape) (runs : ℕ → Bool) (frame offset size : ℕ) → None ≡ bits_on found runs → tested_in found runs frame offset size ≡ Err Dead
 tested_none None runs frame offset size none = refl

@@ -1,7 +1,6 @@
 -- Frames of which some are changed.
 --   at_frame          what the call on one frame wants: its slots, the end of the cell, and sizes
 --   set_changes       one frame is changed
---   nothing_changes   none is
 --   MixedSo           after stores to some of the possible cells
 --   mixed_more, all_mixed
 --   changed_kept      the parts of a memory stay parts of one
@@ -103,9 +102,6 @@ pub set_changes_or : (law : FrameHeld) (frames : List (List HeldSlot)) (frame : 
 set_changes_or law frames frame own slots g low is stored count canon sized =
     set_changes law frames frame own slots g low is (stored ∙ ap (λ (s : List HeldSlot). g (frame_of s)) (sym is)) (count ∙ ap (λ (s : List HeldSlot). length s) (sym is))
     (λ here. canon (subst (λ (s : List HeldSlot). map canonical s ≡ s) is here)) sized
-
-pub nothing_changes : (frames : List (List HeldSlot)) → Changes frames frames (λ m. m)
-nothing_changes frames = record { memory = λ running. refl; lengths = refl; canonical = λ is. is; sized = λ is. is }
 
 -- ---- several cells
 

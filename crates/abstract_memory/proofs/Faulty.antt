@@ -3,9 +3,9 @@
 --   none_told, alone_told  an empty set, and a set of one fault
 --   bounds_told, dead_told the faults of pointers into a frame
 --   of_address             the faults of an address are those of its words and of its places
-use Rattle.std.proofs.Common.{◌≡◌, ◌⊎◌, inl, inr, ℕ, Bool, true, false, List, [], ◌∷◌, Option, Some, None, Result, Ok, Err, ◌<◌, ◌≤◌, ◌+◌, ◌-◌, ◌*◌, ◌/◌, ◌↔◌, refl, sym, ap, subst, ◌∙◌, arith}
+use Rattle.std.proofs.Common.{◌≡◌, ◌⊎◌, inl, inr, ℕ, Bool, true, false, List, [], ◌∷◌, Option, Some, None, Result, Ok, Err, ◌<◌, ◌≤◌, ◌+◌, ◌*◌, ◌↔◌, refl, sym, ap, subst, ◌∙◌, arith}
 use Rattle.std.specs.Prelude.{◌==◌, ◌||◌, if◌then◌else◌, slice_get, IsSomeAnd, IfSome, nat_lt}
-use Rattle.std.proofs.lemmas.Bool.{false≢true, or_left, or_right, eqb-true, eq-eqb, leb-true, leb-false, ltb-true, ltb-false}
+use Rattle.std.proofs.lemmas.Bool.{false≢true, or_left, or_right, eqb-true, eq-eqb, leb-false, ltb-false}
 use Rattle.lists.specs.TestLaws.{by_test}
 use Rattle.alf_ops.specs.declared.history.Value.{Value}
 use Rattle.alf_ops.specs.declared.history.Value.TheVariants.{Int, Ptr}
@@ -67,15 +67,6 @@ past_fits bits size t past =
     by_test (nat_lt bits size)
     (λ e. rw e (omega arith))
     (λ e. let room : size ≤ bits = ltb-false bits size e in rw e (omega (arith, high, room)))
-
-pub fits_past : (bits size t : ℕ) → first_past bits size ≤ t → fits_in bits t size ≡ false
-fits_past bits size t above = by_test (fits_in bits t size)
-    (λ fits.
-    let low : t * 8 + size ≤ bits = leb-true (t * 8 + size) bits fits in
-    by_test (nat_lt bits size)
-    (λ e. absurd (let short : bits < size = ltb-true bits size e in omega (arith, short, low)))
-    (λ e. absurd (let after : (bits - size) / 8 + 1 ≤ t = rw e at above in omega (arith, after, low))))
-    (λ past. past)
 
 pub bounds_none : (x : Stride) (bits size : ℕ) (fault : RunFault) → Finds (CoversWord x) (first_past bits size) None → (has_fault no_faults fault ≡ true) ↔ IsBoundsFault x bits size fault
 bounds_none x bits size fault none = none_told (IsBoundsFault x bits size fault) fault (λ h. none h.1.0 h.1.1 (past_fits bits size h.1.0 h.1.2))

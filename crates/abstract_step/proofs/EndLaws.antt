@@ -1,13 +1,10 @@
 -- What blocks end with.
 --   stands_leads          where a block ends so, its node leads to where this leads
---   entry_goals           a step from an entry
---   block_goals           a step from a block
 --   value_left, values_left   what code finds, by the program's own frames
 --   each_typed            statements keep the rules
 --   arguments_typed       arguments have sizes
 --   call_fits             values of arguments are those of a call
 --   returned_cell         what is returned to a call has the size of a cell
---   leave_root, leave_back  functions left
 --   back_at, end_there, is_call, back_leads   the call that it goes back to
 --   arms_lead, arms_own, arms_turn  the arms of a switch
 use Rattle.std.specs.Prelude.{slice_get, All, IfSome}
@@ -39,15 +36,14 @@ use Rattle.pointer_rules.specs.Covering.{IsValue}
 use Rattle.memory_rules.specs.Memories.{Mem, MemSized, left}
 use Rattle.memory_rules.specs.AbstractSets.{abstract_sets}
 use Rattle.memory_model.specs.KeptMemories.{MemoryParts, memory_in, rows_of}
-use Rattle.transfer_rules.specs.Remains.{Remains, goes_on}
+use Rattle.transfer_rules.specs.Remains.{Remains}
 use Rattle.transfer_rules.specs.RemainsLaws.{IfLeft}
 use Rattle.transfer_rules.specs.Evaluating.{value_at, arguments_at}
 use Rattle.transfer_rules.specs.EvaluatingLaws.{ArgumentIs, arguments_sized, value_sized, cell_size}
-use Rattle.transfer_rules.specs.Doing.{after_statements}
-use Rattle.transfer_rules.specs.Stepping.{Goals, to_goal, arms, arms_of, switched, pointer_fault, goals_left, end_at, block_at, step_at, back_to, leave_to}
+use Rattle.transfer_rules.specs.Stepping.{Goals, arms, arms_of, switched, pointer_fault, goals_left}
 use Rattle.transfer_rules.specs.SteppingLaws.{words_of_size, back_of, back_gives}
 use Rattle.transfer_rules.specs.SwitchLaws.{EachGoal, IsArm, arms_kept}
-use Rattle.transfer_rules.specs.Machines.{goals_from, numbered_goal}
+use Rattle.transfer_rules.specs.Machines.{numbered_goal}
 use Rattle.transfer_rules.specs.PartMachines.{IsOwn}
 use Rattle.step_statements.specs.Typed.{IsTyped, IsTypedStatement}
 use Rattle.step_statements.specs.Arguments.{FitCall}
@@ -61,18 +57,6 @@ pub stands_leads : (here : HereParts) (block : ℕ) (ending : BlockEnding) → S
 stands_leads here block ending stands goal leads =
     subst (λ (o : Option ℕ). PlaceLeads (seen here.checked) (path_at here) o goal) (sym stands.at)
     (subst (λ (o : Option BlockEnding). EndLeads (seen here.checked) (path_at here) block o goal) (sym stands.ends) leads)
-
--- a step from an entry
-pub entry_goals : (here : HereParts) (m : Mem abstract_sets) → (place_of here).block ≡ None
-    → to_goal (Some (block_node (path_at here) 0)) m ≡ goals_from (seen here.checked) here.graph here.node m
-entry_goals here m entry = ap (λ (o : Option ℕ). step_at (seen here.checked) (path_at here) o m) (sym entry)
-
--- a step from a block
-pub block_goals : (here : HereParts) (m : Mem abstract_sets) (block : ℕ) (row : NumberedBlock) → (place_of here).block ≡ Some block → slice_get (blocks_at (seen here.checked) (function_here here)) block ≡ Some row
-    → goes_on (after_statements (frames_of (seen here.checked)) row.statements m) (end_at (seen here.checked) (path_at here) block row.ending) ≡ goals_from (seen here.checked) here.graph here.node m
-block_goals here m block row at found =
-    ap (λ (o : Option NumberedBlock). block_at (seen here.checked) (path_at here) block o m) (sym found)
-    ∙ ap (λ (o : Option ℕ). step_at (seen here.checked) (path_at here) o m) (sym at)
 
 -- the block is one of the function
 pub block_low : (here : HereParts) (block : ℕ) → IsPlaced (seen here.checked) (place_of here) → (place_of here).block ≡ Some block
@@ -177,20 +161,6 @@ returned_taken here block e m v faults stands sized found = go (path_at here) st
           cell = cell_size is.size is.cell;
           is = subst (λ (r : Remains AbstractValue). IfLeft (IsValue is.size) r) (sym found) (value_sized program.frames (frames_of program) m sized (function_at program (c ∷ path)) e is.size is.value_has);
         }
-
--- a function left: of the root
-pub leave_root : (program : NumberedProgram) (path : List ℕ) (v : Option AbstractValue) (m now : Mem abstract_sets) (func : ℕ) → path ≡ [] → func ≡ function_at program path → now ≡ left abstract_sets m func
-    → to_goal None now ≡ leave_to program path v m
-leave_root program [] v m now func none is after = ap (to_goal None) (after ∙ ap (left abstract_sets m) is)
-leave_root program (b ∷ path) v m now func none is after = absurd (cc)
-
--- and of any other
-pub leave_back : (program : NumberedProgram) (path rest : List ℕ) (b : ℕ) (v : Option AbstractValue) (m now : Mem abstract_sets) (func : ℕ) → path ≡ b ∷ rest → func ≡ function_at program path
-    → now ≡ left abstract_sets m func → back_to (frames_of program) rest (ending_at program (function_at program rest) b) v now ≡ leave_to program path v m
-leave_back program path rest b v m now func cons is after =
-    let f : func ≡ function_at program (b ∷ rest) = is ∙ ap (function_at program) cons in
-    ap (back_to (frames_of program) rest (ending_at program (function_at program rest) b) v) (after ∙ ap (left abstract_sets m) f)
-    ∙ ap (λ (p : List ℕ). leave_to program p v m) (sym cons)
 
 -- the call that it goes back to
 pub record Back (here : HereParts) (block : ℕ) (rest : List ℕ) : Type 0 where

@@ -1,25 +1,24 @@
 -- Inputs inside their ranges.
---   size_is, range_whole, range_up, range_one, low_far, high_far   a range is a progression of numbers that are not far, of words
+--   size_is, range_whole, range_up, range_one   a range is a progression of numbers that are not far, of words
 --   input_storable, input_there  the words have the size of a cell, which lies in its frame
 --   first_input, later_inputs    the first of the inputs, and those that are left
---   globals_room, inputs_room    room for what global frames hold at first, and for inputs in the root
+--   inputs_room    room for what global frames hold at first, and for inputs in the root
 --   start_is                     the memory after all
-use Rattle.std.specs.Prelude.{All, ◌==◌, if◌then◌else◌, neg_ℤ, ◌≤ℤ◌, ◌<ℤ◌, ◌-ℤ◌, int_lt}
+use Rattle.std.specs.Prelude.{All, ◌==◌, if◌then◌else◌, ◌≤ℤ◌, ◌<ℤ◌, ◌-ℤ◌, int_lt}
 use Rattle.std.specs.Option.{option_map}
-use Rattle.std.proofs.Common.{◌≡◌, inl, inr, ℕ, ℤ, pos, Bool, true, List, [], ◌∷◌, Some, None, ◌≤◌, ◌+◌, ◌*◌, ◌^◌, ◌-◌, refl, sym, ap, subst, ◌∙◌, arith}
+use Rattle.std.proofs.Common.{◌≡◌, inl, inr, ℕ, ℤ, pos, Bool, true, List, [], ◌∷◌, Some, ◌≤◌, ◌+◌, ◌*◌, refl, sym, ap, subst, ◌∙◌, arith}
 use Rattle.std.proofs.lemmas.Int.{ints, clamps}
 use Rattle.std.proofs.lemmas.Bool.{le-leb, eq-eqb, eqb-true, false≢true}
 use Rattle.std.proofs.lemmas.List.Elements.{All-head, All-tail}
 use Rattle.std.proofs.lemmas.Option.{slice_get-map, same_Some}
 use Rattle.lists.specs.TestLaws.{by_test}
 use Rattle.whole_numbers.specs.Numbers.{Divides}
-use Rattle.whole_numbers.specs.ProductLaws.{power_most}
 use Rattle.alf_ops.specs.declared.history.FrameShape.{FrameShape}
 use Rattle.alf_faults.specs.Sizes.{is_export_size}
 use Rattle.alf_check.specs.declared.rows.FrameRow.{FrameRow}
 use Rattle.alf_check.specs.declared.rows.InputRow.{InputRow}
 use Rattle.alf_check.specs.CheckedPrograms.{CheckedParts, NumberedProgram, seen}
-use Rattle.alf_check.specs.Kept.{IsKept, InitFits}
+use Rattle.alf_check.specs.Kept.{IsKept}
 use Rattle.alf_check.specs.Inputs.{KeepsInput, KeepInputs}
 use Rattle.flow_graph.specs.PathLaws.{function_there}
 use Rattle.domain_core.specs.WordSets.{IsWordSize}
@@ -37,7 +36,6 @@ use Rattle.transfer_rules.specs.FillingLaws.{args_of, entered_inits_kept}
 use Rattle.transfer_rules.specs.StartLaws.{range_is}
 use Rattle.transfer_rules.specs.CellStores.{IsCellAt}
 use Rattle.step_statements.specs.Typed.{IsStorable}
-use Rattle.step_statements.specs.Rooms.{HaveRoom}
 use Rattle.abstract_step.specs.Inputs.{IsRange, HasInputRoom, HaveInputRoom}
 
 -- ---- ranges
@@ -83,23 +81,6 @@ range_one row lo hi step range low high down none =
   where
     step_is : (if int_lt row.low row.high then pos 1 else pos 0) ≡ pos 0
     step_is = by_test (int_lt row.low row.high) (λ e. absurd (omega (arith, ints, clamps, e, down, low, high))) (λ e. rw e refl)
-
--- of numbers that are not far
-pub low_far : (row : InputRow) → IsRange row → neg_ℤ (pos (2 ^ 126)) ≤ℤ row.low
-low_far row range =
-    let size = size_is row range in
-    let most : row.size ≤ 64 = size.most in
-    let power : 2 ^ (row.size - 1) ≤ 2 ^ 126 = power_most (row.size - 1) (omega (arith, most)) in
-    let least : neg_ℤ (pos (2 ^ (row.size - 1))) ≤ℤ row.low = range.input.least in
-    omega (arith, ints, power, least)
-
-pub high_far : (row : InputRow) → IsRange row → row.high <ℤ pos (2 ^ 126)
-high_far row range =
-    let size = size_is row range in
-    let most : row.size ≤ 64 = size.most in
-    let power : 2 ^ row.size ≤ 2 ^ 126 = power_most row.size (omega (arith, most)) in
-    let high : row.high <ℤ pos (2 ^ row.size) = range.input.most in
-    omega (arith, ints, power, high)
 
 -- ---- one input
 
@@ -157,14 +138,6 @@ later_inputs parts new row others rows cons same runs room = record {
 }
 
 -- ---- starts
-
--- room for what global frames hold at first
-pub globals_room : (program : NumberedProgram) (parts : MemoryParts) → IsKept program → seen parts.checked ≡ program → HaveRoom parts program.inits
-globals_room program parts keeps same = record {
-  owner = None;
-  active = refl;
-  fit = subst (λ (p : NumberedProgram). All (InitFits p.frames None) program.inits) (sym same) keeps.inits;
-}
 
 -- room for inputs in the root
 pub inputs_room : (program : NumberedProgram) (before parts : MemoryParts) (rows : List InputRow) → IsKept program → KeepInputs program rows → seen parts.checked ≡ program → IsMemory before

@@ -1,21 +1,17 @@
 -- What code makes of a step.
 --   own_made, turn_made     memories of the program are those made of what they stand for, and so are the points of a step
---   turn_none, turn_one     nothing is next, and one point
---   turn_stops              a step ends where nothing is left
 --   turn_on                 what it makes of what is left, after the faults before
 use Rattle.std.specs.Prelude.{All}
-use Rattle.std.proofs.Common.{◌≡◌, ℕ, List, [], ◌∷◌, map, Some, None, refl, sym, ap, subst, ◌∙◌}
-use Rattle.std.proofs.lemmas.List.Elements.{All-nil, All-cons, All-head, All-tail}
+use Rattle.std.proofs.Common.{◌≡◌, ℕ, List, [], ◌∷◌, map, Some, refl, sym, ap, subst, ◌∙◌}
+use Rattle.std.proofs.lemmas.List.Elements.{All-head, All-tail}
 use Rattle.alf_check.specs.CheckedPrograms.{CheckedParts}
-use Rattle.flow_graph.specs.Nodes.{Goal}
-use Rattle.transfer_rules.specs.NodeNumbers.{goal_number}
 use Rattle.domain_core.specs.declared.fault_set.FaultSet.{FaultSet}
-use Rattle.domain_core.specs.FaultSets.{no_faults, either}
+use Rattle.domain_core.specs.FaultSets.{either}
 use Rattle.memory_model.specs.KeptMemories.{MemoryParts, memory_in}
 use Rattle.memory_model.specs.Made.{made}
 use Rattle.memory_model.specs.KeptMemoryLaws.{parts_are}
 use Rattle.transfer_rules.specs.Remains.{Remains, goes_on}
-use Rattle.transfer_rules.specs.Stepping.{Goals, to_goal, goals_left}
+use Rattle.transfer_rules.specs.Stepping.{Goals, goals_left}
 use Rattle.transfer_rules.specs.Machines.{numbered_goal}
 use Rattle.transfer_rules.specs.MadeMachines.{made_at}
 use Rattle.transfer_rules.specs.PartMachines.{IsOwn}
@@ -37,25 +33,6 @@ points_made checked (point ∷ points) own =
 pub turn_made : (here : HereParts) (next : List (ℕ × MemoryParts)) (faults : FaultSet) (r : Remains Goals) → IsTurn here next faults r
     → next ≡ map (made_at (made here.checked)) (map (numbered_goal here.graph) (goals_left r.left))
 turn_made here next faults r is = points_made here.checked next is.own ∙ ap (map (made_at (made here.checked))) is.goals
-
--- nothing is next
-pub turn_none : (here : HereParts) (faults : FaultSet) → IsTurn here [] faults (record { left = None; faults = faults })
-turn_none here faults = record { goals = refl; same = refl; own = All-nil (λ (point : ℕ × MemoryParts). IsOwn here.checked point.1) }
-
--- one point
-pub turn_one : (here : HereParts) (next : List (ℕ × MemoryParts)) (faults : FaultSet) (number : ℕ) (parts : MemoryParts) (goal : Goal) → IsOwn here.checked parts → number ≡ goal_number here.graph goal
-    → next ≡ (number, parts) ∷ [] → faults ≡ no_faults → IsTurn here next faults (to_goal goal (memory_in parts))
-turn_one here next faults number parts goal own is points none = record {
-  goals = ap (map seen_point) points ∙ ap (λ (n : ℕ). (n, memory_in parts) ∷ []) is;
-  same = none;
-  own = subst (All (λ (point : ℕ × MemoryParts). IsOwn here.checked point.1)) (sym points)
-      (All-cons (λ (point : ℕ × MemoryParts). IsOwn here.checked point.1) (number, parts) [] own (All-nil (λ (point : ℕ × MemoryParts). IsOwn here.checked point.1)));
-}
-
--- a step ends where nothing is left
-pub turn_stops : (A : Type 0) (here : HereParts) (next : List (ℕ × MemoryParts)) (faults : FaultSet) (r : Remains A) (further : A → Remains Goals) → record { left = None; faults = faults } ≡ r
-    → IsTurn here next faults (record { left = None; faults = faults }) → IsTurn here next faults (goes_on r further)
-turn_stops A here next faults r further same is = subst (λ (s : Remains A). IsTurn here next faults (goes_on s further)) same is
 
 -- what it makes of what is left
 pub turn_on : (A : Type 0) (here : HereParts) (next : List (ℕ × MemoryParts)) (faults before own : FaultSet) (a : A) (r : Remains A) (further : A → Remains Goals) → record { left = Some a; faults = before } ≡ r

@@ -34,9 +34,6 @@ when_either true b fault e = cc
 when_either false true fault e = cc
 when_either false false fault e = (refl, refl)
 
-pub neither_when : (a b : Bool) (fault : Fault) → a ≡ false → b ≡ false → when (a || b) fault ≡ []
-neither_when a b fault e f = rw (e, f) refl
-
 -- a test turned
 pub not_false : (test : Bool) → not test ≡ false → test ≡ true
 not_false true e = refl

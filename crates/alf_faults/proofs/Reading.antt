@@ -4,7 +4,7 @@ use Rattle.std.specs.List.{slice_get, flat_map}
 use Rattle.std.specs.Option.{option_map, option_or}
 use Rattle.std.proofs.lemmas.Option.{slice_get-map, slice_get_read}
 use Rattle.std.proofs.lemmas.List.{at_drop_more}
-use Rattle.alf_faults.specs.Fault.{Fault, earliest, each_from}
+use Rattle.alf_faults.specs.Fault.{Fault, earliest}
 use Rattle.alf_faults.proofs.EarliestFaults.{earliest-append}
 
 -- what the member of this place stands for
@@ -26,17 +26,3 @@ walk_found gives f xs i x fault low is found = rw (walk_turn gives f xs i x low 
 pub walk_passed : {A B : Type 0} (gives : B → List Fault) (f : A → B) (xs : List A) (i : ℕ) (x : A) → i < length xs → x ≡ get_or xs i x
     → None ≡ earliest (gives (f x)) → earliest (flat_map gives (map f (drop (i + 1) xs))) ≡ earliest (flat_map gives (map f (drop i xs)))
 walk_passed gives f xs i x low is none = rw (walk_turn gives f xs i x low is, ← none) refl
-
--- the same, where each member has its place
-placed_turn : {A B : Type 0} (gives : ℕ → B → List Fault) (f : A → B) (xs : List A) (i : ℕ) (x : A) → i < length xs → x ≡ get_or xs i x
-    → earliest (each_from gives i (map f (drop i xs))) ≡ option_or (earliest (gives i (f x))) (earliest (each_from gives (i + 1) (map f (drop (i + 1) xs))))
-placed_turn gives f xs i x low is =
-    at_drop_more (λ ys. earliest (each_from gives i (map f ys))) xs i x low ∙ rw (← is) (earliest-append (gives i (f x)) (each_from gives (i + 1) (map f (drop (i + 1) xs))))
-
-pub placed_found : {A B : Type 0} (gives : ℕ → B → List Fault) (f : A → B) (xs : List A) (i : ℕ) (x : A) (fault : Fault) → i < length xs → x ≡ get_or xs i x
-    → Some fault ≡ earliest (gives i (f x)) → Some fault ≡ earliest (each_from gives i (map f (drop i xs)))
-placed_found gives f xs i x fault low is found = rw (placed_turn gives f xs i x low is, ← found) refl
-
-pub placed_passed : {A B : Type 0} (gives : ℕ → B → List Fault) (f : A → B) (xs : List A) (i : ℕ) (x : A) → i < length xs → x ≡ get_or xs i x
-    → None ≡ earliest (gives i (f x)) → earliest (each_from gives (i + 1) (map f (drop (i + 1) xs))) ≡ earliest (each_from gives i (map f (drop i xs)))
-placed_passed gives f xs i x low is none = rw (placed_turn gives f xs i x low is, ← none) refl

@@ -8,8 +8,8 @@ use Rattle.alf_ops.specs.declared.history.RunFault.TheVariants.{Uninit, Dead, Bo
 use Rattle.alf_ops.specs.declared.history.FrameShape.{FrameShape}
 use Rattle.alf_ops.specs.declared.history.RunEvent.{RunEvent}
 use Rattle.alf_ops.specs.declared.history.RunEvent.TheVariants.{Enter, Store}
-use Rattle.alf_ops.specs.Values.{size_of, FitsValue}
-use Rattle.alf_ops.specs.Histories.{Byte, is_owner, put, origin, offsets, contents, cell_in, is_active, fits_in, address_in, loaded, load, stored, store, IsSound}
+use Rattle.alf_ops.specs.Values.{size_of}
+use Rattle.alf_ops.specs.Histories.{Byte, is_owner, put, origin, offsets, contents, cell_in, is_active, fits_in, address_in, loaded, load, stored, store}
 use Rattle.alf_ops.specs.HistoryLaws.{IsCellOf}
 use Rattle.alf_ops.specs.TableLaws.{put_same, put_other, same_cell, origin_stored, origin_elsewhere}
 use Rattle.lists.specs.TestLaws.{by_test}
@@ -166,11 +166,3 @@ enter_keeps frames history function frame row offset size known differ =
       cell = same_cell (origin row.owner frame (Enter function ∷ history)) (origin row.owner frame history) offset size
           (λ byte low high. rw (not_mine row.owner function differ) refl);
     })))
-
--- a store of a value that fits keeps a history sound
-pub store_sound : (frames : List FrameShape) (history after : List RunEvent) (place value : Value) → IsSound history → FitsValue (size_of value) value
-    → store frames history place value ≡ Ok after → IsSound after
-store_sound frames history after (Int size bits) value sound fits is = cc
-store_sound frames history after (Ptr frame offset) value sound fits is =
-    let s = is_stored frames history after frame offset value is in
-    subst (λ (events : List RunEvent). IsSound events) (sym s.1.after_is) (fits, sound)

@@ -1,45 +1,19 @@
 -- Names of rows: where none is found, and tests that a table is right.
-use Rattle.std.proofs.Common.{◌≡◌, ◌≢◌, ◌↔◌, ℕ, List, [], ◌∷◌, All, AllPairs, IsNone, Some, Bool, true, false, not, ◌&&◌, length, arith, map, ◌<◌, sym, ap, ◌∙◌, slice_index_or}
-use Rattle.std.specs.Prelude.{◌==◌, find, option_map, Option, None}
+use Rattle.std.proofs.Common.{◌≡◌, ◌≢◌, ℕ, List, [], ◌∷◌, All, AllPairs, Some, Bool, true, not, ◌&&◌, length, arith, map, ◌<◌, sym, ap, ◌∙◌, slice_index_or}
+use Rattle.std.specs.Prelude.{◌==◌}
 use Rattle.std.specs.Str.{bytes_eq}
 use Rattle.std.specs.List.{list_all, slice_get}
 use Rattle.std.proofs.lemmas.List.{get_or-map, length-map}
 use Rattle.std.proofs.lemmas.Option.{slice_get_within, get_or_from_slice_get}
 use Rattle.alf_ops.specs.declared.operator.Op.{Op}
 use Rattle.std.proofs.lemmas.Grind.{common_steps}
-use Rattle.std.proofs.lemmas.Bool.Decides.{not_from_Decides}
-use Rattle.std.proofs.lemmas.List.Elements.{All-cons, All-nil, All-weaker}
+use Rattle.std.proofs.lemmas.List.Elements.{All-cons, All-nil}
 use Rattle.std.proofs.lemmas.List.Kept.{AllPairs-cons}
 use Rattle.std.proofs.lemmas.Slice.Eq.{bytes_eq-Decides}
 use Rattle.alf_ops.specs.declared.table.OpRow.{OpRow}
 use Rattle.alf_ops.specs.Layouts.{size_count, operands_by_layout}
 use Rattle.alf_ops.specs.Table.{layout_of}
-use Rattle.lists.specs.FindingLaws.{find_none}
-use Rattle.lists.specs.TestLaws.{by_test}
-use Rattle.alf_ops.specs.Names.{operator_named, name_of, operators, spelling, TellsOperator}
-
--- none is found exactly where no row has the name
-pub none_is_named : (rows : List OpRow) (name : List ℕ) → IsNone (operator_named rows name) ↔ All (λ row. name_of row ≢ name) rows
-none_is_named rows name =
-    let none = find_none (λ row. bytes_eq (name_of row) name) rows in
-    let found = find (λ row. bytes_eq (name_of row) name) rows in (
-      λ missing. All-weaker (λ row. bytes_eq (name_of row) name ≡ false) (λ row. name_of row ≢ name) differ rows (none.0 (no_row found missing)),
-      λ all. no_operator found (none.1 (All-weaker (λ row. name_of row ≢ name) (λ row. bytes_eq (name_of row) name ≡ false) fails rows all)),
-    )
-  where
-    differ : (row : OpRow) → bytes_eq (name_of row) name ≡ false → name_of row ≢ name
-    differ row other e = not_from_Decides _ (bytes_eq-Decides (name_of row) name) other e
-
-    fails : (row : OpRow) → name_of row ≢ name → bytes_eq (name_of row) name ≡ false
-    fails row other = by_test (bytes_eq (name_of row) name) (λ same. absurd (other ((bytes_eq-Decides (name_of row) name).0 same))) (λ e. e)
-
-    no_row : (found : Option OpRow) → IsNone (option_map (λ row. row.op) found) → IsNone found
-    no_row None missing = missing
-    no_row (Some row) missing = missing
-
-    no_operator : (found : Option OpRow) → IsNone found → IsNone (option_map (λ row. row.op) found)
-    no_operator None missing = missing
-    no_operator (Some row) missing = missing
+use Rattle.alf_ops.specs.Names.{name_of, operators, spelling, TellsOperator}
 
 -- no name stands twice
 abbrev pub names_apart : List (List ℕ) → Bool

@@ -1,5 +1,5 @@
 -- What the laws of words say.
-use Rattle.std.proofs.Common.{◌≡◌, ℕ, [], ◌∷◌, ◌+◌, ◌-◌, ◌*◌, ◌/◌, ◌%◌, ◌^◌, ◌<◌, ◌≤◌, ℤ, pos, negsuc, neg_ℤ, true, false, refl, ap, ◌∙◌, arith}
+use Rattle.std.proofs.Common.{◌≡◌, ℕ, [], ◌∷◌, ◌+◌, ◌-◌, ◌*◌, ◌/◌, ◌%◌, ◌^◌, ◌<◌, ◌≤◌, ℤ, pos, negsuc, neg_ℤ, refl, ap, ◌∙◌, arith}
 use Rattle.std.proofs.lemmas.Grind.{common_steps}
 use Rattle.std.specs.Prelude.{◌≤ℤ◌, ◌<ℤ◌, ◌-ℤ◌, ◌*ℤ◌, int_lt, int_div, unsigned_abs, min, max, if◌then◌else◌}
 use Rattle.std.specs.Int.{int_min, int_max}
@@ -7,7 +7,7 @@ use Rattle.lists.specs.TestLaws.{by_test}
 use Rattle.std.proofs.lemmas.Int.{ints}
 use Rattle.std.proofs.lemmas.Nat.{pow_pos, pow-add, mod_below, mul-add-lt}
 use Rattle.alf_ops.specs.declared.operator.Op.TheVariants.{SDiv, SMod, Select, Conc, UMin, UMax, SMin, SMax}
-use Rattle.alf_ops.specs.TwosComplement.{word, signed, is_negative, distance}
+use Rattle.alf_ops.specs.TwosComplement.{word, signed}
 use Rattle.alf_ops.specs.Words.{value}
 use Rattle.alf_ops.specs.Histories.{byte_of}
 use Rattle.alf_ops.specs.WordLaws.{IsQuotient, Splits}
@@ -55,10 +55,6 @@ is_read size (negsuc n) positive low high =
     let small : n < 2 ^ size = grind (arith, ints, two) in
     let same : n % 2 ^ size ≡ n = mod_small n (2 ^ size) small in
     rw same (grind (arith, ints, two))
-
-pub by_highest_bit : (size a : ℕ) → a < 2 ^ size
-    → (2 ^ (size - 1) ≤ a → (is_negative size a ≡ true) × (distance size a ≡ 2 ^ size - a)) × (a < 2 ^ (size - 1) → (is_negative size a ≡ false) × (distance size a ≡ a))
-by_highest_bit size a below = (λ high. (grind (arith, ints), grind (arith, ints)), λ low. (grind (arith, ints), grind (arith, ints)))
 
 -- a quotient is truncated
 is_truncated : (x y : ℤ) → 0 < unsigned_abs y → IsQuotient x y (int_div x y)

@@ -8,10 +8,6 @@ abbrev pub passed_by : ℕ → Option ℕ → Option ℕ
 passed_by n None = None
 passed_by n (Some k) = Some (k + n)
 
-passed_none : (o : Option ℕ) → passed_by 0 o ≡ o
-passed_none None = refl
-passed_none (Some k) = let e : k + 0 ≡ k = omega arith in rw e refl
-
 passed_more : (n : ℕ) (o : Option ℕ) → passed_by n (one_more o) ≡ passed_by (n + 1) o
 passed_more n None = refl
 passed_more n (Some k) = let e : k + 1 + n ≡ k + (n + 1) = omega arith in rw e refl
@@ -19,9 +15,6 @@ passed_more n (Some k) = let e : k + 1 + n ≡ k + (n + 1) = omega arith in rw e
 -- no */ stands before i
 pub record CloseSoFar (i : ℕ) (bytes : List ℕ) : Type 0 where
   pub goes : passed_by i (to_close (drop i bytes)) ≡ to_close bytes
-
-pub close_starts : (bytes : List ℕ) → CloseSoFar 0 bytes
-close_starts bytes = record { goes = passed_none (to_close bytes) }
 
 close_step : (bs : List ℕ) (b : Bool) → 0 < length bs → closes bs ≡ b → to_close bs ≡ cond b (Some 2) (one_more (to_close (drop 1 bs)))
 unfolding to_close

@@ -25,7 +25,7 @@ use Rattle.alf_values.specs.Memories.{is_live, byte_in}
 use Rattle.alf_values.specs.Standing.{FrameStandsFor, StandsFor}
 use Rattle.alf_values.specs.Cells.{mark_of, running_of, held_frame, memory_of, IsKeptFrame, AreKept, IsFilled}
 use Rattle.alf_values.proofs.Writes.{length-written, written_in, written_out, out_of, held_after}
-use Rattle.alf_values.proofs.Functions.{get_map, map_found, live_same, live_other, mark_same, mark_other, mark_grows}
+use Rattle.alf_values.proofs.Functions.{get_map, map_found, live_same, live_other, mark_same, mark_other}
 
 -- the slots of one frame hold what the history left there, while it is active
 pub record FrameHolds (owner : Option ℕ) (bits : ℕ) (slots : List Slot) (active : Bool) (mark number : ℕ) (history : List RunEvent) : Type 0 where
@@ -165,16 +165,6 @@ module _ (frames : List Frame) (functions : List Activity) (function : ℕ) (act
     each = λ number frame known.
         frame_entered frame.shape.owner frame.shape.bits frame.slots.items number runs later (keeps number frame known).older (h.each number frame known);
   }
-
--- each frame is kept as it must be after a function's state was set with a mark that is no less
-pub set_kept : (frames : List Frame) (functions : List Activity) (function : ℕ) (activity : Activity) → function < length functions
-    → mark_of functions (Some function) ≤ activity.mark → AreKept frames functions → AreKept frames (slice_set functions function activity)
-set_kept frames functions function activity low later keeps number frame known =
-    let k = keeps number frame known in
-    record {
-      sized = k.sized;
-      older = λ byte slot get. omega (arith, k.older byte slot get, mark_grows functions function activity frame.shape.owner low later);
-    }
 
 -- ---- a value was stored
 

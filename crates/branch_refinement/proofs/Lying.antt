@@ -1,12 +1,11 @@
 -- Places lie in their frames.
---   found_cell       a cell that is tested, as a flag and a cell
 --   place_lies       the cell of a place lies in its frame
 --   pin_fits         a place that is found may be pinned
 --   side_fits        a side that is found fits the size of its expression
-use Rattle.std.specs.Prelude.{IfSome, slice_get, ◌↔◌, if◌then◌else◌}
+use Rattle.std.specs.Prelude.{IfSome, slice_get, if◌then◌else◌}
 use Rattle.std.specs.Option.{option_map}
 use Rattle.std.specs.Result.{result_ok}
-use Rattle.std.proofs.Common.{◌≡◌, ℕ, Bool, true, false, List, [], ◌∷◌, Option, Some, None, Ok, IsTrue, refl, sym, ap, subst}
+use Rattle.std.proofs.Common.{◌≡◌, ℕ, Bool, true, false, List, [], ◌∷◌, Option, Some, None, refl, sym, subst}
 use Rattle.std.proofs.lemmas.Option.{none-some, same_Some}
 use Rattle.lists.specs.TestLaws.{by_test}
 use Rattle.lists.specs.ImageLaws.{some_image}
@@ -37,25 +36,6 @@ none_is : {A B : Type 0} (a : A) → None ≡ Some a → B
 none_is a e = absurd (none-some a e)
 
 -- ---- cells that are tested
-
--- the test's cell, where it passes
-abbrev cell_if : Bool → ℕ × ℕ → Option (ℕ × ℕ)
-cell_if has cell = if has then Some cell else None
-
-tested_cell : (found : Option FrameShape) (runs : ℕ → Bool) (frame offset size : ℕ) (has : Bool) → IsTrue has ↔ (tested_in found runs frame offset size ≡ Ok (frame, offset))
-    → cell_if has (frame, offset) ≡ result_ok (tested_in found runs frame offset size)
-tested_cell found runs frame offset size true is = ap result_ok (sym (is.0 refl))
-tested_cell None runs frame offset size false is = refl
-tested_cell (Some row) runs frame offset size false is = by_test (is_on runs row.owner)
-    (λ on. by_test (fits_in row.bits offset size)
-    (λ room. let bad : IsTrue false = is.1 (rw (on, room) refl) in cc)
-    (λ past. rw (on, past) refl))
-    (λ off. rw off refl)
-
--- a cell that is tested, as a flag and a cell
-pub found_cell : (rows : List FrameShape) (runs : ℕ → Bool) (frame offset size : ℕ) (has : Bool) → IsTrue has ↔ (tested rows runs (Ptr frame offset) size ≡ Ok (frame, offset))
-    → cell_if has (frame, offset) ≡ result_ok (tested rows runs (Ptr frame offset) size)
-found_cell rows runs frame offset size has is = tested_cell (slice_get rows frame) runs frame offset size has is
 
 -- ---- where places lie
 

@@ -3,7 +3,7 @@
 --   left_sized              what an expression gives has its size
 --   words_sized             so have its words
 --   operand_sized           and the one operand of an operator
---   address_typed, operand_typed, compared_typed   parts of expressions that keep the rules of the checks
+--   compared_typed   parts of expressions that keep the rules of the checks
 --   load_cell               the size of a load is a cell's
 --   one_operand             an extension has one operand, which has its first size
 use Rattle.std.specs.Prelude.{IfSome, IsSome, if◌then◌else◌}
@@ -84,17 +84,10 @@ operand_sized parts table k (size ∷ []) e o kept have is = go o (subst (λ (x 
 pub load_cell : (size : ℕ) (at : NumberedExpression) → IsTyped (Load size at) → IsCellSize size
 load_cell size at typed = cell_size size typed.has.cell
 
--- the address of a load
-pub address_typed : (size : ℕ) (at : NumberedExpression) → IsTyped (Load size at) → IsTyped at
-address_typed size at typed = record { table = typed.table; function = typed.function; size = 32; has = typed.has.address }
-
 -- an operator's one operand
 first_typed : (table : List FrameRow) (k : ℕ) (sizes : List ℕ) (e : NumberedExpression) (es : NumberedExpressions) → HaveSizes table k sizes (With e es) → IsTyped e
 first_typed table k [] e es have = absurd have
 first_typed table k (size ∷ sizes) e es have = record { table = table; function = k; size = size; has = have.0 }
-
-pub operand_typed : (op : Op) (sizes : List ℕ) (e : NumberedExpression) (es : NumberedExpressions) → IsTyped (Apply op sizes (With e es)) → IsTyped e
-operand_typed op sizes e es typed = first_typed typed.table typed.function (operand_sizes op sizes) e es typed.has.operands
 
 -- and the second
 second_have : (table : List FrameRow) (k : ℕ) (sizes : List ℕ) (e f : NumberedExpression) (es : NumberedExpressions) → HaveSizes table k sizes (With e (With f es)) → IsTyped f

@@ -1,13 +1,12 @@
 -- What a switch's expression tells.
 --   is_refined        the memories of arms are those of the rules
 --   refinement_fits, sized_fit   its places may be pinned to words of the expression
---   place_told, extension_told, comparison_told   what expressions tell
+--   place_told, comparison_told   what expressions tell
 --   tells_nothing, two_members, compared_told     and operators at operands as they stand
 use Rattle.std.specs.Prelude.{IfSome, IfOk, slice_index, if◌then◌else◌}
 use Rattle.std.specs.Option.{option_map, option_and_then}
-use Rattle.std.proofs.Common.{◌≡◌, ◌≤◌, ◌<◌, ℕ, true, false, List, [], ◌∷◌, length, map, get_or, Option, Some, None, Result, Ok, Err, refl, sym, ap, subst, ◌∙◌, arith}
+use Rattle.std.proofs.Common.{◌≡◌, ◌≤◌, ◌<◌, ℕ, false, List, [], ◌∷◌, length, map, get_or, Option, Some, None, Result, Ok, Err, refl, sym, ap, subst, ◌∙◌, arith}
 use Rattle.std.proofs.lemmas.Option.{none-some, same_Some}
-use Rattle.std.proofs.lemmas.Bool.{false≢true}
 use Rattle.std.proofs.lemmas.List.{length-map}
 use Rattle.alf_ops.specs.declared.operator.Op.{Op}
 use Rattle.alf_ops.specs.declared.operator.Op.TheVariants as ops
@@ -31,11 +30,9 @@ use Rattle.transfer_rules.specs.Refining.{Place as SeenPlace, Comparison, is_ext
 use Rattle.transfer_rules.specs.ComparisonLaws.{relation_is, compared_sizes}
 use Rattle.step_statements.specs.Typed.{IsTyped}
 use Rattle.branch_refinement.specs.declared.refinements.Place.{Place}
-use Rattle.branch_refinement.specs.declared.refinements.Side.{Side}
 use Rattle.branch_refinement.specs.declared.refinements.Refinement.{Refinement}
 use Rattle.branch_refinement.specs.declared.refinements.Refinement.TheVariants.{Nothing, At, Between}
 use Rattle.branch_refinement.specs.Places.{seen_place, PinFits}
-use Rattle.branch_refinement.specs.Sides.{IsSide}
 use Rattle.branch_refinement.specs.Refinements.{sides_by, refined_by, of_place, IsComparing, IsRefinement, Refines}
 use Rattle.branch_refinement.proofs.Reading.{left_sized}
 use Rattle.branch_refinement.proofs.Lying.{pin_fits, side_fits}
@@ -125,20 +122,6 @@ pub place_told : (rows : List FrameShape) (m : Mem abstract_sets) (e : NumberedE
     → IsRefinement rows m e (of_place o)
 place_told rows m e None is none = (sym is, none)
 place_told rows m e (Some place) is none = sym is
-
-not_related : (op : Op) → is_extension op ≡ true → relation_of op ≡ None
-not_related op extends = go op extends
-  where
-    go : (op : Op) → is_extension op ≡ true → relation_of op ≡ None
-    go ops.SExt e = refl
-    go ops.ZExt e = refl
-    go _ e = absurd (false≢true e)
-
--- an extension
-pub extension_told : (rows : List FrameShape) (m : Mem abstract_sets) (op : Op) (sizes : List ℕ) (es : NumberedExpressions) (side : Side) → is_extension op ≡ true → IsSide rows m (Apply op sizes es) side
-    → IsRefinement rows m (Apply op sizes es) (of_place side.place)
-extension_told rows m op sizes es side extends is =
-    place_told rows m (Apply op sizes es) side.place is.place (ap (λ (o : Option Rel). option_and_then (λ rel. sides_of rel es) o) (not_related op extends))
 
 -- a comparison
 pub comparison_told : (rows : List FrameShape) (m : Mem abstract_sets) (op : Op) (sizes : List ℕ) (rel : Rel) (x y : NumberedExpression) (r : Refinement) → is_extension op ≡ false

@@ -48,10 +48,6 @@ choose : (P : Symbol → Type 0) (b : Bool) (x y : Symbol) → P x → P y → P
 choose P true x y h i = h
 choose P false x y h i = i
 
-choose_op : (P : Option Binary → Type 0) (b : Bool) (x y : Option Binary) → P x → P y → P (if b then x else y)
-choose_op P true x y h i = h
-choose_op P false x y h i = i
-
 abbrev Mark : Symbol → Type 0
 Mark s = is_mark s ≡ true
 

@@ -1,8 +1,8 @@
 -- Tokens that have been cut, and those that are still to come.
 --   Cut text done n rest   so many have been cut, and with the rest, numbered from there on, they are all of the text; so are the words
-use Rattle.std.proofs.Common.{◌≡◌, ℕ, ◌+◌, ◌-◌, List, [], ◌∷◌, ◌++◌, length, map, refl, sym, ap, subst, ◌∙◌, append_assoc}
+use Rattle.std.proofs.Common.{◌≡◌, ℕ, ◌+◌, ◌-◌, List, [], ◌∷◌, ◌++◌, length, map, refl, append_assoc}
 use Rattle.std.specs.List.{All}
-use Rattle.std.proofs.lemmas.List.{append-nil, map-append}
+use Rattle.std.proofs.lemmas.List.{map-append}
 use Rattle.std.proofs.lemmas.List.Elements.{All-head, All-tail}
 use Rattle.c_tokens.specs.Tokens.{Lexeme, tokens_of}
 use Rattle.c_tokens.specs.Laws.{StandsIn}
@@ -23,13 +23,6 @@ cut_of text n t = record { symbol = symbol_of t.kind t.text; number = n; span = 
 abbrev pub seen_of : ℕ → Lexeme → Seen
 seen_of n t = record { symbol = symbol_of t.kind t.text; number = n; text = t.text }
 
-pub cut_starts : (text : List ℕ) (rest : List Lexeme) → All (StandsIn text) (tokens_of text) → rest ≡ tokens_of text → Cut text [] 0 rest
-cut_starts text rest stand e = record {
-  joined = ap (numbered 0) e;
-  words = ap (map (word_of text)) e;
-  stand = subst (All (StandsIn text)) (sym e) stand;
-}
-
 pub cut_more : (text : List ℕ) (done : List CutToken) (n : ℕ) (t : Lexeme) (rest : List Lexeme) → Cut text done n (t ∷ rest) → Cut text (done ++ cut_of text n t ∷ []) (n + 1) rest
 cut_more text done n t rest c =
     let here = All-head (StandsIn text) t rest c.stand in
@@ -40,9 +33,3 @@ cut_more text done n t rest c =
       words = rw (map-append (word_in text) done (cut_of text n t ∷ []), append_assoc (map (word_in text) done) (word_in text (cut_of text n t) ∷ []) (map (word_of text) rest), word) c.words;
       stand = All-tail (StandsIn text) t rest c.stand;
     }
-
-pub cut_ends : (text : List ℕ) (done : List CutToken) (n : ℕ) (rest : List Lexeme) → Cut text done n rest → rest ≡ [] → map (seen_in text) done ≡ numbered 0 (tokens_of text)
-cut_ends text done n rest c e = sym (append-nil (map (seen_in text) done)) ∙ ap (λ (ts : List Lexeme). map (seen_in text) done ++ numbered n ts) (sym e) ∙ c.joined
-
-pub words_end : (text : List ℕ) (done : List CutToken) (n : ℕ) (rest : List Lexeme) → Cut text done n rest → rest ≡ [] → map (word_in text) done ≡ map (word_of text) (tokens_of text)
-words_end text done n rest c e = sym (append-nil (map (word_in text) done)) ∙ ap (λ (ts : List Lexeme). map (word_in text) done ++ map (word_of text) ts) (sym e) ∙ c.words

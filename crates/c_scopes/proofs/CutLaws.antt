@@ -83,10 +83,6 @@ one_more e es start starts low =
     let count : suc (length es) - start ≡ suc (length es - start) = omega arith in
     rw count refl
 
-pub cut_begun : (n : ℕ) (starts : List ℕ) → IsCut n starts → IsCut n (begun starts)
-cut_begun n [] cut = (omega arith, refl)
-cut_begun n (start ∷ starts) cut = cut
-
 pub begun_more : (e : Entry) (es : Scope) (starts : List ℕ) → IsCut (length es) starts → scopes_from (e ∷ es) (begun starts) ≡ with_name e (scopes_from es starts)
 begun_more e es [] cut = rw (none_left es cut) refl
 begun_more e es (start ∷ starts) cut = one_more e es start starts cut.0

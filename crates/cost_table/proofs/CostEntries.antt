@@ -1,6 +1,5 @@
 -- Entries of costs, and the table after one.
 --   entry_some    an entry with its keys
---   entries_some  the entries of a document
 --   not_named, block_is, no_block   a block that an entry names, and one that is not there
 --   table_more    the table after one more entry
 use Rattle.std.proofs.Common.{◌≡◌, ◌<◌, ◌≤◌, ⊎_elim, ℕ, true, ◌&&◌, nat_eq, List, [], ◌∷◌, ◌++◌, length, Option, Some, None, unwrap_or, refl, ap, sym, ◌∙◌, subst, arith}
@@ -10,8 +9,8 @@ use Rattle.toml.specs.Data.{Data, Members}
 use Rattle.alf_check.specs.CheckedPrograms.{NumberedProgram, blocks_at}
 use Rattle.cost_table.specs.declared.cost_entry.BlockCost.{BlockCost}
 use Rattle.cost_table.specs.CostTables.{CostTable, HasRows, cost_at, row_at, with_cost}
-use Rattle.cost_table.specs.Costs.{HasBlock, IsBlock, IsCostTable, below, cost_by, cost_entry, cost_members, cost_entries, cost_of, default_cost, function_named, is_cost_key, is_cost_top}
-use Rattle.cost_table.specs.Documents.{entries_at, only_keys, text_at, number_at}
+use Rattle.cost_table.specs.Costs.{HasBlock, IsBlock, IsCostTable, below, cost_by, cost_entry, cost_members, cost_of, function_named, is_cost_key}
+use Rattle.cost_table.specs.Documents.{only_keys, text_at, number_at}
 use Rattle.cost_table.proofs.Orders.{below_or_not}
 use Rattle.cost_table.proofs.Numbers.{below_is, below_some}
 use Rattle.cost_table.proofs.Costing.{cost_with, row_long, rows_with, told_more}
@@ -19,10 +18,6 @@ use Rattle.cost_table.proofs.Costing.{cost_with, row_long, rows_with, told_more}
 -- an entry with its keys
 pub entry_some : (ms : Members) (function : List ℕ) (told : BlockCost) → only_keys is_cost_key ms ≡ true → text_at (codes "function") ms ≡ Some function → number_at (codes "block") ms ≡ Some told.block → number_at (codes "cost") ms ≡ Some told.cost → cost_members ms ≡ Some (function, told)
 entry_some ms function told keys function_is block_is cost_is = rw (keys, function_is, block_is, cost_is) refl
-
--- the entries of a document
-pub entries_some : (ms : Members) (default : ℕ) (entries : List Data) → only_keys is_cost_top ms ≡ true → default_cost ms ≡ Some default → entries_at (codes "cost") ms ≡ Some entries → cost_entries ms ≡ Some entries
-entries_some ms default entries keys default_is entries_are = rw (keys, default_is, entries_are) refl
 
 -- an entry of a block gives its cost to this block alone
 given : (program : NumberedProgram) (datum : Data) (entry : List ℕ × BlockCost) (f b cost g c : ℕ) → cost_entry datum ≡ Some entry → cost_of entry.1.cost ≡ Some cost → IsBlock program entry f b → cost_by program g c datum ≡ (if nat_eq g f && nat_eq c b then Some cost else None)

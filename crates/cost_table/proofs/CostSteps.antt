@@ -1,7 +1,6 @@
 -- The loop over the entries of costs.
 --   CostsSoFar     the table of the first entries, which are right
 --   costs_more     that of one entry more
---   no_costs_yet   that of none
 use Rattle.std.proofs.Common.{◌≡◌, ◌≤◌, ◌+◌, ℕ, List, [], ◌∷◌, ◌++◌, length, take, Some, slice_get, sym, subst, arith}
 use Rattle.std.proofs.lemmas.Option.{slice_get_within}
 use Rattle.toml.specs.Data.{Data}
@@ -23,12 +22,4 @@ costs_more program default entries n table more datum so_far at right is = recor
   within = let low = slice_get_within entries n datum at in omega arith;
   is = subst (λ (es : List Data). IsCostTable program default es more) (sym (more_entries entries n datum at)) is;
   below = right_more (cost_judging program) entries n datum so_far.below at right;
-}
-
--- the table of none
-pub no_costs_yet : (program : NumberedProgram) (default : ℕ) (entries : List Data) (table : CostTable) → IsCostTable program default [] table → CostsSoFar program default entries 0 table
-no_costs_yet program default entries table is = record {
-  within = omega arith;
-  is = is;
-  below = λ k datum low stands. absurd (omega arith);
 }

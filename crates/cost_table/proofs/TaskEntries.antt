@@ -15,12 +15,11 @@ use lib.Signed.{◌≤ℤ◌}
 use Rattle.toml.specs.Data.{Data, Members}
 use Rattle.cost_table.specs.declared.task_set.Task.{Task}
 use Rattle.cost_table.specs.declared.task_entry.TaskNumbers.{TaskNumbers}
-use Rattle.cost_table.specs.declared.task_entry.Sizes.{Sizes}
 use Rattle.cost_table.specs.Documents.{only_keys, text_at, number_at}
 use Rattle.cost_table.specs.Entries.{RightBelow}
 use Rattle.cost_table.specs.Inputs.{whole}
 use Rattle.cost_table.specs.Tasks.{IsInRange}
-use Rattle.cost_table.specs.TaskFiles.{AreInRange, HasNumbers, IsFrom, IsRightTask, entry_tasks, is_task_key, task_entry, task_judging, task_members, task_of, tasks_in}
+use Rattle.cost_table.specs.TaskFiles.{AreInRange, IsFrom, IsRightTask, entry_tasks, is_task_key, task_entry, task_judging, task_members, task_of, tasks_in}
 use Rattle.cost_table.proofs.Steps.{more_made, right_more}
 
 -- an entry with its keys
@@ -50,10 +49,6 @@ in_range entry are = record {
 -- the tasks of an entry that has its keys
 pub made_of : (datum : Data) (entry : List ℕ × TaskNumbers) → task_entry datum ≡ Some entry → entry_tasks datum ≡ task_of entry ∷ []
 made_of datum entry is = ap (λ (told : Option (List ℕ × TaskNumbers)). option_map_or (λ (e : List ℕ × TaskNumbers). task_of e ∷ []) told []) is
-
--- the task with these numbers
-pub task_is : (entry : List ℕ × TaskNumbers) (sizes : Sizes) → HasNumbers entry.1 sizes → task_of entry ≡ record { name = entry.0; cost = sizes.cost; period = sizes.period; deadline = sizes.deadline; priority = sizes.priority }
-task_is entry sizes has = rw (has.cost, has.period, has.deadline, has.priority) refl
 
 -- the tasks of the first n entries, which are right
 pub record TasksSoFar (entries : List Data) (n : ℕ) (tasks : List Task) : Type 0 where

@@ -423,10 +423,6 @@ ending_reads = refl
 abbrev end_tokens : List Lexeme
 end_tokens = tokens printing [] ending_marks
 
--- what stands before the end
-cert_tokens : Option Certificate → List Lexeme
-cert_tokens c = tokens printing end_tokens (if_any cert_marks c)
-
 maybe_cert_reads : (c : Option Certificate) → IfSome c CertificateIsWritable
     → (maybe (line_is (codes "cert")) cert).form.reading (after (tokens printing end_tokens (if_any cert_marks c)))
     ≡ Ok (c, after end_tokens)

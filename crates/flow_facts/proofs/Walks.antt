@@ -1,5 +1,5 @@
 -- What is known along a trace is what the definitions say of it.
---   tally_step, seen_step        what is known one node later
+--   seen_step        what is known one node later
 --   all_executions               the test of the executions that are found tells of all of the run
 --   all_iterations               and so does that of the iterations
 use Rattle.std.proofs.Common.{◌≡◌, ◌+◌, ◌≤◌, ◌==◌, ◌&&◌, ◌||◌, not, ℕ, Bool, true, false, List, [], ◌∷◌, ◌↔◌, cond, Contains, reverse, refl, ap, sym, ◌∙◌, subst, arith}
@@ -16,10 +16,9 @@ use Rattle.domain_core.specs.Parts.{further}
 use Rattle.domain_core.specs.Executions.{IsExecution, IsIteration, is_header, open_execution, closed_executions, executions, open_iteration, closed_iterations, iterations}
 use Rattle.domain_core.specs.ExecutionLaws.{found_execution, execution_found}
 use Rattle.domain_core.specs.IterationLaws.{found_iteration, iteration_found}
-use Rattle.flow_facts.specs.declared.executions.Tally.{Tally}
 use Rattle.flow_facts.specs.declared.iterations.Seen.{Seen}
 use Rattle.flow_facts.specs.Facts.{places, IsBetween}
-use Rattle.flow_facts.specs.Walking.{is_some_part, has, fits, are_apart, tally_of, tally_after, tally_ends, seen_of, seen_after, seen_ends}
+use Rattle.flow_facts.specs.Walking.{is_some_part, has, fits, are_apart, tally_of, tally_ends, seen_of, seen_after, seen_ends}
 
 -- ---- one node later
 
@@ -35,24 +34,6 @@ places_more n m nodes = sum_by-cons (λ k. cond (n == k) 1 0) m nodes ∙ by (n 
 all_with_closed : (test : List ℕ → Bool) (part : List ℕ) (others : List (List ℕ)) → list_all test (with_closed part others) ≡ (not (is_some_part part) || test part) && list_all test others
 all_with_closed test [] others = refl
 all_with_closed test (n ∷ part) others = refl
-
--- what is known where the scope holds the node, or does not
-tally_at : (n low high m : ℕ) (part : List ℕ) (others : List (List ℕ)) (v : Bool)
-    → (let tally : Tally = record {
-      inside = is_some_part (cond v (m ∷ part) []);
-      count = places n (cond v (m ∷ part) []);
-      others_fit = list_all (λ e. fits n low high e) (cond v others (with_closed part others));
-    } in tally)
-    ≡ tally_after low high v (n == m) (record { inside = is_some_part part; count = places n part; others_fit = list_all (λ e. fits n low high e) others })
-tally_at n low high m part others true =
-    let made : ℕ → Tally = λ k. record { inside = true; count = k; others_fit = list_all (λ e. fits n low high e) others } in
-    ap made (places_more n m part)
-tally_at n low high m part others false =
-    let made : Bool → Tally = λ b. record { inside = false; count = 0; others_fit = b } in
-    ap made (all_with_closed (λ e. fits n low high e) part others)
-
-pub tally_step : (o : Shape) (s n low high m : ℕ) (past : List ℕ) → tally_of o s n low high (m ∷ past) ≡ tally_after low high (is_held o s m) (n == m) (tally_of o s n low high past)
-tally_step o s n low high m past = tally_at n low high m (open_execution o s past) (closed_executions o s past) (is_held o s m)
 
 -- of an iteration and others none has both nodes
 apart_with_closed : (a b : ℕ) (part : List ℕ) (others : List (List ℕ)) → list_all (λ i. are_apart a b i) (with_closed part others) ≡ are_apart a b part && list_all (λ i. are_apart a b i) others

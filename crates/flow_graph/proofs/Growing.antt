@@ -3,7 +3,7 @@
 --   inserted        nodes with one more at its gap are in their order
 --   put_grown       a node that was put into its gap
 --   put_overflows   a node that has a gap among as many nodes as there may be
---   grown_none, grown_more   nodes grow by none, and by one more
+--   grown_more   nodes grow by none, and by one more
 --   grown_as        new nodes told otherwise
 --   overflow_more   so with too many
 use Rattle.std.proofs.Common.{◌≡◌, ◌≢◌, ◌<◌, ◌≤◌, ◌+◌, ◌-◌, ◌⊎◌, ℕ, List, [], ◌∷◌, ◌++◌, map, length, length-append, get_or, take, drop, Contains, AllPairs, inl, inr, refl, ap, sym, ◌∙◌, subst, arith}
@@ -124,21 +124,6 @@ module _ (nodes : List Node) (node : Node) (at : ℕ) where
         each = All-cons (λ (n : Node). Contains nodes n ⊎ (n ≡ node)) node nodes (inr refl) (all_members (λ (n : Node). Contains nodes n ⊎ (n ≡ node)) nodes (λ n h. inl h));
         many = omega arith;
       }
-
--- nodes that grow by none
-pub grown_none : (nodes pending : List Node) (New : Node → Type 0) → AllPairs IsBefore nodes → length nodes ≤ most_nodes → ((n : Node) → New n → Contains nodes n) → IsGrown nodes pending New nodes pending
-grown_none nodes pending New ascends few there = record {
-  ascends = ascends;
-  few = few;
-  still = λ n h. h;
-  new = there;
-  only = λ n h. inl h;
-  waits = λ n h. inl h;
-  still_waits = λ n h. h;
-  waits_only = λ n h. inl h;
-  longer = omega arith;
-  balance = refl;
-}
 
 -- nodes that grow by some, and then by more
 module _ (a p : List Node) (New : Node → Type 0) (b q : List Node) (Next : Node → Type 0) (Both : Node → Type 0)

@@ -5,7 +5,7 @@
 --   rank_before      of one path the entry comes first, and blocks are in their order
 --   row_first, row_more, row_all   the edges to nodes of one instance, block by block
 --   end_more         the edge to the end
---   none_listed, all_listed   no edge, and all
+--   all_listed   no edge, and all
 use Rattle.std.proofs.Common.{◌≡◌, ◌<◌, ◌+◌, ◌⊎◌, ℕ, List, [], ◌∷◌, ◌++◌, length, Option, Some, None, slice_get, get_or, take, reverse, Contains, AllPairs, inl, inr, refl, ap, sym, ◌∙◌, subst, arith}
 use Rattle.std.specs.declared.cmp.Ordering.{Ordering}
 use Rattle.std.specs.declared.cmp.Ordering.TheVariants.{Less}
@@ -201,10 +201,6 @@ module _ (program : NumberedProgram) (nodes : List Node) (k : ℕ) where
             inr (e, subst (λ (goal : Goal). IsNumberOf nodes goal v) ends step.to)
       ])
       (listed_push (IsDoneBefore program nodes k) edges k (length nodes) listed (λ u v h. inl h.0))
-
--- no edge
-pub none_listed : (program : NumberedProgram) (nodes : List Node) → IsListed (IsDoneBefore program nodes 0) []
-none_listed program nodes = record { ascends = λ i j d before inside. absurd (omega arith); each = λ i d inside. absurd (omega arith); all = λ u v h. let low = h.0 in absurd (omega arith) }
 
 -- all edges
 pub all_listed : (program : NumberedProgram) (nodes : List Node) (edges : List (ℕ × ℕ)) → IsListed (IsDoneBefore program nodes (length nodes)) edges → IsEdges program nodes edges

@@ -16,9 +16,6 @@ use Rattle.flow_graph.specs.Places.{node_at}
 use Rattle.flow_graph.specs.Goals.{GoalsHave, GoesToTargets, AreGoals}
 use Rattle.flow_graph.specs.declared.goals.Goals.{Goals}
 
-abbrev target_block : ℕ × ℕ → ℕ
-target_block target = target.1
-
 -- all has been read
 pub whole_read : (xs : List ℕ) (ts : List (ℕ × ℕ)) (k others : ℕ) → length ts ≤ k → xs ++ map (λ (target : ℕ × ℕ). target.1) (drop k ts) ≡ others ∷ map (λ (target : ℕ × ℕ). target.1) ts
     → xs ≡ others ∷ map (λ (target : ℕ × ℕ). target.1) ts

@@ -2,17 +2,14 @@
 --   there_is          there is a slot at a place of a frame
 --   left_alone        where no cell has more bits the slot is left
 --   dropped, marked   cells of more bits are dropped, or get x
---   slot_mixed        the slot that is put in the cell of a weak store
 use Rattle.std.specs.Prelude.{slice_get, slice_set}
 use Rattle.std.proofs.Common.{◌≡◌, sym, subst, ◌∙◌, ap, ℕ, suc, zero, true, List, [], ◌∷◌, Some, None, refl, arith, ◌<◌, length}
-use Rattle.memory_pages.specs.declared.held.Held.{Held}
 use Rattle.memory_pages.specs.Slots.{HeldSlot, cell_of, without_wider, with_wider_marked}
-use Rattle.pointer_rules.specs.AbstractValues.{AbstractValue}
 use Rattle.memory_rules.specs.Frames.{with_x}
 use Rattle.memory_rules.specs.AbstractSets.{abstract_sets}
 use Rattle.memory_model.specs.HeldFrames.{is_cell_size, byte_seen, cell_in, frame_of}
 use Rattle.memory_model.specs.SlotStores.{CellChange}
-use Rattle.frame_memory.specs.Places.{CellsBySize, with_place, wider, mixed_slot, IsMixedAt, Becomes}
+use Rattle.frame_memory.specs.Places.{CellsBySize, with_place, wider, Becomes}
 use Rattle.frame_memory.proofs.SlotFrames.{put_becomes, same_becomes, none_wider, narrow_cells, marked_cells, byte_found, cells_found}
 
 -- there is a slot at a place of a frame
@@ -60,8 +57,3 @@ module _ (slots : List HeldSlot) (place : ℕ) (slot : HeldSlot) (than : ℕ) (f
     pub marked : new ≡ slice_set slots place (with_wider_marked slot than)
         → Becomes slots new (with_place (frame_of slots) place ((frame_of slots).bytes place) (wider (with_x abstract_sets) than ((frame_of slots).cells place)))
     marked put = put_wider (with_x abstract_sets) (with_wider_marked slot than) put refl (put_becomes slots place (with_wider_marked slot than) low refl) (λ width. marked_cells slot than width)
-
--- the slot that is put in the cell of a weak store
-pub slot_mixed : (slots new : List HeldSlot) (place at size : ℕ) (slot : HeldSlot) (cell : Held) (value : AbstractValue) → slice_get slots place ≡ Some slot
-    → new ≡ slice_set slots place (mixed_slot slot at size cell value) → IsMixedAt slots new place at size cell value
-slot_mixed slots new place at size slot cell value there put = record { slot = slot; there = there; put = put }

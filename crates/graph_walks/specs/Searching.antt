@@ -12,6 +12,7 @@ use Rattle.graph_walks.specs.MarkedNodes.{IsMarked, KeepsMarks, ReachesPast, IsP
 
 -- the place has the first node without a mark, from the first place on
 pub record IsFresh (row : List ℕ) (marks : List Bool) (first place : ℕ) : Type 0 where
+  pub from : first ≤ place
   pub within : place < length row
   pub clear : slice_index_or marks (slice_index row place) false ≡ false
   pub before : (k : ℕ) → first ≤ k → k < place → IsMarked marks (slice_index row k)

@@ -12,12 +12,6 @@ use Rattle.progressions.specs.PartLaws.{moved_is}
 use Rattle.progressions.specs.Limits.{IsSmall}
 use Rattle.strided_operators.specs.Limits.{CanPlace}
 
-pub small_places : (p : Progression) → IsProgression p → IsSmall p → CanPlace p
-small_places p is s = record { progression = is; low = omega (arith, ints, s.low); high = omega (arith, ints, s.high) }
-
-pub negated_places : (p : Progression) → IsProgression p → IsSmall p → CanPlace (negated p)
-negated_places p is s = record { progression = negated_is p is; low = omega (arith, ints, s.high); high = omega (arith, ints, s.low) }
-
 pub lowered_places : (p : Progression) → IsProgression p → IsSmall p → CanPlace (moved (neg_ℤ (pos 1)) (negated p))
 lowered_places p is s = record { progression = moved_is (neg_ℤ (pos 1)) (negated p) (negated_is p is); low = omega (arith, ints, s.high); high = omega (arith, ints, s.low) }
 

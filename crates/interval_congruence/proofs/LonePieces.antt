@@ -1,6 +1,5 @@
 -- Numbers that need no turn to be words, which are their own one piece.
 --   unsigned_turn, signed_turn   their pieces
---   turn_far                     they lie within 2 to the 64
 --   each_alone                   the join over one piece
 --   word_low                     a number from 0 on is its own word
 use Rattle.std.proofs.Common.{◌≡◌, ◌∙◌, ap, sym, refl, true, false, ℕ, ℤ, pos, neg_ℤ, ◌≤◌, ◌<◌, ◌^◌, arith, Some, None}
@@ -8,9 +7,9 @@ use Rattle.std.specs.Prelude.{◌-ℤ◌, ◌≤ℤ◌, ◌<ℤ◌, int_le, int_
 use Rattle.std.proofs.lemmas.Int.{ints}
 use Rattle.progressions.specs.declared.ends.Progression.{Progression}
 use Rattle.progressions.specs.declared.ends.Pieces.{Pieces}
-use Rattle.progressions.specs.Progressions.{IsPlaced, full, half}
-use Rattle.progressions.specs.ProgressionLaws.{halves, full_most}
-use Rattle.progressions.specs.Parts.{IsPiece, from_least, up_to, unsigned_pieces, signed_pieces}
+use Rattle.progressions.specs.Progressions.{full, half}
+use Rattle.progressions.specs.ProgressionLaws.{halves}
+use Rattle.progressions.specs.Parts.{from_least, up_to, unsigned_pieces, signed_pieces}
 use Rattle.strided_rules.specs.Strides.{Stride, norm}
 use Rattle.alf_ops.specs.TwosComplement.{word}
 use Rattle.strided_rules.specs.PlacedLaws.{word_itself}
@@ -43,14 +42,6 @@ signed_turn w p order high =
     let b : int_le (half w) p.lo ≡ false = sym (omega (arith, ints, order, high)) in
     let c : int_lt p.hi (half w) ≡ true = sym (omega (arith, ints, high)) in
     rw (a, b, c) refl
-
--- they lie within 2 to the 64
-pub turn_far : (w : ℕ) (p : Progression) → w ≤ 64 → IsPlaced w p → pos 0 ≤ℤ p.lo → p.hi <ℤ full w → IsPiece (neg_ℤ (pos (2 ^ 64))) (pos (2 ^ 64)) p
-turn_far w p most placed low high = record {
-  progression = placed.progression;
-  low = omega (arith, ints, low);
-  high = omega (arith, ints, high, full_most w most);
-}
 
 -- the value of numbers in normal form, and the join over one piece
 abbrev pub normed_value : ℕ → Progression → Stride

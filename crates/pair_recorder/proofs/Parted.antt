@@ -1,7 +1,7 @@
 -- A list of bits, of which those of the nodes stand first and the rows after them.
 --   front_of, back_of       two lists that are put together, taken apart
 --   front_read, back_read   a part that was read
---   all_long, sized_of      how long they are
+--   all_long      how long they are
 --   front_either, back_either   bits that are set in either of two lists, in each part
 use Rattle.std.proofs.Common.{◌≡◌, ◌+◌, ◌*◌, ◌/◌, ◌%◌, ◌<◌, ◌≤◌, ◌||◌, ℕ, List, ◌++◌, Bool, true, false, inl, inr, take, drop, length, get_or, refl, sym, ap, ◌∙◌, arith}
 use Rattle.std.proofs.lemmas.Bool.{cases_lt}
@@ -30,9 +30,6 @@ module _ (w m : ℕ) (bits all part : List ℕ) where
 module _ (n : ℕ) (bits : List ℕ) (sized : AreSized n (take (words_for n) bits) (drop (words_for n) bits)) where
   pub all_long : length bits ≡ words_for n + n * words_for n
   all_long = let e = length-take (words_for n) bits in let f = sized.0 in let g = length-drop (words_for n) bits in let h = sized.1 in omega arith
-
-pub sized_of : (n : ℕ) (bits : List ℕ) → length bits ≡ words_for n + n * words_for n → AreSized n (take (words_for n) bits) (drop (words_for n) bits)
-sized_of n bits len = (let e = length-take (words_for n) bits in omega arith, let e = length-drop (words_for n) bits in omega arith)
 
 either_itself : (x : Bool) → x ≡ (x || x)
 either_itself true = refl

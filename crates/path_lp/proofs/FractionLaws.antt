@@ -48,9 +48,6 @@ fraction_more hs k j below other so =
     let two : fraction_of (held_at hs k ∷ drop (suc k) hs) j ≡ fraction_of (drop (suc k) hs) j = rw (ne_eqb j (held_at hs k).basic other) refl in
     ap (λ (l : List Held). fraction_of l j) (sym (drop_more hs k)) ∙ sym two ∙ sym one ∙ so
 
-pub fraction_none : (hs : List Held) (k j : ℕ) → length hs ≤ k → fraction_of (drop k hs) j ≡ fraction_of hs j → (pos 0, pos 1) ≡ fraction_of hs j
-fraction_none hs k j past so = ap (λ (l : List Held). fraction_of l j) (sym (held_end hs k past)) ∙ so
-
 grouped : (xs ys zs : List (ℤ × ℤ)) → (xs ++ ys) ++ zs ≡ xs ++ (ys ++ zs)
 grouped [] ys zs = refl
 grouped (x ∷ xs) ys zs = ap (λ (l : List (ℤ × ℤ)). x ∷ l) (grouped xs ys zs)

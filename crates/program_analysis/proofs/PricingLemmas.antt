@@ -1,5 +1,5 @@
 -- Laws of pricing.
---   priced_itself, priced_more   an outline is, and so is one with another cost at one node
+--   priced_more   an outline is, and so is one with another cost at one node
 --   cost_here, cost_elsewhere    what its nodes then cost
 --   paid_more, paid_all   one more node does, and so do all
 --   priced_count   as many nodes
@@ -18,9 +18,6 @@ use Rattle.program_machines.specs.NodeCosts.{node_cost}
 use Rattle.domain_core.specs.declared.outline.NodeRow.{NodeRow}
 use Rattle.domain_core.specs.Outlines.{Outlined, with_cost}
 use Rattle.program_analysis.specs.Pricing.{IsPricedAs, ArePaid}
-
-pub priced_itself : (o : Outlined) → IsPricedAs o o
-priced_itself o = record { edges = refl; own = refl; ranks = refl; names = refl; scopes = refl; notes = refl }
 
 -- what costs have no part in stays
 stays : {X : Type 0} (part : NodeRow → X) → ((row : NodeRow) (cost : ℕ) → part (record row { cost = cost }) ≡ part row) → (nodes : List NodeRow) (n cost : ℕ) → map part (with_cost nodes n cost) ≡ map part nodes

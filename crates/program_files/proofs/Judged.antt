@@ -30,10 +30,6 @@ same_alike {A = A} (Err x) (Err y) e = alike x y cc
 pub outcome_is : (x : Outcome) (cause : Cause) (text : List ℕ) → x.cause ≡ cause → x.text ≡ text → x ≡ record { cause = cause; text = text }
 outcome_is x cause text e f = λ i. record { cause = e i; text = f i }
 
--- two refusals with one line
-pub refused_alike : (x : Outcome) (text : List ℕ) → x.cause ≡ Source → text ≡ x.text → AreAlike (refused text) x
-refused_alike x text e f = alike (refused text) x (sym (outcome_is x Source text e (sym f)))
-
 -- ---- the program that bytes spell
 
 module _ (bytes : List ℕ) (one : HasOneMeaning bytes) where

@@ -1,14 +1,14 @@
 -- On the way to the laws of part.
---   from_least_small, up_to_small, between_small   parts of a small progression are small
+--   from_least_small, up_to_small   parts of a small progression are small
 use Rattle.std.proofs.Common.{ℤ, arith, Option, Some, None}
 use Rattle.std.specs.Prelude.{◌≤ℤ◌}
 use Rattle.std.proofs.lemmas.Int.{ints}
 use Rattle.progressions.specs.declared.ends.Progression.{Progression}
 use Rattle.progressions.specs.Progressions.{Has, IsProgression, HasSome, IfProgression}
-use Rattle.progressions.specs.Parts.{from_least, up_to, between}
+use Rattle.progressions.specs.Parts.{from_least, up_to}
 use Rattle.progressions.specs.Limits.{IsSmall, IfSmall}
 use Rattle.progressions.specs.ProgressionLaws.{has_lo, has_hi, step_width}
-use Rattle.progressions.specs.PartLaws.{from_least_has, from_least_is, up_to_has, up_to_is, between_has, between_is}
+use Rattle.progressions.specs.PartLaws.{from_least_has, from_least_is, up_to_has, up_to_is}
 
 -- Parts of a small progression are small.
 
@@ -27,6 +27,3 @@ from_least_small least p is small = small_of p (from_least least p) small (from_
 
 pub up_to_small : (greatest : ℤ) (p : Progression) → IsProgression p → IsSmall p → IfSmall (up_to greatest p)
 up_to_small greatest p is small = small_of p (up_to greatest p) small (up_to_is greatest p is) (λ n h. ((up_to_has greatest p n is).0 h).0)
-
-pub between_small : (least greatest : ℤ) (p : Progression) → IsProgression p → IsSmall p → IfSmall (between least greatest p)
-between_small least greatest p is small = small_of p (between least greatest p) small (between_is least greatest p is) (λ n h. ((between_has least greatest p n is).0 h).0)

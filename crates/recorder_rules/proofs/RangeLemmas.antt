@@ -1,8 +1,7 @@
 -- Laws of ranges.
---   range_first, range_more   before the first word, and one word further
+--   range_more   before the first word, and one word further
 --   one_only      the index of a word in a range that has one more
---   range_next   the next word is as it was
-use Rattle.std.proofs.Common.{◌≡◌, ◌≢◌, ◌+◌, ◌<◌, ℕ, Bool, false, cond, List, length, get_or, set, inl, inr, refl, sym, ap, ◌∙◌, subst, arith}
+use Rattle.std.proofs.Common.{◌≡◌, ◌≢◌, ◌+◌, ◌<◌, ℕ, Bool, false, cond, List, length, get_or, set, inl, inr, sym, ap, ◌∙◌, subst, arith}
 use Rattle.std.proofs.lemmas.Bool.{lt-leb, and_left, cases_lt, cases_eq}
 use Rattle.std.proofs.lemmas.List.{get_or-set_same, get_or-set_other}
 use Rattle.recorder_rules.specs.BitWords.{in_range, AreInRange}
@@ -10,13 +9,6 @@ use Rattle.recorder_rules.specs.RangeLaws.{ranged, ranged_over}
 
 pub ranged_below : (start n i : ℕ) → i < start → in_range start n i ≡ false
 ranged_below start n i below = and_left _ _ (lt-leb start i below)
-
-pub range_first : (start : ℕ) (f : ℕ → ℕ) (old : List ℕ) → AreInRange start 0 f old old
-range_first start f old i =
-    elim (cases_lt i start) [
-      | inl below ↦ rw (ranged_below start 0 i below) refl
-      | inr over ↦ rw (ranged_over start 0 i (omega arith)) refl
-    ]
 
 -- one more place in the range, and others as before
 same_range : (start n i : ℕ) → i ≢ start + n → in_range start (n + 1) i ≡ in_range start n i
@@ -36,7 +28,3 @@ range_more start n f old mid v low so_far is i =
           (get_or-set_same mid (start + n) v 0 low ∙ is ∙ ap (λ (b : Bool). cond b (f (start + n)) (get_or old (start + n) 0)) (sym (ranged start (n + 1) (start + n) (omega arith) (omega arith))))
       | inr other ↦ get_or-set_other mid (start + n) i v 0 other ∙ so_far i ∙ ap (λ (b : Bool). cond b (f i) (get_or old i 0)) (sym (same_range start n i other))
     ]
-
--- the next word is as it was
-pub range_next : (start n : ℕ) (f : ℕ → ℕ) (old mid : List ℕ) → AreInRange start n f old mid → get_or mid (start + n) 0 ≡ get_or old (start + n) 0
-range_next start n f old mid so_far = so_far (start + n) ∙ ap (λ (b : Bool). cond b (f (start + n)) (get_or old (start + n) 0)) (ranged_over start n (start + n) (omega arith))

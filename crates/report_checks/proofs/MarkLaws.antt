@@ -3,7 +3,7 @@
 --   not_once     where one is, it has more than one
 --   told_is      the faults that are told by alarms are those of the lines
 --   first_told   the first that they do not tell is the first that lacks an alarm
---   marks_more, marks_stop, tells_more   turns of the loops over lines
+--   marks_more, marks_stop   turns of the loops over lines
 use Rattle.std.proofs.Common.{◌≡◌, ◌≢◌, ◌<◌, ◌≤◌, ◌+◌, ◌==◌, ◌||◌, ◌&&◌, not, ◌↔◌, ℕ, zero, suc, List, [], ◌∷◌, Bool, true, false, cond, length, replicate, Option, Some, None, All, inl, inr, refl, sym, ap, ◌∙◌, subst, arith}
 use Rattle.std.specs.Prelude.{slice_index_or, slice_set, count_by, IfSome, if◌then◌else◌}
 use Rattle.std.specs.List.{list_any}
@@ -316,11 +316,6 @@ pub marks_stop : (old marks : List Bool) (f : Fact) (rest others facts : List Fa
     → marked_by (Some marks) rest ≡ marked_by (Some old) facts → marked_by (Some old) facts ≡ None
 marks_stop old marks f rest others facts split none so_far =
     sym so_far ∙ ap (λ (fs : List Fact). marked_by (Some marks) fs) split ∙ ap (λ (o : Option (List Bool)). marked_by o others) none ∙ none_stays others
-
-pub tells_more : (old sets more : List FaultSet) (f : Fact) (rest others facts : List Fact) → rest ≡ f ∷ others → more ≡ told_one sets f → told_by sets rest ≡ told_by old facts
-    → told_by more others ≡ told_by old facts
-tells_more old sets more f rest others facts split is so_far =
-    ap (λ (ss : List FaultSet). told_by ss others) is ∙ ap (λ (fs : List Fact). told_by sets fs) (sym split) ∙ so_far
 
 -- what facts name is one of the nodes
 numbered : (o : Outlined) (f : Fact) → FitsOutline (shape_of o) f → IsNumbered (length o.nodes) f

@@ -3,7 +3,7 @@
 --   told_stop     a run that comes to a node too often stops there
 --   told_end      what is told of a run that is over
 --   some_place    where one line passes, its place is found
---   inside_more, outside_at, all_inside   values that are inside their ranges one by one, and the first that is not
+--   inside_more, all_inside   values that are inside their ranges one by one, and the first that is not
 --   words_more    the word of one value more
 use Rattle.std.proofs.Common.{◌≡◌, ◌<◌, ◌≤◌, ◌+◌, ◌==◌, ℕ, zero, suc, ℤ, List, [], ◌∷◌, ◌++◌, Bool, true, cond, Option, Some, None, Result, Ok, Err, get_or, length, map, reverse, take, inl, inr, lt-ltb, ⊎_elim, add-one, refl, sym, ap, ◌∙◌, subst, arith}
 use Rattle.std.specs.Prelude.{slice_index, position, count_by, not}
@@ -27,12 +27,12 @@ use Rattle.scope_graph.specs.Placing.{place_of, plan_of}
 use Rattle.flow_facts.specs.Facts.{places}
 use Rattle.flow_facts.specs.Reports.{Reported}
 use Rattle.report_soundness.specs.ReportTold.{costs_of}
-use Rattle.report_objections.specs.declared.objection.Objection.TheVariants.{NoFact, Outside}
+use Rattle.report_objections.specs.declared.objection.Objection.TheVariants.{NoFact}
 use Rattle.report_objections.specs.Shaping.{tells_total}
 use Rattle.report_objections.specs.Objecting.{first_line}
 use Rattle.report_objections.specs.CountLaws.{most_of}
 use Rattle.run_replays.specs.declared.walked.RunBook.{RunBook}
-use Rattle.run_replays.specs.Replays.{Told, IsInside, IsOutside, TellEnd, TellsRun, stops, ends}
+use Rattle.run_replays.specs.Replays.{Told, IsInside, TellEnd, TellsRun, stops, ends}
 use Rattle.run_replays.specs.Walks.{IsPassed, IsOver}
 use Rattle.run_replays.proofs.Allowing.{are_within}
 
@@ -120,20 +120,6 @@ inside_more rows values k d e low there within before j less =
   where
     one_number : (n m : ℕ) → m < n + 1 → n ≤ m → n ≡ m
     one_number n m below above = omega (arith, below, above)
-
--- the first that is not inside
-pub outside_at : (rows : List InputRow) (values : List ℤ) (k : ℕ) (d : InputRow) (e : ℤ) → k < length rows → k < length values → (IsWithin (get_or rows k d) (get_or values k e) → ⊥)
-    → ((j : ℕ) → j < k → IsInside rows values j) → IsOutside rows values (Outside k)
-outside_at rows values k d e low there outside before = record {
-  k = k;
-  row = get_or rows k d;
-  value = get_or values k e;
-  row_is = slice_get-get_or rows k d low;
-  value_is = slice_get-get_or values k e there;
-  outside = outside;
-  before = before;
-  is = refl;
-}
 
 words_next : (rows : List InputRow) (values : List ℤ) (k : ℕ) (d : InputRow) (e : ℤ) → k < length rows → k < length values
     → words_of (take (suc k) rows) (take (suc k) values) ≡ words_of (take k rows) (take k values) ++ word (get_or rows k d).size (get_or values k e) ∷ []

@@ -14,7 +14,7 @@ use Rattle.lists.specs.MemberLaws.{further_member, no_member}
 use Rattle.domain_core.specs.Scopes.{Plan, leads, path_at, IsPlan, InScope, IsHeader, IsSmallest}
 use Rattle.domain_core.specs.ScopeLaws.{one_kind, header_held, header_low}
 use Rattle.domain_core.specs.ScopeOrderLaws.{header_lower, later_inside, latest_smallest}
-use Rattle.domain_core.specs.Outlines.{no_scope, header_of, kind_of, parent_of}
+use Rattle.domain_core.specs.Outlines.{header_of, kind_of, parent_of}
 use Rattle.domain_core.specs.OutlineOf.{scope_holds, IsParent, IsOutlineOf}
 use Rattle.graph_walks.specs.Tables.{HasEdge}
 use Rattle.scope_graph.specs.Descending.{IsBackList}
@@ -25,28 +25,6 @@ use Rattle.scope_graph.specs.Assembled.{IsParented, IsOwned}
 use Rattle.scope_graph.proofs.BodyMarks.{turned}
 
 -- ---- one part more
-
--- one scope more has its parent
-pub parented_more : (k : ℕ) (rows : List ScopeRow) (holds : List (List Bool)) (ranks : List ℕ) (scopes : List ScopeRow) (row : ScopeRow) → IsParented k rows holds ranks scopes
-    → row.header ≡ header_of rows k → row.kind ≡ kind_of rows k → IsInnermost (length rows) rows holds ranks (Some k) (header_of rows k) row.parent
-    → IsParented (k + 1) rows holds ranks (scopes ++ row ∷ [])
-parented_more k rows holds ranks scopes row p header kind parent = record {
-  long = (let l = p.long in let more = length_push scopes row in omega arith);
-  headers = λ s low. cases (λ i. header_of (scopes ++ row ∷ []) i ≡ header_of rows i) s low (λ old. ap (λ (r : ScopeRow). r.header) (before s old) ∙ p.headers s old) (ap (λ (r : ScopeRow). r.header) at_end ∙ header);
-  kinds = λ s low. cases (λ i. kind_of (scopes ++ row ∷ []) i ≡ kind_of rows i) s low (λ old. ap (λ (r : ScopeRow). r.kind) (before s old) ∙ p.kinds s old) (ap (λ (r : ScopeRow). r.kind) at_end ∙ kind);
-  parents = λ s low. cases (λ i. IsInnermost (length rows) rows holds ranks (Some i) (header_of rows i) (parent_of (scopes ++ row ∷ []) i)) s low
-      (λ old. subst (λ (r : ScopeRow). IsInnermost (length rows) rows holds ranks (Some s) (header_of rows s) r.parent) (sym (before s old)) (p.parents s old))
-      (subst (λ (r : ScopeRow). IsInnermost (length rows) rows holds ranks (Some k) (header_of rows k) r.parent) (sym at_end) parent);
-}
-  where
-    before : (s : ℕ) → s < k → get_or (scopes ++ row ∷ []) s no_scope ≡ get_or scopes s no_scope
-    before s low = get_or_append_left scopes (row ∷ []) no_scope s (let l = p.long in omega arith)
-
-    at_end : get_or (scopes ++ row ∷ []) k no_scope ≡ row
-    at_end = get_or_push scopes row no_scope k p.long
-
-    cases : (P : ℕ → Type 0) (s : ℕ) → s < k + 1 → (s < k → P s) → P k → P s
-    cases P s low old new = elim (cases_lt s k) [ inl a ↦ old a | inr past ↦ let e : k ≡ s = omega arith in subst P e new ]
 
 -- one node more has its scope, its rank and its name
 pub owned_more : (k : ℕ) (names : List (List ℕ)) (rows : List ScopeRow) (holds : List (List Bool)) (ranks : List ℕ) (nodes : List NodeRow) (row : NodeRow) → IsOwned k names rows holds ranks nodes

@@ -2,15 +2,11 @@
 use Rattle.std.proofs.Common.{◌≡◌, ◌<◌, ◌+◌, ◌||◌, ℕ, Bool, true, false, List, [], ◌∷◌, ◌++◌, inl, inr, get_or, refl, sym, ◌∙◌, subst, arith}
 use Rattle.std.proofs.lemmas.Bool.{cases_lt, false≢true}
 use Rattle.std.proofs.lemmas.List.{get_or_append_left, get_or_push, length_push}
-use Rattle.domain_core.specs.Scopes.{Plan, path_at, Extends, IsCalledFrom}
+use Rattle.domain_core.specs.Scopes.{Plan}
 use Rattle.scope_graph.specs.Members.{MarksExactly, IsCalled, IsTaken, Tells}
 use Rattle.graph_walks.specs.MarkedNodes.{IsMarked}
 use Rattle.lists.specs.TestLaws.{by_test}
 use Rattle.graph_walks.specs.MarkedNodeLaws.{marked_low}
-
--- none yet
-pub marks_none : (P : ℕ → Type 0) → MarksExactly 0 P []
-marks_none P = record { long = refl; yes = λ n is. absurd (let e : false ≡ true = is in cc); all = λ n low p. absurd (omega arith) }
 
 -- one more
 pub marks_more : (P : ℕ → Type 0) (count : ℕ) (marks : List Bool) (v : Bool) → MarksExactly count P marks → (v ≡ true → P count) → (v ≡ false → P count → ⊥) → MarksExactly (count + 1) P (marks ++ v ∷ [])
@@ -46,14 +42,3 @@ taken_tells plan body n false called at tells = (
     | inr from ↦ tells.1 e (taken.0, taken.1, from)
   ],
 )
-
--- nodes of one path are called from the same instances
-pub called_same : (plan : Plan) (body : List Bool) (m n : ℕ) (v : Bool) → path_at plan m ≡ path_at plan n → Tells v (IsCalled plan body m) → Tells v (IsCalled plan body n)
-called_same plan body m n v same tells =
-    (λ e. let far = tells.0 e in (far.0, far.1, to far.0 far.2), λ e called. tells.1 e (called.0, called.1, from called.0 called.2))
-  where
-    to : (k : ℕ) → IsCalledFrom plan k m → IsCalledFrom plan k n
-    to k far = (far.0, far.1, subst (λ (path : List ℕ). Extends path (far.0 ∷ path_at plan k)) same far.2)
-
-    from : (k : ℕ) → IsCalledFrom plan k n → IsCalledFrom plan k m
-    from k far = (far.0, far.1, subst (λ (path : List ℕ). Extends path (far.0 ∷ path_at plan k)) (sym same) far.2)

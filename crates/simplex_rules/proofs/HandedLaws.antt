@@ -76,9 +76,6 @@ sign_none k false y sign = let above : int_le (pos 0) y ≡ true = (let s = sign
     at_least : (z : ℤ) → pos 0 ≤ℤ z → int_le (pos 0) z ≡ true
     at_least z above = by_test (int_le (pos 0) z) (λ is. is) (λ clear. absurd (omega (arith, ints, clear, above)))
 
-not_wide : (k : ℕ) (w : Verdict) → w ≡ Wide k → is_wide w ≡ false → ⊥
-not_wide k w same narrow = both_ways (is_wide w) narrow (ap is_wide same)
-
 -- an answer at a column whose cost is bounded is that a number is wide
 column_wide : (rows e : ℕ) (o : Option ℕ) (need sum : ℤ) (w : Verdict) → need ≤ℤ sum → unless_wide o (λ k. Some (Wide k)) (column_test rows e need sum) ≡ Some w → is_wide w ≡ true
 column_wide rows e (Some k) need sum w bounded found = let same : Wide k ≡ w = cc in ap is_wide (sym same)

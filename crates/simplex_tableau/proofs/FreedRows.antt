@@ -43,9 +43,6 @@ row_wide e b h f wide = record { wide = λ w kept within. wide.wide w kept withi
 
 -- ---- rows
 
-pub none_done : (e : ℕ) (h : List (ℕ × ℤ)) (r : ℕ) (old : List HeldTerms) → IsDone e h r 0 old old
-none_done e h r old = record { count = refl; stepped = λ k less below other. absurd (omega arith); rest = λ k least. refl }
-
 -- the row that leaves is passed over
 pub passed_over : (e : ℕ) (h : List (ℕ × ℤ)) (r n : ℕ) (old now : List HeldTerms) → n ≡ r → IsDone e h r n old now → IsDone e h r (n + 1) old now
 passed_over e h r n old now same done = record {

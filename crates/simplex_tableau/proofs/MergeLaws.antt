@@ -1,5 +1,5 @@
 -- The merge of two lists of terms, a place a turn.
-use Rattle.std.proofs.Common.{◌≡◌, ℕ, ℤ, pos, suc, ◌+◌, ◌<◌, ◌≤◌, arith, refl, sym, ◌∙◌, List, [], ◌∷◌, ◌++◌, length, Some, None, ⊎_elim, true, false}
+use Rattle.std.proofs.Common.{◌≡◌, ℕ, ℤ, pos, suc, ◌<◌, ◌≤◌, arith, refl, sym, ◌∙◌, List, [], ◌∷◌, ◌++◌, Some, None, ⊎_elim, true, false}
 use Rattle.std.specs.Prelude.{◌+ℤ◌, ◌-ℤ◌, ◌*ℤ◌, nat_le}
 use Rattle.std.proofs.lemmas.Int.{ints}
 use Rattle.std.proofs.lemmas.Bool.{cases_eq, cases_lt, leb-true, leb-false, eq-eqb, ne_eqb}
@@ -21,10 +21,6 @@ from_above c (t ∷ ts) above = omega (arith, above)
 from_less : (p q : ℕ) (ts : List (ℕ × ℤ)) → p ≤ q → IsFrom q ts → IsFrom p ts
 from_less p q [] less from = tt
 from_less p q (t ∷ ts) less from = omega (arith, from)
-
-from_nothing : (ts : List (ℕ × ℤ)) → IsFrom 0 ts
-from_nothing [] = tt
-from_nothing (t ∷ ts) = omega arith
 
 -- no number before the first place
 none_before : (q : ℕ) (ts : List (ℕ × ℤ)) (j : ℕ) → IsFrom q ts → IsAscending ts → j < q → coefficient ts j ≡ pos 0
@@ -77,26 +73,6 @@ next_from q (t ∷ ts) [] p from from' e = let z : t.0 ≡ p = cc in omega (arit
 next_from q (t ∷ ts) (s ∷ ss) p from from' e = by_test (nat_le t.0 s.0)
     (λ (v : nat_le t.0 s.0 ≡ true). let z : next_of (t ∷ ts) (s ∷ ss) ≡ Some t.0 = rw v refl in let y : t.0 ≡ p = cc in omega (arith, from))
     (λ (v : nat_le t.0 s.0 ≡ false). let z : next_of (t ∷ ts) (s ∷ ss) ≡ Some s.0 = rw v refl in let y : s.0 ≡ p = cc in omega (arith, from'))
-
-after_shorter : (ts : List (ℕ × ℤ)) (p : ℕ) → length (after_of ts p) ≤ length ts
-after_shorter [] p = omega arith
-after_shorter (t ∷ ts) p = ⊎_elim
-    (λ (e : t.0 ≡ p). rw (eq-eqb t.0 p e) (omega arith))
-    (λ (d : t.0 ≡ p → ⊥). rw (ne_eqb t.0 p d) (omega arith))
-    (cases_eq t.0 p)
-
-after_here : (t : ℕ × ℤ) (ts : List (ℕ × ℤ)) (p : ℕ) → t.0 ≡ p → length (after_of (t ∷ ts) p) < length (t ∷ ts)
-after_here t ts p e = rw (eq-eqb t.0 p e) (omega arith)
-
-pub merge_shorter : (rf rh : List (ℕ × ℤ)) (p : ℕ) → next_of rf rh ≡ Some p → length (after_of rf p) + length (after_of rh p) < length rf + length rh
-merge_shorter [] [] p e = absurd cc
-merge_shorter [] (s ∷ ss) p e = let z : s.0 ≡ p = cc in omega (arith, after_here s ss p z, after_shorter [] p)
-merge_shorter (t ∷ ts) [] p e = let z : t.0 ≡ p = cc in omega (arith, after_here t ts p z, after_shorter [] p)
-merge_shorter (t ∷ ts) (s ∷ ss) p e = by_test (nat_le t.0 s.0)
-    (λ (v : nat_le t.0 s.0 ≡ true). let z : next_of (t ∷ ts) (s ∷ ss) ≡ Some t.0 = rw v refl in
-    let y : t.0 ≡ p = cc in omega (arith, after_here t ts p y, after_shorter (s ∷ ss) p))
-    (λ (v : nat_le t.0 s.0 ≡ false). let z : next_of (t ∷ ts) (s ∷ ss) ≡ Some s.0 = rw v refl in
-    let y : s.0 ≡ p = cc in omega (arith, after_here s ss p y, after_shorter (t ∷ ts) p))
 
 -- A term after the last.
 
@@ -159,26 +135,6 @@ with_within w p out d within less = by_test (vanishes d)
     (λ (v : vanishes d ≡ false). rw v (push_within w p out d within less))
 
 -- The turns.
-
-pub merge_begins : (a b : ℤ) (f h : List (ℕ × ℤ)) → IsAscending f → IsAscending h → IsMerging a b f h [] f h
-merge_begins a b f h rf rh = record {
-  upto = 0;
-  merged = record {
-    value = λ j below. absurd (omega arith);
-    fit = λ j below. absurd (omega arith);
-    first_rest = λ j past. refl;
-    second_rest = λ j past. refl;
-    first_from = from_nothing f;
-    second_from = from_nothing h;
-    first_rises = rf;
-    second_rises = rh;
-    within = tt;
-    rises = tt;
-    first_within = λ w is. is;
-    second_within = λ w is. is;
-    out_within = λ w one other. tt;
-  };
-}
 
 pub nothing_narrow : (a b : ℤ) → narrow a b (pos 0) (pos 0) ≡ true
 nothing_narrow a b =

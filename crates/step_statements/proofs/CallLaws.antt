@@ -1,6 +1,6 @@
 -- Functions entered: arguments in their frames, and then what frames hold at first.
---   argument_storable, argument_there   the value has the size of a cell, which lies in its frame
---   first_argument, later_frames   the first of the arguments, and those that are left
+--   argument_there   the value has the size of a cell, which lies in its frame
+--   first_argument   the first of the arguments, and those that are left
 --   entered_frames     in a function that was entered, the frames of its arguments are active
 --   entered_room       and so are those of what its frames hold at first
 --   entered_is         the memory after all
@@ -16,7 +16,7 @@ use Rattle.alf_ops.specs.declared.history.FrameShape.{FrameShape}
 use Rattle.alf_check.specs.declared.rows.FrameRow.{FrameRow}
 use Rattle.alf_check.specs.declared.rows.FuncRow.{FuncRow}
 use Rattle.alf_check.specs.declared.rows.InitRow.{InitRow}
-use Rattle.alf_check.specs.CheckedPrograms.{CheckedParts, NumberedFunction, NumberedProgram, seen}
+use Rattle.alf_check.specs.CheckedPrograms.{NumberedFunction, NumberedProgram, seen}
 use Rattle.alf_check.specs.Lookups.{IsFunction}
 use Rattle.alf_check.specs.Kept.{IsKept, InitFits, IsFrameOf}
 use Rattle.alf_runs.specs.Entering.{args_at, inits_at}
@@ -26,19 +26,15 @@ use Rattle.memory_rules.specs.Memories.{Mem, is_on, entered}
 use Rattle.memory_rules.specs.AbstractSets.{abstract_sets}
 use Rattle.memory_model.specs.KeptMemories.{MemoryParts, memory_in}
 use Rattle.transfer_rules.specs.Evaluating.{width_of}
-use Rattle.transfer_rules.specs.EvaluatingLaws.{ArgumentIs, cell_size}
+use Rattle.transfer_rules.specs.EvaluatingLaws.{ArgumentIs}
 use Rattle.transfer_rules.specs.DoingLaws.{width_is}
 use Rattle.transfer_rules.specs.Filling.{filled, with_arguments, with_inits, entered_with}
 use Rattle.transfer_rules.specs.FillingLaws.{args_of}
 use Rattle.transfer_rules.specs.CellStores.{IsCellAt}
-use Rattle.step_statements.specs.Typed.{IsStorable}
 use Rattle.step_statements.specs.Rooms.{HaveRoom}
 use Rattle.step_statements.specs.Arguments.{IsArgument, HaveFrames, FitCall}
 
 -- ---- one argument
-
-pub argument_storable : (table : List FrameRow) (owner : Option ℕ) (frame : ℕ) (v : AbstractValue) → IsArgument table owner frame v → IsStorable v
-argument_storable table owner frame v is = record { size = is.row.bits; cell = cell_size is.row.bits is.cell; is = is.is }
 
 pub argument_there : (table : List FrameRow) (owner : Option ℕ) (runs : ℕ → Bool) (frame : ℕ) (v : AbstractValue) (rows : List FrameShape)
     → rows ≡ map (λ (r : FrameRow). record { owner = r.owner; bits = r.bits }) table → is_on runs owner ≡ true → IsArgument table owner frame v → IsCellAt rows runs frame 0 (width_of v)
@@ -58,16 +54,6 @@ pub first_argument : (parts : MemoryParts) (frame : ℕ) (others args : List ℕ
 first_argument parts frame others args v further vs cons values h =
     subst (λ (xs : List AbstractValue). AllZip (IsArgument (seen parts.checked).frames h.owner) (frame ∷ others) xs) values
     (subst (λ (frames : List ℕ). AllZip (IsArgument (seen parts.checked).frames h.owner) frames vs) cons h.each)
-
--- the arguments that are left
-pub later_frames : (parts new : MemoryParts) (frame : ℕ) (others args : List ℕ) (v : AbstractValue) (further vs : List AbstractValue) → args ≡ frame ∷ others → vs ≡ v ∷ further
-    → new.checked ≡ parts.checked → (memory_in new).runs ≡ (memory_in parts).runs → HaveFrames parts args vs → HaveFrames new others further
-later_frames parts new frame others args v further vs cons values same runs h = record {
-  owner = h.owner;
-  active = ap (λ (r : ℕ → Bool). is_on r h.owner) runs ∙ h.active;
-  each = subst (λ (checked : CheckedParts). AllZip (IsArgument (seen checked).frames h.owner) others further) (sym same)
-      (first_argument parts frame others args v further vs cons values h).1;
-}
 
 -- ---- a function entered
 

@@ -1,5 +1,5 @@
 -- Room for words that frames hold at first.
---   word_storable, word_sized   such a word has the size of a cell
+--   word_sized   such a word has the size of a cell
 --   cell_there          the cell lies in its frame, which is active
 --   first_room, later_room      the first of words in a row, and those that are left
 --   filled_is           a memory after a store that goes on
@@ -27,8 +27,7 @@ use Rattle.transfer_rules.specs.Doing.{stored_through}
 use Rattle.transfer_rules.specs.Filling.{filled}
 use Rattle.transfer_rules.specs.CellStores.{IsCellAt}
 use Rattle.transfer_rules.specs.CellStoreLaws.{stored_in_cell}
-use Rattle.transfer_rules.specs.StandingLaws.{word_is}
-use Rattle.transfer_rules.specs.EvaluatingLaws.{cell_size, word_size}
+use Rattle.transfer_rules.specs.EvaluatingLaws.{word_size}
 use Rattle.transfer_rules.specs.DoingLaws.{width_is}
 use Rattle.step_statements.specs.Typed.{IsStorable}
 use Rattle.step_statements.specs.Found.{done}
@@ -36,14 +35,6 @@ use Rattle.step_statements.specs.Rooms.{HasRoom, HaveRoom}
 
 pub word_sized : (parts : MemoryParts) (init : InitRow) → HasRoom parts init → IsWordSize init.num.size
 word_sized parts init room = word_size init.num.size room.fits.word.sized
-
--- such a word has the size of a cell
-pub word_storable : (parts : MemoryParts) (init : InitRow) (v : AbstractValue) → HasRoom parts init → v ≡ word_value init.num.size init.num.bits → IsStorable v
-word_storable parts init v room is = subst IsStorable (sym is) (record {
-  size = init.num.size;
-  cell = cell_size init.num.size room.fits.cell;
-  is = word_is init.num.size init.num.bits (word_size init.num.size room.fits.word.sized) room.fits.word.fits;
-})
 
 -- the cell lies in its frame, which is active
 pub cell_there : (parts : MemoryParts) (init : InitRow) (v : AbstractValue) → HasRoom parts init → v ≡ word_value init.num.size init.num.bits

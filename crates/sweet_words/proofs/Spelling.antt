@@ -68,10 +68,6 @@ spelled_twice form (x ∷ name) value has plain left words =
 
 -- ---- names once
 
-or_false_left : (a b : Bool) → (a || b) ≡ false → a ≡ false
-or_false_left false b e = refl
-or_false_left true b e = e
-
 used_more : (name : Text) (before : Uses) (entry : Text × Text) → is_used name before ≡ true → is_used name (before ++ entry ∷ []) ≡ true
 used_more name [] entry e = absurd (let bad : false ≡ true = e in cc)
 used_more name (first ∷ before) entry e = by_test (bytes_eq first.0 name) (λ t. rw t refl) (λ t. let later : is_used name before ≡ true = rw t at e in rw t (used_more name before entry later))

@@ -1,54 +1,30 @@
 -- Laws of statements.
---   memory_kept                 a call that keeps the program and what a memory keeps
---   room_there                  there is room for what global frames hold at first
---   all_typed, given_typed      the statements of a block, and the expression of a return, keep the rules of the checks
+--   all_typed      the statements of a block, and the expression of a return, keep the rules of the checks
 --   row_at                      the row at a place that is there
 --   argument_of, call_of        a value of the size of a frame may be its argument; such values are those of a call
 use Rattle.std.specs.Prelude.{slice_get, get_or, All, ◌/◌, ◌^◌}
 use Rattle.std.specs.List.{AllZip, AllByRecursion}
-use Rattle.std.proofs.Common.{◌≡◌, ◌∙◌, ℕ, suc, zero, false, List, [], ◌∷◌, length, Some, None, refl, sym, ap, subst, arith, ◌<◌, ◌≤◌}
+use Rattle.std.proofs.Common.{◌≡◌, ◌∙◌, ℕ, suc, zero, false, List, [], ◌∷◌, length, Some, refl, sym, ap, subst, arith, ◌<◌, ◌≤◌}
 use Rattle.std.proofs.Math.Pow.{pow_mono}
 use Rattle.std.proofs.lemmas.List.Elements.{All-head, All-tail}
-use Rattle.alf_program.specs.Tree.{NumberedExpression, Number}
+use Rattle.alf_program.specs.Tree.{Number}
 use Rattle.alf_check.specs.declared.rows.FrameRow.{FrameRow}
 use Rattle.alf_check.specs.declared.rows.FuncRow.{FuncRow}
-use Rattle.alf_check.specs.declared.rows.InitRow.{InitRow}
-use Rattle.alf_check.specs.CheckedPrograms.{CheckedParts, NumberedStatement, NumberedProgram, BlockEnding, Return, seen}
-use Rattle.alf_check.specs.Kept.{InitFits, KeepsStatement, KeepsEnding}
+use Rattle.alf_check.specs.CheckedPrograms.{NumberedStatement, NumberedProgram}
+use Rattle.alf_check.specs.Kept.{KeepsStatement}
 use Rattle.alf_check.specs.Lookups.{IsFunction}
 use Rattle.pointer_rules.specs.AbstractValues.{AbstractValue}
 use Rattle.pointer_rules.specs.Covering.{IsValue}
 use Rattle.memory_rules.specs.Covers.{IsCellSize}
-use Rattle.memory_model.specs.KeptMemories.{MemoryParts, IsMemory}
 use Rattle.transfer_rules.specs.EvaluatingLaws.{ArgumentIs}
-use Rattle.step_statements.specs.Typed.{IsTyped, IsTypedStatement}
-use Rattle.step_statements.specs.Rooms.{HaveRoom}
+use Rattle.step_statements.specs.Typed.{IsTypedStatement}
 use Rattle.step_statements.specs.Arguments.{FitCall}
-use Rattle.transfer_tests.specs.Statements.{IsMemoryOf}
-
--- a call that keeps the program and what a memory keeps
-pub memory_kept : (checked : CheckedParts) (old new : MemoryParts) → IsMemoryOf checked old → new.checked ≡ old.checked → IsMemory new → IsMemoryOf checked new
-memory_kept checked old new is same kept = record { program = same ∙ is.program; kept = kept }
-
--- there is room for what global frames hold at first
-pub room_there : (checked : CheckedParts) (memory : MemoryParts) (inits : List InitRow) → memory.checked ≡ checked → All (InitFits (seen checked).frames None) inits → HaveRoom memory inits
-room_there checked memory inits same fit = record {
-  owner = None;
-  active = refl;
-  fit = subst (λ (c : CheckedParts). All (InitFits (seen c).frames None) inits) (sym same) fit;
-}
 
 -- the statements of a block keep the rules
 pub all_typed : (table : List FrameRow) (k : ℕ) (ss : List NumberedStatement) → All (KeepsStatement table k) ss → AllByRecursion IsTypedStatement ss
 all_typed table k [] all = tt
 all_typed table k (s ∷ ss) all =
     (record { table = table; function = k; keeps = All-head (KeepsStatement table k) s ss all }, all_typed table k ss (All-tail (KeepsStatement table k) s ss all))
-
--- and so does the expression of a return
-pub given_typed : (program : NumberedProgram) (k b : ℕ) (ending : BlockEnding) (e : NumberedExpression) → ending ≡ Return (Some e) → KeepsEnding program k b ending → IsTyped e
-given_typed program k b ending e is keeps =
-    let own = subst (KeepsEnding program k b) is keeps in
-    record { table = program.frames; function = k; size = own.size; has = own.gives }
 
 -- the row at a place that is there
 pub row_at : (rows : List FrameRow) (place : ℕ) (row : FrameRow) → place < length rows → row ≡ get_or rows place row → slice_get rows place ≡ Some row

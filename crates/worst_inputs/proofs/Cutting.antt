@@ -4,7 +4,7 @@ use Rattle.std.specs.Prelude.{pos, ◌+ℤ◌}
 use Rattle.std.specs.List.{insert}
 use Rattle.std.specs.Global.{Vec}
 use Rattle.std.proofs.lemmas.List.{take_more_set, drop-set-lt, drop_more, set_split, map-append, take-map, drop-map, length-map, get_or-map}
-use Rattle.std.proofs.lemmas.List.Elements.{All-contains, All-weaker}
+use Rattle.std.proofs.lemmas.List.Elements.{All-contains}
 use Rattle.std.proofs.lemmas.Option.{slice_get_within, get_or_from_slice_get}
 use Rattle.lists.specs.MemberLaws.{contained}
 use Rattle.worst_inputs.specs.declared.area.Range.{Range}
@@ -91,10 +91,6 @@ module _ (b : Bounding) (laws : IsBounding b) (boxes : List Box) (made : AreMade
   pub upper_suits : b.suits upper
   upper_suits = subst b.suits (sym at.upper_is)
       (laws.part_suits at.cut.box.area (upper_of at.cut.halves) made_here.suits (upper_part at.cut.box.area at.cut.halves made_here.ranges (cut_more boxes at.cut more)))
-
--- the ranges of boxes that were made
-pub have_ranges : (b : Bounding) (boxes : List Box) → AreMade b boxes → HaveRanges boxes
-have_ranges b boxes made = record { some = made.some; each = All-weaker (IsMade b) (λ (box : Box). All IsRange box.area) (λ box is. is.ranges) boxes made.each }
 
 module _ (answers : Answers) (boxes : List Box) (place : ℕ) (lower upper : Area) (at : IsCutAt boxes place lower upper) where
   -- an area without a bound stops the split

@@ -1,5 +1,5 @@
 -- Halves of an area that is no point.
-use Rattle.std.proofs.Common.{◌≡◌, ◌<◌, suc, List, [], ◌∷◌, ◌++◌, length, All, ◌⊎◌, inl, inr, sym, ap, subst, ◌∙◌, arith}
+use Rattle.std.proofs.Common.{◌≡◌, suc, List, [], ◌∷◌, ◌++◌, All, ◌⊎◌, inl, inr, sym, ap, subst, ◌∙◌, arith}
 use Rattle.std.specs.Prelude.{ℤ, pos, negsuc, ◌+ℤ◌}
 use Rattle.std.specs.Int.RustNames.{unsigned_abs}
 use lib.IntN.{◌-ℤ◌}
@@ -27,11 +27,6 @@ flat (range ∷ area) e =
     let here : width_of range ≡ 0 = omega arith in
     let there : most_by width_of area ≡ 0 = omega arith in
     All-cons (λ (r : Range). r.low ≡ r.high) range area (no_width range here) (flat area there)
-
--- an area that is no point has a range
-pub some_range : (area : Area) → (IsPoint area → ⊥) → 0 < length area
-some_range [] more = absurd (more (All-nil (λ (range : Range). range.low ≡ range.high)))
-some_range (range ∷ area) more = omega arith
 
 module _ (area : Area) (halves : Halves area) (ranges : All IsRange area) (more : IsPoint area → ⊥) where
   whole : All IsRange (halves.before ++ halves.range ∷ halves.after)
